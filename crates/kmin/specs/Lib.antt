@@ -1,0 +1,4 @@
+pub mod Bundles
+pub mod Bytes
+pub mod Lines
+pub mod Statuses

@@ -1,0 +1,9 @@
+//! `kmin`: minimal configuration files.
+#![tactic(auto)]
+
+mod bundle;
+mod bytes;
+mod fault;
+mod lines;
+
+fn main() {}
