@@ -1,3 +1,4 @@
 pub mod Runs
 pub mod LineLaws
 pub mod Cutting
+pub mod Tokens

@@ -1,4 +1,6 @@
 pub mod Bundles
 pub mod Bytes
+pub mod Grammar
 pub mod Lines
 pub mod Statuses
+pub mod Read

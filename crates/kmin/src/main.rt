@@ -5,5 +5,6 @@ mod bundle;
 mod bytes;
 mod fault;
 mod lines;
+mod token;
 
 fn main() {}
