@@ -4,3 +4,4 @@ pub mod Grammar
 pub mod Lines
 pub mod Statuses
 pub mod Read
+pub mod Said

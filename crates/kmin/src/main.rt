@@ -5,6 +5,7 @@ mod bundle;
 mod bytes;
 mod fault;
 mod lines;
+mod statement;
 mod token;
 
 fn main() {}
