@@ -2,3 +2,4 @@ pub mod Runs
 pub mod LineLaws
 pub mod Cutting
 pub mod Tokens
+pub mod Saying

@@ -57,3 +57,33 @@ pub data IsStatement : List Token → Statement → Type 0 where
   prompt_line : (text : List ℕ) → IsStatement (word (codes "bool") ∷ quoted text ∷ []) (attribute (bool true))
   default_line : (operand : List ℕ) → IsTrue (is_operand operand) → IsStatement (word (codes "default") ∷ word operand ∷ []) (attribute (default operand))
   depends_line : (operand : List ℕ) → IsTrue (is_operand operand) → IsStatement (word (codes "depends") ∷ word (codes "on") ∷ word operand ∷ []) (attribute (depends_on operand))
+
+-- the statements of these lines, in order; a line of blanks says nothing
+abbrev pub HasStatements : List (List ℕ) → List Statement → Type 0
+HasStatements [] statements = statements ≡ []
+HasStatements (line ∷ lines) statements =
+    (HasTokens line [] × HasStatements lines statements)
+    ⊎ ((tokens : List Token) × (statement : Statement) × (rest : List Statement) × HasTokens line tokens × IsStatement tokens statement × (statements ≡ statement ∷ rest) × HasStatements lines rest)
+
+-- an entry: its name, and what its lines say in order
+pub record Entry : Type 0 where
+  pub name : List ℕ
+  pub attributes : List Attribute
+
+-- the statements of an entry
+abbrev pub listing : Entry → List Statement
+listing entry = config entry.name ∷ map attribute entry.attributes
+
+abbrev pub is_bool : Attribute → Bool
+is_bool (bool has_prompt) = true
+is_bool _ = false
+
+-- a symbol has just one type
+abbrev pub HasType : Entry → Type 0
+HasType entry = length (filter is_bool entry.attributes) ≡ 1
+
+-- A tree: its lines are the statements of its entries, of which each has a type, and no two have one name.
+pub record IsTree (lines : List (List ℕ)) (entries : List Entry) : Type 0 where
+  pub said : HasStatements lines (flat_map listing entries)
+  pub typed : (k : ℕ) (entry : Entry) → slice_get entries k ≡ Some entry → HasType entry
+  pub distinct : (j k : ℕ) (a b : Entry) → slice_get entries j ≡ Some a → slice_get entries k ≡ Some b → a.name ≡ b.name → j ≡ k

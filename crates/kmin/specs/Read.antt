@@ -1,11 +1,15 @@
 -- What the values of the reader stand for.
+use Rattle.std.specs.Prelude.{◌≡◌, ◌≢◌, ℕ, List, [], map}
 use Rattle.kmin.specs.Grammar as grammar
 use Rattle.kmin.specs.declared.token.Token.{Token}
 use Rattle.kmin.specs.declared.token.Token.TheVariants.{Word, Quoted}
+use Rattle.kmin.specs.declared.entry.Entry.{Entry}
+use Rattle.kmin.specs.declared.entry.Line.{Line}
+use Rattle.kmin.specs.declared.entry.Line.TheVariants.{Blank, Says, Unsupported}
 use Rattle.kmin.specs.declared.statement.Attribute.{Attribute}
 use Rattle.kmin.specs.declared.statement.Attribute.TheVariants.{Bool, Default, DependsOn}
 use Rattle.kmin.specs.declared.statement.Statement.{Statement}
-use Rattle.kmin.specs.declared.statement.Statement.TheVariants.{Config, Attribute as Says}
+use Rattle.kmin.specs.declared.statement.Statement.TheVariants.{Config, Attribute as Attribute_line}
 
 -- a token as it is spelled
 abbrev pub token_of : Token → grammar.Token
@@ -20,4 +24,15 @@ attribute_of (DependsOn operand) = grammar.depends_on operand.now
 -- what a line says
 abbrev pub statement_of : Statement → grammar.Statement
 statement_of (Config name) = grammar.config name.now
-statement_of (Says a) = grammar.attribute (attribute_of a)
+statement_of (Attribute_line a) = grammar.attribute (attribute_of a)
+
+-- an entry
+abbrev pub entry_of : Entry → grammar.Entry
+entry_of e = record { name = e.name.now; attributes = map attribute_of e.attributes.items }
+
+-- what is known of a line that was read
+abbrev pub IsRead : List ℕ → Line → Type 0
+IsRead line Blank = grammar.HasTokens line [] × ((others : List grammar.Token) → grammar.HasTokens line others → others ≡ [])
+IsRead line (Says statement) = (tokens : List grammar.Token) × grammar.HasTokens line tokens × grammar.IsStatement tokens (statement_of statement)
+    × ((others : List grammar.Token) → grammar.HasTokens line others → others ≡ tokens)
+IsRead line Unsupported = (others : List grammar.Token) → grammar.HasTokens line others → (others ≢ []) × ((statement : grammar.Statement) → grammar.IsStatement others statement → ⊥)
