@@ -3,3 +3,4 @@ pub mod LineLaws
 pub mod Cutting
 pub mod Tokens
 pub mod Saying
+pub mod Listing
