@@ -4,3 +4,4 @@ pub mod Cutting
 pub mod Tokens
 pub mod Saying
 pub mod Listing
+pub mod Reading

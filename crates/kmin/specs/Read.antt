@@ -1,5 +1,5 @@
 -- What the values of the reader stand for.
-use Rattle.std.specs.Prelude.{◌≡◌, ◌≢◌, ℕ, List, [], map}
+use Rattle.std.specs.Prelude.{◌≡◌, ◌≢◌, ℕ, List, [], ◌++◌, map, flat_map, Option, Some, None}
 use Rattle.kmin.specs.Grammar as grammar
 use Rattle.kmin.specs.declared.token.Token.{Token}
 use Rattle.kmin.specs.declared.token.Token.TheVariants.{Word, Quoted}
@@ -36,3 +36,15 @@ IsRead line Blank = grammar.HasTokens line [] × ((others : List grammar.Token) 
 IsRead line (Says statement) = (tokens : List grammar.Token) × grammar.HasTokens line tokens × grammar.IsStatement tokens (statement_of statement)
     × ((others : List grammar.Token) → grammar.HasTokens line others → others ≡ tokens)
 IsRead line Unsupported = (others : List grammar.Token) → grammar.HasTokens line others → (others ≢ []) × ((statement : grammar.Statement) → grammar.IsStatement others statement → ⊥)
+
+-- the statements of the entries so far
+abbrev pub statements_of : List Entry → List grammar.Statement
+statements_of entries = flat_map grammar.listing (map entry_of entries)
+
+-- What is known when some lines are left. Without a fault: the statements so far with those of what is left are the tree's.
+-- With one: the tree has no entries.
+abbrev pub ReadSoFar : (all left : List (List ℕ)) → List grammar.Statement → Option ℕ → Type 0
+ReadSoFar all left front None =
+    ((more : List grammar.Statement) → grammar.HasStatements left more → grammar.HasStatements all (front ++ more))
+    × ((others : List grammar.Statement) → grammar.HasStatements all others → (more : List grammar.Statement) × grammar.HasStatements left more × (others ≡ front ++ more))
+ReadSoFar all left front (Some line) = (entries : List grammar.Entry) → grammar.HasStatements all (flat_map grammar.listing entries) → ⊥
