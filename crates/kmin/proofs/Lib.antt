@@ -5,3 +5,4 @@ pub mod Tokens
 pub mod Saying
 pub mod Listing
 pub mod Reading
+pub mod Placing

@@ -2,6 +2,7 @@
 -- (kconfig-language.rst, "Menu entries" and "Menu attributes")
 use Rattle.std.specs.Prelude.{◌≡◌, ◌≢◌, ℕ, Bool, true, false, not, ◌&&◌, List, [], ◌∷◌, ◌++◌, map, flat_map, filter, length, IsTrue, codes, bytes_eq, ◌⊎◌, slice_get, Some}
 use Rattle.std.specs.List.{list_all}
+use Rattle.kmin.specs.Names.{place_of}
 use Rattle.kmin.specs.Bytes.{is_blank, is_word, is_quoted, begins_without}
 
 -- a word, or a text in quotes
@@ -82,8 +83,19 @@ is_bool _ = false
 abbrev pub HasType : Entry → Type 0
 HasType entry = length (filter is_bool entry.attributes) ≡ 1
 
+abbrev pub AreTyped : List Entry → Type 0
+AreTyped [] = Unit {0}
+AreTyped (entry ∷ entries) = HasType entry × AreTyped entries
+
+abbrev pub names_of : List Entry → List (List ℕ)
+names_of entries = map (λ (entry : Entry). entry.name) entries
+
+-- no two entries have one name: each name stands first at its entry's place
+abbrev pub AreDistinct : List Entry → Type 0
+AreDistinct entries = (k : ℕ) (entry : Entry) → slice_get entries k ≡ Some entry → place_of entry.name (names_of entries) ≡ Some k
+
 -- A tree: its lines are the statements of its entries, of which each has a type, and no two have one name.
 pub record IsTree (lines : List (List ℕ)) (entries : List Entry) : Type 0 where
   pub said : HasStatements lines (flat_map listing entries)
-  pub typed : (k : ℕ) (entry : Entry) → slice_get entries k ≡ Some entry → HasType entry
-  pub distinct : (j k : ℕ) (a b : Entry) → slice_get entries j ≡ Some a → slice_get entries k ≡ Some b → a.name ≡ b.name → j ≡ k
+  pub typed : AreTyped entries
+  pub distinct : AreDistinct entries

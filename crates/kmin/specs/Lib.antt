@@ -5,3 +5,4 @@ pub mod Lines
 pub mod Statuses
 pub mod Read
 pub mod Said
+pub mod Names

@@ -1,5 +1,8 @@
 -- What the values of the reader stand for.
-use Rattle.std.specs.Prelude.{◌≡◌, ◌≢◌, ℕ, List, [], ◌++◌, map, flat_map, Option, Some, None}
+use Rattle.std.specs.Prelude.{◌≡◌, ◌≢◌, ℕ, List, [], ◌++◌, map, flat_map, filter, length, bytes_eq, Option, Some, None}
+use Rattle.std.specs.Borrow.{Bor}
+use Rattle.std.specs.HashMap as hash
+use Rattle.kmin.specs.Names.{place_of}
 use Rattle.kmin.specs.Grammar as grammar
 use Rattle.kmin.specs.declared.token.Token.{Token}
 use Rattle.kmin.specs.declared.token.Token.TheVariants.{Word, Quoted}
@@ -48,3 +51,14 @@ ReadSoFar all left front None =
     ((more : List grammar.Statement) → grammar.HasStatements left more → grammar.HasStatements all (front ++ more))
     × ((others : List grammar.Statement) → grammar.HasStatements all others → (more : List grammar.Statement) × grammar.HasStatements left more × (others ≡ front ++ more))
 ReadSoFar all left front (Some line) = (entries : List grammar.Entry) → grammar.HasStatements all (flat_map grammar.listing entries) → ⊥
+
+abbrev pub entries_of : List Entry → List grammar.Entry
+entries_of entries = map entry_of entries
+
+-- the attributes that say that the symbol is a bool
+abbrev pub types_in : List Attribute → ℕ
+types_in attributes = length (filter grammar.is_bool (map attribute_of attributes))
+
+-- a map has the first place of each name
+abbrev pub IsNumbered : {S : Type 0} → hash.HashMap (Bor (List ℕ)) ℕ S → List (List ℕ) → Type 0
+IsNumbered numbers names = (name : List ℕ) → hash.get_by (λ k. bytes_eq name k.now) numbers ≡ place_of name names

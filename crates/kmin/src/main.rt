@@ -8,5 +8,6 @@ mod fault;
 mod lines;
 mod statement;
 mod token;
+mod tree;
 
 fn main() {}
