@@ -6,3 +6,4 @@ pub mod Saying
 pub mod Listing
 pub mod Reading
 pub mod Placing
+pub mod Judging

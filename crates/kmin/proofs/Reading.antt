@@ -45,7 +45,7 @@ unsupported_step all left line front new None n h i = λ entries k. unsupported 
 unsupported_step all left line front new (Some m) n h i = i
 
 -- no entry is open
-orphan : (entries : List Entry) (a : Attribute) (rest : List Statement) → flat_map listing entries ≡ attribute a ∷ rest → ⊥
+pub orphan : (entries : List Entry) (a : Attribute) (rest : List Statement) → flat_map listing entries ≡ attribute a ∷ rest → ⊥
 orphan [] a rest e = cc
 orphan (x ∷ xs) a rest e = cc
 

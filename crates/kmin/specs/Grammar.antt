@@ -1,7 +1,7 @@
 -- The grammar of a tree: the tokens of a line, what a line says, and the entries of a tree.
 -- (kconfig-language.rst, "Menu entries" and "Menu attributes")
-use Rattle.std.specs.Prelude.{◌≡◌, ◌≢◌, ℕ, Bool, true, false, not, ◌&&◌, List, [], ◌∷◌, ◌++◌, map, flat_map, filter, length, IsTrue, codes, bytes_eq, ◌⊎◌, slice_get, Some}
-use Rattle.std.specs.List.{list_all}
+use Rattle.std.specs.Prelude.{◌≡◌, ◌≢◌, ℕ, Bool, true, false, not, ◌&&◌, List, [], ◌∷◌, ◌++◌, map, flat_map, filter, length, IsTrue, codes, bytes_eq, nat_le, ◌⊎◌, slice_get, Option, Some, None}
+use Rattle.std.specs.List.{list_all, list_any}
 use Rattle.kmin.specs.Names.{place_of}
 use Rattle.kmin.specs.Bytes.{is_blank, is_word, is_quoted, begins_without}
 
@@ -99,3 +99,22 @@ pub record IsTree (lines : List (List ℕ)) (entries : List Entry) : Type 0 wher
   pub said : HasStatements lines (flat_map listing entries)
   pub typed : AreTyped entries
   pub distinct : AreDistinct entries
+
+-- what an attribute refers to
+abbrev pub operands_in : Attribute → List (List ℕ)
+operands_in (bool has_prompt) = []
+operands_in (default operand) = operand ∷ []
+operands_in (depends_on operand) = operand ∷ []
+
+-- the place isn't before a number
+abbrev pub is_forward : ℕ → Option ℕ → Bool
+is_forward number None = false
+is_forward number (Some k) = nat_le number k
+
+-- an entry refers to one that isn't defined before it
+abbrev pub refers_forward : List (List ℕ) → ℕ → List Attribute → Bool
+refers_forward names number attributes = list_any (λ operand. is_forward number (place_of operand names)) (flat_map operands_in attributes)
+
+-- No entry refers to itself or to a later one.
+abbrev pub AreOrdered : List Entry → Type 0
+AreOrdered entries = (k : ℕ) (entry : Entry) → slice_get entries k ≡ Some entry → refers_forward (names_of entries) k entry.attributes ≡ false

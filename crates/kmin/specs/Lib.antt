@@ -6,3 +6,6 @@ pub mod Statuses
 pub mod Read
 pub mod Said
 pub mod Names
+pub mod FullFile
+pub mod Symbols
+pub mod Values

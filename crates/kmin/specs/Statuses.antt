@@ -1,7 +1,16 @@
 -- The exit statuses.
-use Rattle.std.specs.Prelude.{ℕ}
+use Rattle.std.specs.Prelude.{◌≡◌, ℕ}
+use Rattle.kmin.specs.declared.fault.TreeKind.TheVariants.{Unsupported, ForwardReference}
 use Rattle.kmin.specs.declared.fault.Fault.{Fault}
 use Rattle.kmin.specs.declared.fault.Fault.TheVariants.{Tree, Load, TooLarge, Read, Write, OutOfMemory}
+
+-- a line of a tree isn't in the grammar
+abbrev pub IsUnsupported : Fault → Type 0
+IsUnsupported fault = (line : ℕ) × (fault ≡ Tree line Unsupported)
+
+-- an entry refers to one that isn't defined before it
+abbrev pub IsForward : Fault → Type 0
+IsForward fault = (line : ℕ) × (fault ≡ Tree line ForwardReference)
 
 -- 3 a tree refused, 4 a configuration refused, 5 a read or write failed, 6 want of memory
 abbrev pub status_of : Fault → ℕ

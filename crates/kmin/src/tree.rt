@@ -1,13 +1,52 @@
 //! Trees: their entries, and the numbers of their symbols.
 ghost use Rattle.std.specs.Prelude.{◌≡◌, ◌↔◌, ◌++◌, ◌∷◌, [], List, ℕ, length, IfOk, IsNone, is_none};
 ghost use Rattle.kmin.specs.Names.{noted, place_of};
-ghost use Rattle.kmin.specs.Grammar.{AreDistinct, AreTyped, HasType, names_of};
+ghost use Rattle.std.specs.Prelude.{◌⊎◌, IfErr};
+ghost use Rattle.kmin.specs.Grammar.{AreDistinct, AreTyped, Entry as GrammarEntry, HasType, IsTree, names_of};
+ghost use Rattle.kmin.specs.Lines.{lines};
 ghost use Rattle.kmin.specs.Read.{IsNumbered, entries_of, entry_of};
+ghost use Rattle.kmin.specs.Statuses.{IsUnsupported};
 
-use crate::entry::Entry;
+use crate::entry::{Entry, read_entries};
+use crate::fault::{Fault, TreeKind};
 use crate::statement::Attribute;
 use std::alloc::{AllocError, Global};
 use std::collections::HashMap;
+
+/// A tree: its entries, and the number of each name.
+#[derive(Drop)]
+pub struct Tree<'a> {
+    pub entries: Vec<Entry<'a>>,
+    numbers: HashMap<&'a str, usize>,
+    ghost numbered: { IsNumbered numbers (names_of (entries_of entries.items)) },
+}
+
+/// Reads a tree.
+///
+/// `Unsupported` is told at the first line that isn't in the grammar, an entry without a type counting at its first line.
+pub fn read_tree(alloc: Global, tree: &[u8]) -> Result<Tree<'_>, Fault>
+    ensures tree { IfOk result (λ read. IsTree (lines tree.now) (entries_of read.entries.items)) }
+    ensures refused { IfErr result (λ fault. (fault ≡ Fault.OutOfMemory) ⊎ (IsUnsupported fault × ((entries : List GrammarEntry) → IsTree (lines tree.now) entries → ⊥))) }
+{
+    let (entries, unknown) = read_entries(alloc, tree)?;
+    let untyped = first_untyped(&entries);
+    let (numbers, repeated) = number_names(alloc, &entries)?;
+    match least_line(least_line(unknown, untyped), repeated) {
+        Some(line) => Err(Fault::Tree { line, kind: TreeKind::Unsupported }),
+        None => Ok(Tree { entries, numbers }),
+    }
+}
+
+/// The lesser of two lines, where there are any.
+fn least_line(a: Option<u32>, b: Option<u32>) -> Option<u32>
+    ensures none { IsNone result ↔ (IsNone a × IsNone b) }
+{
+    match (a, b) {
+        (Some(a), Some(b)) => Some(a.min(b)),
+        (a, None) => a,
+        (None, b) => b,
+    }
+}
 
 /// The first line at which an entry hasn't just one type.
 fn first_untyped(entries: &[Entry<'_>]) -> Option<u32>
