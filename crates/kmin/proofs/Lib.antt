@@ -7,3 +7,4 @@ pub mod Listing
 pub mod Reading
 pub mod Placing
 pub mod Judging
+pub mod Ordering

@@ -1,5 +1,5 @@
 //! What a line of a tree says.
-ghost use Rattle.std.specs.Prelude.{◌≡◌, ◌∷◌, List, ℕ, map, option_map, IfSome, IfNone};
+ghost use Rattle.std.specs.Prelude.{◌≡◌, ◌∷◌, List, ℕ, map, option_map, option_to_list, IfSome, IfNone};
 ghost use Rattle.kmin.specs.Grammar.{Token as SpelledToken, is_name, is_operand, word};
 ghost use Rattle.kmin.specs.Read.{statement_of, token_of};
 ghost use Rattle.kmin.specs.Said.{lone_name, lone_operand, lone_prompt, operand_behind_on, said};
@@ -15,6 +15,21 @@ pub enum Attribute<'a> {
     Default(&'a str),
     /// `y`, `n` or the name of a symbol.
     DependsOn(&'a str),
+}
+
+impl<'a> Attribute<'a> {
+    ghost use Rattle.kmin.specs.Grammar.{operands_in};
+    ghost use Rattle.kmin.specs.Read.{attribute_of};
+
+    /// What it refers to.
+    pub fn operand(&self) -> Option<&'a str>
+        ensures { map (λ operand. operand.now) (option_to_list result) ≡ operands_in (attribute_of self.now) }
+    {
+        match self {
+            Attribute::Bool { .. } => None,
+            Attribute::Default(operand) | Attribute::DependsOn(operand) => Some(*operand),
+        }
+    }
 }
 
 /// What a line says.

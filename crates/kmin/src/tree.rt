@@ -1,10 +1,10 @@
 //! Trees: their entries, and the numbers of their symbols.
-ghost use Rattle.std.specs.Prelude.{◌≡◌, ◌↔◌, ◌++◌, ◌∷◌, [], List, ℕ, length, IfOk, IsNone, is_none};
+ghost use Rattle.std.specs.Prelude.{◌≡◌, ◌↔◌, ◌++◌, ◌∷◌, [], List, ℕ, length, map, IfOk, IsNone, is_none};
 ghost use Rattle.kmin.specs.Names.{noted, place_of};
 ghost use Rattle.std.specs.Prelude.{◌⊎◌, IfErr};
-ghost use Rattle.kmin.specs.Grammar.{AreDistinct, AreTyped, Entry as GrammarEntry, HasType, IsTree, names_of};
+ghost use Rattle.kmin.specs.Grammar.{AreDistinct, AreOrdered, AreTyped, Entry as GrammarEntry, HasType, IsTree, names_of, refers_forward};
 ghost use Rattle.kmin.specs.Lines.{lines};
-ghost use Rattle.kmin.specs.Read.{IsNumbered, entries_of, entry_of};
+ghost use Rattle.kmin.specs.Read.{IsNumbered, attribute_of, entries_of, entry_of};
 ghost use Rattle.kmin.specs.Statuses.{IsUnsupported};
 
 use crate::entry::{Entry, read_entries};
@@ -19,6 +19,43 @@ pub struct Tree<'a> {
     pub entries: Vec<Entry<'a>>,
     numbers: HashMap<&'a str, usize>,
     ghost numbered: { IsNumbered numbers (names_of (entries_of entries.items)) },
+}
+
+impl Tree<'_> {
+    /// The number of the symbol of this name.
+    pub fn number_of(&self, name: &str) -> Option<usize>
+        ensures { result ≡ place_of name.now (names_of (entries_of self.now.entries.items)) }
+    {
+        self.numbers.get(name).copied()
+    }
+
+    /// The line of the first entry that refers to itself or to a later one.
+    pub fn first_forward(&self) -> Option<u32>
+        ensures { IsNone result ↔ AreOrdered (entries_of self.now.entries.items) }
+    {
+        for (number, entry) in self.entries.iter().enumerate() {
+            if self.refers_forward(&entry.attributes, number) {
+                return Some(entry.line);
+            }
+        }
+        None
+    }
+
+    /// Whether attributes refer to a symbol that isn't before a number.
+    fn refers_forward(&self, attributes: &[Attribute<'_>], number: usize) -> bool
+        ensures { result ≡ refers_forward (names_of (entries_of self.now.entries.items)) number (map attribute_of attributes.now) }
+    {
+        for attribute in attributes {
+            if let Some(operand) = attribute.operand() {
+                if let Some(target) = self.number_of(operand) {
+                    if target >= number {
+                        return true;
+                    }
+                }
+            }
+        }
+        false
+    }
 }
 
 /// Reads a tree.
