@@ -9,3 +9,4 @@ pub mod Names
 pub mod FullFile
 pub mod Symbols
 pub mod Values
+pub mod Evaluated

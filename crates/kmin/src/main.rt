@@ -9,5 +9,6 @@ mod lines;
 mod statement;
 mod token;
 mod tree;
+mod values;
 
 fn main() {}

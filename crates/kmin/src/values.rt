@@ -1,0 +1,81 @@
+//! The values of symbols.
+ghost use Rattle.std.specs.Prelude.{◌≡◌, length, map, IfOk, vec_len};
+ghost use Rattle.kmin.specs.Evaluated.{default_under, greatest_under};
+ghost use Rattle.kmin.specs.Grammar.{AreOrdered, names_of};
+ghost use Rattle.kmin.specs.Read.{attribute_of, entries_of, entry_of};
+ghost use Rattle.kmin.specs.Symbols.{dependency_of, symbol_of, symbols_of};
+ghost use Rattle.kmin.specs.Values.{Solves, condition_value, default_value, is_n, promoted, reading, rule, visibility};
+
+use crate::entry::Entry;
+use crate::statement::Attribute;
+use crate::tree::Tree;
+use kc_value::Tri;
+use std::alloc::{AllocError, Global};
+
+/// Whether a value is `n`.
+pub fn is_n(value: Tri) -> bool
+    ensures { result ≡ is_n value }
+{
+    matches!(value, Tri::N)
+}
+
+/// A bool's value: `y` in place of `m`.
+fn promoted(value: Tri) -> Tri
+    ensures { result ≡ promoted value }
+{
+    if is_n(value) { Tri::N } else { Tri::Y }
+}
+
+/// What an operand reads as.
+fn reading(tree: &Tree<'_>, values: &[Tri], operand: &str) -> Tri
+    ensures { result ≡ reading (names_of (entries_of tree.now.entries.items)) values.now operand.now }
+{
+    match operand {
+        "y" => Tri::Y,
+        "n" => Tri::N,
+        name => match tree.number_of(name) {
+            Some(number) => values.get(number).copied().unwrap_or(Tri::N),
+            None => Tri::N,
+        },
+    }
+}
+
+/// The value of the dependency that attributes make.
+fn dependency_value(tree: &Tree<'_>, values: &[Tri], attributes: &[Attribute<'_>]) -> Tri
+    ensures { result ≡ condition_value (reading (names_of (entries_of tree.now.entries.items)) values.now) (dependency_of (map attribute_of attributes.now)) }
+{
+    let mut value = Tri::Y;
+    for attribute in attributes {
+        if let Attribute::DependsOn(operand) = attribute {
+            value = value.and(reading(tree, values, operand));
+        }
+    }
+    value
+}
+
+/// The greatest of the prompts' conditions.
+fn greatest_prompt(attributes: &[Attribute<'_>], condition: Tri) -> Tri
+    ensures { result ≡ greatest_under condition (map attribute_of attributes.now) }
+{
+    let mut greatest = Tri::N;
+    for attribute in attributes {
+        if let Attribute::Bool { has_prompt: true, .. } = attribute {
+            greatest = greatest.or(condition);
+        }
+    }
+    greatest
+}
+
+/// The value of the active default, limited by its condition; `n` without one.
+fn active_default(tree: &Tree<'_>, values: &[Tri], attributes: &[Attribute<'_>], condition: Tri) -> Tri
+    ensures { result ≡ default_under (reading (names_of (entries_of tree.now.entries.items)) values.now) condition (map attribute_of attributes.now) }
+{
+    for attribute in attributes {
+        if let Attribute::Default(operand) = attribute {
+            if !is_n(condition) {
+                return reading(tree, values, operand).and(condition);
+            }
+        }
+    }
+    Tri::N
+}
