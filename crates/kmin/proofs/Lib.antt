@@ -8,4 +8,4 @@ pub mod Reading
 pub mod Placing
 pub mod Judging
 pub mod Ordering
-pub mod TriLaws
+pub mod Evaluating

@@ -1,6 +1,7 @@
 //! The values of symbols.
 ghost use Rattle.std.specs.Prelude.{◌≡◌, length, map, IfOk, vec_len};
 ghost use Rattle.kmin.specs.Evaluated.{default_under, greatest_under};
+ghost use Rattle.kmin.specs.FullFile.{is_written};
 ghost use Rattle.kmin.specs.Grammar.{AreOrdered, names_of};
 ghost use Rattle.kmin.specs.Read.{attribute_of, entries_of, entry_of};
 ghost use Rattle.kmin.specs.Symbols.{dependency_of, symbol_of, symbols_of};
@@ -78,4 +79,39 @@ fn active_default(tree: &Tree<'_>, values: &[Tri], attributes: &[Attribute<'_>],
         }
     }
     Tri::N
+}
+
+/// The visibility of an entry's symbol.
+fn visibility_of(tree: &Tree<'_>, values: &[Tri], entry: &Entry<'_>) -> Tri
+    ensures { result ≡ visibility (reading (names_of (entries_of tree.now.entries.items)) values.now) (symbol_of (entry_of entry.now)) }
+{
+    let condition = dependency_value(tree, values, &entry.attributes);
+    promoted(greatest_prompt(&entry.attributes, condition))
+}
+
+/// The value of the active default of an entry's symbol.
+fn default_of(tree: &Tree<'_>, values: &[Tri], entry: &Entry<'_>) -> Tri
+    ensures { result ≡ default_value (reading (names_of (entries_of tree.now.entries.items)) values.now) (symbol_of (entry_of entry.now)).defaults }
+{
+    let condition = dependency_value(tree, values, &entry.attributes);
+    active_default(tree, values, &entry.attributes, condition)
+}
+
+/// The value of an entry's symbol, from its user value or none.
+fn value_of(tree: &Tree<'_>, values: &[Tri], entry: &Entry<'_>, user: Option<Tri>) -> Tri
+    ensures { result ≡ rule (reading (names_of (entries_of tree.now.entries.items)) values.now) (symbol_of (entry_of entry.now)) user }
+{
+    let visibility = visibility_of(tree, values, entry);
+    let default = default_of(tree, values, entry);
+    promoted(match user {
+        Some(value) if !is_n(visibility) => value.at_most(visibility),
+        _ => default,
+    })
+}
+
+/// Whether an entry's symbol is written to the full file.
+pub fn is_written(tree: &Tree<'_>, values: &[Tri], entry: &Entry<'_>) -> bool
+    ensures { result ≡ is_written (reading (names_of (entries_of tree.now.entries.items)) values.now) (symbol_of (entry_of entry.now)) }
+{
+    !is_n(visibility_of(tree, values, entry)) || !is_n(default_of(tree, values, entry))
 }
