@@ -9,3 +9,4 @@ pub mod Placing
 pub mod Judging
 pub mod Ordering
 pub mod Evaluating
+pub mod Solving

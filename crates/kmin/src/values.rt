@@ -115,3 +115,17 @@ pub fn is_written(tree: &Tree<'_>, values: &[Tri], entry: &Entry<'_>) -> bool
 {
     !is_n(visibility_of(tree, values, entry)) || !is_n(default_of(tree, values, entry))
 }
+
+/// The values of all symbols, in order of definition.
+pub fn evaluate(alloc: Global, tree: &Tree<'_>, users: &[Option<Tri>]) -> Result<Vec<Tri>, AllocError>
+    requires ordered { AreOrdered (entries_of tree.now.entries.items) }
+    requires users { length users.now ≡ vec_len tree.now.entries }
+    ensures { IfOk result (λ values. Solves (symbols_of (entries_of tree.now.entries.items)) users.now values.items) }
+{
+    let mut values = Vec::with_capacity(alloc, tree.entries.len())?;
+    for (number, entry) in tree.entries.iter().enumerate() {
+        let value = value_of(tree, &values, entry, users[number]);
+        values.push(value)?;
+    }
+    Ok(values)
+}
