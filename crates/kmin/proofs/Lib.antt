@@ -10,3 +10,4 @@ pub mod Judging
 pub mod Ordering
 pub mod Evaluating
 pub mod Solving
+pub mod Settings

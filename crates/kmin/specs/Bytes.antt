@@ -1,7 +1,7 @@
 -- Kinds of bytes, and runs of them.
 use Rattle.std.specs.Prelude.{ℕ, Bool, true, false, not, List, [], ◌∷◌, ◌==◌, ◌||◌, ◌&&◌, nat_le}
 use Rattle.kmin.specs.declared.bytes.Class.{Class}
-use Rattle.kmin.specs.declared.bytes.Class.TheVariants.{Blank, Word, Quoted, Inline, White, Key}
+use Rattle.kmin.specs.declared.bytes.Class.TheVariants.{Blank, Word, Quoted, Inline, White, Key, Solid}
 
 -- white bytes between the tokens of a tree
 abbrev pub is_blank : ℕ → Bool
@@ -27,6 +27,7 @@ is_in Quoted c = is_quoted c
 is_in Inline c = not (c == 10)
 is_in White c = is_white c
 is_in Key c = not (c == 61)
+is_in Solid c = not (c == 32)
 
 -- no byte of a kind comes first
 abbrev pub begins_without : (ℕ → Bool) → List ℕ → Bool

@@ -7,6 +7,8 @@ pub mod Read
 pub mod Said
 pub mod Names
 pub mod FullFile
+pub mod Settings
 pub mod Symbols
 pub mod Values
+pub mod Configuration
 pub mod Evaluated

@@ -1,5 +1,5 @@
 //! Kinds of bytes, and runs of them.
-ghost use Rattle.std.specs.Prelude.{◌≡◌, ◌≤◌, ◌++◌, length, IsTrue};
+ghost use Rattle.std.specs.Prelude.{◌≡◌, ◌≤◌, ◌++◌, ◌∷◌, List, ℕ, length, IsTrue, IfSome, IfNone};
 ghost use Rattle.std.specs.List.{list_all, prefix_len};
 ghost use Rattle.kmin.specs.Bytes.{begins_without, is_in};
 
@@ -18,6 +18,8 @@ pub enum Class {
     White,
     /// Any byte but `=`.
     Key,
+    /// Any byte but a space.
+    Solid,
 }
 
 impl Class {
@@ -34,6 +36,7 @@ impl Class {
             Class::Inline => byte != b'\n',
             Class::White => matches!(byte, b'\t' | 0x0B | 0x0C | b'\r' | b' '),
             Class::Key => byte != b'=',
+            Class::Solid => byte != b' ',
         }
     }
 }
@@ -59,4 +62,15 @@ pub fn split_run(bytes: &[u8], class: Class) -> (&[u8], &[u8])
     ensures longest { IsTrue (begins_without (is_in class) result.1.now) }
 {
     bytes.split_at(run_length(bytes, class))
+}
+
+/// What follows a byte.
+pub fn strip_byte(bytes: &[u8], byte: u8) -> Option<&[u8]>
+    ensures byte { IfSome result (λ after. bytes.now ≡ byte ∷ after.now) }
+    ensures none { IfNone result ((after : List ℕ) → bytes.now ≡ byte ∷ after → ⊥) }
+{
+    match bytes.split_first() {
+        Some((first, after)) if *first == byte => Some(after),
+        _ => None,
+    }
 }

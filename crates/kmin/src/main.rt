@@ -6,6 +6,7 @@ mod bytes;
 mod entry;
 mod fault;
 mod lines;
+mod setting;
 mod statement;
 mod token;
 mod tree;

@@ -5,7 +5,7 @@ ghost use Rattle.kmin.specs.Bytes.{begins_without, is_blank, is_quoted, is_word}
 ghost use Rattle.kmin.specs.Grammar.{HasTokens, IsToken, Token as SpelledToken, spelling, word};
 ghost use Rattle.kmin.specs.Read.{token_of};
 
-use crate::bytes::{Class, split_run};
+use crate::bytes::{Class, split_run, strip_byte};
 use std::alloc::{AllocError, Global};
 
 /// A token of a line.
@@ -41,7 +41,7 @@ fn first_token(bytes: &[u8]) -> Option<(Token<'_>, &[u8])>
     ensures parts { IfSome result (λ found. bytes.now ≡ spelling (token_of found.0) ++ found.1.now) }
     ensures none { IfNone result ((token : SpelledToken) (rest : List ℕ) → IsToken token rest → bytes.now ≡ spelling token ++ rest → ⊥) }
 {
-    match strip_quote(bytes) {
+    match strip_byte(bytes, b'"') {
         Some(after) => match quoted_text(after) {
             Some((text, rest)) => Some((Token::Quoted(text), rest)),
             None => None,
@@ -60,18 +60,10 @@ fn quoted_text(bytes: &[u8]) -> Option<(&[u8], &[u8])>
     ensures none { IfNone result ((text rest : List ℕ) → IsTrue (list_all is_quoted text) → bytes.now ≡ text ++ 34 ∷ rest → ⊥) }
 {
     let (text, behind) = split_run(bytes, Class::Quoted);
-    match strip_quote(behind) {
+    match strip_byte(behind, b'"') {
         Some(rest) => Some((text, rest)),
         None => None,
     }
-}
-
-/// What follows a quote.
-fn strip_quote(bytes: &[u8]) -> Option<&[u8]>
-    ensures quote { IfSome result (λ after. bytes.now ≡ 34 ∷ after.now) }
-    ensures none { IfNone result ((after : List ℕ) → bytes.now ≡ 34 ∷ after → ⊥) }
-{
-    bytes.strip_prefix(b"\"")
 }
 
 /// The word that the bytes begin with, and what follows it.

@@ -17,13 +17,13 @@ use std::collections::HashMap;
 #[derive(Drop)]
 pub struct Tree<'a> {
     pub entries: Vec<Entry<'a>>,
-    numbers: HashMap<&'a str, usize>,
+    numbers: HashMap<&'a [u8], usize>,
     ghost numbered: { IsNumbered numbers (names_of (entries_of entries.items)) },
 }
 
 impl Tree<'_> {
     /// The number of the symbol of this name.
-    pub fn number_of(&self, name: &str) -> Option<usize>
+    pub fn number_of(&self, name: &[u8]) -> Option<usize>
         ensures { result ≡ place_of name.now (names_of (entries_of self.now.entries.items)) }
     {
         self.numbers.get(name).copied()
@@ -47,7 +47,7 @@ impl Tree<'_> {
     {
         for attribute in attributes {
             if let Some(operand) = attribute.operand() {
-                if let Some(target) = self.number_of(operand) {
+                if let Some(target) = self.number_of(operand.as_bytes()) {
                     if target >= number {
                         return true;
                     }
@@ -121,7 +121,7 @@ fn note_line(fault: Option<u32>, is_fine: bool, line: u32) -> Option<u32>
 }
 
 /// Gives a name its number, where it has none yet. Tells whether it had none.
-fn number_name<'a>(numbers: &mut HashMap<&'a str, usize>, name: &'a str, number: usize) -> Result<bool, AllocError>
+fn number_name<'a>(numbers: &mut HashMap<&'a [u8], usize>, name: &'a [u8], number: usize) -> Result<bool, AllocError>
     ensures numbered { IfOk result (λ fresh. (names : List (List ℕ)) → IsNumbered numbers.old names → length names ≡ number → IsNumbered numbers.new (names ++ name.now ∷ [])) }
     ensures fresh { IfOk result (λ fresh. (names : List (List ℕ)) → IsNumbered numbers.old names → fresh ≡ is_none (place_of name.now names)) }
 {
@@ -133,14 +133,14 @@ fn number_name<'a>(numbers: &mut HashMap<&'a str, usize>, name: &'a str, number:
 }
 
 /// The number of each name, and the line of the first entry whose name stands before it.
-fn number_names<'a>(alloc: Global, entries: &[Entry<'a>]) -> Result<(HashMap<&'a str, usize>, Option<u32>), AllocError>
+fn number_names<'a>(alloc: Global, entries: &[Entry<'a>]) -> Result<(HashMap<&'a [u8], usize>, Option<u32>), AllocError>
     ensures numbered { IfOk result (λ named. IsNumbered named.0 (names_of (entries_of entries.now))) }
     ensures distinct { IfOk result (λ named. IsNone named.1 ↔ AreDistinct (entries_of entries.now)) }
 {
     let mut numbers = HashMap::new(alloc);
     let mut repeated = None;
     for (number, entry) in entries.iter().enumerate() {
-        let fresh = number_name(&mut numbers, entry.name, number)?;
+        let fresh = number_name(&mut numbers, entry.name.as_bytes(), number)?;
         repeated = note_line(repeated, fresh, entry.line);
     }
     Ok((numbers, repeated))

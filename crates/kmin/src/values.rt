@@ -34,7 +34,7 @@ fn reading(tree: &Tree<'_>, values: &[Tri], operand: &str) -> Tri
     match operand {
         "y" => Tri::Y,
         "n" => Tri::N,
-        name => match tree.number_of(name) {
+        name => match tree.number_of(name.as_bytes()) {
             Some(number) => values.get(number).copied().unwrap_or(Tri::N),
             None => Tri::N,
         },
