@@ -11,3 +11,4 @@ pub mod Ordering
 pub mod Evaluating
 pub mod Solving
 pub mod Settings
+pub mod Configuring

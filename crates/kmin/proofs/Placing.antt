@@ -1,9 +1,9 @@
 -- Places of names, one name after another.
 use Rattle.std.proofs.Common.{◌≡◌, ◌≢◌, ◌↔◌, ℕ, zero, suc, ◌+◌, ◌<◌, ◌≤◌, Bool, true, false, cond, List, [], ◌∷◌, ◌++◌, Option, Some, None, option_map, refl, sym, ◌∙◌, ap, arith, rules, map, length, take, drop, get_or, bytes_eq, inl, inr, ◌⊎◌}
-use Rattle.std.specs.Prelude.{slice_get, is_some, is_none, IsNone}
+use Rattle.std.specs.Prelude.{slice_get, is_some, is_none, IsNone, IfSome}
 use Rattle.std.proofs.lemmas.Bool.{cases_lt}
 use Rattle.std.proofs.lemmas.Bool.Decides.{same_from_decides}
-use Rattle.std.proofs.lemmas.Option.{slice_get_within}
+use Rattle.std.proofs.lemmas.Option.{slice_get_within, slice_get-map}
 use Rattle.std.proofs.lemmas.Slice.Eq.{bytes_eq-Decides}
 use Rattle.kmin.specs.Names.{noted, place_of}
 use Rattle.std.specs.Borrow.{Bor}
@@ -177,3 +177,19 @@ names_more es i e l h =
 
 pub length_names : (es : List ReadEntry) (i : ℕ) → i ≤ length es → length (names_of (entries_of (take i es))) ≡ i
 length_names es i l = length-map (entries_of (take i es)) (λ (x : Entry). x.name) ∙ length-map (take i es) entry_of ∙ length-take-le i es l
+
+pub within_entries : (o : Option ℕ) (es : List ReadEntry) (count : ℕ) (name : List ℕ) → count ≡ length es → o ≡ place_of name (names_of (entries_of es)) → IfSome o (λ k. k < count)
+within_entries None es count name c e = tt
+within_entries (Some k) es count name c e =
+    let l : k < length (names_of (entries_of es)) = place-within name (names_of (entries_of es)) k (sym e) in
+    let n : length (names_of (entries_of es)) ≡ length es = length-map (entries_of es) (λ (x : Entry). x.name) ∙ length-map es entry_of in
+    omega arith
+
+pub stands_once : (es : List Entry) → AreDistinct es → (k : ℕ) (x : List ℕ) → slice_get (names_of es) k ≡ Some x → place_of x (names_of es) ≡ Some k
+stands_once es d k x h = once_cases (slice_get es k) refl where
+  once_cases : (o : Option Entry) → slice_get es k ≡ o → place_of x (names_of es) ≡ Some k
+  once_cases None g = let q : None ≡ Some x = sym (slice_get-map (λ (e : Entry). e.name) es k ∙ ap (option_map (λ (e : Entry). e.name)) g) ∙ h in cc
+  once_cases (Some e) g =
+      let q : Some e.name ≡ Some x = sym (slice_get-map (λ (f : Entry). f.name) es k ∙ ap (option_map (λ (f : Entry). f.name)) g) ∙ h in
+      let r : e.name ≡ x = cc in
+      ap (λ y. place_of y (names_of es)) (sym r) ∙ d k e g

@@ -1,6 +1,6 @@
 -- Configuration files: what a line says, and what a file assigns.
 -- (Kconfiglib's `load_config`: `CONFIG_NAME=value`, `# CONFIG_NAME is not set`)
-use Rattle.std.specs.Prelude.{◌≡◌, ◌≢◌, ℕ, Bool, true, false, not, List, [], ◌∷◌, ◌++◌, Option, Some, None, IsTrue, IsUtf8, ◌⊎◌, ◌==◌, codes, bytes_eq, if◌then◌else◌}
+use Rattle.std.specs.Prelude.{◌≡◌, ◌≢◌, ℕ, Bool, true, false, not, List, [], ◌∷◌, ◌++◌, map, Option, Some, None, IsTrue, IsUtf8, ◌⊎◌, ◌==◌, codes, bytes_eq, if◌then◌else◌}
 use Rattle.std.specs.List.{list_all}
 use Rattle.kc_value.specs.declared.tri.Tri.{Tri}
 use Rattle.kc_value.specs.declared.tri.Tri.TheVariants.{N, M, Y}
@@ -59,3 +59,7 @@ or_earlier (Some value) earlier = Some value
 abbrev pub user_after : List ℕ → Option Tri → List Setting → Option Tri
 user_after symbol user [] = user
 user_after symbol user (setting ∷ rest) = user_after symbol (or_earlier (assigned_to symbol setting) user) rest
+
+-- the users' values of some symbols
+abbrev pub users_after : List (List ℕ) → List Setting → List (Option Tri)
+users_after symbols settings = map (λ symbol. user_after symbol None settings) symbols

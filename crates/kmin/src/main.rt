@@ -3,6 +3,7 @@
 
 mod bundle;
 mod bytes;
+mod configuration;
 mod entry;
 mod fault;
 mod lines;

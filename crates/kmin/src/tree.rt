@@ -1,7 +1,7 @@
 //! Trees: their entries, and the numbers of their symbols.
 ghost use Rattle.std.specs.Prelude.{◌≡◌, ◌↔◌, ◌++◌, ◌∷◌, [], List, ℕ, length, map, IfOk, IsNone, is_none};
 ghost use Rattle.kmin.specs.Names.{noted, place_of};
-ghost use Rattle.std.specs.Prelude.{◌⊎◌, IfErr};
+ghost use Rattle.std.specs.Prelude.{◌<◌, ◌⊎◌, IfErr, IfSome, vec_len};
 ghost use Rattle.kmin.specs.Grammar.{AreDistinct, AreOrdered, AreTyped, Entry as GrammarEntry, HasType, IsTree, names_of, refers_forward};
 ghost use Rattle.kmin.specs.Lines.{lines};
 ghost use Rattle.kmin.specs.Read.{IsNumbered, attribute_of, entries_of, entry_of};
@@ -24,7 +24,8 @@ pub struct Tree<'a> {
 impl Tree<'_> {
     /// The number of the symbol of this name.
     pub fn number_of(&self, name: &[u8]) -> Option<usize>
-        ensures { result ≡ place_of name.now (names_of (entries_of self.now.entries.items)) }
+        ensures place { result ≡ place_of name.now (names_of (entries_of self.now.entries.items)) }
+        ensures within { IfSome result (λ number. number < vec_len self.now.entries) }
     {
         self.numbers.get(name).copied()
     }
