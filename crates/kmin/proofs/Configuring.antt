@@ -1,6 +1,7 @@
 -- The lines of a configuration file, one after another.
-use Rattle.std.proofs.Common.{◌≡◌, ◌≢◌, ℕ, zero, suc, ◌<◌, Bool, true, false, List, [], ◌∷◌, ◌++◌, Option, Some, None, Result, Ok, Err, option_map, ◌⊎◌, inl, inr, refl, sym, ◌∙◌, ap, arith, rules, map, append_assoc, cond, bytes_eq, if◌then◌else◌, slice_set, MatchResult}
+use Rattle.std.proofs.Common.{◌≡◌, ◌≢◌, ℕ, zero, suc, ◌<◌, length, take, drop, append-nil, Bool, true, false, List, [], ◌∷◌, ◌++◌, Option, Some, None, Result, Ok, Err, option_map, ◌⊎◌, inl, inr, refl, sym, ◌∙◌, ap, arith, rules, map, append_assoc, cond, bytes_eq, if◌then◌else◌, slice_set, MatchResult}
 use Rattle.std.specs.Prelude.{slice_get, is_err, IsUtf8}
+use Rattle.std.proofs.lemmas.List.{take-append-le, take_all}
 use Rattle.std.proofs.lemmas.Slice.Eq.{bytes_eq-Decides}
 use Rattle.kc_value.specs.declared.tri.Tri.{Tri}
 use Rattle.kc_value.specs.declared.tri.Tri.TheVariants.{N, M, Y}
@@ -128,3 +129,23 @@ utf8_is bytes (Err x) P Q h e = cc
 pub utf8_not : {S E : Type 0} (bytes : List ℕ) (r : Result S E) (P : S → Type 0) (Q : E → Type 0) → MatchResult r (λ s. P s × IsUtf8 bytes) (λ e. (¬ (IsUtf8 bytes)) × Q e) → is_err r ≡ true → IsUtf8 bytes → ⊥
 utf8_not bytes (Ok s) P Q h e = cc
 utf8_not bytes (Err x) P Q h e = h.0
+
+-- a slice lent as a whole comes back as it was left
+pub written_back : {A : Type 0} → (new old : List A) (n : ℕ) → length new ≡ length old → n ≡ length old → take n (new ++ drop (length new) old) ≡ new
+written_back new old n e f = take-append-le n new (drop (length new) old) (omega arith) ∙ take_all n new (omega arith)
+
+-- before the first line
+pub configured_none : (all : List (List ℕ)) (symbols : List (List ℕ)) (users : List (Option Tri)) → users ≡ users_after symbols [] → ConfiguredSoFar all all symbols users
+configured_none all symbols users e = record { front = []; said = λ more k. k; only = λ others k. (others, k); users_are = e }
+
+pub no_users : {E F : Type 0} → (entries : List E) (entry : E → F) (name : F → List ℕ) → map (λ _. None) entries ≡ users_after (map name (map entry entries)) []
+no_users [] entry name = refl
+no_users (e ∷ es) entry name = ap (λ more. None ∷ more) (no_users es entry name)
+
+-- behind the last line
+pub configured_all : (all left : List (List ℕ)) (symbols : List (List ℕ)) (users : List (Option Tri)) → left ≡ [] → ConfiguredSoFar all left symbols users
+    → (settings : List Setting) × HasSettings all settings × (users ≡ users_after symbols settings)
+configured_all all left symbols users e i =
+    let none : HasSettings left [] = rw e refl in
+    let k : HasSettings all (i.front ++ []) = i.said [] none in
+    (i.front, (rw append-nil at k), i.users_are)
