@@ -12,3 +12,4 @@ pub mod Evaluating
 pub mod Solving
 pub mod Settings
 pub mod Configuring
+pub mod Writing
