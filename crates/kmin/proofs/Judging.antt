@@ -39,7 +39,7 @@ accepted all es None untyped repeated r t d u v w = record { said = whole; typed
   whole = let k : HasStatements all (flat_map listing es ++ []) = r.0 [] refl in rw append-nil at k
 accepted all es (Some line) untyped repeated r t d u v w = cc
 
-others_same : (all : List (List ℕ)) (es others : List Entry) → ReadSoFar all [] (flat_map listing es) None → IsTree all others → others ≡ es
+pub others_same : (all : List (List ℕ)) (es others : List Entry) → ReadSoFar all [] (flat_map listing es) None → IsTree all others → others ≡ es
 others_same all es others r tree =
     let w = r.1 (flat_map listing others) tree.said in
     let q : flat_map listing others ≡ flat_map listing es = w.2 ∙ ap (λ x. flat_map listing es ++ x) w.1 ∙ append-nil (flat_map listing es) in
@@ -51,3 +51,7 @@ refused all es (Some line) untyped repeated r t d n others tree = r others tree.
 refused all es None untyped repeated r t d n others tree =
     let same : others ≡ es = others_same all es others r tree in
     n refl (t.1 (rw same at tree.typed)) (d.1 (rw same at tree.distinct))
+
+pub read_whole : (all : List (List ℕ)) (front : List Statement) (unknown : Option ℕ) → IsNone unknown → ReadSoFar all [] front unknown → ReadSoFar all [] front None
+read_whole all front None n r = r
+read_whole all front (Some line) n r = cc

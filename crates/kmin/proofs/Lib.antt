@@ -13,3 +13,4 @@ pub mod Solving
 pub mod Settings
 pub mod Configuring
 pub mod Writing
+pub mod Answering

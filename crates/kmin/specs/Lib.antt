@@ -12,3 +12,5 @@ pub mod Symbols
 pub mod Values
 pub mod Configuration
 pub mod Evaluated
+pub mod Jobs
+pub mod Refusals

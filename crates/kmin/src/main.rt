@@ -1,6 +1,7 @@
 //! `kmin`: minimal configuration files.
 #![tactic(auto)]
 
+mod answer;
 mod bundle;
 mod bytes;
 mod configuration;

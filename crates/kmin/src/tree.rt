@@ -64,6 +64,7 @@ impl Tree<'_> {
 /// `Unsupported` is told at the first line that isn't in the grammar, an entry without a type counting at its first line.
 pub fn read_tree(alloc: Global, tree: &[u8]) -> Result<Tree<'_>, Fault>
     ensures tree { IfOk result (λ read. IsTree (lines tree.now) (entries_of read.entries.items)) }
+    ensures only { IfOk result (λ read. (others : List GrammarEntry) → IsTree (lines tree.now) others → others ≡ entries_of read.entries.items) }
     ensures refused { IfErr result (λ fault. (fault ≡ Fault.OutOfMemory) ⊎ (IsUnsupported fault × ((entries : List GrammarEntry) → IsTree (lines tree.now) entries → ⊥))) }
 {
     let (entries, unknown) = read_entries(alloc, tree)?;

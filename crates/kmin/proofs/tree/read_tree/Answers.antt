@@ -3,7 +3,7 @@ use Rattle.std.specs.Prelude.{IsNone}
 use Rattle.kmin.specs.Grammar.{AreTyped, AreDistinct}
 use Rattle.kmin.specs.Lines.{lines}
 use Rattle.kmin.specs.Read.{entries_of}
-use Rattle.kmin.proofs.Judging.{accepted, refused}
+use Rattle.kmin.proofs.Judging.{accepted, others_same, read_whole, refused}
 use Rattle.kmin.proofs.tree.read_tree.Goals as goal
 
 pub returns-in-Some-clause-refused : goal.returns-in-Some-clause-refused
@@ -21,3 +21,10 @@ returns-clause-tree c =
     let both = c.in-None.ensures.none.0 refl in
     let first = c.least_line.ensures.none.0 both.0 in
     accepted (lines c.args.tree.now) (entries_of es) c.in_ok-entries.unknown c.first_untyped-untyped.result c.in_ok-numbers.repeated c.in_ok-entries.ensures typed distinct first.0 first.1 both.1
+
+pub returns-clause-only : goal.returns-clause-only
+returns-clause-only c =
+    let es = c.in_ok-entries.entries.items in
+    let both = c.in-None.ensures.none.0 refl in
+    let first = c.least_line.ensures.none.0 both.0 in
+    λ others tree. others_same (lines c.args.tree.now) (entries_of es) others (read_whole _ _ c.in_ok-entries.unknown first.0 c.in_ok-entries.ensures) tree
