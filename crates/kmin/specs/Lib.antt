@@ -14,3 +14,4 @@ pub mod Configuration
 pub mod Evaluated
 pub mod Jobs
 pub mod Refusals
+pub mod Files

@@ -7,13 +7,48 @@ mod bytes;
 mod configuration;
 mod entry;
 mod fault;
+mod files;
 mod full_file;
 mod lines;
 mod output;
+mod run;
 mod setting;
 mod statement;
 mod token;
 mod tree;
 mod values;
 
-fn main() {}
+use files::Disk;
+use kc_value::{FromRead, ToWrite};
+use run::run;
+use std::env;
+use std::io;
+use std::process::ExitCode;
+
+fn main(rt: HostRuntime) -> ExitCode {
+    match run_words(&rt) {
+        Ok(status) => ExitCode::from(status),
+        Err(error) => refuse_words(&rt, &error),
+    }
+}
+
+/// Runs the program on the words after its name and the standard streams.
+fn run_words(rt: &HostRuntime) -> io::Result<u8> {
+    let words: Vec<String> = env::args(rt)?.skip(1).collect(rt.alloc())?;
+    let words: Vec<&str> = words.iter().map(|word| word.as_str()).collect(rt.alloc())?;
+    let mut input = FromRead::new(rt.stdin());
+    let mut out = ToWrite::new(rt.stdout());
+    let mut err = ToWrite::new(rt.stderr());
+    let mut files = Disk::new(rt);
+    Ok(run(rt.alloc(), &words, &mut files, &mut input, &mut out, &mut err))
+}
+
+/// Words that can't be read: 6 for want of memory, and else 2, since some word isn't UTF-8.
+fn refuse_words(rt: &HostRuntime, error: &io::Error) -> ExitCode {
+    if error.kind() == io::ErrorKind::OutOfMemory {
+        let _ = eprintln!(rt; "out of memory");
+        return ExitCode::from(6);
+    }
+    let _ = eprintln!(rt; "kmin: a word isn't UTF-8");
+    ExitCode::from(2)
+}

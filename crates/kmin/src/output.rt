@@ -4,6 +4,7 @@ ghost use Rattle.std.specs.Io.KnownBytes.{Appends};
 
 use crate::fault::Fault;
 use kc_value::Sink;
+use std::fmt;
 
 /// Writes a text whole, or ends at the first write that fails or takes nothing.
 pub fn write_out<W: Sink>(sink: &mut W, text: &[u8]) -> Result<(), Fault>
@@ -26,4 +27,22 @@ pub fn write_out<W: Sink>(sink: &mut W, text: &[u8]) -> Result<(), Fault>
 /// Writes a text as far as it goes.
 pub fn tell<W: Sink>(sink: &mut W, text: &[u8]) {
     let _ = write_out(sink, text);
+}
+
+/// Formats text straight into a writer.
+#[derive(Drop)]
+pub struct Console<'a, W> {
+    sink: &'a mut W,
+}
+
+impl<'a, W: Sink> Console<'a, W> {
+    pub fn new(sink: &'a mut W) -> Console<'a, W> {
+        Console { sink }
+    }
+}
+
+impl<W: Sink> fmt::Write for Console<'_, W> {
+    fn write_str(&mut self, text: &str) -> fmt::Result {
+        write_out(self.sink, text.as_bytes()).map_err(|_| fmt::Error)
+    }
 }
