@@ -14,6 +14,8 @@ mod output;
 mod run;
 mod setting;
 mod statement;
+#[cfg(test)]
+mod tests;
 mod token;
 mod tree;
 mod values;
