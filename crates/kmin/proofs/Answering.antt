@@ -1,15 +1,15 @@
 -- A bundle is answered or refused by its tree and its configuration.
-use Rattle.std.proofs.Common.{◌≡◌, ◌↔◌, ℕ, Bool, true, false, List, Result, Ok, Err, ◌⊎◌, inl, inr, refl, sym, ◌∙◌}
+use Rattle.std.proofs.Common.{◌≡◌, ℕ, List, Result, Ok, Err, ◌⊎◌, inl, inr}
 use Rattle.std.specs.Prelude.{IfOk, IfErr}
 use Rattle.kmin.specs.Lines.{lines}
 use Rattle.kmin.specs.Bundles.{IsBundle}
 use Rattle.kmin.specs.Grammar.{Entry, IsTree, AreOrdered}
 use Rattle.kmin.specs.Configuration.{Setting, HasSettings}
-use Rattle.kmin.specs.Jobs.{AnswersBundle, AnswersTree, RefusesTree, RefusesConfiguration}
+use Rattle.kmin.specs.Jobs.{AnswersBundle, AnswersTree, RefusesTree}
 use Rattle.kmin.specs.Refusals.{RefusesBundle}
 use Rattle.kmin.specs.Statuses.{IsUnsupported, IsLoad}
 use Rattle.kmin.specs.declared.fault.Fault.{Fault}
-use Rattle.kmin.specs.declared.fault.Fault.TheVariants.{Tree, Load, OutOfMemory}
+use Rattle.kmin.specs.declared.fault.Fault.TheVariants.{OutOfMemory}
 use Rattle.kmin.specs.declared.answer.Answer.{Answer}
 
 pub refused_tree : (bundle tree configuration : List ℕ) (fault : Fault) → IsBundle bundle tree configuration

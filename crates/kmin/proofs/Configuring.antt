@@ -1,12 +1,11 @@
 -- The lines of a configuration file, one after another.
-use Rattle.std.proofs.Common.{◌≡◌, ◌≢◌, ℕ, zero, suc, ◌<◌, length, take, drop, append-nil, Bool, true, false, List, [], ◌∷◌, ◌++◌, Option, Some, None, Result, Ok, Err, option_map, ◌⊎◌, inl, inr, refl, sym, ◌∙◌, ap, arith, rules, map, append_assoc, cond, bytes_eq, if◌then◌else◌, slice_set, MatchResult}
+use Rattle.std.proofs.Common.{◌≡◌, ℕ, zero, suc, length, take, drop, append-nil, Bool, true, false, List, [], ◌∷◌, ◌++◌, Option, Some, None, Result, Ok, Err, option_map, inl, inr, refl, sym, ◌∙◌, ap, arith, map, append_assoc, cond, bytes_eq, if◌then◌else◌, MatchResult}
 use Rattle.std.specs.Prelude.{slice_get, is_err, IsUtf8}
 use Rattle.std.proofs.lemmas.List.{take-append-le, take_all}
 use Rattle.std.proofs.lemmas.Slice.Eq.{bytes_eq-Decides}
 use Rattle.kc_value.specs.declared.tri.Tri.{Tri}
-use Rattle.kc_value.specs.declared.tri.Tri.TheVariants.{N, M, Y}
 use Rattle.kmin.specs.Names.{place_of}
-use Rattle.kmin.specs.Configuration.{Setting, assigned, unset, trimmed, IsSetting, IsComment, IsNothing, HasSettings, bool_of, assigned_to, or_earlier, user_after, users_after}
+use Rattle.kmin.specs.Configuration.{Setting, trimmed, IsSetting, IsComment, IsNothing, HasSettings, assigned_to, or_earlier, user_after, users_after}
 use Rattle.kmin.specs.Settings.{assigned_at, ConfiguredSoFar}
 
 -- one setting more
@@ -72,7 +71,7 @@ pub given_value : (name : List ℕ) (names : List (List ℕ)) (v : Tri) (f : Lis
 given_value name [] v f once = refl
 given_value name (n ∷ ns) v f once =
     first_cases name n ns v f (bytes_eq n name) once refl (given_value name ns v f (tail_once n ns once))
-      ∙ ap (λ b. assigned_at (cond b (Some 0) (option_map suc (place_of name ns))) (Some v) (map f (n ∷ ns))) (bytes_sym n name)
+    ∙ ap (λ b. assigned_at (cond b (Some 0) (option_map suc (place_of name ns))) (Some v) (map f (n ∷ ns))) (bytes_sym n name)
 
 no_value : (p : Option ℕ) (users : List (Option Tri)) → assigned_at p None users ≡ users
 no_value None users = refl
@@ -107,6 +106,7 @@ setting_step all left line symbols old new s name value once utf8 h means n i = 
   left_over : (more : List Setting) → HasSettings (line ∷ left) more → (rest : List Setting) × HasSettings left rest
   left_over more (u, inl w) = (more, w.1)
   left_over more (u, inr w) = (w.1, w.4)
+
   after : (x : List ℕ) → user_after x None (i.front ++ s ∷ []) ≡ given name value (λ y. user_after y None i.front) x
   after x = after_more x None i.front s ∙ ap (λ a. or_earlier a (user_after x None i.front)) (means x)
 

@@ -1,12 +1,12 @@
 -- A bundle cut at its marker.
-use Rattle.std.proofs.Common.{◌≡◌, ℕ, Bool, true, false, not, ◌&&◌, ◌-◌, ◌+◌, ◌<◌, ◌==◌, ◌⊎◌, inl, inr, List, [], ◌∷◌, ◌++◌, IsTrue, refl, sym, ◌∙◌, ap, append_assoc, append-nil, cond, eqb, length, length-append, take, arith, rules, bytes_eq}
+use Rattle.std.proofs.Common.{◌≡◌, ℕ, Bool, true, false, ◌&&◌, ◌-◌, ◌<◌, ◌==◌, ◌⊎◌, inl, inr, List, [], ◌∷◌, ◌++◌, IsTrue, refl, sym, ◌∙◌, append_assoc, append-nil, cond, length, length-append, take, arith, bytes_eq}
 use Rattle.std.specs.List.{list_all}
 use Rattle.std.proofs.Math.Seq.{take-append_seam}
 use Rattle.std.proofs.lemmas.Slice.Eq.{bytes_eq-Decides}
 use Rattle.kmin.specs.Lines.{lines, in_front}
 use Rattle.kmin.specs.Bytes.{is_in}
 use Rattle.kmin.specs.declared.bytes.Class.TheVariants.{Inline}
-use Rattle.kmin.specs.Bundles.{marker, BeginsWithLine, HasWholeLines, has_no_marker, IsBundle, parted, unparted}
+use Rattle.kmin.specs.Bundles.{marker, BeginsWithLine, HasWholeLines, has_no_marker, IsBundle, parted}
 use Rattle.kmin.proofs.LineLaws.{lines_of_run}
 
 -- lines behind a newline are lines of their own

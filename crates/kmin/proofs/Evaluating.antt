@@ -1,11 +1,10 @@
 -- The values of an entry are those of its symbol.
-use Rattle.std.proofs.Common.{◌≡◌, ℕ, Bool, true, false, List, [], ◌∷◌, refl, sym, ◌∙◌, ap, map, if◌then◌else◌}
+use Rattle.std.proofs.Common.{◌≡◌, ℕ, true, false, List, [], ◌∷◌, refl, sym, ◌∙◌, ap, map, if◌then◌else◌}
 use Rattle.kc_value.specs.declared.tri.Tri.{Tri}
-use Rattle.kc_value.specs.declared.tri.Tri.TheVariants.{N, M, Y}
 use Rattle.kc_value.specs.Tri.{tri_and, tri_or}
-use Rattle.kmin.specs.Grammar.{Attribute, bool, default, depends_on, Entry}
-use Rattle.kmin.specs.Symbols.{Condition, Default, prompts_under, defaults_under, dependency_of, symbol_of}
-use Rattle.kmin.specs.Values.{condition_value, greatest, visibility, default_value, is_n, promoted}
+use Rattle.kmin.specs.Grammar.{Attribute, bool, default, depends_on}
+use Rattle.kmin.specs.Symbols.{Condition, prompts_under, defaults_under, dependency_of}
+use Rattle.kmin.specs.Values.{condition_value, greatest, default_value, is_n, promoted}
 use Rattle.kmin.specs.Evaluated.{greatest_under, default_under}
 
 pub prompts_same : (read : List ℕ → Tri) (c : Condition) (attributes : List Attribute) → greatest (map (condition_value read) (prompts_under c attributes)) ≡ greatest_under (condition_value read c) attributes

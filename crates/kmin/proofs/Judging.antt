@@ -1,7 +1,7 @@
 -- What was read is a tree, or no entries are.
-use Rattle.std.proofs.Common.{◌≡◌, ◌↔◌, ℕ, Bool, true, false, List, [], ◌∷◌, ◌++◌, ◌⊎◌, inl, inr, Option, Some, None, refl, sym, ◌∙◌, ap, append-nil, append_assoc, map, flat_map}
+use Rattle.std.proofs.Common.{◌≡◌, ◌↔◌, ℕ, List, [], ◌∷◌, ◌++◌, Option, Some, None, refl, sym, ◌∙◌, ap, append-nil, map, flat_map}
 use Rattle.std.specs.Prelude.{IsNone}
-use Rattle.kmin.specs.Grammar.{Attribute, attribute, config, Entry, Statement, listing, HasStatements, IsTree, AreTyped, AreDistinct}
+use Rattle.kmin.specs.Grammar.{Attribute, attribute, Entry, Statement, listing, HasStatements, IsTree, AreTyped, AreDistinct}
 use Rattle.kmin.specs.Read.{ReadSoFar}
 use Rattle.kmin.proofs.Reading.{orphan}
 

@@ -1,8 +1,8 @@
 -- The lines of a text, one after another.
-use Rattle.std.proofs.Common.{◌≡◌, ◌≢◌, ℕ, Bool, true, false, not, ◌&&◌, ◌==◌, eqb, ◌<◌, length, arith, append-nil, List, [], ◌∷◌, ◌++◌, refl, ap, cond, if◌then◌else◌}
+use Rattle.std.proofs.Common.{◌≡◌, ℕ, Bool, true, false, not, ◌&&◌, ◌==◌, ◌<◌, length, arith, append-nil, List, [], ◌∷◌, ◌++◌, refl, cond}
 use Rattle.std.specs.List.{list_all}
 use Rattle.kmin.specs.Lines.{lines, in_front}
-use Rattle.kmin.specs.Bytes.{begins_without, is_in}
+use Rattle.kmin.specs.Bytes.{is_in}
 use Rattle.kmin.specs.declared.bytes.Class.TheVariants.{Inline}
 
 -- a run without a newline, and then a newline

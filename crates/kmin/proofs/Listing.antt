@@ -1,6 +1,5 @@
 -- The statements of entries, and the entries of statements.
-use Rattle.std.proofs.Common.{◌≡◌, ◌≢◌, ℕ, zero, suc, ◌+◌, ◌<◌, List, [], ◌∷◌, ◌++◌, refl, sym, ◌∙◌, ap, append_assoc, append-nil, arith, rules, map, flat_map, length, get_or, slice_set}
-use Rattle.kmin.specs.Grammar as grammar
+use Rattle.std.proofs.Common.{◌≡◌, ℕ, zero, suc, ◌+◌, List, [], ◌∷◌, ◌++◌, sym, ◌∙◌, ap, append_assoc, append-nil, arith, map, flat_map, length, get_or, slice_set}
 use Rattle.kmin.specs.Grammar.{Statement, listing}
 use Rattle.kmin.specs.Read.{entry_of}
 use Rattle.kmin.specs.declared.entry.Entry.{Entry}

@@ -1,5 +1,5 @@
 -- Places of names, one name after another.
-use Rattle.std.proofs.Common.{◌≡◌, ◌≢◌, ◌↔◌, ℕ, zero, suc, ◌+◌, ◌<◌, ◌≤◌, Bool, true, false, cond, List, [], ◌∷◌, ◌++◌, Option, Some, None, option_map, refl, sym, ◌∙◌, ap, arith, rules, map, length, take, drop, get_or, bytes_eq, inl, inr, ◌⊎◌}
+use Rattle.std.proofs.Common.{◌≡◌, ◌≢◌, ◌↔◌, ℕ, zero, suc, ◌+◌, ◌<◌, ◌≤◌, Bool, true, false, cond, List, [], ◌∷◌, ◌++◌, Option, Some, None, option_map, refl, sym, ◌∙◌, ap, arith, length, take, get_or, bytes_eq, inl, inr, ◌⊎◌}
 use Rattle.std.specs.Prelude.{slice_get, is_some, is_none, IsNone, IfSome}
 use Rattle.std.proofs.lemmas.Bool.{cases_lt}
 use Rattle.std.proofs.lemmas.Bool.Decides.{same_from_decides}
@@ -8,7 +8,6 @@ use Rattle.std.proofs.lemmas.Slice.Eq.{bytes_eq-Decides}
 use Rattle.kmin.specs.Names.{noted, place_of}
 use Rattle.std.specs.Borrow.{Bor}
 use Rattle.std.specs.HashMap as hash
-use Rattle.std.specs.Map.{update}
 use Rattle.std.proofs.lemmas.Map.Text.{hash_map_updates_str}
 use Rattle.kmin.specs.Read.{IsNumbered, entries_of, entry_of}
 use Rattle.kmin.specs.declared.entry.Entry.{Entry as ReadEntry}
@@ -131,7 +130,7 @@ numbered_fresh old new name n names i l none u = λ other.
     let e : place_of name names ≡ None = sym (i name) ∙ none in
     let w : bytes_eq other name ≡ true → place_of other names ≡ None = λ t. ap (λ x. place_of x names) ((bytes_eq-Decides other name).0 t) ∙ e in
     hash_map_updates_str name old new (Some n) u other ∙ ap (λ b. cond b (Some n) (hash.get_by (λ k. bytes_eq other k.now) old)) (bytes_sym name other) ∙ fresh_number (place_of other names) (bytes_eq other name) n (hash.get_by (λ k. bytes_eq other k.now) old) (i other) w
-        ∙ ap (λ m. one_more_place (place_of other names) m (bytes_eq other name)) (sym l) ∙ sym (place_of-push other name names)
+    ∙ ap (λ m. one_more_place (place_of other names) m (bytes_eq other name)) (sym l) ∙ sym (place_of-push other name names)
 
 pub numbered_kept : {S : Type 0} (old : hash.HashMap (Bor (List ℕ)) ℕ S) (name : List ℕ) (names : List (List ℕ)) → IsNumbered old names → (hash.get_by (λ k. bytes_eq name k.now) old ≢ None) → IsNumbered old (names ++ name ∷ [])
 numbered_kept old name names i some = λ other.

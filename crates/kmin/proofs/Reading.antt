@@ -1,8 +1,7 @@
 -- Reading the lines of a tree, one after another.
-use Rattle.std.proofs.Common.{◌≡◌, ◌≢◌, ℕ, Bool, true, false, IsTrue, List, [], ◌∷◌, ◌++◌, ◌⊎◌, inl, inr, Option, Some, None, refl, sym, ◌∙◌, ap, append_assoc, append-nil, arith, rules, map, flat_map}
-use Rattle.kmin.specs.Grammar.{Token, Statement, config, attribute, Attribute, Entry, listing, HasTokens, IsStatement, HasStatements}
+use Rattle.std.proofs.Common.{◌≡◌, ℕ, Bool, true, false, IsTrue, List, [], ◌∷◌, ◌++◌, ◌⊎◌, inl, inr, Option, Some, None, refl, sym, ◌∙◌, ap, append_assoc, flat_map}
+use Rattle.kmin.specs.Grammar.{Token, Statement, attribute, Attribute, Entry, listing, IsStatement, HasStatements}
 use Rattle.kmin.specs.Read.{IsRead, ReadSoFar, statement_of}
-use Rattle.kmin.specs.declared.entry.Line.{Line}
 use Rattle.kmin.specs.declared.entry.Line.TheVariants.{Blank, Says, Unsupported}
 use Rattle.kmin.specs.declared.statement.Statement.{Statement as ReadStatement}
 use Rattle.kmin.proofs.Saying.{said_of, same_statement}
@@ -31,9 +30,10 @@ says_only line left s more h (inr w) =
 
 pub says_step : (all left : List (List ℕ)) (line : List ℕ) (front new : List Statement) (fault : Option ℕ) (s : ReadStatement) → IsRead line (Says s) → new ≡ front ++ statement_of s ∷ []
     → ReadSoFar all (line ∷ left) front fault → ReadSoFar all left new fault
-says_step all left line front new None s h e i =
-    ( (λ more k. rw (e, append_assoc) (i.0 (statement_of s ∷ more) (inr (h.0, statement_of s, more, h.1, h.2, refl, k))))
-    , (λ others k. let w = i.1 others k in let f = says_only line left s w.0 h w.1 in (f.0, f.1, rw (e, append_assoc) (w.2 ∙ ap (λ x. front ++ x) f.2))))
+says_step all left line front new None s h e i = (
+  (λ more k. rw (e, append_assoc) (i.0 (statement_of s ∷ more) (inr (h.0, statement_of s, more, h.1, h.2, refl, k)))),
+  (λ others k. let w = i.1 others k in let f = says_only line left s w.0 h w.1 in (f.0, f.1, rw (e, append_assoc) (w.2 ∙ ap (λ x. front ++ x) f.2))),
+)
 says_step all left line front new (Some n) s h e i = i
 
 -- the line isn't in the grammar

@@ -1,5 +1,5 @@
 -- Runs of bytes of a kind.
-use Rattle.std.proofs.Common.{◌≡◌, ℕ, suc, ◌+◌, Bool, true, false, cond, not, ◌&&◌, List, [], ◌∷◌, ◌++◌, IsTrue, refl, take, drop, arith, rules, ap, zero-add, add_comm, ◌∙◌, sym}
+use Rattle.std.proofs.Common.{◌≡◌, ℕ, suc, ◌+◌, Bool, true, false, cond, not, ◌&&◌, List, [], ◌∷◌, ◌++◌, refl, take, drop, arith, sym}
 use Rattle.std.specs.List.{list_all, prefix_len}
 use Rattle.kmin.specs.Bytes.{begins_without}
 

@@ -1,8 +1,8 @@
 -- What tokens say agrees with the grammar.
-use Rattle.std.proofs.Common.{◌≡◌, ◌≢◌, ℕ, Bool, true, false, not, ◌&&◌, List, [], ◌∷◌, ◌++◌, Option, Some, None, option_map, IsTrue, refl, sym, ◌∙◌, ap, cond, arith, rules, codes, bytes_eq, if◌then◌else◌, map, length, ◌<◌}
+use Rattle.std.proofs.Common.{◌≡◌, ◌≢◌, ℕ, Bool, true, false, List, [], ◌∷◌, Option, Some, None, option_map, refl, sym, ◌∙◌, ap, arith, codes, bytes_eq, if◌then◌else◌, length, ◌<◌}
 use Rattle.std.proofs.lemmas.Slice.Eq.{bytes_eq-Decides}
-use Rattle.kmin.specs.Grammar.{HasTokens, Token, word, quoted, Attribute, bool, default, depends_on, Statement, config, attribute, is_name, is_operand, IsStatement, config_line, bool_line, prompt_line, default_line, depends_line}
-use Rattle.kmin.specs.Said.{lone_name, lone_operand, lone_prompt, operand_behind_on, said_behind, said}
+use Rattle.kmin.specs.Grammar.{HasTokens, Token, word, quoted, bool, default, depends_on, Statement, config, attribute, is_name, is_operand, IsStatement, config_line, bool_line, prompt_line, default_line, depends_line}
+use Rattle.kmin.specs.Said.{lone_name, lone_operand, lone_prompt, operand_behind_on, said}
 
 -- each statement is what its tokens say
 pub said_of : (tokens : List Token) (s : Statement) → IsStatement tokens s → said tokens ≡ Some s
@@ -62,7 +62,7 @@ depends_is (quoted text ∷ ts) s e = cc
 keyword_is : (a b c d : Bool) (keyword : List ℕ) (rest : List Token) (s : Statement)
     → bytes_eq keyword (codes "config") ≡ a → bytes_eq keyword (codes "bool") ≡ b → bytes_eq keyword (codes "default") ≡ c → bytes_eq keyword (codes "depends") ≡ d
     → (if a then option_map config (lone_name rest) else if b then option_map (λ has_prompt. attribute (bool has_prompt)) (lone_prompt rest)
-        else if c then option_map (λ o. attribute (default o)) (lone_operand rest) else if d then option_map (λ o. attribute (depends_on o)) (operand_behind_on rest) else None) ≡ Some s
+    else if c then option_map (λ o. attribute (default o)) (lone_operand rest) else if d then option_map (λ o. attribute (depends_on o)) (operand_behind_on rest) else None) ≡ Some s
     → IsStatement (word keyword ∷ rest) s
 keyword_is true b c d keyword rest s h i j k e = rw ((bytes_eq-Decides keyword (codes "config")).0 h) (config_is rest s e)
 keyword_is false true c d keyword rest s h i j k e = rw ((bytes_eq-Decides keyword (codes "bool")).0 i) (bool_is rest s e)
@@ -88,6 +88,7 @@ pub says_none : (line : List ℕ) (tokens items : List Token) (o : Option Statem
     → items ≡ tokens → o ≡ None → o ≡ said items → (others : List Token) → HasTokens line others → (others ≢ []) × ((s : Statement) → IsStatement others s → ⊥)
 says_none line tokens items o n only e f g others h =
     let same : others ≡ tokens = only others h in
-    let nothing : said others ≡ None = ap said same ∙ sym (ap said e) ∙ sym g ∙ f in
-    ( (λ z. let l : length tokens ≡ 0 = ap length (sym same ∙ z) in omega arith)
-    , (λ s k. let q : Some s ≡ None = sym (said_of others s k) ∙ nothing in cc))
+    let nothing : said others ≡ None = ap said same ∙ sym (ap said e) ∙ sym g ∙ f in (
+      (λ z. let l : length tokens ≡ 0 = ap length (sym same ∙ z) in omega arith),
+      (λ s k. let q : Some s ≡ None = sym (said_of others s k) ∙ nothing in cc),
+    )

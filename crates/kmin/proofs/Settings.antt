@@ -1,14 +1,13 @@
 -- What a line of a configuration file says.
-use Rattle.std.proofs.Common.{◌≡◌, ◌≢◌, ◌↔◌, ℕ, ◌-◌, ◌<◌, Bool, true, false, not, ◌==◌, List, [], ◌∷◌, ◌++◌, Option, Some, None, ◌⊎◌, inl, inr, IsTrue, refl, sym, ◌∙◌, ap, arith, rules, length, append_assoc, cond, codes, take, drop, bytes_eq}
+use Rattle.std.proofs.Common.{◌≡◌, ◌≢◌, ◌↔◌, ℕ, ◌<◌, Bool, true, false, not, List, [], ◌∷◌, ◌++◌, Option, Some, None, inl, inr, refl, sym, ◌∙◌, ap, arith, length, take, drop, bytes_eq}
 use Rattle.std.proofs.lemmas.List.{take-append-drop}
 use Rattle.std.proofs.lemmas.Slice.Eq.{bytes_eq-Decides}
 use Rattle.std.specs.Prelude.{is_some, IfSome, IfNone}
 use Rattle.std.specs.Borrow.{Bor}
 use Rattle.std.specs.List.{list_all}
-use Rattle.kmin.specs.Bytes.{is_in, is_white, begins_without}
-use Rattle.kmin.specs.declared.bytes.Class.TheVariants.{Key, Solid, White}
+use Rattle.kmin.specs.Bytes.{is_white, begins_without}
 use Rattle.kmin.specs.Configuration.{before_trimmed, trimmed, IsComment}
-use Rattle.kmin.proofs.Runs.{unique, head_all}
+use Rattle.kmin.proofs.Runs.{unique}
 
 -- the longest run is the one before a byte that isn't of its kind
 pub same_run : (p : ℕ → Bool) (bytes run behind other rest : List ℕ) → bytes ≡ run ++ behind → list_all p run ≡ true → begins_without p behind ≡ true
@@ -48,9 +47,9 @@ pub no_name : (p : ℕ → Bool) (bytes run behind name rest : List ℕ) → byt
 no_name p bytes run behind name rest e h m z k n f some =
     let same : run ≡ name = (same_run p bytes run behind name rest e h m k n f).0 in
     some (no_bytes name (ap length (sym same) ∙ z)) where
-  no_bytes : (xs : List ℕ) → length xs ≡ 0 → xs ≡ []
-  no_bytes [] l = refl
-  no_bytes (x ∷ xs) l = absurd (omega arith)
+      no_bytes : (xs : List ℕ) → length xs ≡ 0 → xs ≡ []
+      no_bytes [] l = refl
+      no_bytes (x ∷ xs) l = absurd (omega arith)
 
 pub stripped : (n : ℕ) (line prefix rest : List ℕ) → bytes_eq (take n line) prefix ≡ true → rest ≡ drop n line → line ≡ prefix ++ rest
 stripped n line prefix rest h e = sym (take-append-drop n line) ∙ ap (λ x. x ++ drop n line) ((bytes_eq-Decides (take n line) prefix).0 h) ∙ ap (λ x. prefix ++ x) (sym e)

@@ -1,19 +1,18 @@
 -- Values found one after another solve an assignment.
-use Rattle.std.proofs.Common.{◌≡◌, ℕ, zero, suc, ◌+◌, ◌<◌, ◌≤◌, leb, Bool, true, false, ◌||◌, List, [], ◌∷◌, ◌++◌, Option, Some, None, refl, sym, ◌∙◌, ap, arith, rules, map, flat_map, length, length-append, get_or, inl, inr, ◌⊎◌, cond}
-use Rattle.std.specs.Prelude.{slice_get, slice_index_or, codes, bytes_eq, if◌then◌else◌, nat_le}
+use Rattle.std.proofs.Common.{◌≡◌, ℕ, zero, suc, ◌+◌, ◌<◌, ◌≤◌, Bool, true, false, ◌||◌, List, [], ◌∷◌, ◌++◌, Option, Some, None, refl, sym, ◌∙◌, ap, arith, flat_map, length, inl, inr, ◌⊎◌}
+use Rattle.std.specs.Prelude.{slice_get, slice_index_or, codes, bytes_eq, if◌then◌else◌}
 use Rattle.std.specs.List.{list_any}
 use Rattle.std.specs.Option.{option_map}
 use Rattle.std.proofs.Math.ListN.{get_or-append}
-use Rattle.std.proofs.lemmas.Bool.{cases_lt, ltb-true}
+use Rattle.std.proofs.lemmas.Bool.{cases_lt}
 use Rattle.std.proofs.lemmas.List.{length-map}
 use Rattle.std.proofs.lemmas.Option.{slice_get_within, slice_get-map}
 use Rattle.std.proofs.lemmas.Simd.{map-map}
 use Rattle.kc_value.specs.declared.tri.Tri.{Tri}
-use Rattle.kc_value.specs.declared.tri.Tri.TheVariants.{N, M, Y}
-use Rattle.kc_value.specs.Tri.{tri_and, tri_or}
+use Rattle.kc_value.specs.declared.tri.Tri.TheVariants.{N, Y}
 use Rattle.kmin.specs.Names.{place_of}
 use Rattle.kmin.specs.Grammar.{Attribute, bool, default, depends_on, Entry, operands_in, is_forward, refers_forward, AreOrdered, names_of}
-use Rattle.kmin.specs.Symbols.{Symbol, symbol_of, symbols_of, dependency_of, prompts_under, defaults_under}
+use Rattle.kmin.specs.Symbols.{Symbol, symbol_of, symbols_of, dependency_of}
 use Rattle.kmin.specs.Values as values
 use Rattle.kmin.specs.Values.{value_at, reading, condition_value, visibility, default_value, promoted, base_value, rule, Solves, is_n, greatest}
 use Rattle.kmin.specs.Evaluated.{greatest_under, default_under}
@@ -64,7 +63,7 @@ module _ (f : List ℕ → Bool) (r s : List ℕ → Tri) (agree : (w : List ℕ
   defaults_of_same e h =
       let c : condition_value r (dependency_of e.attributes) ≡ condition_value s (dependency_of e.attributes) = dependency_same e.attributes h in
       defaults_same r (dependency_of e.attributes) e.attributes ∙ default_same (condition_value r (dependency_of e.attributes)) e.attributes h
-        ∙ ap (λ t. default_under s t e.attributes) c ∙ sym (defaults_same s (dependency_of e.attributes) e.attributes)
+      ∙ ap (λ t. default_under s t e.attributes) c ∙ sym (defaults_same s (dependency_of e.attributes) e.attributes)
 
   pub rule_same : (e : Entry) (user : Option Tri) → list_any f (flat_map operands_in e.attributes) ≡ false → rule r (symbol_of e) user ≡ rule s (symbol_of e) user
   rule_same e user h = ap (λ v. promoted (base_value v user (default_value r (symbol_of e).defaults))) (visibility_same e h) ∙ ap (λ d. promoted (base_value (visibility s (symbol_of e)) user d)) (defaults_of_same e h)
@@ -98,9 +97,9 @@ solved_split es users vs i e x o n at is below k f l g (inr m) =
     let q : Some f ≡ Some e = sym g ∙ ap (slice_get es) same ∙ at in
     let s : e ≡ f = cc in
     let v : rule (reading (names_of es) vs) (symbol_of f) (slice_index_or users k None) ≡ rule (reading (names_of es) (vs ++ x ∷ [])) (symbol_of f) (slice_index_or users k None) =
-        later_same (names_of es) vs (x ∷ []) k f (slice_index_or users k None) (o k f g) (omega arith) in
+    later_same (names_of es) vs (x ∷ []) k f (slice_index_or users k None) (o k f g) (omega arith) in
     let y : x ≡ rule (reading (names_of es) vs) (symbol_of f) (slice_index_or users k None) =
-        is ∙ ap (λ (z : Entry). rule (reading (names_of es) vs) (symbol_of z) (slice_index_or users i None)) s ∙ ap (λ j. rule (reading (names_of es) vs) (symbol_of f) (slice_index_or users j None)) (sym same) in
+    is ∙ ap (λ (z : Entry). rule (reading (names_of es) vs) (symbol_of z) (slice_index_or users i None)) s ∙ ap (λ j. rule (reading (names_of es) vs) (symbol_of f) (slice_index_or users j None)) (sym same) in
     get_seam vs x k (omega arith) ∙ ap Some (y ∙ v)
 
 pub solved_more : (es : List Entry) (users : List (Option Tri)) (vs : List Tri) (i : ℕ) (e : Entry) (x : Tri) → AreOrdered es → length vs ≡ i → slice_get es i ≡ Some e

@@ -1,5 +1,5 @@
 -- The tokens of a line, one after another.
-use Rattle.std.proofs.Common.{◌≡◌, ◌≢◌, ℕ, zero, suc, ◌+◌, ◌<◌, ◌≤◌, Bool, true, false, not, ◌&&◌, ◌==◌, eqb, List, [], ◌∷◌, ◌++◌, IsTrue, refl, sym, ◌∙◌, ap, append_assoc, append-nil, length, length-append, get_or, arith, rules}
+use Rattle.std.proofs.Common.{◌≡◌, ℕ, zero, suc, ◌<◌, Bool, true, false, List, [], ◌∷◌, ◌++◌, refl, sym, ◌∙◌, ap, append_assoc, append-nil, length, get_or, arith}
 use Rattle.std.specs.List.{list_all}
 use Rattle.kmin.specs.Bytes.{begins_without, is_blank, is_word, is_quoted}
 use Rattle.kmin.specs.Grammar.{Token, word, quoted, spelling, IsToken, BeginsWithToken, HasTokens}

@@ -1,5 +1,5 @@
 -- Kinds of bytes, and runs of them.
-use Rattle.std.specs.Prelude.{ℕ, Bool, true, false, not, List, [], ◌∷◌, ◌==◌, ◌||◌, ◌&&◌, nat_le}
+use Rattle.std.specs.Prelude.{ℕ, Bool, true, not, List, [], ◌∷◌, ◌==◌, ◌||◌, ◌&&◌, nat_le}
 use Rattle.kmin.specs.declared.bytes.Class.{Class}
 use Rattle.kmin.specs.declared.bytes.Class.TheVariants.{Blank, Word, Quoted, Inline, White, Key, Solid}
 

@@ -1,9 +1,9 @@
 -- Configuration files: what a line says, and what a file assigns.
 -- (Kconfiglib's `load_config`: `CONFIG_NAME=value`, `# CONFIG_NAME is not set`)
-use Rattle.std.specs.Prelude.{◌≡◌, ◌≢◌, ℕ, Bool, true, false, not, List, [], ◌∷◌, ◌++◌, map, Option, Some, None, IsTrue, IsUtf8, ◌⊎◌, ◌==◌, codes, bytes_eq, if◌then◌else◌}
+use Rattle.std.specs.Prelude.{◌≡◌, ◌≢◌, ℕ, not, List, [], ◌∷◌, ◌++◌, map, Option, Some, None, IsTrue, IsUtf8, ◌⊎◌, ◌==◌, codes, bytes_eq, if◌then◌else◌}
 use Rattle.std.specs.List.{list_all}
 use Rattle.kc_value.specs.declared.tri.Tri.{Tri}
-use Rattle.kc_value.specs.declared.tri.Tri.TheVariants.{N, M, Y}
+use Rattle.kc_value.specs.declared.tri.Tri.TheVariants.{N, Y}
 use Rattle.kmin.specs.Bytes.{is_white}
 
 -- what a line says of a name: a value, or that it isn't set
@@ -39,7 +39,7 @@ abbrev pub HasSettings : List (List ℕ) → List Setting → Type 0
 HasSettings [] settings = settings ≡ []
 HasSettings (line ∷ lines) settings = IsUtf8 line
     × ((IsNothing (trimmed line) × HasSettings lines settings)
-        ⊎ ((setting : Setting) × (rest : List Setting) × IsSetting (trimmed line) setting × (settings ≡ setting ∷ rest) × HasSettings lines rest))
+    ⊎ ((setting : Setting) × (rest : List Setting) × IsSetting (trimmed line) setting × (settings ≡ setting ∷ rest) × HasSettings lines rest))
 
 -- what a text says as the value of a bool
 abbrev pub bool_of : List ℕ → Option Tri

@@ -1,7 +1,7 @@
 -- The values of an entry's attributes, as they are computed. `Values` has the definitions; these agree with it.
-use Rattle.std.specs.Prelude.{ℕ, Bool, true, false, List, [], ◌∷◌, if◌then◌else◌}
+use Rattle.std.specs.Prelude.{ℕ, true, false, List, [], ◌∷◌, if◌then◌else◌}
 use Rattle.kc_value.specs.declared.tri.Tri.{Tri}
-use Rattle.kc_value.specs.declared.tri.Tri.TheVariants.{N, M, Y}
+use Rattle.kc_value.specs.declared.tri.Tri.TheVariants.{N}
 use Rattle.kc_value.specs.Tri.{tri_and, tri_or}
 use Rattle.kmin.specs.Grammar.{Attribute, bool, default, depends_on}
 use Rattle.kmin.specs.Values.{is_n}

@@ -1,5 +1,5 @@
 -- What a bundle asks for.
-use Rattle.std.specs.Prelude.{◌≡◌, ℕ, List, Option, ◌<◌, length}
+use Rattle.std.specs.Prelude.{◌≡◌, ℕ, List}
 use Rattle.kc_value.specs.declared.tri.Tri.{Tri}
 use Rattle.kmin.specs.Lines.{lines}
 use Rattle.kmin.specs.Bundles.{IsBundle}

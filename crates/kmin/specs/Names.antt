@@ -1,5 +1,5 @@
 -- The places of names in a list.
-use Rattle.std.specs.Prelude.{◌≡◌, ℕ, suc, Bool, true, false, List, [], ◌∷◌, Option, Some, None, option_map, bytes_eq, if◌then◌else◌}
+use Rattle.std.specs.Prelude.{ℕ, suc, Bool, true, false, List, [], ◌∷◌, Option, Some, None, option_map, bytes_eq, if◌then◌else◌}
 
 -- the first place of a name in a list
 abbrev pub place_of : List ℕ → List (List ℕ) → Option ℕ

@@ -1,5 +1,5 @@
 -- When a bundle is refused, by the fault.
-use Rattle.std.specs.Prelude.{◌≡◌, ℕ, ◌<◌, ◌-◌, ◌^◌, List, Option, length}
+use Rattle.std.specs.Prelude.{ℕ, ◌<◌, ◌-◌, ◌^◌, List, Option, length}
 use Rattle.std.specs.Io.KnownBytes.{Consumes}
 use Rattle.kmin.specs.Bundles.{ReadsWhole}
 use Rattle.kmin.specs.declared.fault.Fault.{Fault}

@@ -1,6 +1,6 @@
 -- What tokens say, computed. `IsStatement` is the definition; these agree with it.
 use Rattle.std.specs.Prelude.{ℕ, Bool, true, false, List, [], ◌∷◌, Option, Some, None, option_map, codes, bytes_eq, if◌then◌else◌}
-use Rattle.kmin.specs.Grammar.{Token, word, quoted, Attribute, bool, default, depends_on, Statement, config, attribute, is_name, is_operand}
+use Rattle.kmin.specs.Grammar.{Token, word, quoted, bool, default, depends_on, Statement, config, attribute, is_name, is_operand}
 
 -- tokens that are just a name
 abbrev pub lone_name : List Token → Option (List ℕ)

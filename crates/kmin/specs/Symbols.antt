@@ -1,6 +1,6 @@
 -- Symbols: what the entries of a tree mean.
 -- (kconfig-language.rst, "Menu attributes": a dependency applies to all other attributes of its entry)
-use Rattle.std.specs.Prelude.{ℕ, Bool, true, false, List, [], ◌∷◌, map}
+use Rattle.std.specs.Prelude.{ℕ, true, false, List, [], ◌∷◌, map}
 use Rattle.kmin.specs.Grammar.{Attribute, bool, default, depends_on, Entry}
 
 -- a conjunction of operands

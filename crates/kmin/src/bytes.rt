@@ -31,7 +31,8 @@ impl Class {
             Class::Blank => byte == b'\t' || byte == b' ',
             Class::Word => byte.is_ascii_alphanumeric() || byte == b'_',
             Class::Quoted => {
-                (byte == b'\t' || (b' '..=b'~').contains(&byte)) && !matches!(byte, b'"' | b'$' | b'\\')
+                (byte == b'\t' || (b' '..=b'~').contains(&byte))
+                    && !matches!(byte, b'"' | b'$' | b'\\')
             }
             Class::Inline => byte != b'\n',
             Class::White => matches!(byte, b'\t' | 0x0B | 0x0C | b'\r' | b' '),

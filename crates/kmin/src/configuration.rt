@@ -40,7 +40,12 @@ fn bool_of(value: &[u8]) -> Option<Tri>
 }
 
 /// Assigns a value to a symbol. Tells why not, where that assigns nothing.
-fn assign(tree: &Tree<'_>, users: &mut [Option<Tri>], name: &[u8], value: Option<Tri>) -> Option<NoticeKind>
+fn assign(
+    tree: &Tree<'_>,
+    users: &mut [Option<Tri>],
+    name: &[u8],
+    value: Option<Tri>,
+) -> Option<NoticeKind>
     requires { length users.old ≡ vec_len tree.now.entries }
     ensures users { users.new ≡ assigned_at (place_of name.now (names_of (entries_of tree.now.entries.items))) value users.old }
     ensures notice { result ≡ notice_of (place_of name.now (names_of (entries_of tree.now.entries.items))) value }
@@ -58,7 +63,11 @@ fn assign(tree: &Tree<'_>, users: &mut [Option<Tri>], name: &[u8], value: Option
 }
 
 /// Takes what a line says into the users' values.
-fn apply_line(tree: &Tree<'_>, users: &mut [Option<Tri>], line: &[u8]) -> Result<Option<NoticeKind>, LoadKind>
+fn apply_line(
+    tree: &Tree<'_>,
+    users: &mut [Option<Tri>],
+    line: &[u8],
+) -> Result<Option<NoticeKind>, LoadKind>
     requires distinct { AreDistinct (entries_of tree.now.entries.items) }
     requires users { length users.old ≡ vec_len tree.now.entries }
     ensures ok { OnOk result ((all left : List (List ℕ)) → ConfiguredSoFar all (line.now ∷ left) (names_of (entries_of tree.now.entries.items)) users.old → ConfiguredSoFar all left (names_of (entries_of tree.now.entries.items)) users.new) }
@@ -92,7 +101,11 @@ pub struct Configuration {
 /// Reads a configuration file over a tree.
 ///
 /// `NotUtf8` and `Malformed` are told at the first line that isn't UTF-8 or says nothing that a line can say.
-pub fn read_configuration(alloc: Global, tree: &Tree<'_>, text: &[u8]) -> Result<Configuration, Fault>
+pub fn read_configuration(
+    alloc: Global,
+    tree: &Tree<'_>,
+    text: &[u8],
+) -> Result<Configuration, Fault>
     requires { AreDistinct (entries_of tree.now.entries.items) }
     ensures users { IfOk result (λ read. (settings : List SpelledSetting) × HasSettings (lines text.now) settings × (read.users.items ≡ users_after (names_of (entries_of tree.now.entries.items)) settings)) }
     ensures refused { IfErr result (λ fault. (fault ≡ Fault.OutOfMemory) ⊎ (IsLoad fault × ((settings : List SpelledSetting) → HasSettings (lines text.now) settings → ⊥))) }
@@ -111,7 +124,11 @@ pub fn read_configuration(alloc: Global, tree: &Tree<'_>, text: &[u8]) -> Result
 }
 
 /// Notes a line that assigns nothing.
-fn push_notice(notices: &mut Vec<Notice>, line: u32, kind: Option<NoticeKind>) -> Result<(), AllocError> {
+fn push_notice(
+    notices: &mut Vec<Notice>,
+    line: u32,
+    kind: Option<NoticeKind>,
+) -> Result<(), AllocError> {
     if let Some(kind) = kind {
         notices.push(Notice { line, kind })?;
     }

@@ -46,16 +46,28 @@ pub fn read_line(alloc: Global, line: &[u8], number: u32) -> Result<Line<'_>, Al
 }
 
 /// Adds an entry without attributes.
-fn push_config<'a>(alloc: Global, entries: &mut Vec<Entry<'a>>, line: u32, name: &'a str) -> Result<(), AllocError>
+fn push_config<'a>(
+    alloc: Global,
+    entries: &mut Vec<Entry<'a>>,
+    line: u32,
+    name: &'a str,
+) -> Result<(), AllocError>
     ensures { OnOk result (statements_of entries.new.items ≡ statements_of entries.old.items ++ config name.now ∷ []) }
 {
     let attributes = Vec::new(alloc);
-    entries.push(Entry { line, name, attributes })?;
+    entries.push(Entry {
+        line,
+        name,
+        attributes,
+    })?;
     Ok(())
 }
 
 /// Adds an attribute to the last entry, if there is one.
-fn push_attribute<'a>(entries: &mut Vec<Entry<'a>>, added: Attribute<'a>) -> Result<bool, AllocError>
+fn push_attribute<'a>(
+    entries: &mut Vec<Entry<'a>>,
+    added: Attribute<'a>,
+) -> Result<bool, AllocError>
     ensures added { IfOk result (λ done. IsTrue done → statements_of entries.new.items ≡ statements_of entries.old.items ++ attribute (attribute_of added.entry) ∷ []) }
     ensures none { IfOk result (λ done. IsTrue done ⊎ ((entries.old.items ≡ []) × (entries.new.items ≡ []))) }
 {
@@ -67,7 +79,13 @@ fn push_attribute<'a>(entries: &mut Vec<Entry<'a>>, added: Attribute<'a>) -> Res
 }
 
 /// Adds what a line says to the entries. Tells the first line that isn't in the grammar: the one known before, or this one.
-fn read_next<'a>(alloc: Global, entries: &mut Vec<Entry<'a>>, fault: Option<u32>, line: &'a [u8], number: u32) -> Result<Option<u32>, AllocError>
+fn read_next<'a>(
+    alloc: Global,
+    entries: &mut Vec<Entry<'a>>,
+    fault: Option<u32>,
+    line: &'a [u8],
+    number: u32,
+) -> Result<Option<u32>, AllocError>
     ensures { IfOk result (λ now. (all left : List (List ℕ)) → ReadSoFar all (line.now ∷ left) (statements_of entries.old.items) fault → ReadSoFar all left (statements_of entries.new.items) now) }
 {
     match read_line(alloc, line, number)? {

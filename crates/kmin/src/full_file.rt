@@ -25,7 +25,13 @@ pub fn full_text(alloc: Global, tree: &Tree<'_>, values: &[Tri]) -> Result<Vec<u
 }
 
 /// Appends the line of a symbol that is written.
-fn push_symbol(text: &mut Vec<u8>, tree: &Tree<'_>, values: &[Tri], entry: &Entry<'_>, value: Tri) -> Result<(), AllocError>
+fn push_symbol(
+    text: &mut Vec<u8>,
+    tree: &Tree<'_>,
+    values: &[Tri],
+    entry: &Entry<'_>,
+    value: Tri,
+) -> Result<(), AllocError>
     ensures { OnOk result (text.new.items ≡ text.old.items ++ (if is_written (reading (names_of (entries_of tree.now.entries.items)) values.now) (symbol_of (entry_of entry.now)) then spelled entry.now.name.now value else [])) }
 {
     if is_written(tree, values, entry) {

@@ -23,9 +23,8 @@ mod values;
 use files::Disk;
 use kc_value::{FromRead, ToWrite};
 use run::run;
-use std::env;
-use std::io;
 use std::process::ExitCode;
+use std::{env, io};
 
 fn main(rt: HostRuntime) -> ExitCode {
     match run_words(&rt) {
@@ -42,7 +41,14 @@ fn run_words(rt: &HostRuntime) -> io::Result<u8> {
     let mut out = ToWrite::new(rt.stdout());
     let mut err = ToWrite::new(rt.stderr());
     let mut files = Disk::new(rt);
-    Ok(run(rt.alloc(), &words, &mut files, &mut input, &mut out, &mut err))
+    Ok(run(
+        rt.alloc(),
+        &words,
+        &mut files,
+        &mut input,
+        &mut out,
+        &mut err,
+    ))
 }
 
 /// Words that can't be read: 6 for want of memory, and else 2, since some word isn't UTF-8.

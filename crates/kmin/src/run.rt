@@ -57,7 +57,12 @@ pub fn run<F: Files, I: Source, O: Sink, E: Sink>(
 }
 
 /// Reads a bundle and writes its full file. Lines that assign nothing are told first.
-fn run_bundle<I: Source, O: Sink, E: Sink>(alloc: Global, input: &mut I, out: &mut O, err: &mut E) -> Result<(), Fault>
+fn run_bundle<I: Source, O: Sink, E: Sink>(
+    alloc: Global,
+    input: &mut I,
+    out: &mut O,
+    err: &mut E,
+) -> Result<(), Fault>
     ensures ok { OnOk result ((bundle text : List ℕ) × ReadsWhole (I.left input.old) (I.left input.new) bundle × AnswersBundle bundle text × Appends (O.taken out.old) (O.taken out.new) text) }
     ensures err { IfErr result (RefusesRun (I.left input.old) (I.left input.new) (I.failures input.old) (I.failures input.new) (O.failures out.old) (O.failures out.new)) }
     ensures unwritten { IfErr result (λ fault. (fault ≡ Fault.Write) ⊎ (O.taken out.new ≡ O.taken out.old)) }

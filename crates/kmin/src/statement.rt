@@ -98,11 +98,7 @@ fn operand_behind_on<'a>(tokens: &[Token<'a>]) -> Option<&'a str>
     ensures { option_map (λ operand. operand.now) result ≡ operand_behind_on (map token_of tokens.now) }
 {
     let (on, rest) = split_word(tokens)?;
-    if on == "on" {
-        lone_operand(rest)
-    } else {
-        None
-    }
+    if on == "on" { lone_operand(rest) } else { None }
 }
 
 /// Whether the tokens are a prompt, or there are none.

@@ -30,7 +30,12 @@ struct Ran {
 }
 
 /// Runs on words and a reader, with room for so many bytes of output. A full writer fails.
-fn run_on<S: Source + Drop>(alloc: Global, words: &[&str], mut input: S, room: usize) -> Result<Ran, Fail> {
+fn run_on<S: Source + Drop>(
+    alloc: Global,
+    words: &[&str],
+    mut input: S,
+    room: usize,
+) -> Result<Ran, Fail> {
     let mut out = Bounded::new(alloc, room, true)?;
     let mut err = Bounded::new(alloc, 4096, true)?;
     let status = run(alloc, words, &mut NoFiles, &mut input, &mut out, &mut err);
@@ -66,7 +71,10 @@ fn values_and_full_files(rt: HostRuntime) -> Result<(), Fail> {
             b"# CONFIG_A is not set\n",
         ),
         (b"config A\n\tbool\n\tdefault y\n\tdepends on NONE\n", b""),
-        (b"\n \t\n  config  A\n bool\"p\" \n\tdefault y", b"CONFIG_A=y\n"),
+        (
+            b"\n \t\n  config  A\n bool\"p\" \n\tdefault y",
+            b"CONFIG_A=y\n",
+        ),
         (
             b"config A\n\tbool \"a\"\n%%\n# Automatically generated file; DO NOT EDIT.\n\n  # x\nCONFIG_A=y \t\r",
             b"CONFIG_A=y\n",
@@ -83,11 +91,13 @@ fn values_and_full_files(rt: HostRuntime) -> Result<(), Fail> {
 
 #[test]
 fn notices(rt: HostRuntime) -> Result<(), Fail> {
-    let bundle = b"config A\n\tbool \"a\"\n%%\nCONFIG_GONE=1\nCONFIG_A=m\n# CONFIG_GONE is not set\nCONFIG_A=\n";
+    let bundle =
+        b"config A\n\tbool \"a\"\n%%\nCONFIG_GONE=1\nCONFIG_A=m\n# CONFIG_GONE is not set\nCONFIG_A=\n";
     let ran = run_bundle(rt.alloc(), bundle)?;
     assert_eq!(rt; ran.status, 0);
     assert_eq!(rt; ran.out.bytes(), b"# CONFIG_A is not set\n".as_slice());
-    let lines = b"config:1: UnknownSymbol\nconfig:2: NotOfType\nconfig:3: UnknownSymbol\nconfig:4: NotOfType\n";
+    let lines =
+        b"config:1: UnknownSymbol\nconfig:2: NotOfType\nconfig:3: UnknownSymbol\nconfig:4: NotOfType\n";
     assert_eq!(rt; ran.err.bytes(), lines.as_slice());
     Ok(())
 }
@@ -99,22 +109,40 @@ fn refused_trees(rt: HostRuntime) -> Result<(), Fail> {
         (b"config A\n\tfoo\n\tbool\n", b"Kconfig:2: Unsupported\n"),
         (b"config A\n\tfoo\n", b"Kconfig:1: Unsupported\n"),
         (b"\tbool\nconfig A\n\tbool\n", b"Kconfig:1: Unsupported\n"),
-        (b"config A\n\tbool\n\tbool \"a\"\n", b"Kconfig:3: Unsupported\n"),
-        (b"config A\n\tbool\nconfig A\n\tbool\n", b"Kconfig:3: Unsupported\n"),
+        (
+            b"config A\n\tbool\n\tbool \"a\"\n",
+            b"Kconfig:3: Unsupported\n",
+        ),
+        (
+            b"config A\n\tbool\nconfig A\n\tbool\n",
+            b"Kconfig:3: Unsupported\n",
+        ),
         (b"config y\n\tbool\n", b"Kconfig:1: Unsupported\n"),
         (b"config A B\n\tbool\n", b"Kconfig:1: Unsupported\n"),
-        (b"config A\n\tbool\n\tdefault m\n", b"Kconfig:3: Unsupported\n"),
-        (b"config A\n\tbool\n\tdepends A\n", b"Kconfig:3: Unsupported\n"),
+        (
+            b"config A\n\tbool\n\tdefault m\n",
+            b"Kconfig:3: Unsupported\n",
+        ),
+        (
+            b"config A\n\tbool\n\tdepends A\n",
+            b"Kconfig:3: Unsupported\n",
+        ),
         (b"config A\n\tbool \"a$\"\n", b"Kconfig:1: Unsupported\n"),
         (b"config A\n\tbool \"a\n", b"Kconfig:1: Unsupported\n"),
         (b"config A\n\tbool # x\n", b"Kconfig:1: Unsupported\n"),
         (b"config A\r\n\tbool\n", b"Kconfig:1: Unsupported\n"),
-        (b"config A\n\tbool\n\tdefault A\n%%\nFOO", b"Kconfig:1: ForwardReference\n"),
+        (
+            b"config A\n\tbool\n\tdefault A\n%%\nFOO",
+            b"Kconfig:1: ForwardReference\n",
+        ),
         (
             b"config A\n\tbool\nconfig B\n\tbool \"b\"\n\tdepends on C\nconfig C\n\tbool\n",
             b"Kconfig:3: ForwardReference\n",
         ),
-        (b"config A\n\tbool\n\tdefault B\nconfig B\n\tbool\n%%\n%%\n", b"Kconfig:1: ForwardReference\n"),
+        (
+            b"config A\n\tbool\n\tdefault B\nconfig B\n\tbool\n%%\n%%\n",
+            b"Kconfig:1: ForwardReference\n",
+        ),
     ];
     for (bundle, line) in rows {
         let ran = run_bundle(rt.alloc(), bundle)?;
@@ -150,7 +178,8 @@ fn refused_configurations(rt: HostRuntime) -> Result<(), Fail> {
 
 #[test]
 fn lines_that_say_nothing(rt: HostRuntime) -> Result<(), Fail> {
-    let bundle = b"config A\n\tbool \"a\"\n%%\n # CONFIG_A is not set\n#CONFIG_A=y\n# CONFIG_A is not set is not set\n\n \t\n";
+    let bundle =
+        b"config A\n\tbool \"a\"\n%%\n # CONFIG_A is not set\n#CONFIG_A=y\n# CONFIG_A is not set is not set\n\n \t\n";
     let ran = run_bundle(rt.alloc(), bundle)?;
     assert_eq!(rt; ran.status, 0);
     assert_eq!(rt; ran.err.bytes(), b"".as_slice());
@@ -174,7 +203,14 @@ fn write_fails_or_takes_nothing(rt: HostRuntime) -> Result<(), Fail> {
         let mut input = Script::new(bytes, 7, Then::End);
         let mut out = Bounded::new(rt.alloc(), 10, fails)?;
         let mut err = Bounded::new(rt.alloc(), 4096, true)?;
-        let status = run(rt.alloc(), &[], &mut NoFiles, &mut input, &mut out, &mut err);
+        let status = run(
+            rt.alloc(),
+            &[],
+            &mut NoFiles,
+            &mut input,
+            &mut out,
+            &mut err,
+        );
         assert_eq!(rt; status, 5);
         assert_eq!(rt; out.bytes(), b"# CONFIG_A".as_slice());
         assert_eq!(rt; err.bytes(), b"output: Write\n".as_slice());
@@ -188,7 +224,14 @@ fn standard_error_fails(rt: HostRuntime) -> Result<(), Fail> {
     let mut input = Script::new(bytes, 7, Then::End);
     let mut out = Bounded::new(rt.alloc(), 4096, true)?;
     let mut err = Bounded::new(rt.alloc(), 6, true)?;
-    let status = run(rt.alloc(), &[], &mut NoFiles, &mut input, &mut out, &mut err);
+    let status = run(
+        rt.alloc(),
+        &[],
+        &mut NoFiles,
+        &mut input,
+        &mut out,
+        &mut err,
+    );
     assert_eq!(rt; status, 0);
     assert_eq!(rt; out.bytes(), b"# CONFIG_A is not set\n".as_slice());
     assert_eq!(rt; err.bytes(), b"config".as_slice());
@@ -207,7 +250,10 @@ fn words_are_refused(rt: HostRuntime) -> Result<(), Fail> {
 
 #[test]
 fn largest_bundle(rt: HostRuntime) -> Result<(), Fail> {
-    for (count, status, line) in [(67_108_864, 0, b"".as_slice()), (67_108_865, 4, b"bundle:0: TooLarge\n".as_slice())] {
+    for (count, status, line) in [
+        (67_108_864, 0, b"".as_slice()),
+        (67_108_865, 4, b"bundle:0: TooLarge\n".as_slice()),
+    ] {
         let mut bytes = Vec::with_capacity(rt.alloc(), count)?;
         bytes.resize(count, b' ')?;
         let ran = run_on(rt.alloc(), &[], Script::new(bytes, 65_536, Then::End), 4096)?;

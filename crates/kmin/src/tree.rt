@@ -71,7 +71,10 @@ pub fn read_tree(alloc: Global, tree: &[u8]) -> Result<Tree<'_>, Fault>
     let untyped = first_untyped(&entries);
     let (numbers, repeated) = number_names(alloc, &entries)?;
     match least_line(least_line(unknown, untyped), repeated) {
-        Some(line) => Err(Fault::Tree { line, kind: TreeKind::Unsupported }),
+        Some(line) => Err(Fault::Tree {
+            line,
+            kind: TreeKind::Unsupported,
+        }),
         None => Ok(Tree { entries, numbers }),
     }
 }
@@ -119,11 +122,19 @@ fn untyped_line(entry: &Entry<'_>) -> Option<u32>
 fn note_line(fault: Option<u32>, is_fine: bool, line: u32) -> Option<u32>
     ensures { result ≡ noted fault is_fine line }
 {
-    if is_fine { fault } else { Some(fault.unwrap_or(line)) }
+    if is_fine {
+        fault
+    } else {
+        Some(fault.unwrap_or(line))
+    }
 }
 
 /// Gives a name its number, where it has none yet. Tells whether it had none.
-fn number_name<'a>(numbers: &mut HashMap<&'a [u8], usize>, name: &'a [u8], number: usize) -> Result<bool, AllocError>
+fn number_name<'a>(
+    numbers: &mut HashMap<&'a [u8], usize>,
+    name: &'a [u8],
+    number: usize,
+) -> Result<bool, AllocError>
     ensures numbered { IfOk result (λ fresh. (names : List (List ℕ)) → IsNumbered numbers.old names → length names ≡ number → IsNumbered numbers.new (names ++ name.now ∷ [])) }
     ensures fresh { IfOk result (λ fresh. (names : List (List ℕ)) → IsNumbered numbers.old names → fresh ≡ is_none (place_of name.now names)) }
 {
@@ -135,7 +146,10 @@ fn number_name<'a>(numbers: &mut HashMap<&'a [u8], usize>, name: &'a [u8], numbe
 }
 
 /// The number of each name, and the line of the first entry whose name stands before it.
-fn number_names<'a>(alloc: Global, entries: &[Entry<'a>]) -> Result<(HashMap<&'a [u8], usize>, Option<u32>), AllocError>
+fn number_names<'a>(
+    alloc: Global,
+    entries: &[Entry<'a>],
+) -> Result<(HashMap<&'a [u8], usize>, Option<u32>), AllocError>
     ensures numbered { IfOk result (λ named. IsNumbered named.0 (names_of (entries_of entries.now))) }
     ensures distinct { IfOk result (λ named. IsNone named.1 ↔ AreDistinct (entries_of entries.now)) }
 {

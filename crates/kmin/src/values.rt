@@ -60,7 +60,11 @@ fn greatest_prompt(attributes: &[Attribute<'_>], condition: Tri) -> Tri
 {
     let mut greatest = Tri::N;
     for attribute in attributes {
-        if let Attribute::Bool { has_prompt: true, .. } = attribute {
+        if let Attribute::Bool {
+            has_prompt: true,
+            ..
+        } = attribute
+        {
             greatest = greatest.or(condition);
         }
     }
@@ -68,7 +72,12 @@ fn greatest_prompt(attributes: &[Attribute<'_>], condition: Tri) -> Tri
 }
 
 /// The value of the active default, limited by its condition; `n` without one.
-fn active_default(tree: &Tree<'_>, values: &[Tri], attributes: &[Attribute<'_>], condition: Tri) -> Tri
+fn active_default(
+    tree: &Tree<'_>,
+    values: &[Tri],
+    attributes: &[Attribute<'_>],
+    condition: Tri,
+) -> Tri
     ensures { result ≡ default_under (reading (names_of (entries_of tree.now.entries.items)) values.now) condition (map attribute_of attributes.now) }
 {
     for attribute in attributes {
@@ -117,7 +126,11 @@ pub fn is_written(tree: &Tree<'_>, values: &[Tri], entry: &Entry<'_>) -> bool
 }
 
 /// The values of all symbols, in order of definition.
-pub fn evaluate(alloc: Global, tree: &Tree<'_>, users: &[Option<Tri>]) -> Result<Vec<Tri>, AllocError>
+pub fn evaluate(
+    alloc: Global,
+    tree: &Tree<'_>,
+    users: &[Option<Tri>],
+) -> Result<Vec<Tri>, AllocError>
     requires ordered { AreOrdered (entries_of tree.now.entries.items) }
     requires users { length users.now ≡ vec_len tree.now.entries }
     ensures { IfOk result (λ values. Solves (symbols_of (entries_of tree.now.entries.items)) users.now values.items) }

@@ -1,4 +1,4 @@
-use Rattle.std.proofs.Common.{◌≡◌, ◌∙◌, ap, sym, refl, Some, List, ℕ}
+use Rattle.std.proofs.Common.{◌∙◌, ap, sym, refl, Some}
 use Rattle.std.specs.Prelude.{IsUtf8}
 use Rattle.kc_value.specs.declared.tri.Tri.TheVariants.{N}
 use Rattle.kmin.specs.Configuration.{assigned, unset, bool_of}
@@ -26,7 +26,7 @@ returns-in-Assigned-clause-ok c = λ all left i.
     let name = c.in-Assigned.name.now in
     let value = c.in-Assigned.value.now in
     setting_step all left c.args.line.now names c.args.users.now c.assign.new.users (assigned name value) name (bool_of value) (stands_once _ c.requires.distinct) utf8 c.in-Assigned.ensures (λ x. refl)
-        (c.assign.ensures.users ∙ ap (λ v. assigned_at (place_of name names) v c.args.users.now) c.bool_of.ensures) i
+    (c.assign.ensures.users ∙ ap (λ v. assigned_at (place_of name names) v c.args.users.now) c.bool_of.ensures) i
 
 pub returns-in-Unset-clause-ok : goal.returns-in-Unset-clause-ok
 returns-in-Unset-clause-ok c = λ all left i.

@@ -1,10 +1,8 @@
-use Rattle.std.proofs.Common.{◌≡◌, ◌∙◌, [], List, ℕ, None, map, length, vec_len, ap, sym, inr, refl, arith, take, drop, ◌++◌}
+use Rattle.std.proofs.Common.{◌≡◌, ◌∙◌, None, map, length, vec_len, ap, sym, inr, refl, arith, take, drop, ◌++◌}
 use Rattle.std.proofs.lemmas.List.{length-map}
-use Rattle.kmin.specs.Configuration.{users_after}
 use Rattle.kmin.specs.Grammar.{names_of}
 use Rattle.kmin.specs.Lines.{lines}
 use Rattle.kmin.specs.Read.{entries_of, entry_of}
-use Rattle.kmin.specs.Settings.{ConfiguredSoFar}
 use Rattle.kmin.specs.Grammar.{Entry as GrammarEntry}
 use Rattle.kmin.specs.declared.lines.Lines.{Lines}
 use Rattle.kmin.proofs.Configuring.{configured_all, configured_none, no_users, written_back}

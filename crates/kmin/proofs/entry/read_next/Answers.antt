@@ -1,5 +1,4 @@
-use Rattle.std.proofs.Common.{◌≡◌, ◌∙◌, ap, sym, inl, inr, ◌⊎◌, []}
-use Rattle.std.specs.Prelude.{IsTrue}
+use Rattle.std.proofs.Common.{◌≡◌, ap, []}
 use Rattle.kmin.specs.Grammar.{config, attribute}
 use Rattle.kmin.specs.Read.{statements_of, statement_of, attribute_of}
 use Rattle.kmin.proofs.Reading.{no_entry, says_step, unsupported_step, orphan_step}

@@ -1,4 +1,4 @@
-use Rattle.std.proofs.Common.{◌≡◌, ◌≤◌, ◌++◌, ◌∙◌, [], List, sym, ap, arith, rules, length, drop, append-nil}
+use Rattle.std.proofs.Common.{◌≡◌, ◌++◌, ◌∙◌, [], sym, ap, arith, length, drop, append-nil}
 use Rattle.std.proofs.Math.ListN.{drop_of_length-le}
 use Rattle.kmin.specs.FullFile.{written_lines}
 use Rattle.kmin.specs.Grammar.{names_of}
@@ -16,5 +16,5 @@ returns c =
     let m : length c.deref-entry-items.result.now ≡ length es = ap length c.deref-entry-items.ensures.value in
     let none : drop c.loop-number.number es ≡ [] = drop_of_length-le es (grind (arith, m)) in
     let left : c.loop-number.text.items ++ written_lines read (symbols_of (entries_of (drop c.loop-number.number es))) (drop c.loop-number.number values) ≡ c.loop-number.text.items =
-        ap (λ x. c.loop-number.text.items ++ written_lines read (symbols_of (entries_of x)) (drop c.loop-number.number values)) none ∙ append-nil c.loop-number.text.items in
+    ap (λ x. c.loop-number.text.items ++ written_lines read (symbols_of (entries_of x)) (drop c.loop-number.number values)) none ∙ append-nil c.loop-number.text.items in
     sym left ∙ c.loop-number.invariant ∙ ap (λ names. written_lines (reading names values) (symbols_of (entries_of es)) values) (sym (same_names (entries_of es)))

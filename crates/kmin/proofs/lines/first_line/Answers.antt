@@ -1,4 +1,4 @@
-use Rattle.std.proofs.Common.{rules, ◌≡◌, ◌<◌, arith, [], length}
+use Rattle.std.proofs.Common.{rules, arith}
 use Rattle.kmin.proofs.LineLaws.{last_of_run}
 use Rattle.kmin.proofs.lines.first_line.Goals as goal
 

@@ -1,4 +1,4 @@
-use Rattle.std.proofs.Common.{◌≡◌, ◌∷◌, ◌++◌, ◌∙◌, arith, length, drop, ap, refl}
+use Rattle.std.proofs.Common.{◌≡◌, ◌∷◌, ◌++◌, ◌∙◌, arith, drop, ap, refl}
 use Rattle.kmin.specs.Bytes.{is_in}
 use Rattle.kmin.specs.declared.bytes.Class.TheVariants.{Key}
 use Rattle.kmin.proofs.Settings.{no_name}

@@ -1,4 +1,4 @@
-use Rattle.std.proofs.Common.{◌≡◌, ◌<◌, ◌∙◌, arith, length, sym}
+use Rattle.std.proofs.Common.{arith}
 use Rattle.kmin.proofs.Settings.{comment_is}
 use Rattle.kmin.proofs.setting.is_comment.Goals as goal
 

@@ -1,4 +1,4 @@
-use Rattle.std.proofs.Common.{◌≡◌, ◌∷◌, ◌++◌, ◌∙◌, sym, arith, length, drop, ap, refl, codes}
+use Rattle.std.proofs.Common.{◌≡◌, ◌++◌, ◌∙◌, sym, arith, length, drop, ap, refl, codes}
 use Rattle.kmin.specs.Bytes.{is_in}
 use Rattle.kmin.specs.declared.bytes.Class.TheVariants.{Solid}
 use Rattle.kmin.proofs.Settings.{differs_from, differs_not, no_name, same_run, stripped}

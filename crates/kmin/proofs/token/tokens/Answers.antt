@@ -1,7 +1,6 @@
-use Rattle.std.proofs.Common.{◌≡◌, ◌<◌, ◌∷◌, ◌++◌, [], List, arith, rules, map, ap, ◌∙◌, append-nil, length, sym, refl}
+use Rattle.std.proofs.Common.{◌≡◌, ◌<◌, ◌∷◌, ◌++◌, [], arith, map, length, refl}
 use Rattle.std.proofs.lemmas.List.{map-append}
 use Rattle.kmin.specs.Read.{token_of}
-use Rattle.kmin.specs.Grammar.{Token, HasTokens}
 use Rattle.kmin.proofs.Tokens.{empty, first_tokens, first_only, next_tokens, next_only, last_tokens, last_only, some_more}
 use Rattle.kmin.proofs.token.tokens.Goals as goal
 

@@ -1,4 +1,4 @@
-use Rattle.std.proofs.Common.{◌≡◌, ◌∙◌, sym, arith, rules, None}
+use Rattle.std.proofs.Common.{◌∙◌, sym}
 use Rattle.kmin.proofs.Placing.{numbered_fresh, numbered_kept, some_there, none_there}
 use Rattle.kmin.proofs.tree.number_name.Goals as goal
 

@@ -1,4 +1,4 @@
-use Rattle.std.proofs.Common.{◌≡◌, ◌<◌, ◌≤◌, ◌∙◌, sym, arith, take, length, ap}
+use Rattle.std.proofs.Common.{◌≡◌, ◌<◌, ◌∙◌, sym, arith, take, length, ap}
 use Rattle.std.specs.Prelude.{is_none}
 use Rattle.std.proofs.lemmas.List.{length-map}
 use Rattle.kmin.specs.Names.{place_of}
@@ -17,7 +17,7 @@ loop-number-preserved c =
     let numbered = c.in_ok-fresh.ensures.numbered names c.loop-number.invariant.numbered (length_names es i (omega arith)) in
     let name : c.as_bytes.result.now ≡ e.name.now = c.as_bytes.ensures.value in
     let fresh : c.in_ok-fresh.fresh ≡ is_none (place_of e.name.now (names_of (take i (entries_of es)))) =
-        c.in_ok-fresh.ensures.fresh names c.loop-number.invariant.numbered ∙ ap (λ x. is_none (place_of x names)) name ∙ ap (λ x. is_none (place_of e.name.now (names_of x))) (sym (take_entries es i)) in
+    c.in_ok-fresh.ensures.fresh names c.loop-number.invariant.numbered ∙ ap (λ x. is_none (place_of x names)) name ∙ ap (λ x. is_none (place_of e.name.now (names_of x))) (sym (take_entries es i)) in
     record {
       numbered = rw (names_more es i e l c.index-entries-number.is, ← name) numbered;
       distinct = rw c.note_line-repeated.ensures (distinct_step (entries_of es) i e.line (entry_of e) c.loop-number.repeated c.in_ok-fresh.fresh (entry_at es i e l c.index-entries-number.is) fresh c.loop-number.invariant.distinct);

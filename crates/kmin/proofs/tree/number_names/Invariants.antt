@@ -1,4 +1,4 @@
-use Rattle.std.proofs.Common.{◌≡◌, ◌<◌, ℕ, List, take, Option, Some, None}
+use Rattle.std.proofs.Common.{take}
 use Rattle.kmin.specs.Read.{IsNumbered, entries_of}
 use Rattle.kmin.specs.Grammar.{names_of}
 use Rattle.kmin.proofs.Placing.{DistinctBelow}

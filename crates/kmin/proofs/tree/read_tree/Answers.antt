@@ -1,4 +1,4 @@
-use Rattle.std.proofs.Common.{◌≡◌, ◌↔◌, inr, true, false, refl, sym, ◌∙◌, ap, arith, rules, None, Some}
+use Rattle.std.proofs.Common.{◌≡◌, ◌↔◌, inr, true, false, refl}
 use Rattle.std.specs.Prelude.{IsNone}
 use Rattle.kmin.specs.Grammar.{AreTyped, AreDistinct}
 use Rattle.kmin.specs.Lines.{lines}

@@ -1,4 +1,4 @@
-use Rattle.std.proofs.Common.{◌≡◌, ◌<◌, ◌∙◌, ◌++◌, ◌∷◌, [], sym, arith, length, length-append, ap, Some, None}
+use Rattle.std.proofs.Common.{◌≡◌, ◌<◌, ◌∙◌, ◌∷◌, [], sym, arith, length, length-append, ap, Some, None}
 use Rattle.std.specs.Prelude.{slice_get, slice_index_or}
 use Rattle.std.proofs.lemmas.List.{length-map}
 use Rattle.kmin.specs.Grammar.{names_of}
@@ -20,7 +20,7 @@ loop-number-preserved c =
     let l : i < length es = grind (arith, n) in
     let at : slice_get (entries_of es) i ≡ Some (entry_of e) = entry_at es i e l (rw c.deref-entry-items.ensures.value at c.entry-item.is) in
     let is : x ≡ rule (reading (names_of (entries_of es)) vs) (symbol_of (entry_of e)) (slice_index_or c.args.users.now i None) =
-        c.value_of-value.ensures ∙ ap (λ v. rule (reading (names_of (entries_of es)) v) (symbol_of (entry_of e)) (slice_index_or c.args.users.now i None)) c.deref.ensures.value in
+    c.value_of-value.ensures ∙ ap (λ v. rule (reading (names_of (entries_of es)) v) (symbol_of (entry_of e)) (slice_index_or c.args.users.now i None)) c.deref.ensures.value in
     record {
       solved = rw c.in_ok-push.ensures.items (solved_more (entries_of es) c.args.users.now vs i (entry_of e) x c.requires.ordered c.loop-number.invariant.one_each at is c.loop-number.invariant.solved);
       one_each = rw c.in_ok-push.ensures.items (omega (arith, length-append vs (x ∷ []), c.loop-number.invariant.one_each));

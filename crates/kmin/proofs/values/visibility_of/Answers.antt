@@ -6,4 +6,4 @@ use Rattle.kmin.proofs.values.visibility_of.Goals as goal
 pub returns : goal.returns
 returns c =
     visible_from _ (map attribute_of c.args.entry.now.attributes.items) (map attribute_of c.deref.result.now) (map attribute_of c.deref-2.result.now) _ _ _
-        (ap (map attribute_of) c.deref.ensures.value) (ap (map attribute_of) c.deref-2.ensures.value) c.dependency_value-condition.ensures c.greatest_prompt.ensures c.promoted.ensures
+    (ap (map attribute_of) c.deref.ensures.value) (ap (map attribute_of) c.deref-2.ensures.value) c.dependency_value-condition.ensures c.greatest_prompt.ensures c.promoted.ensures

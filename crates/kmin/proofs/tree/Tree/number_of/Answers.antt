@@ -1,4 +1,4 @@
-use Rattle.std.proofs.Common.{◌≡◌, ◌∙◌, ap, arith, length, vec_len}
+use Rattle.std.proofs.Common.{◌≡◌, ◌∙◌, arith, length, vec_len}
 use Rattle.kmin.proofs.Placing.{within_entries}
 use Rattle.kmin.proofs.tree.Tree.number_of.Goals as goal
 
