@@ -1,12 +1,16 @@
-//! Values of symbols, and the readers and writers of every crate above.
+//! Values of symbols, number and quoted texts, and the readers and writers of every crate above.
 #![tactic(auto)]
 
+mod number;
 mod outside;
+mod quoted;
 mod testing;
 mod tri;
 mod value;
 
+pub use number::{hex_of, int_of, loose_number_of, number_text, number_texts_are_the_grammars};
 pub use outside::{Failed, FromRead, Sink, Source, ToWrite};
+pub use quoted::{closing_quote, push_escaped, quoted_texts_read_back, read_quoted, unescape};
 pub use testing::{Bounded, Script, Then};
 pub use tri::Tri;
 pub use value::{Kind, Text, Value, ValueRef};

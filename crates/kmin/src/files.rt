@@ -26,7 +26,7 @@ pub struct Disk<'a> {
 }
 
 impl<'a> Disk<'a> {
-    pub fn new(runtime: &'a HostRuntime) -> Disk<'a> {
+    pub(crate) fn new(runtime: &'a HostRuntime) -> Disk<'a> {
         Disk { runtime }
     }
 }

@@ -25,7 +25,7 @@ pub fn write_out<W: Sink>(sink: &mut W, text: &[u8]) -> Result<(), Fault>
 }
 
 /// Writes a text as far as it goes.
-pub fn tell<W: Sink>(sink: &mut W, text: &[u8]) {
+pub(crate) fn tell<W: Sink>(sink: &mut W, text: &[u8]) {
     let _ = write_out(sink, text);
 }
 
@@ -36,7 +36,7 @@ pub struct Console<'a, W> {
 }
 
 impl<'a, W: Sink> Console<'a, W> {
-    pub fn new(sink: &'a mut W) -> Console<'a, W> {
+    pub(crate) fn new(sink: &'a mut W) -> Console<'a, W> {
         Console { sink }
     }
 }

@@ -1,0 +1,8 @@
+pub mod Names
+pub mod Prefixes
+pub mod Lines
+pub mod Files
+pub mod LoadFaults
+pub mod Missed
+pub mod Reading
+pub mod Laws

@@ -1,0 +1,17 @@
+//! Configuration files: what their lines say, what they assign, and why one is refused.
+#![tactic(auto)]
+
+mod fault;
+mod laws;
+mod notice;
+mod prefix;
+
+pub use fault::{LoadFault, LoadKind};
+pub use laws::{
+    accepted_files_are_read, files_are_read, files_fit, files_lie_over_assignments, lines_are_read,
+};
+pub use notice::{Notice, NoticeKind};
+pub use prefix::Prefix;
+
+#[cfg(test)]
+mod tests;

@@ -1,0 +1,147 @@
+-- The expressions of nodes, one after another.
+use Rattle.std.proofs.Common.{◌≡◌, ℕ, suc, zero, ◌+◌, ◌<◌, ◌≤◌, List, [], ◌∷◌, ◌++◌, length, get_or, refl, ap, sym, ◌∙◌, arith, length-append, inl, inr, ◌⊎◌}
+use Rattle.std.proofs.lemmas.List.{take-append-le}
+use Rattle.std.proofs.Math.Seq.{take-length}
+use Rattle.std.proofs.lemmas.List.{get_or_append_left}
+use Rattle.std.proofs.Math.Seq.{get_or-append_seam}
+use Rattle.kc_value.specs.declared.tri.Tri.{Tri}
+use Rattle.kc_value.specs.declared.tri.Tri.TheVariants.{N, M, Y}
+use Rattle.kc_value.specs.Tri.{tri_and, tri_or}
+use Rattle.kc_expr.specs.Expr.{Expr, alone, constant, negated, both, either, shown}
+use Rattle.kc_expr.specs.declared.node.Node.{Node}
+use Rattle.kc_expr.specs.declared.node.Node.TheVariants.{Alone, Related, Negated, Both, Either, Shown}
+use Rattle.kc_expr.specs.Arena.{Grows, Stands}
+use Rattle.std.proofs.lemmas.Bool.{cases_lt}
+use Rattle.kc_expr.specs.Nodes.{expr_of, exprs_after, exprs_of, at, NodeFits, AreNodes, some_node}
+
+pub tri_and_comm : (a b : Tri) → tri_and a b ≡ tri_and b a
+tri_and_comm N N = refl
+tri_and_comm N M = refl
+tri_and_comm N Y = refl
+tri_and_comm M N = refl
+tri_and_comm M M = refl
+tri_and_comm M Y = refl
+tri_and_comm Y N = refl
+tri_and_comm Y M = refl
+tri_and_comm Y Y = refl
+
+pub tri_and_assoc : (a b c : Tri) → tri_and (tri_and a b) c ≡ tri_and a (tri_and b c)
+tri_and_assoc N b c = refl
+tri_and_assoc Y b c = refl
+tri_and_assoc M N c = refl
+tri_and_assoc M M N = refl
+tri_and_assoc M M M = refl
+tri_and_assoc M M Y = refl
+tri_and_assoc M Y N = refl
+tri_and_assoc M Y M = refl
+tri_and_assoc M Y Y = refl
+
+-- one more conjunct at the left end of a chain
+pub chained : (least left right : Tri) → tri_and (tri_and least right) left ≡ tri_and least (tri_and left right)
+chained least left right = tri_and_assoc least right left ∙ ap (tri_and least) (tri_and_comm right left)
+
+pub tri_or_comm : (a b : Tri) → tri_or a b ≡ tri_or b a
+tri_or_comm N N = refl
+tri_or_comm N M = refl
+tri_or_comm N Y = refl
+tri_or_comm M N = refl
+tri_or_comm M M = refl
+tri_or_comm M Y = refl
+tri_or_comm Y N = refl
+tri_or_comm Y M = refl
+tri_or_comm Y Y = refl
+
+pub tri_or_assoc : (a b c : Tri) → tri_or (tri_or a b) c ≡ tri_or a (tri_or b c)
+tri_or_assoc N b c = refl
+tri_or_assoc Y b c = refl
+tri_or_assoc M N c = refl
+tri_or_assoc M M N = refl
+tri_or_assoc M M M = refl
+tri_or_assoc M M Y = refl
+tri_or_assoc M Y N = refl
+tri_or_assoc M Y M = refl
+tri_or_assoc M Y Y = refl
+
+pub ors_start : (greatest left right : Tri) → greatest ≡ right → tri_or greatest left ≡ tri_or left right
+ors_start greatest left right e = rw e (tri_or_comm right left)
+
+pub ors_more : (new greatest found left right here all : Tri) → new ≡ tri_or greatest found → found ≡ right → here ≡ tri_or left right → tri_or greatest here ≡ all → tri_or new left ≡ all
+ors_more new greatest found left right here all e f h k = rw (e, f) (tri_or_assoc greatest right left ∙ ap (tri_or greatest) (tri_or_comm right left) ∙ ap (tri_or greatest) (sym h) ∙ k)
+
+pub or_of : (r a b x y : Tri) → r ≡ tri_or a b → a ≡ x → b ≡ y → r ≡ tri_or x y
+or_of r a b x y e f g = cc
+
+pub chain_start : (least left right : Tri) → least ≡ right → tri_and least left ≡ tri_and left right
+chain_start least left right e = rw e (tri_and_comm right left)
+
+pub chain_more : (new least found left right here all : Tri) → new ≡ tri_and least found → found ≡ right → here ≡ tri_and left right → tri_and least here ≡ all → tri_and new left ≡ all
+chain_more new least found left right here all e f h k = rw (e, f) (chained least left right ∙ ap (tri_and least) (sym h) ∙ k)
+
+module _ (names texts : List (List ℕ)) where
+  -- what stands is kept
+  pub kept : (es : List Expr) (ns : List Node) (i : ℕ) → i < length es → at (exprs_after names texts es ns) i ≡ at es i
+  kept es [] i h = refl
+  kept es (n ∷ ns) i h = kept (es ++ expr_of names texts es n ∷ []) ns i (omega (arith, length-append es (expr_of names texts es n ∷ []))) ∙ get_or_append_left es (expr_of names texts es n ∷ []) (alone (constant N)) i h
+
+  -- a node over expressions that are kept is the same expression
+  same_over : (es fs : List Expr) (x y k : ℕ) (n : Node) → NodeFits x y k n → ((i : ℕ) → i < k → at fs i ≡ at es i) → expr_of names texts es n ≡ expr_of names texts fs n
+  same_over es fs x y k (Alone a) h e = refl
+  same_over es fs x y k (Related op a b) h e = refl
+  same_over es fs x y k (Negated i) h e = ap negated (sym (e i h))
+  same_over es fs x y k (Both i j) h e = ap (λ a. both a (at es j)) (sym (e i h.0)) ∙ ap (both (at fs i)) (sym (e j h.1))
+  same_over es fs x y k (Either i j) h e = ap (λ a. either a (at es j)) (sym (e i h.0)) ∙ ap (either (at fs i)) (sym (e j h.1))
+  same_over es fs x y k (Shown i) h e = ap shown (sym (e i h))
+
+  pub step_at : (x y : ℕ) (es : List Expr) (ns : List Node) (i at_i : ℕ) → at_i ≡ length es + i → ((k m : ℕ) → m ≡ length es + k → k < length ns → NodeFits x y m (get_or ns k some_node)) → i < length ns → at (exprs_after names texts es ns) at_i ≡ expr_of names texts (exprs_after names texts es ns) (get_or ns i some_node)
+  step_at x y es [] i at_i p f h = absurd (omega arith)
+  step_at x y es (n ∷ ns) zero at_i p f h =
+      let more : List Expr = es ++ expr_of names texts es n ∷ [] in
+      let len : length more ≡ length es + 1 = length-append es (expr_of names texts es n ∷ []) in
+      let here : at_i ≡ length es = omega arith in
+      let fits : NodeFits x y (length es) n = f 0 (length es) (omega arith) (omega arith) in
+      let seam : at more (length es) ≡ expr_of names texts es n = get_or-append_seam es (expr_of names texts es n) [] (alone (constant N)) in
+      ap (at (exprs_after names texts more ns)) here ∙ kept more ns (length es) (omega (arith, len)) ∙ seam
+      ∙ same_over es (exprs_after names texts more ns) x y (length es) n fits (λ i l. kept more ns i (omega (arith, len)) ∙ get_or_append_left es (expr_of names texts es n ∷ []) (alone (constant N)) i l)
+  step_at x y es (n ∷ ns) (suc i) at_i p f h =
+      let more : List Expr = es ++ expr_of names texts es n ∷ [] in
+      let len : length more ≡ length es + 1 = length-append es (expr_of names texts es n ∷ []) in
+      step_at x y more ns i at_i (omega (arith, len)) (λ k m e l. f (suc k) m (omega (arith, len)) (omega arith)) (omega arith)
+
+  -- what the node at a place stands for
+  pub node_at : (x y : ℕ) (ns : List Node) (i : ℕ) → AreNodes x y ns → i < length ns → at (exprs_of names texts ns) i ≡ expr_of names texts (exprs_of names texts ns) (get_or ns i some_node)
+  node_at x y ns i f h = step_at x y [] ns i i (omega arith) (λ k m e l. let g : k ≡ m = omega arith in rw (← g) (f k l)) h
+
+  pub at_node : (x y : ℕ) (ns : List Node) (i : ℕ) (n : Node) → AreNodes x y ns → i < length ns → get_or ns i some_node ≡ n → at (exprs_of names texts ns) i ≡ expr_of names texts (exprs_of names texts ns) n
+  at_node x y ns i n f h e = node_at x y ns i f h ∙ ap (expr_of names texts (exprs_of names texts ns)) e
+
+  pub length-exprs : (es : List Expr) (ns : List Node) → length (exprs_after names texts es ns) ≡ length es + length ns
+  length-exprs es [] = omega arith
+  length-exprs es (n ∷ ns) = length-exprs (es ++ expr_of names texts es n ∷ []) ns ∙ omega (arith, length-append es (expr_of names texts es n ∷ []))
+
+  pub exprs-push : (es : List Expr) (ns : List Node) (n : Node) → exprs_after names texts es (ns ++ n ∷ []) ≡ exprs_after names texts es ns ++ expr_of names texts (exprs_after names texts es ns) n ∷ []
+  exprs-push es [] n = refl
+  exprs-push es (m ∷ ns) n = exprs-push (es ++ expr_of names texts es m ∷ []) ns n
+
+  -- what an arena with one node more shows
+  pub grows_by : (ns : List Node) (n : Node) → Grows (record { names = names; nodes = exprs_of names texts ns }) (record { names = names; nodes = exprs_of names texts (ns ++ n ∷ []) })
+  grows_by ns n = record {
+    names = take-length names;
+    nodes = rw (exprs-push [] ns n, take-append-le (length (exprs_of names texts ns)) (exprs_of names texts ns) (expr_of names texts (exprs_of names texts ns) n ∷ []) (omega arith)) (take-length (exprs_of names texts ns));
+  }
+
+  pub stands_last : (ns : List Node) (n : Node) (id : ℕ) → id ≡ length ns → Stands (record { names = names; nodes = exprs_of names texts (ns ++ n ∷ []) }) id (expr_of names texts (exprs_of names texts ns) n)
+  stands_last ns n id e =
+      let es : List Expr = exprs_of names texts ns in
+      let last : Expr = expr_of names texts es n in
+      let same : id ≡ length es = omega (arith, e, length-exprs [] ns) in
+      record {
+        within = omega (arith, e, length-exprs [] (ns ++ n ∷ []), length-append ns (n ∷ []));
+        is = ap (λ fs. at fs id) (exprs-push [] ns n) ∙ ap (at (es ++ last ∷ [])) same ∙ get_or-append_seam es last [] (alone (constant N));
+      }
+
+pub nodes_push : (x y : ℕ) (ns : List Node) (n : Node) → AreNodes x y ns → NodeFits x y (length ns) n → AreNodes x y (ns ++ n ∷ [])
+nodes_push x y ns n f h k l = nodes_push_by k (cases_lt k (length ns)) l
+  where
+    nodes_push_by : (k : ℕ) → (k < length ns) ⊎ (length ns ≤ k) → k < length (ns ++ n ∷ []) → NodeFits x y k (get_or (ns ++ n ∷ []) k some_node)
+    nodes_push_by k (inl b) l = rw (get_or_append_left ns (n ∷ []) some_node k b) (f k b)
+    nodes_push_by k (inr b) l = let e : k ≡ length ns = omega (arith, length-append ns (n ∷ [])) in rw e (rw (get_or-append_seam ns n [] some_node) h)

@@ -1,0 +1,115 @@
+-- Names and their places.
+use Rattle.std.proofs.Common.{◌≡◌, ℕ, suc, zero, ◌+◌, ◌<◌, ◌≤◌, Bool, true, false, List, [], ◌∷◌, length, get_or, Option, Some, None, map, ◌++◌, ◌||◌, not, ltb, ◌⊎◌, inl, inr, length-append, refl, ap, sym, ◌∙◌, arith, cond}
+use Rattle.std.specs.Prelude.{option_map, option_and_then, bytes_eq}
+use Rattle.std.proofs.lemmas.Slice.Eq.{bytes_eq-Decides}
+use Rattle.std.proofs.lemmas.Bool.{false_from_ne_true, both_ways, or_parts, ltb-true, ltb-false, lt-ltb, le-ltb, cases_lt}
+use Rattle.std.proofs.Math.Seq.{get_or-append_seam}
+use Rattle.std.proofs.lemmas.List.{get_or_append_left, map-append}
+use Rattle.std.specs.List.{list_any, position_or_len, position}
+use Rattle.kc_expr.specs.Expr.{Seen}
+use Rattle.kc_expr.specs.Lookup.{place_of, AreDistinct, names_seen}
+
+same_bytes : (n : List ℕ) → bytes_eq n n ≡ true
+same_bytes n = (bytes_eq-Decides n n).1 refl
+
+other_bytes : (n m : List ℕ) → (n ≡ m → ⊥) → bytes_eq n m ≡ false
+other_bytes n m ne = false_from_ne_true _ (λ e. ne ((bytes_eq-Decides n m).0 e))
+
+tail_distinct : (n : List ℕ) (ns : List (List ℕ)) → AreDistinct (n ∷ ns) → AreDistinct ns
+tail_distinct n ns d i j h k e = omega (arith, d (suc i) (suc j) (omega arith) (omega arith) e)
+
+at_place : (t : Bool) (i : ℕ) (y : List ℕ) (o : Option ℕ) → t ≡ false → o ≡ Some i → cond t (Some 0) (option_map suc o) ≡ Some (suc i)
+at_place t i y o e f = rw (e, f) refl
+
+pub place_at : (names : List (List ℕ)) (i : ℕ) → AreDistinct names → i < length names → place_of (get_or names i []) names ≡ Some i
+place_at [] i d h = absurd (omega arith)
+place_at (n ∷ ns) zero d h = rw (same_bytes n) refl
+place_at (n ∷ ns) (suc i) d h = at_place (bytes_eq (get_or ns i []) n) i n (place_of (get_or ns i []) ns) (other_bytes (get_or ns i []) n (λ e. omega (arith, d zero (suc i) (omega arith) h (sym e)))) (place_at ns i (tail_distinct n ns d) (omega arith))
+
+pub seen_at : (names : List (List ℕ)) (i : ℕ) (sees : ℕ → Option Seen) → AreDistinct names → i < length names → names_seen names sees (get_or names i []) ≡ sees i
+seen_at names i sees d h = ap (option_and_then sees) (place_at names i d h)
+
+-- names that are held under keys
+module _ {K : Type 0} (name : K → List ℕ) (x : List ℕ) where
+  place_by : (b : Bool) (n m : ℕ) (o : Option ℕ) → o ≡ cond (ltb n m) (Some n) None → cond b (Some 0) (option_map suc o) ≡ cond (ltb (cond (not b) (1 + n) 0) (suc m)) (Some (cond (not b) (1 + n) 0)) None
+  place_by true n m o e = let t : ltb 0 (suc m) ≡ true = lt-ltb _ _ (omega arith) in rw t refl
+  place_by false n m o e = rw e (by_test (ltb n m) refl)
+    where
+      by_test : (t : Bool) → ltb n m ≡ t → option_map suc (cond t (Some n) None) ≡ cond (ltb (1 + n) (suc m)) (Some (1 + n)) None
+      by_test true f = let l : n < m = ltb-true n m f in let g : ltb (1 + n) (suc m) ≡ true = lt-ltb _ _ (omega arith) in rw g (ap Some (omega arith))
+      by_test false f = let l : m ≤ n = ltb-false n m f in let g : ltb (1 + n) (suc m) ≡ false = le-ltb _ _ (omega arith) in rw g refl
+
+  -- the place of a name is that of its key
+  pub place-position : (ks : List K) → place_of x (map name ks) ≡ position (λ k. bytes_eq x (name k)) ks
+  place-position [] = refl
+  place-position (k ∷ ks) = place_by (bytes_eq x (name k)) (position_or_len (λ k. bytes_eq x (name k)) ks) (length ks) (place_of x (map name ks)) (place-position ks)
+
+  held_by : (b : Bool) (n : ℕ) (o : Option ℕ) (r : Bool) → (r ≡ true → o ≡ Some n) → (b || r) ≡ true → cond b (Some 0) (option_map suc o) ≡ Some (cond (not b) (1 + n) 0)
+  held_by true n o r f h = refl
+  held_by false n o r f h = rw (f h) (ap Some (omega arith))
+
+  held : (ks : List K) → list_any (λ k. bytes_eq x (name k)) ks ≡ true → place_of x (map name ks) ≡ Some (position_or_len (λ k. bytes_eq x (name k)) ks)
+  held [] h = cc
+  held (k ∷ ks) h = held_by (bytes_eq x (name k)) (position_or_len (λ k. bytes_eq x (name k)) ks) (place_of x (map name ks)) (list_any (λ k. bytes_eq x (name k)) ks) (held ks) h
+
+  new_last : (v : K) → name v ≡ x → (ks : List K) → list_any (λ k. bytes_eq x (name k)) ks ≡ false → place_of x (map name (ks ++ v ∷ [])) ≡ Some (position_or_len (λ k. bytes_eq x (name k)) ks)
+  new_last v e [] h = rw e (let t = same_bytes x in rw t refl)
+  new_last v e (k ∷ ks) h =
+      let (f, r) = or_parts (bytes_eq x (name k)) (list_any (λ k. bytes_eq x (name k)) ks) h in
+      rw (f, new_last v e ks r) (ap Some (omega arith))
+
+  not_there : (ks : List K) → list_any (λ k. bytes_eq x (name k)) ks ≡ false → (i : ℕ) → i < length (map name ks) → get_or (map name ks) i [] ≡ x → ⊥
+  not_there [] h i l e = omega arith
+  not_there (k ∷ ks) h zero l e =
+      let (f, r) = or_parts (bytes_eq x (name k)) (list_any (λ k. bytes_eq x (name k)) ks) h in
+      both_ways (bytes_eq x (name k)) f ((bytes_eq-Decides x (name k)).1 (sym e))
+  not_there (k ∷ ks) h (suc i) l e =
+      let (f, r) = or_parts (bytes_eq x (name k)) (list_any (λ k. bytes_eq x (name k)) ks) h in
+      not_there ks r i (omega arith) e
+
+  push_distinct : (names : List (List ℕ)) → AreDistinct names → ((i : ℕ) → i < length names → get_or names i [] ≡ x → ⊥) → AreDistinct (names ++ x ∷ [])
+  push_distinct names d n i j h k e = by_places (cases_lt i (length names)) (cases_lt j (length names))
+    where
+      long : length (names ++ x ∷ []) ≡ length names + 1
+      long = length-append names (x ∷ [])
+
+      last : (m : ℕ) → m < length (names ++ x ∷ []) → length names ≤ m → get_or (names ++ x ∷ []) m [] ≡ x
+      last m l g = let q : m ≡ length names = omega (arith, length-append names (x ∷ [])) in rw q (get_or-append_seam names x [] [])
+
+      by_places : (i < length names) ⊎ (length names ≤ i) → (j < length names) ⊎ (length names ≤ j) → i ≡ j
+      by_places (inl a) (inl b) = d i j a b (sym (get_or_append_left names (x ∷ []) [] i a) ∙ e ∙ get_or_append_left names (x ∷ []) [] j b)
+      by_places (inl a) (inr b) = absurd (n i a (sym (get_or_append_left names (x ∷ []) [] i a) ∙ e ∙ last j k b))
+      by_places (inr a) (inl b) = absurd (n j b (sym (get_or_append_left names (x ∷ []) [] j b) ∙ sym e ∙ last i h a))
+      by_places (inr a) (inr b) = omega (arith, length-append names (x ∷ []))
+
+  -- a name that is put in is found where the set says
+  pub place_put : (v : K) → name v ≡ x → (ks : List K) → place_of x (map name (cond (list_any (λ k. bytes_eq x (name k)) ks) ks (ks ++ v ∷ []))) ≡ Some (position_or_len (λ k. bytes_eq x (name k)) ks)
+  place_put v e ks = by_any (list_any (λ k. bytes_eq x (name k)) ks) refl
+    where
+      by_any : (b : Bool) → list_any (λ k. bytes_eq x (name k)) ks ≡ b → place_of x (map name (cond b ks (ks ++ v ∷ []))) ≡ Some (position_or_len (λ k. bytes_eq x (name k)) ks)
+      by_any true h = held ks h
+      by_any false h = new_last v e ks h
+
+  -- and no name is then held twice
+  pub distinct_put : (v : K) → name v ≡ x → (ks : List K) → AreDistinct (map name ks) → AreDistinct (map name (cond (list_any (λ k. bytes_eq x (name k)) ks) ks (ks ++ v ∷ [])))
+  distinct_put v e ks d = by_any (list_any (λ k. bytes_eq x (name k)) ks) refl
+    where
+      by_any : (b : Bool) → list_any (λ k. bytes_eq x (name k)) ks ≡ b → AreDistinct (map name (cond b ks (ks ++ v ∷ [])))
+      by_any true h = d
+      by_any false h = rw (map-append, e) (push_distinct (map name ks) d (not_there ks h))
+
+-- what stands at the place of a name
+place_tail : (o : Option ℕ) (i : ℕ) → option_map suc o ≡ Some i → (j : ℕ) × (o ≡ Some j) × (i ≡ suc j)
+place_tail None i e = cc
+place_tail (Some j) i e = (j, refl, cc)
+
+first_place : (i : ℕ) → Some 0 ≡ Some i → i ≡ 0
+first_place i e = cc
+
+there_by : (b : Bool) (x n : List ℕ) (ns : List (List ℕ)) (i : ℕ) → ((j : ℕ) → place_of x ns ≡ Some j → (j < length ns) × (get_or ns j [] ≡ x)) → bytes_eq x n ≡ b → cond b (Some 0) (option_map suc (place_of x ns)) ≡ Some i → (i < length (n ∷ ns)) × (get_or (n ∷ ns) i [] ≡ x)
+there_by true x n ns i ih f g = let z = first_place i g in (omega (arith, z), rw z (sym ((bytes_eq-Decides x n).0 f)))
+there_by false x n ns i ih f g = let (j, h, e) = place_tail (place_of x ns) i g in let r = ih j h in (omega (arith, r.0, e), rw e r.1)
+
+pub place_there : (x : List ℕ) (names : List (List ℕ)) (i : ℕ) → place_of x names ≡ Some i → (i < length names) × (get_or names i [] ≡ x)
+place_there x [] i e = cc
+place_there x (n ∷ ns) i e = there_by (bytes_eq x n) x n ns i (place_there x ns) refl e

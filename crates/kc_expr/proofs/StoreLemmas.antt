@@ -1,0 +1,180 @@
+-- What the lists of a store stand for, as they grow.
+use Rattle.std.proofs.Common.{◌≡◌, ℕ, suc, ◌+◌, ◌<◌, ◌≤◌, List, [], ◌∷◌, ◌++◌, length, get_or, take, drop, map, Bool, true, false, cond, refl, ap, sym, ◌∙◌, subst, arith, length-append, append_assoc, append-nil}
+use Rattle.std.specs.Prelude.{string_bytes}
+use Rattle.std.proofs.lemmas.List.{take-append-drop, length-take, get_or_append_left, map-append}
+use Rattle.std.proofs.Math.Seq.{take-append_seam, take-length}
+use Rattle.kc_value.specs.declared.tri.Tri.TheVariants.{N}
+use Rattle.kc_expr.specs.declared.node.Leaf.{Leaf}
+use Rattle.kc_expr.specs.declared.node.Leaf.TheVariants.{Constant, Name, Quoted}
+use Rattle.kc_expr.specs.declared.node.Node.{Node}
+use Rattle.kc_expr.specs.declared.node.Node.TheVariants.{Alone, Related, Negated, Both, Either, Shown}
+use Rattle.kc_expr.specs.declared.store.Store.{Store}
+use Rattle.kc_expr.specs.Arena.{Exprs, stands_for, Stands, Grows}
+use Rattle.kc_expr.specs.Expr.{Expr, alone, related, constant, named, quoted}
+use Rattle.kc_expr.specs.Lookup.{AreDistinct}
+use Rattle.kc_expr.specs.Nodes.{operand_of, expr_of, exprs_after, exprs_of, LeafFits, NodeFits, some_node}
+use Rattle.kc_expr.specs.Store.{names_held, exprs_in, IsSound, Extends}
+use Rattle.kc_expr.proofs.NodeLemmas.{at_node, nodes_push, stands_last, length-exprs}
+
+-- what a node stands for, by its form
+pub node_of : (s : Store) (i : ℕ) (found n : Node) → IsSound s → i < length s.nodes.items → found ≡ get_or s.nodes.items i some_node → found ≡ n → stands_for (exprs_in s) i ≡ expr_of (names_held s) s.texts.items (exprs_in s).nodes n
+node_of s i found n sound h e f = at_node (names_held s) s.texts.items (length (names_held s)) (length s.texts.items) s.nodes.items i n sound.nodes h (sym e ∙ f)
+
+pub fits_at : (s : Store) (i : ℕ) (found n : Node) → IsSound s → i < length s.nodes.items → found ≡ get_or s.nodes.items i some_node → found ≡ n → NodeFits (length (names_held s)) (length s.texts.items) i n
+fits_at s i found n sound h e f = subst (NodeFits (length (names_held s)) (length s.texts.items) i) (sym e ∙ f) (sound.nodes i h)
+
+prefix_parts : {X : Type 0} (xs ys : List X) → take (length xs) ys ≡ xs → ys ≡ xs ++ drop (length xs) ys
+prefix_parts xs ys e = sym (take-append-drop (length xs) ys) ∙ ap (λ zs. zs ++ drop (length xs) ys) e
+
+prefix_long : {X : Type 0} (xs ys : List X) → take (length xs) ys ≡ xs → length xs ≤ length ys
+prefix_long xs ys e = omega (arith, ap length e, length-take (length xs) ys)
+
+-- an element of a front is that of the whole
+kept_get : {X : Type 0} (xs ys : List X) (i : ℕ) (d : X) → take (length xs) ys ≡ xs → i < length xs → get_or ys i d ≡ get_or xs i d
+kept_get xs ys i d e h = ap (λ zs. get_or zs i d) (prefix_parts xs ys e) ∙ get_or_append_left xs (drop (length xs) ys) d i h
+
+prefix_trans : {X : Type 0} (xs ys zs : List X) → take (length xs) ys ≡ xs → take (length ys) zs ≡ ys → take (length xs) zs ≡ xs
+prefix_trans xs ys zs e f =
+    ap (take (length xs)) (prefix_parts ys zs f ∙ ap (λ vs. vs ++ drop (length ys) zs) (prefix_parts xs ys e) ∙ append_assoc xs (drop (length xs) ys) (drop (length ys) zs))
+    ∙ take-append_seam xs (drop (length xs) ys ++ drop (length ys) zs)
+
+prefix_map : {X Y : Type 0} (f : X → Y) (xs ys : List X) → take (length xs) ys ≡ xs → take (length (map f xs)) (map f ys) ≡ map f xs
+prefix_map f xs ys e =
+    ap (λ zs. take (length (map f xs)) (map f zs)) (prefix_parts xs ys e)
+    ∙ ap (take (length (map f xs))) (map-append f xs (drop (length xs) ys))
+    ∙ take-append_seam (map f xs) (map f (drop (length xs) ys))
+
+pub extends_self : (s : Store) → Extends s s
+extends_self s = record { names = take-length s.names.keys; texts = take-length s.texts.items; nodes = take-length s.nodes.items }
+
+pub extends_on : (a b c : Store) → Extends a b → Extends b c → Extends a c
+extends_on a b c e f = record {
+  names = prefix_trans a.names.keys b.names.keys c.names.keys e.names f.names;
+  texts = prefix_trans a.texts.items b.texts.items c.texts.items e.texts f.texts;
+  nodes = prefix_trans a.nodes.items b.nodes.items c.nodes.items e.nodes f.nodes;
+}
+
+-- names and texts that come behind change no operand
+module _ (names texts more_names more_texts : List (List ℕ)) (n : take (length names) more_names ≡ names) (t : take (length texts) more_texts ≡ texts) where
+  pub operand_kept : (a : Leaf) → LeafFits (length names) (length texts) a → operand_of more_names more_texts a ≡ operand_of names texts a
+  operand_kept (Constant v) h = refl
+  operand_kept (Name i) h = ap named (kept_get names more_names i [] n h)
+  operand_kept (Quoted i) h = ap quoted (kept_get texts more_texts i [] t h)
+
+  pub leaf_kept : (a : Leaf) → LeafFits (length names) (length texts) a → LeafFits (length more_names) (length more_texts) a
+  leaf_kept (Constant v) h = tt
+  leaf_kept (Name i) h = omega (arith, h, prefix_long names more_names n)
+  leaf_kept (Quoted i) h = omega (arith, h, prefix_long texts more_texts t)
+
+  expr_kept : (es : List Expr) (k : ℕ) (m : Node) → NodeFits (length names) (length texts) k m → expr_of more_names more_texts es m ≡ expr_of names texts es m
+  expr_kept es k (Alone a) h = ap alone (operand_kept a h)
+  expr_kept es k (Related op a b) h = ap (λ x. related op x (operand_of more_names more_texts b)) (operand_kept a h.0) ∙ ap (related op (operand_of names texts a)) (operand_kept b h.1)
+  expr_kept es k (Negated i) h = refl
+  expr_kept es k (Both i j) h = refl
+  expr_kept es k (Either i j) h = refl
+  expr_kept es k (Shown i) h = refl
+
+  fits_kept : (k : ℕ) (m : Node) → NodeFits (length names) (length texts) k m → NodeFits (length more_names) (length more_texts) k m
+  fits_kept k (Alone a) h = leaf_kept a h
+  fits_kept k (Related op a b) h = (leaf_kept a h.0, leaf_kept b h.1)
+  fits_kept k (Negated i) h = h
+  fits_kept k (Both i j) h = h
+  fits_kept k (Either i j) h = h
+  fits_kept k (Shown i) h = h
+
+  exprs_kept : (es : List Expr) (ns : List Node) → ((k m : ℕ) → m ≡ length es + k → k < length ns → NodeFits (length names) (length texts) m (get_or ns k some_node)) → exprs_after more_names more_texts es ns ≡ exprs_after names texts es ns
+  exprs_kept es [] f = refl
+  exprs_kept es (m ∷ ms) f =
+      let here = expr_kept es (length es) m (f 0 (length es) (omega arith) (omega arith)) in
+      ap (λ x. exprs_after more_names more_texts (es ++ x ∷ []) ms) here
+      ∙ exprs_kept (es ++ expr_of names texts es m ∷ []) ms (λ k j e l. f (suc k) j (omega (arith, e, length-append es (expr_of names texts es m ∷ []))) (omega arith))
+
+module _ (names texts : List (List ℕ)) where
+  exprs-append : (es : List Expr) (ns ms : List Node) → exprs_after names texts es (ns ++ ms) ≡ exprs_after names texts (exprs_after names texts es ns) ms
+  exprs-append es [] ms = refl
+  exprs-append es (n ∷ ns) ms = exprs-append (es ++ expr_of names texts es n ∷ []) ns ms
+
+  -- expressions of further nodes come behind
+  behind : (es : List Expr) (ns : List Node) → (rest : List Expr) × (exprs_after names texts es ns ≡ es ++ rest)
+  behind es [] = ([], sym (append-nil es))
+  behind es (n ∷ ns) =
+      let (rest, e) = behind (es ++ expr_of names texts es n ∷ []) ns in
+      (expr_of names texts es n ∷ rest, e ∙ append_assoc es (expr_of names texts es n ∷ []) rest)
+
+-- an extended store stands for all for which it stood before
+pub grows : (old new : Store) → IsSound old → Extends old new → Grows (exprs_in old) (exprs_in new)
+grows old new sound e =
+    let names_kept = prefix_map string_bytes old.names.keys new.names.keys e.names in
+    let more = drop (length old.nodes.items) new.nodes.items in
+    let same : exprs_of (names_held new) new.texts.items old.nodes.items ≡ exprs_of (names_held old) old.texts.items old.nodes.items =
+    exprs_kept (names_held old) old.texts.items (names_held new) new.texts.items names_kept e.texts [] old.nodes.items (λ k m q l. let g : k ≡ m = omega arith in rw (← g) (sound.nodes k l)) in
+    let es = exprs_of (names_held old) old.texts.items old.nodes.items in
+    let (rest, f) = behind (names_held new) new.texts.items es more in
+    record {
+      names = names_kept;
+      nodes = ap (λ ns. take (length es) (exprs_of (names_held new) new.texts.items ns)) (prefix_parts old.nodes.items new.nodes.items e.nodes)
+          ∙ ap (take (length es)) (exprs-append (names_held new) new.texts.items [] old.nodes.items more ∙ ap (λ fs. exprs_after (names_held new) new.texts.items fs more) same ∙ f)
+          ∙ take-append_seam es rest;
+    }
+
+-- so does a node
+pub stands_on : (old new : Exprs) (id : ℕ) (e : Expr) → Grows old new → Stands old id e → Stands new id e
+stands_on old new id e g s = record {
+  within = omega (arith, s.within, prefix_long old.nodes new.nodes g.nodes);
+  is = kept_get old.nodes new.nodes id (alone (constant N)) g.nodes s.within ∙ s.is;
+}
+
+pub stands_later : (old new : Store) (id : ℕ) (e : Expr) → IsSound old → Extends old new → Stands (exprs_in old) id e → Stands (exprs_in new) id e
+stands_later old new id e sound x s = stands_on (exprs_in old) (exprs_in new) id e (grows old new sound x) s
+
+-- one node more
+module _ (old new : Store) (node : Node) (sound : IsSound old) (nodes : new.nodes.items ≡ old.nodes.items ++ node ∷ []) (names : new.names.keys ≡ old.names.keys) (texts : new.texts.items ≡ old.texts.items) where
+  pub push_extends : Extends old new
+  push_extends = record {
+    names = rw names (take-length old.names.keys);
+    texts = rw texts (take-length old.texts.items);
+    nodes = rw nodes (take-append_seam old.nodes.items (node ∷ []));
+  }
+
+  pub push_sound : NodeFits (length (names_held old)) (length old.texts.items) (length old.nodes.items) node → IsSound new
+  push_sound f = record {
+    nodes = rw (nodes, names, texts) (nodes_push (length (names_held old)) (length old.texts.items) old.nodes.items node sound.nodes f);
+    distinct = rw names sound.distinct;
+  }
+
+  pub push_stands : (id : ℕ) → id ≡ length old.nodes.items → Stands (exprs_in new) id (expr_of (names_held old) old.texts.items (exprs_in old).nodes node)
+  push_stands id e = rw (nodes, names, texts) (stands_last (names_held old) old.texts.items old.nodes.items node id e)
+
+-- the nodes of a store are as many as its expressions
+pub length-nodes : (s : Store) → length (exprs_in s).nodes ≡ length s.nodes.items
+length-nodes s = omega (arith, length-exprs (names_held s) s.texts.items [] s.nodes.items)
+
+-- a number of an expression is one of a node
+pub within_nodes : (a : Exprs) (s : Store) (i : ℕ) → exprs_in s ≡ a → i < length a.nodes → i < length s.nodes.items
+within_nodes a s i e h = omega (arith, h, ap (λ (x : Exprs). length x.nodes) e, length-nodes s)
+
+-- names and texts that come behind keep a store sound
+pub sound_on : (old new : Store) → IsSound old → Extends old new → new.nodes.items ≡ old.nodes.items → AreDistinct (names_held new) → IsSound new
+sound_on old new sound e same d = record {
+  nodes = rw same (λ k l. fits_kept (names_held old) old.texts.items (names_held new) new.texts.items (prefix_map string_bytes old.names.keys new.names.keys e.names) e.texts k (get_or old.nodes.items k some_node) (sound.nodes k l));
+  distinct = d;
+}
+
+-- an operand stays what it was
+pub operand_on : (old new : Store) (a : Leaf) → Extends old new → LeafFits (length (names_held old)) (length old.texts.items) a → operand_of (names_held new) new.texts.items a ≡ operand_of (names_held old) old.texts.items a
+operand_on old new a e h = operand_kept (names_held old) old.texts.items (names_held new) new.texts.items (prefix_map string_bytes old.names.keys new.names.keys e.names) e.texts a h
+
+pub leaf_on : (old new : Store) (a : Leaf) → Extends old new → LeafFits (length (names_held old)) (length old.texts.items) a → LeafFits (length (names_held new)) (length new.texts.items) a
+leaf_on old new a e h = leaf_kept (names_held old) old.texts.items (names_held new) new.texts.items (prefix_map string_bytes old.names.keys new.names.keys e.names) e.texts a h
+
+-- a node stays one
+pub node_on : (old new : Store) (i : ℕ) → Extends old new → i < length old.nodes.items → i < length new.nodes.items
+node_on old new i e h = omega (arith, h, prefix_long old.nodes.items new.nodes.items e.nodes)
+
+pub stands_node : (s : Store) (i : ℕ) (e : Expr) → Stands (exprs_in s) i e → i < length s.nodes.items
+stands_node s i e h = omega (arith, h.within, length-nodes s)
+
+-- a name that is put in comes behind, or was there
+pub put_prefix : {X : Type 0} (b : Bool) (xs : List X) (x : X) → take (length xs) (cond b xs (xs ++ x ∷ [])) ≡ xs
+put_prefix true xs x = take-length xs
+put_prefix false xs x = take-append_seam xs (x ∷ [])

@@ -1,0 +1,75 @@
+-- Some values, computed.
+use Rattle.std.proofs.Common.{◌≡◌, ℕ, List, [], ◌∷◌, refl, Some, None, Ok, Err, cond, Result}
+use Rattle.std.specs.Prelude.{codes, bytes_eq}
+use Rattle.kc_value.specs.declared.tri.Tri.TheVariants.{N, M, Y}
+use Rattle.kc_value.specs.declared.value.Kind.TheVariants.{Tristate, Text, Int, Hex}
+use Rattle.kc_value.specs.Number.{int_text, hex_text, loose_number}
+use Rattle.kc_expr.specs.declared.token.Relop.TheVariants.{Equal}
+use Rattle.kc_expr.specs.declared.token.TokenKind.TheVariants.{Word, Quoted}
+use Rattle.kc_expr.specs.declared.fault.ExprKind.TheVariants.{UnclosedQuote, LeftOut}
+use Rattle.kc_expr.specs.Token.{lexed, lead_of, Piece}
+use Rattle.std.proofs.Common.{length}
+use Rattle.kc_expr.specs.declared.fault.ExprKind.{ExprKind}
+use Rattle.kc_expr.specs.declared.fault.ExprKind.TheVariants.{Malformed}
+use Rattle.kc_expr.specs.Grammar.{read_expr, extent}
+use Rattle.kc_expr.specs.Expr.{Expr, alone, related, negated, both, either, named, quoted, value, Names}
+
+-- A is y, B is m, N is the int 10, H the hex 0x0A, S the string 10
+names : Names
+names x =
+    cond (bytes_eq x (codes "A")) (Some (record { kind = Tristate; tri = Y; text = codes "y" }))
+    (cond (bytes_eq x (codes "B")) (Some (record { kind = Tristate; tri = M; text = codes "m" }))
+    (cond (bytes_eq x (codes "N")) (Some (record { kind = Int; tri = N; text = codes "10" }))
+    (cond (bytes_eq x (codes "H")) (Some (record { kind = Hex; tri = N; text = codes "0x0A" }))
+    (cond (bytes_eq x (codes "S")) (Some (record { kind = Text; tri = N; text = codes "10" })) None))))
+
+word : List ℕ → Expr
+word x = alone (named x)
+
+one : value names (negated (related Equal (named (codes "B")) (named (codes "B")))) ≡ N
+unfolding names word int_text hex_text loose_number
+one = refl
+
+two : value names (related Equal (named (codes "N")) (named (codes "H"))) ≡ Y
+unfolding names int_text hex_text loose_number
+two = refl
+
+three : value names (related Equal (named (codes "S")) (quoted (codes "010"))) ≡ N
+unfolding names int_text hex_text loose_number
+three = refl
+
+four : value names (related Equal (named (codes "S")) (named (codes "010"))) ≡ Y
+unfolding names int_text hex_text loose_number
+four = refl
+
+-- a line of a word and a quoted text, and a comment
+five : lexed 0 0 (codes "bool \"a b\" # x") ≡ Ok (record { kind = Word; start = 0; stop = 4; text = codes "bool" } ∷ record { kind = Quoted; start = 5; stop = 10; text = codes "\"a b\"" } ∷ [])
+unfolding lead_of
+five = refl
+
+six : lexed 0 0 (codes "a \"b") ≡ Err (record { offset = 2; kind = UnclosedQuote })
+unfolding lead_of
+six = refl
+
+seven : lexed 0 0 (codes "a \"b$\"") ≡ Err (record { offset = 4; kind = LeftOut })
+unfolding lead_of
+seven = refl
+
+-- the expression of a text
+pieces : List ℕ → List Piece
+pieces text = elim (lexed 0 0 text) [ Ok ps ↦ ps | Err e ↦ [] ]
+
+read : List ℕ → Result Expr (ExprKind × ℕ)
+read text = elim (read_expr (extent (pieces text))) [ Ok e ↦ Ok e | Err f ↦ Err (f.0, length f.1) ]
+
+eight : read (codes "!A = B && (C || D) if X") ≡ Ok (both (negated (related Equal (named (codes "A")) (named (codes "B")))) (either (word (codes "C")) (word (codes "D"))))
+unfolding lead_of word read pieces read_expr
+eight = refl
+
+nine : read (codes "A = B = C") ≡ Err (Malformed, 2)
+unfolding lead_of read pieces read_expr
+nine = refl
+
+ten : read (codes "A && B || C && D || E") ≡ Ok (either (either (both (word (codes "A")) (word (codes "B"))) (both (word (codes "C")) (word (codes "D")))) (word (codes "E")))
+unfolding lead_of word read pieces read_expr
+ten = refl

@@ -1,0 +1,23 @@
+use Rattle.std.proofs.Common.{◌≡◌, ◌+◌, refl, ap, ◌∙◌, length, take}
+use Rattle.kc_expr.specs.Grammar.{extent}
+use Rattle.kc_expr.specs.Reading.{expr_end}
+use Rattle.kc_expr.specs.Token.{pieces_of}
+use Rattle.kc_expr.proofs.ReadingLemmas.{tail_pieces, line_read, line_refused}
+use Rattle.kc_expr.proofs.StoreLemmas.{grows}
+use Rattle.kc_expr.proofs.arena.Arena.parse_expr.Goals as goal
+
+pub returns-in-Ok-clause-grows : goal.returns-in-Ok-clause-grows
+returns-in-Ok-clause-grows c = rw (← c.self.view_is) (grows c.self.inside.store c.parse_whole.new.self c.self.invariant c.parse_whole.ensures.extends)
+
+pub returns-in-Ok-clause-end : goal.returns-in-Ok-clause-end
+returns-in-Ok-clause-end c = ap (λ n. c.args.at + n) (c.extent_len.ensures.count ∙ ap (λ us. length (extent us)) (tail_pieces c.args.tokens.now c.args.at))
+
+pub returns-in-Ok-clause-ok : goal.returns-in-Ok-clause-ok
+returns-in-Ok-clause-ok c =
+    let end : c.args.at + c.extent_len.result ≡ expr_end (pieces_of c.args.tokens.now) c.args.at = ap (λ n. c.args.at + n) (c.extent_len.ensures.count ∙ ap (λ us. length (extent us)) (tail_pieces c.args.tokens.now c.args.at)) in
+    rw c.at.ensures (line_read c.args.tokens.now (take (c.args.at + c.extent_len.result) c.args.tokens.now) c.args.at (c.args.at + c.extent_len.result) refl end c.parse_whole.new.self c.args.condition c.in-Ok.id c.in-Ok.ensures.ok)
+
+pub returns-in-Err-clause-fault : goal.returns-in-Err-clause-fault
+returns-in-Err-clause-fault c =
+    let end : c.args.at + c.extent_len.result ≡ expr_end (pieces_of c.args.tokens.now) c.args.at = ap (λ n. c.args.at + n) (c.extent_len.ensures.count ∙ ap (λ us. length (extent us)) (tail_pieces c.args.tokens.now c.args.at)) in
+    line_refused c.args.tokens.now (take (c.args.at + c.extent_len.result) c.args.tokens.now) c.args.at (c.args.at + c.extent_len.result) refl end c.in-Err.fault c.in-Err.ensures.fault

@@ -1,0 +1,58 @@
+use Rattle.std.proofs.Common.{◌++◌, [], map, ap, sym, ◌∙◌, append_assoc, arith}
+use Rattle.std.proofs.lemmas.Result.{on_ok_weaker}
+use Rattle.std.specs.Prelude.{slice_index_or}
+use Rattle.kc_expr.specs.Mentioned.{operand_names}
+use Rattle.kc_expr.specs.Nodes.{operand_of}
+use Rattle.kc_expr.specs.Store.{names_held}
+use Rattle.kc_expr.specs.Words.{words}
+use Rattle.kc_expr.proofs.MentionedLemmas.{met_both}
+use Rattle.kc_expr.proofs.StoreLemmas.{node_of, fits_at}
+use Rattle.kc_expr.proofs.mentioned.+push_names.Goals as goal
+
+pub returns-in-Alone-clause-words : goal.returns-in-Alone-clause-words
+returns-in-Alone-clause-words t c =
+    let e = ap words (node_of c.args.store.now c.down.at _ _ c.requires.sound (omega arith) c.node.ensures c.in-Alone.is) in
+    on_ok_weaker c.push_name.result (λ w. w ∙ ap (λ ws. map (λ i. slice_index_or (names_held c.args.store.now) i []) c.down.found.items ++ ws) (sym e) ∙ c.down.invariant.words) c.push_name.ensures.words
+
+pub returns-in-Alone-clause-held : goal.returns-in-Alone-clause-held
+returns-in-Alone-clause-held t c = on_ok_weaker c.push_name.result (λ h all. h (c.down.invariant.held all)) c.push_name.ensures.held
+
+pub returns-in-Related-clause-words : goal.returns-in-Related-clause-words
+returns-in-Related-clause-words t c =
+    let e = ap words (node_of c.args.store.now c.down.at _ _ c.requires.sound (omega arith) c.node.ensures c.in-Related.is) in
+    on_ok_weaker c.push_name-in-Related-2.result (λ w. w ∙ ap (λ xs. xs ++ operand_names (operand_of (names_held c.args.store.now) c.args.store.now.texts.items c.in-Related.right)) c.in_ok-push_name-in-Related.ensures.words ∙ append_assoc (map (λ i. slice_index_or (names_held c.args.store.now) i []) c.down.found.items) _ _ ∙ ap (λ ws. map (λ i. slice_index_or (names_held c.args.store.now) i []) c.down.found.items ++ ws) (sym e) ∙ c.down.invariant.words) c.push_name-in-Related-2.ensures.words
+
+pub returns-in-Related-clause-held : goal.returns-in-Related-clause-held
+returns-in-Related-clause-held t c = on_ok_weaker c.push_name-in-Related-2.result (λ h all. h (c.in_ok-push_name-in-Related.ensures.held (c.down.invariant.held all))) c.push_name-in-Related-2.ensures.held
+
+pub down-preserved-in-Negated : goal.down-preserved-in-Negated
+down-preserved-in-Negated t c =
+    let e = ap words (node_of c.args.store.now c.down.at _ _ c.requires.sound (omega arith) c.node.ensures c.in-Negated.is) in
+    let f = fits_at c.args.store.now c.down.at _ _ c.requires.sound (omega arith) c.node.ensures c.in-Negated.is in
+    record { below = omega (arith, f); words = ap (λ ws. map (λ i. slice_index_or (names_held c.args.store.now) i []) c.down.found.items ++ ws) (sym e) ∙ c.down.invariant.words; held = c.down.invariant.held }
+
+pub down-preserved-in-Shown : goal.down-preserved-in-Shown
+down-preserved-in-Shown t c =
+    let e = ap words (node_of c.args.store.now c.down.at _ _ c.requires.sound (omega arith) c.node.ensures c.in-Shown.is) in
+    let f = fits_at c.args.store.now c.down.at _ _ c.requires.sound (omega arith) c.node.ensures c.in-Shown.is in
+    record { below = omega (arith, f); words = ap (λ ws. map (λ i. slice_index_or (names_held c.args.store.now) i []) c.down.found.items ++ ws) (sym e) ∙ c.down.invariant.words; held = c.down.invariant.held }
+
+pub down-preserved-in-Both : goal.down-preserved-in-Both
+down-preserved-in-Both t c =
+    let e = ap words (node_of c.args.store.now c.down.at _ _ c.requires.sound (omega arith) c.node.ensures c.in-Both.is) in
+    let f = fits_at c.args.store.now c.down.at _ _ c.requires.sound (omega arith) c.node.ensures c.in-Both.is in
+    record {
+      below = omega (arith, f);
+      words = met_both (map (λ i. slice_index_or (names_held c.args.store.now) i []) c.down.found.items) _ _ _ _ c.in_ok-push_names-in-Both.ensures.words (ap (λ ws. map (λ i. slice_index_or (names_held c.args.store.now) i []) c.down.found.items ++ ws) (sym e) ∙ c.down.invariant.words);
+      held = λ all. c.in_ok-push_names-in-Both.ensures.held (c.down.invariant.held all);
+    }
+
+pub down-preserved : goal.down-preserved
+down-preserved t c =
+    let e = ap words (node_of c.args.store.now c.down.at _ _ c.requires.sound (omega arith) c.node.ensures c.in-Either.is) in
+    let f = fits_at c.args.store.now c.down.at _ _ c.requires.sound (omega arith) c.node.ensures c.in-Either.is in
+    record {
+      below = omega (arith, f);
+      words = met_both (map (λ i. slice_index_or (names_held c.args.store.now) i []) c.down.found.items) _ _ _ _ c.in_ok-push_names-in-Either.ensures.words (ap (λ ws. map (λ i. slice_index_or (names_held c.args.store.now) i []) c.down.found.items ++ ws) (sym e) ∙ c.down.invariant.words);
+      held = λ all. c.in_ok-push_names-in-Either.ensures.held (c.down.invariant.held all);
+    }

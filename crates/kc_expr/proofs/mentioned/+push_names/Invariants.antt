@@ -1,0 +1,20 @@
+use Rattle.std.proofs.Common.{◌≡◌, ℕ, ◌<◌, ◌≤◌, ◌++◌, [], length, map}
+use Rattle.std.specs.Prelude.{All, slice_index_or}
+use Rattle.kc_expr.specs.Arena.{stands_for}
+use Rattle.kc_expr.specs.Store.{names_held, exprs_in}
+use Rattle.kc_expr.specs.Words.{words}
+use Rattle.kc_expr.proofs.mentioned.+push_names.Given as goal
+
+abbrev pub decreases-push_names : goal.decreases-push_names
+decreases-push_names l = l.index
+
+abbrev pub invariant-down : goal.invariant-down
+invariant-down l = record {
+  below : l.at ≤ l.index;
+  words : map (λ i. slice_index_or (names_held l.store) i []) l.found.items ++ words (stands_for (exprs_in l.store) l.at)
+      ≡ map (λ i. slice_index_or (names_held l.store) i []) l.fn.found.items ++ words (stands_for (exprs_in l.store) l.index);
+  held : All (λ (i : ℕ). i < length (names_held l.store)) l.fn.found.items → All (λ (i : ℕ). i < length (names_held l.store)) l.found.items;
+}
+
+abbrev pub decreases-down : goal.decreases-down
+decreases-down l = l.at

@@ -1,0 +1,9 @@
+use Rattle.std.proofs.Common.{ap, ◌∙◌, Some}
+use Rattle.kc_expr.proofs.TokenPlaces.{kind_at, kind_is}
+use Rattle.kc_expr.proofs.parse.stands_at.Goals as goal
+
+pub returns-then-at-tokens : goal.returns-then-at-tokens
+returns-then-at-tokens c = (
+  λ t. kind_at c.args.tokens.now c.args.at _ c.if-at-tokens.true ∙ ap Some (c.same_kind.ensures.0 t),
+  λ e. c.same_kind.ensures.1 (kind_is c.args.tokens.now c.args.at _ c.args.kind c.if-at-tokens.true e),
+)

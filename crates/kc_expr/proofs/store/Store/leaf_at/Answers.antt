@@ -1,0 +1,15 @@
+use Rattle.std.proofs.Common.{Some, ap, sym, ◌∙◌}
+use Rattle.kc_expr.specs.declared.token.TokenKind.TheVariants.{Word, Quoted}
+use Rattle.kc_expr.proofs.LeafLemmas.{operand_at, no_operand_at}
+use Rattle.kc_expr.proofs.store.Store.leaf_at.Goals as goal
+
+pub returns-in_ok-word_leaf-in-Word-clause-operand : goal.returns-in_ok-word_leaf-in-Word-clause-operand
+returns-in_ok-word_leaf-in-Word-clause-operand c =
+    ap Some c.in_ok-word_leaf-in-Word.ensures.operand ∙ sym (operand_at c.args.tokens.now c.args.at _ Word c.if-at-tokens.false c.in-Word.is)
+
+pub returns-in_ok-quoted_leaf-in-Quoted-clause-operand : goal.returns-in_ok-quoted_leaf-in-Quoted-clause-operand
+returns-in_ok-quoted_leaf-in-Quoted-clause-operand c =
+    ap Some c.in_ok-quoted_leaf-in-Quoted.ensures.operand ∙ sym (operand_at c.args.tokens.now c.args.at _ Quoted c.if-at-tokens.false c.in-Quoted.is)
+
+pub returns-in_default-clause-operand : goal.returns-in_default-clause-operand
+returns-in_default-clause-operand c = sym (no_operand_at c.args.tokens.now c.args.at _ c.if-at-tokens.false c.in_default.not-Word c.in_default.not-Quoted)

@@ -1,0 +1,18 @@
+use Rattle.std.proofs.Common.{arith, length-drop}
+use Rattle.std.proofs.lemmas.Result.{err_from_is_err_and}
+use Rattle.std.proofs.lemmas.List.{length-map}
+use Rattle.kc_expr.specs.Token.{pieces_of, piece_of}
+use Rattle.kc_expr.proofs.ParseSteps.{whole_refused, whole_too_long, whole_parsed}
+use Rattle.kc_expr.proofs.store.Store.parse_whole.Goals as goal
+
+pub returns-in_err-id-clause-fault : goal.returns-in_err-id-clause-fault
+returns-in_err-id-clause-fault c =
+    let p = err_from_is_err_and c.from_residual.result c.from_residual.ensures.1 in
+    rw (p.1, p.2) (whole_refused (pieces_of c.args.tokens.now) c.args.condition c.args.at c.args.depth _ c.in_err-id.ensures.parses)
+
+pub returns-then-next-tokens-clause-fault : goal.returns-then-next-tokens-clause-fault
+returns-then-next-tokens-clause-fault c =
+    whole_too_long (pieces_of c.args.tokens.now) c.args.condition c.args.at c.args.depth c.parse_ors.new.self _ _ c.in_ok-id.ensures.parses (omega (arith, length-drop c.in_ok-id.next (pieces_of c.args.tokens.now), length-map c.args.tokens.now piece_of)) _ c.fault_at.ensures
+
+pub returns-clause-ok : goal.returns-clause-ok
+returns-clause-ok c = whole_parsed (pieces_of c.args.tokens.now) c.args.condition c.args.at c.args.depth c.parse_ors.new.self _ _ c.in_ok-id.ensures.parses (omega (arith, length-map c.args.tokens.now piece_of))

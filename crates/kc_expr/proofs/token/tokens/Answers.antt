@@ -1,0 +1,34 @@
+use Rattle.std.proofs.Common.{arith, sym, length-drop}
+use Rattle.std.proofs.lemmas.Str.{IsCharBoundary-start}
+use Rattle.kc_expr.specs.Token.{lexed, pieces_of}
+use Rattle.kc_expr.proofs.Lexing.{step_white, step_token_of, cut_after_token, rest_is, pieces_more, text_is, with_front_none}
+use Rattle.kc_expr.proofs.token.tokens.Goals as goal
+
+pub loop-at-init : goal.loop-at-init
+loop-at-init c = record { read = rw c.new-found.ensures.items (with_front_none (lexed 0 0 c.args.line.now)); cut = IsCharBoundary-start c.args.line.now c.utf8.line }
+
+pub loop-at-preserved-in-White : goal.loop-at-preserved-in-White
+loop-at-preserved-in-White c =
+    let r = rest_is c.as_bytes-bytes.result.now c.args.line.now c.loop-at.at c.as_bytes-bytes.ensures.value in
+    let e = rw r at c.in-White.ensures.lead in
+    let b = rw r at c.in-White.ensures.reaches in
+    record {
+      read = step_white c.args.line.now c.loop-at.at (pieces_of c.loop-at.found.items) (lexed 0 0 c.args.line.now) (omega (arith, c.as_bytes-bytes.ensures.len)) c.loop-at.invariant.read (sym e);
+      cut = cut_after_token c.args.line.now c.loop-at.at 1 c.utf8.line (omega arith) (omega (arith, length-drop c.loop-at.at c.args.line.now, c.as_bytes-bytes.ensures.len)) (omega (arith, c.as_bytes-bytes.ensures.len)) b;
+    }
+
+pub range-text-requires-clause-end_boundary : goal.range-text-requires-clause-end_boundary
+range-text-requires-clause-end_boundary c =
+    let r = rest_is c.as_bytes-bytes.result.now c.args.line.now c.loop-at.at c.as_bytes-bytes.ensures.value in
+    let b = rw r at c.in-Token.ensures.reaches in
+    cut_after_token c.args.line.now c.loop-at.at c.in-Token.len c.utf8.line b.0 b.1 (omega (arith, c.as_bytes-bytes.ensures.len)) b.2
+
+pub loop-at-preserved : goal.loop-at-preserved
+loop-at-preserved c =
+    let r = rest_is c.as_bytes-bytes.result.now c.args.line.now c.loop-at.at c.as_bytes-bytes.ensures.value in
+    let e = rw r at c.in-Token.ensures.lead in
+    let b = rw r at c.in-Token.ensures.reaches in
+    record {
+      read = rw (c.in_ok-push-in-Token.ensures.items, pieces_more, text_is c.args.line.now c.loop-at.at c.in-Token.len c.range-text.result.now c.range-text.ensures.value) (step_token_of c.args.line.now c.loop-at.at (pieces_of c.loop-at.found.items) (lexed 0 0 c.args.line.now) (omega (arith, c.as_bytes-bytes.ensures.len)) c.loop-at.invariant.read c.in-Token.kind c.in-Token.len b.0 (sym e));
+      cut = cut_after_token c.args.line.now c.loop-at.at c.in-Token.len c.utf8.line b.0 b.1 (omega (arith, c.as_bytes-bytes.ensures.len)) b.2;
+    }

@@ -1,0 +1,220 @@
+-- The grammar of expressions, over tokens.
+use Rattle.std.specs.Prelude.{◌≡◌, ℕ, zero, suc, ◌-◌, Bool, true, false, ◌&&◌, ◌||◌, ◌==◌, List, [], ◌∷◌, ◌++◌, length, take, drop, slice_index, nat_le, Option, Some, None, Result, Ok, Err, bytes_eq, if◌then◌else◌}
+use Rattle.kc_value.specs.Quoted.{unescaped}
+use Rattle.kc_value.specs.declared.tri.Tri.{Tri}
+use Rattle.kc_value.specs.declared.tri.Tri.TheVariants.{N, M, Y}
+use Rattle.kc_expr.specs.declared.fault.ExprFault.{ExprFault}
+use Rattle.kc_expr.specs.declared.fault.ExprKind.{ExprKind}
+use Rattle.kc_expr.specs.declared.fault.ExprKind.TheVariants.{Malformed, TooDeep}
+use Rattle.kc_expr.specs.declared.token.TokenKind.{TokenKind}
+use Rattle.kc_expr.specs.declared.token.TokenKind.TheVariants.{Word, Quoted, Relation, Not, And, Or, Open, Close}
+use Rattle.kc_expr.specs.Token.{Piece}
+use Rattle.kc_expr.specs.Expr.{Expr, Operand, constant, named, quoted, alone, related, negated, both, either, conditional}
+
+-- a quote
+abbrev pub is_quote : ℕ → Bool
+is_quote c = c == 34 || (c == 39)
+
+-- what stands between the quotes of a text; all of it where it doesn't stand in quotes
+abbrev pub between_quotes : List ℕ → List ℕ
+between_quotes text =
+    if nat_le 2 (length text) && is_quote (slice_index text 0) && is_quote (slice_index text (length text - 1)) then take (length text - 2) (drop 1 text) else text
+
+-- the text for which a quoted token stands
+abbrev pub quoted_text : List ℕ → List ℕ
+quoted_text text = unescaped false (between_quotes text)
+
+-- the constant that a text is, if it is one
+abbrev pub letter_value : List ℕ → Option Tri
+letter_value text =
+    if bytes_eq text (110 ∷ []) then Some N
+    else if bytes_eq text (109 ∷ []) then Some M
+    else if bytes_eq text (121 ∷ []) then Some Y
+    else None
+
+abbrev pub constant_else : Option Tri → Operand → Operand
+constant_else (Some t) other = constant t
+constant_else None other = other
+
+-- quoted or bare, `n`, `m` and `y` are the three constants
+abbrev pub constant_or : (List ℕ → Operand) → List ℕ → Operand
+constant_or other text = constant_else (letter_value text) (other text)
+
+abbrev pub operand_of_kind : TokenKind → List ℕ → Option Operand
+operand_of_kind Word text = Some (constant_or named text)
+operand_of_kind Quoted text = Some (constant_or quoted (quoted_text text))
+operand_of_kind (Relation op) text = None
+operand_of_kind Not text = None
+operand_of_kind And text = None
+operand_of_kind Or text = None
+operand_of_kind Open text = None
+operand_of_kind Close text = None
+
+abbrev pub operand_of_piece : Piece → Option Operand
+operand_of_piece t = operand_of_kind t.kind t.text
+
+pub data Level : Type 0 where
+  ors : Level
+  ands : Level
+  factor : Level
+
+-- Tokens are an expression, with so many `!` and parentheses round a symbol at most. `&&` and `||` join from the left.
+pub data IsExpr : Level → ℕ → List Piece → Expr → Type 0 where
+  one_and : {d : ℕ} {ts : List Piece} {e : Expr} → IsExpr ands d ts e → IsExpr ors d ts e
+  more_ors : {d : ℕ} {all ts us : List Piece} (o : Piece) {a b : Expr} → IsExpr ors d ts a → o.kind ≡ Or → IsExpr ands d us b → all ≡ ts ++ o ∷ us → IsExpr ors d all (either a b)
+  one_factor : {d : ℕ} {ts : List Piece} {e : Expr} → IsExpr factor d ts e → IsExpr ands d ts e
+  more_ands : {d : ℕ} {all ts us : List Piece} (o : Piece) {a b : Expr} → IsExpr ands d ts a → o.kind ≡ And → IsExpr factor d us b → all ≡ ts ++ o ∷ us → IsExpr ands d all (both a b)
+  operand : {d : ℕ} {all : List Piece} (t : Piece) {a : Operand} → operand_of_piece t ≡ Some a → all ≡ t ∷ [] → IsExpr factor d all (alone a)
+  relation : {d : ℕ} {all : List Piece} (t r u : Piece) {a b : Operand} (op : _) → operand_of_piece t ≡ Some a → r.kind ≡ Relation op → operand_of_piece u ≡ Some b → all ≡ t ∷ r ∷ u ∷ [] → IsExpr factor d all (related op a b)
+  negation : {d : ℕ} {all ts : List Piece} (t : Piece) {e : Expr} → t.kind ≡ Not → IsExpr factor d ts e → all ≡ t ∷ ts → IsExpr factor (suc d) all (negated e)
+  parentheses : {d : ℕ} {all ts : List Piece} (o c : Piece) {e : Expr} → o.kind ≡ Open → IsExpr ors d ts e → c.kind ≡ Close → all ≡ o ∷ (ts ++ c ∷ []) → IsExpr factor (suc d) all e
+
+-- the expression reaches up to the first word or quoted token that directly follows an operand or `)`
+abbrev pub is_operand_kind : TokenKind → Bool
+is_operand_kind Word = true
+is_operand_kind Quoted = true
+is_operand_kind (Relation op) = false
+is_operand_kind Not = false
+is_operand_kind And = false
+is_operand_kind Or = false
+is_operand_kind Open = false
+is_operand_kind Close = false
+
+abbrev pub is_close : TokenKind → Bool
+is_close Close = true
+is_close Word = false
+is_close Quoted = false
+is_close (Relation op) = false
+is_close Not = false
+is_close And = false
+is_close Or = false
+is_close Open = false
+
+abbrev pub extent : List Piece → List Piece
+extent [] = []
+extent (t ∷ []) = t ∷ []
+extent (t ∷ u ∷ ts) = if (is_operand_kind t.kind || is_close t.kind) && is_operand_kind u.kind then t ∷ [] else t ∷ extent (u ∷ ts)
+
+-- Reading from the left: an expression and the tokens after it, or a fault and the tokens from where it stands on.
+abbrev pub Read : Type 0
+Read = Result (Expr × List Piece) (ExprKind × List Piece)
+
+abbrev pub on_read : Read → (Expr × List Piece → Read) → Read
+on_read (Ok r) f = f r
+on_read (Err e) f = Err e
+
+-- past the greatest depth the first symbol is too deep
+abbrev pub beyond : List Piece → Read
+beyond [] = Err (Malformed, [])
+beyond (t ∷ ts) = elim t.kind [
+  | Not ↦ beyond ts
+  | Open ↦ beyond ts
+  | Word ↦ Err (TooDeep, t ∷ ts)
+  | Quoted ↦ Err (TooDeep, t ∷ ts)
+  | Relation op ↦ Err (Malformed, t ∷ ts)
+  | And ↦ Err (Malformed, t ∷ ts)
+  | Or ↦ Err (Malformed, t ∷ ts)
+  | Close ↦ Err (Malformed, t ∷ ts)
+]
+
+abbrev pub right_operand : (Operand → Expr) → List Piece → Read
+right_operand f [] = Err (Malformed, [])
+right_operand f (t ∷ ts) = elim (operand_of_piece t) [ Some b ↦ Ok (f b, ts) | None ↦ Err (Malformed, t ∷ ts) ]
+
+-- behind an operand a relation may stand
+abbrev pub behind_operand : Operand → List Piece → Read
+behind_operand a [] = Ok (alone a, [])
+behind_operand a (t ∷ ts) = elim t.kind [
+  | Relation op ↦ right_operand (related op a) ts
+  | Word ↦ Ok (alone a, t ∷ ts)
+  | Quoted ↦ Ok (alone a, t ∷ ts)
+  | Not ↦ Ok (alone a, t ∷ ts)
+  | And ↦ Ok (alone a, t ∷ ts)
+  | Or ↦ Ok (alone a, t ∷ ts)
+  | Open ↦ Ok (alone a, t ∷ ts)
+  | Close ↦ Ok (alone a, t ∷ ts)
+]
+
+abbrev pub is_and : TokenKind → Bool
+is_and And = true
+is_and Word = false
+is_and Quoted = false
+is_and (Relation op) = false
+is_and Not = false
+is_and Or = false
+is_and Open = false
+is_and Close = false
+
+abbrev pub is_or : TokenKind → Bool
+is_or Or = true
+is_or Word = false
+is_or Quoted = false
+is_or (Relation op) = false
+is_or Not = false
+is_or And = false
+is_or Open = false
+is_or Close = false
+
+-- a chain, joined from the left; the number bounds its length
+abbrev pub chain : (TokenKind → Bool) → (Expr → Expr → Expr) → (List Piece → Read) → ℕ → Expr → List Piece → Read
+chain is_joint joined part zero a ts = Ok (a, ts)
+chain is_joint joined part (suc n) a [] = Ok (a, [])
+chain is_joint joined part (suc n) a (t ∷ ts) = elim (is_joint t.kind) [
+  | true ↦ on_read (part ts) (λ r. chain is_joint joined part n (joined a r.0) r.1)
+  | false ↦ Ok (a, t ∷ ts)
+]
+
+abbrev pub read_ands : (List Piece → Read) → List Piece → Read
+read_ands part ts = on_read (part ts) (λ r. chain is_and both part (length ts) r.0 r.1)
+
+abbrev pub read_ors : (List Piece → Read) → List Piece → Read
+read_ors part ts = on_read (read_ands part ts) (λ r. chain is_or either (read_ands part) (length ts) r.0 r.1)
+
+abbrev pub closed : Expr × List Piece → Read
+closed r = elim r.1 [ [] ↦ Err (Malformed, []) | t ∷ ts ↦ (if is_close t.kind then Ok (r.0, ts) else Err (Malformed, t ∷ ts)) ]
+
+abbrev pub read_factor : ℕ → List Piece → Read
+read_factor d [] = Err (Malformed, [])
+read_factor zero (t ∷ ts) = elim t.kind [
+  | Not ↦ beyond ts
+  | Open ↦ beyond ts
+  | Word ↦ behind_operand (constant_or named t.text) ts
+  | Quoted ↦ behind_operand (constant_or quoted (quoted_text t.text)) ts
+  | Relation op ↦ Err (Malformed, t ∷ ts)
+  | And ↦ Err (Malformed, t ∷ ts)
+  | Or ↦ Err (Malformed, t ∷ ts)
+  | Close ↦ Err (Malformed, t ∷ ts)
+]
+read_factor (suc d) (t ∷ ts) = elim t.kind [
+  | Not ↦ on_read (read_factor d ts) (λ r. Ok (negated r.0, r.1))
+  | Open ↦ on_read (read_ors (read_factor d) ts) closed
+  | Word ↦ behind_operand (constant_or named t.text) ts
+  | Quoted ↦ behind_operand (constant_or quoted (quoted_text t.text)) ts
+  | Relation op ↦ Err (Malformed, t ∷ ts)
+  | And ↦ Err (Malformed, t ∷ ts)
+  | Or ↦ Err (Malformed, t ∷ ts)
+  | Close ↦ Err (Malformed, t ∷ ts)
+]
+
+-- all of the tokens
+abbrev pub whole : Read → Result Expr (ExprKind × List Piece)
+whole (Err e) = Err e
+whole (Ok r) = elim r.1 [ [] ↦ Ok r.0 | t ∷ ts ↦ Err (Malformed, t ∷ ts) ]
+
+unfoldable pub read_expr : List Piece → Result Expr (ExprKind × List Piece)
+read_expr ts = whole (read_ors (read_factor 64) ts)
+
+-- the byte behind the last of the tokens
+abbrev pub end_of : List Piece → ℕ
+end_of [] = 0
+end_of (t ∷ []) = t.stop
+end_of (t ∷ u ∷ ts) = end_of (u ∷ ts)
+
+-- a fault stands at the first token that is left; where none is left, at the end of the tokens
+abbrev pub fault_of : List Piece → ExprKind × List Piece → ExprFault
+fault_of all (kind, []) = record { offset = end_of all; kind = kind }
+fault_of all (kind, t ∷ ts) = record { offset = t.start; kind = kind }
+
+-- what is read means, as a condition or as a value
+abbrev pub as_condition : Bool → Expr → Expr
+as_condition condition e = if condition then conditional e else e

@@ -1,0 +1,16 @@
+pub mod Answers
+pub mod Arena
+pub mod ArenaView
+pub mod Expr
+pub mod ExprCode
+pub mod Grammar
+pub mod Lookup
+pub mod Mentioned
+pub mod Nodes
+pub mod Operand
+pub mod Parsing
+pub mod Reading
+pub mod Store
+pub mod Token
+pub mod TokenGrammar
+pub mod Words

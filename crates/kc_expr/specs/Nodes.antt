@@ -1,0 +1,53 @@
+-- The expressions for which nodes stand.
+use Rattle.std.specs.Prelude.{ℕ, ◌<◌, List, [], ◌∷◌, ◌++◌, length, slice_index_or}
+use Rattle.kc_value.specs.declared.tri.Tri.TheVariants.{N}
+use Rattle.kc_expr.specs.Expr.{Expr, Operand, alone, related, negated, both, either, shown, constant, named, quoted}
+use Rattle.kc_expr.specs.declared.node.Leaf.{Leaf}
+use Rattle.kc_expr.specs.declared.node.Leaf.TheVariants.{Constant, Name, Quoted}
+use Rattle.kc_expr.specs.declared.node.Node.{Node}
+use Rattle.kc_expr.specs.declared.node.Node.TheVariants.{Alone, Related, Negated, Both, Either, Shown}
+
+abbrev pub operand_of : List (List ℕ) → List (List ℕ) → Leaf → Operand
+operand_of names texts (Constant t) = constant t
+operand_of names texts (Name i) = named (slice_index_or names i [])
+operand_of names texts (Quoted i) = quoted (slice_index_or texts i [])
+
+abbrev pub at : List Expr → ℕ → Expr
+at es i = slice_index_or es i (alone (constant N))
+
+-- the expression of a node over those of the nodes before it
+abbrev pub expr_of : List (List ℕ) → List (List ℕ) → List Expr → Node → Expr
+expr_of names texts es (Alone a) = alone (operand_of names texts a)
+expr_of names texts es (Related op a b) = related op (operand_of names texts a) (operand_of names texts b)
+expr_of names texts es (Negated i) = negated (at es i)
+expr_of names texts es (Both i j) = both (at es i) (at es j)
+expr_of names texts es (Either i j) = either (at es i) (at es j)
+expr_of names texts es (Shown i) = shown (at es i)
+
+-- the expressions of nodes behind others
+abbrev pub exprs_after : List (List ℕ) → List (List ℕ) → List Expr → List Node → List Expr
+exprs_after names texts es [] = es
+exprs_after names texts es (n ∷ ns) = exprs_after names texts (es ++ expr_of names texts es n ∷ []) ns
+
+abbrev pub exprs_of : List (List ℕ) → List (List ℕ) → List Node → List Expr
+exprs_of names texts ns = exprs_after names texts [] ns
+
+-- each node's children have smaller numbers, and its texts are there
+abbrev pub LeafFits : ℕ → ℕ → Leaf → Type 0
+LeafFits names texts (Constant t) = Unit {0}
+LeafFits names texts (Name i) = i < names
+LeafFits names texts (Quoted i) = i < texts
+
+abbrev pub NodeFits : ℕ → ℕ → ℕ → Node → Type 0
+NodeFits names texts k (Alone a) = LeafFits names texts a
+NodeFits names texts k (Related op a b) = LeafFits names texts a × LeafFits names texts b
+NodeFits names texts k (Negated i) = i < k
+NodeFits names texts k (Both i j) = (i < k) × (j < k)
+NodeFits names texts k (Either i j) = (i < k) × (j < k)
+NodeFits names texts k (Shown i) = i < k
+
+abbrev pub some_node : Node
+some_node = Alone (Constant N)
+
+abbrev pub AreNodes : ℕ → ℕ → List Node → Type 0
+AreNodes names texts ns = (k : ℕ) → k < length ns → NodeFits names texts k (slice_index_or ns k some_node)

@@ -1,0 +1,100 @@
+-- What the functions of the parser answer.
+use Rattle.std.specs.Prelude.{◌≡◌, ℕ, ◌≤◌, Bool, true, false, List, [], ◌∷◌, length, drop, Option, Some, None, Result, Ok, Err, ◌⊎◌}
+use Rattle.kc_value.specs.declared.tri.Tri.TheVariants.{N, M, Y}
+use Rattle.kc_expr.specs.declared.fault.ExprFault.{ExprFault}
+use Rattle.kc_expr.specs.declared.fault.ExprKind.{ExprKind}
+use Rattle.kc_expr.specs.declared.fault.ExprKind.TheVariants.{Malformed, OutOfMemory}
+use Rattle.kc_expr.specs.declared.node.Leaf.{Leaf}
+use Rattle.kc_expr.specs.declared.node.Leaf.TheVariants.{Constant, Name, Quoted as Text}
+use Rattle.kc_expr.specs.declared.store.Store.{Store}
+use Rattle.kc_expr.specs.declared.token.Relop.{Relop}
+use Rattle.kc_expr.specs.declared.token.TokenKind.{TokenKind}
+use Rattle.kc_expr.specs.declared.token.TokenKind.TheVariants.{Word, Quoted, Relation, Not, And, Or, Open, Close}
+use Rattle.kc_expr.specs.Arena.{Stands}
+use Rattle.kc_expr.specs.Expr.{Expr, Operand}
+use Rattle.kc_expr.specs.Grammar.{Read, behind_operand, operand_of_piece, read_factor, read_ands, read_ors, whole, fault_of, as_condition}
+use Rattle.kc_expr.specs.Store.{exprs_in}
+use Rattle.kc_expr.specs.Token.{Piece}
+
+-- the kind of the first token
+abbrev pub first_kind : List Piece → Option TokenKind
+first_kind [] = None
+first_kind (t ∷ ts) = Some t.kind
+
+-- the operand that the first token is
+abbrev pub first_operand : List Piece → Option Operand
+first_operand [] = None
+first_operand (t ∷ ts) = operand_of_piece t
+
+abbrev pub relation_of : TokenKind → Option Relop
+relation_of (Relation op) = Some op
+relation_of Word = None
+relation_of Quoted = None
+relation_of Not = None
+relation_of And = None
+relation_of Or = None
+relation_of Open = None
+relation_of Close = None
+
+-- the relation that the first token is
+abbrev pub first_relation : List Piece → Option Relop
+first_relation [] = None
+first_relation (t ∷ ts) = relation_of t.kind
+
+abbrev pub operand_else : Option Operand → Piece → List Piece → Read
+operand_else (Some a) t ts = behind_operand a ts
+operand_else None t ts = Err (Malformed, t ∷ ts)
+
+-- the readers under names that stay closed
+unfoldable pub operand_read : List Piece → Read
+operand_read [] = Err (Malformed, [])
+operand_read (t ∷ ts) = operand_else (operand_of_piece t) t ts
+
+unfoldable pub factor_read : ℕ → List Piece → Read
+factor_read d ts = read_factor d ts
+
+unfoldable pub ands_read : ℕ → List Piece → Read
+ands_read d ts = read_ands (read_factor d) ts
+
+unfoldable pub ors_read : ℕ → List Piece → Read
+ors_read d ts = read_ors (read_factor d) ts
+
+unfoldable pub whole_read : ℕ → List Piece → Result Expr (ExprKind × List Piece)
+whole_read d ts = whole (read_ors (read_factor d) ts)
+
+-- a node for what was read, and the place behind it
+pub record IsParsed (s : Store) (all : List Piece) (condition : Bool) (at : ℕ) (read : Read) (id next : ℕ) : Type 0 where
+  pub expr : Expr
+  pub reads : read ≡ Ok (expr, drop next all)
+  pub forward : at ≤ next
+  pub within : next ≤ length all
+  pub stands : Stands (exprs_in s) id (as_condition condition expr)
+
+-- memory ran out, or the fault is the one that is met
+abbrev pub IsRefused : List Piece → Read → ExprFault → Type 0
+IsRefused all read e = (e.kind ≡ OutOfMemory) ⊎ ((f : ExprKind × List Piece) × (read ≡ Err f) × (e ≡ fault_of all f))
+
+abbrev pub Parses : Store → List Piece → Bool → ℕ → Read → Result (ℕ × ℕ) ExprFault → Type 0
+Parses s all condition at read (Ok r) = IsParsed s all condition at read r.0 r.1
+Parses s all condition at read (Err e) = IsRefused all read e
+
+-- a constant `m`
+abbrev pub is_m : Leaf → Bool
+is_m (Constant N) = false
+is_m (Constant M) = true
+is_m (Constant Y) = false
+is_m (Name i) = false
+is_m (Text i) = false
+
+-- a reading of all tokens, likewise
+pub record IsParsedWhole (s : Store) (condition : Bool) (read : Result Expr (ExprKind × List Piece)) (id : ℕ) : Type 0 where
+  pub expr : Expr
+  pub reads : read ≡ Ok expr
+  pub stands : Stands (exprs_in s) id (as_condition condition expr)
+
+abbrev pub IsRefusedWhole : List Piece → Result Expr (ExprKind × List Piece) → ExprFault → Type 0
+IsRefusedWhole all read e = (e.kind ≡ OutOfMemory) ⊎ ((f : ExprKind × List Piece) × (read ≡ Err f) × (e ≡ fault_of all f))
+
+-- the fault is the one that is met
+abbrev pub MeetsFault : List Piece → Read → ExprFault → Type 0
+MeetsFault all read e = (f : ExprKind × List Piece) × (read ≡ Err f) × (e ≡ fault_of all f)

@@ -1,0 +1,31 @@
+-- What the lists of a store stand for.
+use Rattle.std.specs.Prelude.{◌≡◌, ℕ, List, length, take, map, string_bytes}
+use Rattle.kc_expr.specs.declared.store.Store.{Store}
+use Rattle.kc_expr.specs.declared.store.Mark.{Mark}
+use Rattle.kc_expr.specs.Arena.{Exprs}
+use Rattle.kc_expr.specs.Lookup.{AreDistinct}
+use Rattle.kc_expr.specs.Nodes.{exprs_of, AreNodes}
+
+abbrev pub names_held : Store → List (List ℕ)
+names_held s = map string_bytes s.names.keys
+
+-- the names, and the expression of each node
+abbrev pub exprs_in : Store → Exprs
+exprs_in s = record { names = names_held s; nodes = exprs_of (names_held s) s.texts.items s.nodes.items }
+
+-- each node's children have smaller numbers, its names and texts are there, and no name is held twice
+pub record IsSound (s : Store) : Type 0 where
+  pub nodes : AreNodes (length (names_held s)) (length s.texts.items) s.nodes.items
+  pub distinct : AreDistinct (names_held s)
+
+-- the lists are kept, and others may have come behind them
+pub record Extends (old new : Store) : Type 0 where
+  pub names : take (length old.names.keys) new.names.keys ≡ old.names.keys
+  pub texts : take (length old.texts.items) new.texts.items ≡ old.texts.items
+  pub nodes : take (length old.nodes.items) new.nodes.items ≡ old.nodes.items
+
+-- the lengths of the lists
+pub record IsMark (s : Store) (m : Mark) : Type 0 where
+  pub names : m.names ≡ length s.names.keys
+  pub texts : m.texts ≡ length s.texts.items
+  pub nodes : m.nodes ≡ length s.nodes.items

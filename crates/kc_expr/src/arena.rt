@@ -1,0 +1,175 @@
+//! Expressions that share their parts.
+ghost use Rattle.std.specs.Prelude.{◌≡◌, ◌<◌, ◌≤◌, ◌⊎◌, ◌↔◌, ℕ, length, [], Contains, IfOk, IfErr, IfSome, OnErr, option_map, slice_index_or};
+ghost use Rattle.std.specs.List.Sorted.{IsStrictlyIncreasing};
+ghost use Rattle.kc_expr.specs.declared.fault.ExprKind.TheVariants.{OutOfMemory};
+
+use super::evaluate::value_at;
+use super::fault::ExprFault;
+use super::ids::{ExprId, NameId};
+use super::lookup::Lookup;
+use super::mentioned::push_names;
+use super::node::{Leaf, Node};
+use super::operand::Operand;
+use super::parse::extent_len;
+use super::store::Store;
+use super::token::Token;
+use kc_value::Tri;
+use std::alloc::{AllocError, Global};
+use std::marker::Model;
+
+/// The most `!` and parentheses round a symbol.
+const MAX_DEPTH: usize = 64;
+
+/// Names and expressions. Contracts see the list of names and, for each node, the expression for which it stands.
+#[derive(Drop)]
+pub struct Arena {
+    store: Store,
+}
+
+impl Model for Arena {
+    ghost use Rattle.kc_expr.specs.Arena.{Exprs, exprs_code};
+
+    ghost Value = { Exprs };
+
+    ghost coded = { exprs_code };
+
+    ghost use Rattle.kc_expr.specs.ArenaView.{shown_exprs, holds_sound};
+
+    ghost view = { shown_exprs };
+
+    ghost invariant = { holds_sound };
+}
+
+impl Arena {
+    ghost use Rattle.kc_expr.specs.Arena.{Grows, stands_for, Stands};
+    ghost use Rattle.kc_expr.specs.Expr.{both, shown, value};
+    ghost use Rattle.kc_expr.specs.Lookup.{names_seen, place_of};
+    ghost use Rattle.kc_expr.specs.Mentioned.{names_in};
+    ghost use Rattle.kc_expr.specs.Operand.{operand_alone, operand_told, IsHeld};
+    ghost use Rattle.kc_expr.specs.Reading.{expr_at, expr_end, IsRead, IsNotRead};
+    ghost use Rattle.kc_expr.specs.Token.{pieces_of};
+
+    /// No names and no nodes. Takes no memory.
+    pub fn new(alloc: Global) -> Arena
+        ensures names { result.names ≡ [] }
+        ensures nodes { result.nodes ≡ [] }
+    {
+        Arena {
+            store: Store::new(alloc),
+        }
+    }
+
+    /// The value of an expression, where the look-up tells what its names stand for. Takes no memory.
+    pub fn value<L: Lookup>(&self, id: ExprId, lookup: &L) -> Tri
+        requires { id < length self.now.nodes }
+        ensures { result ≡ value (names_seen self.now.names (L.sees lookup.now)) (stands_for self.now id) }
+    {
+        value_at(&self.store, id.index(), lookup)
+    }
+
+    /// Reads the expression that begins at a token. It reaches up to the first word or quoted token that directly
+    /// follows an operand or a `)`, else to the end of the tokens. Answers its number and the place behind it.
+    ///
+    /// In a condition, a constant `m` that isn't an operand of a relation means `m && MODULES`.
+    ///
+    /// `Malformed` stands at the first token that can't go on, and at the end of the token before where none is left;
+    /// `TooDeep` at a symbol under more than 64 `!` and parentheses; `OutOfMemory` is want of memory. The first is
+    /// told. An `Err` leaves the arena as it was.
+    pub fn parse_expr(
+        &mut self,
+        tokens: &[Token<'_>],
+        at: usize,
+        condition: bool,
+    ) -> Result<(ExprId, usize), ExprFault>
+        requires { at ≤ length tokens.now }
+        ensures grows { Grows self.old self.new }
+        ensures end { IfOk result (λ r. r.1 ≡ expr_end (pieces_of tokens.now) at) }
+        ensures ok { IfOk result (λ r. IsRead self.new r.0 condition (expr_at (pieces_of tokens.now) at)) }
+        ensures fault { IfErr result (λ e. (e.kind ≡ OutOfMemory) ⊎ IsNotRead (pieces_of tokens.now) at e) }
+        ensures err { OnErr result (self.new ≡ self.old) }
+    {
+        let end = at + extent_len(&tokens[at..]);
+        let mark = self.store.mark();
+        match self
+            .store
+            .parse_whole(&tokens[..end], at, MAX_DEPTH, condition)
+        {
+            Ok(id) => Ok((ExprId::at(id), end)),
+            Err(fault) => {
+                self.store.back_to(mark);
+                Err(fault)
+            }
+        }
+    }
+
+    /// Both of two expressions. An `Err` is want of memory, and leaves the arena as it was.
+    pub fn join(&mut self, a: ExprId, b: ExprId) -> Result<ExprId, ExprFault>
+        requires left { a < length self.old.nodes }
+        requires right { b < length self.old.nodes }
+        ensures grows { Grows self.old self.new }
+        ensures ok { IfOk result (λ id. Stands self.new id (both (stands_for self.old a) (stands_for self.old b))) }
+        ensures memory { IfErr result (λ e. e.kind ≡ OutOfMemory) }
+        ensures err { OnErr result (self.new ≡ self.old) }
+    {
+        let id = self.store.push(Node::Both(a.index(), b.index()))?;
+        Ok(ExprId::at(id))
+    }
+
+    /// `y` where an expression isn't `n`, and else `n`. An `Err` is want of memory, and leaves the arena as it was.
+    pub fn shown(&mut self, id: ExprId) -> Result<ExprId, ExprFault>
+        requires { id < length self.old.nodes }
+        ensures grows { Grows self.old self.new }
+        ensures ok { IfOk result (λ i. Stands self.new i (shown (stands_for self.old id))) }
+        ensures memory { IfErr result (λ e. e.kind ≡ OutOfMemory) }
+        ensures err { OnErr result (self.new ≡ self.old) }
+    {
+        let id = self.store.push(Node::Shown(id.index()))?;
+        Ok(ExprId::at(id))
+    }
+
+    /// The word of a name.
+    pub fn name(&self, id: NameId) -> &str
+        requires { id < length self.now.names }
+        ensures { result.now ≡ slice_index_or self.now.names id [] }
+    {
+        self.store.name(id.index())
+    }
+
+    /// The number of a name that the arena holds, and else `None`. Takes no memory.
+    pub fn find(&self, name: &str) -> Option<NameId>
+        ensures { result ≡ place_of name.now self.now.names }
+    {
+        let index = self.store.find(name)?;
+        Some(NameId::at(index))
+    }
+
+    /// The operand that an expression is; `None` where it isn't just one.
+    pub fn operand(&self, id: ExprId) -> Option<Operand<'_>>
+        requires { id < length self.now.nodes }
+        ensures operand { option_map (operand_told self.now.names) result ≡ operand_alone (stands_for self.now id) }
+        ensures held { IfSome result (IsHeld self.now.names) }
+    {
+        let Node::Alone(leaf) = self.store.node(id.index()) else {
+            return None;
+        };
+        match leaf {
+            Leaf::Constant(t) => Some(Operand::Tri(t)),
+            Leaf::Name(i) => Some(Operand::Name(NameId::at(i))),
+            Leaf::Quoted(i) => Some(Operand::Quoted(self.store.text(i))),
+        }
+    }
+
+    /// The names in an expression, ascending, each once. An `Err` is want of memory.
+    pub fn names(&self, id: ExprId) -> Result<Vec<NameId>, AllocError>
+        requires { id < length self.now.nodes }
+        ensures ascending { IfOk result (λ ids. IsStrictlyIncreasing ids.items) }
+        ensures exact { IfOk result (λ ids. (i : ℕ) → Contains ids.items i
+            ↔ ((i < length self.now.names) × Contains (names_in (stands_for self.now id)) (slice_index_or self.now.names i []))) }
+    {
+        let mut found = Vec::new(self.store.alloc());
+        push_names(&self.store, id.index(), &mut found)?;
+        found.sort_unstable();
+        found.dedup();
+        Ok(found)
+    }
+}

@@ -1,0 +1,214 @@
+//! Values of expressions.
+ghost use Rattle.std.specs.Prelude.{◌≡◌, ◌<◌, length, pos};
+ghost use Rattle.kc_value.specs.Tri.{rank};
+ghost use Rattle.kc_value.specs.declared.tri.Tri.TheVariants.{N, Y};
+ghost use Rattle.std.specs.Prelude.{◌&&◌, if◌then◌else◌};
+ghost use Rattle.std.specs.Cmp.Lexicographic.{slice_cmp};
+ghost use Rattle.std.specs.Ordering.{nat_cmp};
+ghost use Rattle.kc_expr.specs.Expr.{compared_by, value, operand_value, operand_text, operand_number, is_string, compared, holds, letter, tri_of_kind, number_of_kind, is_text_kind, unless_n};
+ghost use Rattle.kc_expr.specs.Arena.{stands_for};
+ghost use Rattle.kc_expr.specs.Nodes.{LeafFits, operand_of};
+ghost use Rattle.kc_expr.specs.Store.{names_held, exprs_in, IsSound};
+ghost use Rattle.kc_expr.specs.Lookup.{names_seen, AreDistinct};
+
+use super::ids::NameId;
+use super::lookup::Lookup;
+use super::node::{Leaf, Node};
+use super::store::Store;
+use super::token::Relop;
+use kc_value::{Kind, Tri, hex_of, int_of, loose_number_of};
+use std::cmp::Ordering;
+
+fn letter_of(value: Tri) -> &'static str
+    ensures { result.now ≡ letter value }
+{
+    match value {
+        Tri::N => "n",
+        Tri::M => "m",
+        Tri::Y => "y",
+    }
+}
+
+/// Whether a relation holds between operands that compare so.
+fn relation_holds(op: Relop, order: Ordering) -> bool
+    ensures { result ≡ holds op order }
+{
+    match op {
+        Relop::Equal => order == Ordering::Equal,
+        Relop::NotEqual => order != Ordering::Equal,
+        Relop::Less => order == Ordering::Less,
+        Relop::Greater => order == Ordering::Greater,
+        Relop::LessEqual => order != Ordering::Greater,
+        Relop::GreaterEqual => order != Ordering::Less,
+    }
+}
+
+/// The value of a symbol that stands alone.
+fn alone_value(kind: Kind, tri: Tri) -> Tri
+    ensures { result ≡ tri_of_kind kind tri }
+{
+    match kind {
+        Kind::Bool | Kind::Tristate => tri,
+        Kind::Text | Kind::Int | Kind::Hex => Tri::N,
+    }
+}
+
+fn rank_of(value: Tri) -> i128
+    ensures { result ≡ pos (rank value) }
+{
+    match value {
+        Tri::N => 0,
+        Tri::M => 1,
+        Tri::Y => 2,
+    }
+}
+
+/// The number of a symbol.
+fn symbol_number(kind: Kind, tri: Tri, text: &str) -> Option<i128>
+    ensures { result ≡ number_of_kind kind tri text.now }
+{
+    match kind {
+        Kind::Bool | Kind::Tristate => Some(rank_of(tri)),
+        Kind::Text => loose_number_of(text.as_bytes()),
+        Kind::Int => int_of(text.as_bytes()),
+        Kind::Hex => hex_of(text.as_bytes()),
+    }
+}
+
+/// One side of a relation.
+#[derive(Clone, Copy)]
+struct Side<'a> {
+    text: &'a str,
+    number: Option<i128>,
+    is_text: bool,
+}
+
+/// What the side of a relation says.
+#[tactic(auto, using(crate::proofs::Places::seen_at))]
+fn side_of<'a, L: Lookup>(store: &'a Store, leaf: Leaf, lookup: &'a L) -> Side<'a>
+    requires fits { LeafFits (length (names_held store.now)) (length store.now.texts.items) leaf }
+    requires distinct { AreDistinct (names_held store.now) }
+    ensures text { result.text.now ≡ operand_text (names_seen (names_held store.now) (L.sees lookup.now)) (operand_of (names_held store.now) store.now.texts.items leaf) }
+    ensures number { result.number ≡ operand_number (names_seen (names_held store.now) (L.sees lookup.now)) (operand_of (names_held store.now) store.now.texts.items leaf) }
+    ensures is_text { result.is_text ≡ is_string (names_seen (names_held store.now) (L.sees lookup.now)) (operand_of (names_held store.now) store.now.texts.items leaf) }
+{
+    match leaf {
+        Leaf::Constant(t) => Side {
+            text: letter_of(t),
+            number: Some(rank_of(t)),
+            is_text: false,
+        },
+        Leaf::Quoted(i) => {
+            let text = store.text(i);
+            Side {
+                text,
+                number: loose_number_of(text.as_bytes()),
+                is_text: true,
+            }
+        }
+        Leaf::Name(i) => match lookup.look(NameId::at(i)) {
+            None => {
+                let text = store.name(i);
+                Side {
+                    text,
+                    number: loose_number_of(text.as_bytes()),
+                    is_text: false,
+                }
+            }
+            Some(l) => Side {
+                text: l.text,
+                number: symbol_number(l.kind, l.tri, l.text),
+                is_text: matches!(l.kind, Kind::Text),
+            },
+        },
+    }
+}
+
+/// How the two sides of a relation compare.
+fn compare(a: Side<'_>, b: Side<'_>) -> Ordering
+    ensures { result ≡ (if a.entry.is_text && b.entry.is_text then slice_cmp nat_cmp a.entry.text.now b.entry.text.now else compared_by a.entry.number b.entry.number (slice_cmp nat_cmp a.entry.text.now b.entry.text.now)) }
+{
+    if a.is_text && b.is_text {
+        return a.text.cmp(b.text);
+    }
+    match (a.number, b.number) {
+        (Some(m), Some(n)) => m.cmp(&n),
+        _ => a.text.cmp(b.text),
+    }
+}
+
+/// The value of a leaf that stands alone.
+#[tactic(auto, using(crate::proofs::Places::seen_at))]
+fn leaf_value<L: Lookup>(store: &Store, leaf: Leaf, lookup: &L) -> Tri
+    requires fits { LeafFits (length (names_held store.now)) (length store.now.texts.items) leaf }
+    requires distinct { AreDistinct (names_held store.now) }
+    ensures { result ≡ operand_value (names_seen (names_held store.now) (L.sees lookup.now)) (operand_of (names_held store.now) store.now.texts.items leaf) }
+{
+    match leaf {
+        Leaf::Constant(t) => t,
+        Leaf::Quoted(_) => Tri::N,
+        Leaf::Name(i) => match lookup.look(NameId::at(i)) {
+            None => Tri::N,
+            Some(l) => alone_value(l.kind, l.tri),
+        },
+    }
+}
+
+/// `y` where the value isn't `n`.
+fn shown_value(value: Tri) -> Tri
+    ensures { result ≡ unless_n value }
+{
+    match value {
+        Tri::N => Tri::N,
+        Tri::M | Tri::Y => Tri::Y,
+    }
+}
+
+/// The value of a relation.
+fn related_value<L: Lookup>(store: &Store, op: Relop, a: Leaf, b: Leaf, lookup: &L) -> Tri
+    requires left { LeafFits (length (names_held store.now)) (length store.now.texts.items) a }
+    requires right { LeafFits (length (names_held store.now)) (length store.now.texts.items) b }
+    requires distinct { AreDistinct (names_held store.now) }
+    ensures { let seen = names_seen (names_held store.now) (L.sees lookup.now) in
+        result ≡ (if holds op (compared seen (operand_of (names_held store.now) store.now.texts.items a) (operand_of (names_held store.now) store.now.texts.items b)) then Y else N) }
+{
+    let left = side_of(store, a, lookup);
+    let right = side_of(store, b, lookup);
+    if relation_holds(op, compare(left, right)) {
+        Tri::Y
+    } else {
+        Tri::N
+    }
+}
+
+/// The value of the expression of a node.
+pub(crate) fn value_at<L: Lookup>(store: &Store, index: usize, lookup: &L) -> Tri
+    requires there { index < length store.now.nodes.items }
+    requires sound { IsSound store.now }
+    ensures { result ≡ value (names_seen (names_held store.now) (L.sees lookup.now)) (stands_for (exprs_in store.now) index) }
+{
+    match store.node(index) {
+        Node::Alone(leaf) => leaf_value(store, leaf, lookup),
+        Node::Related(op, a, b) => related_value(store, op, a, b, lookup),
+        Node::Negated(e) => value_at(store, e, lookup).not(),
+        Node::Shown(e) => shown_value(value_at(store, e, lookup)),
+        Node::Both(left, right) => {
+            let mut least = value_at(store, right, lookup);
+            let mut at = left;
+            'ands: while let Node::Both(left, right) = store.node(at) {
+                least = least.and(value_at(store, right, lookup));
+                at = left;
+            }
+            least.and(value_at(store, at, lookup))
+        }
+        Node::Either(left, right) => {
+            let mut greatest = value_at(store, right, lookup);
+            let mut next = left;
+            'ors: while let Node::Either(left, right) = store.node(next) {
+                greatest = greatest.or(value_at(store, right, lookup));
+                next = left;
+            }
+            greatest.or(value_at(store, next, lookup))
+        }
+    }
+}

@@ -1,0 +1,62 @@
+//! Faults of tokens and expressions.
+use std::alloc::{AllocError, AllocFailed};
+use thiserror::Error;
+
+/// What is wrong. The text of a kind is its name.
+#[derive(Clone, Copy, Debug, PartialEq, Eq, Error)]
+pub enum ExprKind {
+    /// A byte that begins no token.
+    #[error("BadToken")]
+    BadToken,
+    /// A quote that isn't closed in its line.
+    #[error("UnclosedQuote")]
+    UnclosedQuote,
+    /// Tokens that aren't an expression.
+    #[error("Malformed")]
+    Malformed,
+    /// A symbol under more than 64 `!` and parentheses.
+    #[error("TooDeep")]
+    TooDeep,
+    /// A `$` outside a comment.
+    #[error("LeftOut")]
+    LeftOut,
+    /// Want of memory.
+    #[error("OutOfMemory")]
+    OutOfMemory,
+}
+
+/// What is wrong, and at which byte of the line. The byte of want of memory is 0.
+#[derive(Clone, Copy, Debug, PartialEq, Eq, Error)]
+#[error("{kind} at byte {offset}")]
+pub struct ExprFault {
+    pub offset: usize,
+    pub kind: ExprKind,
+}
+
+impl<T: Drop> From<AllocFailed<T>> for ExprFault {
+    ghost use Rattle.std.specs.Prelude.{◌≡◌};
+    ghost use Rattle.kc_expr.specs.declared.fault.ExprKind.TheVariants.{OutOfMemory};
+
+    ghost from_gives = { λ _ e. e.kind ≡ OutOfMemory };
+
+    fn from(_: AllocFailed<T>) -> ExprFault {
+        ExprFault {
+            offset: 0,
+            kind: ExprKind::OutOfMemory,
+        }
+    }
+}
+
+impl From<AllocError> for ExprFault {
+    ghost use Rattle.std.specs.Prelude.{◌≡◌};
+    ghost use Rattle.kc_expr.specs.declared.fault.ExprKind.TheVariants.{OutOfMemory};
+
+    ghost from_gives = { λ _ e. e.kind ≡ OutOfMemory };
+
+    fn from(_: AllocError) -> ExprFault {
+        ExprFault {
+            offset: 0,
+            kind: ExprKind::OutOfMemory,
+        }
+    }
+}

@@ -1,0 +1,117 @@
+//! Operands, and the nodes of those that stand alone.
+ghost use Rattle.std.specs.Prelude.{◌≡◌, ◌<◌, ◌≤◌, length, drop, take, IfOk, IfErr, IfSome, option_map, Some};
+ghost use Rattle.kc_expr.specs.declared.fault.ExprKind.TheVariants.{OutOfMemory};
+ghost use Rattle.kc_expr.specs.Arena.{Stands};
+ghost use Rattle.kc_expr.specs.Expr.{alone, named, quoted};
+ghost use Rattle.kc_expr.specs.Grammar.{as_condition, constant_or, letter_value, quoted_text};
+ghost use Rattle.kc_expr.specs.Nodes.{LeafFits, operand_of};
+ghost use Rattle.kc_expr.specs.Parsing.{first_operand, is_m};
+ghost use Rattle.kc_expr.specs.Token.{pieces_of};
+
+use super::fault::ExprFault;
+use super::node::{Leaf, Node};
+use super::quoted::quoted_text as text_of;
+use super::store::Store;
+use super::token::{Token, TokenKind};
+use kc_value::{Text, Tri};
+
+/// The constant that a text is, if it is one.
+fn constant_of(text: &str) -> Option<Tri>
+    ensures { result ≡ letter_value text.now }
+{
+    match text {
+        "n" => Some(Tri::N),
+        "m" => Some(Tri::M),
+        "y" => Some(Tri::Y),
+        _ => None,
+    }
+}
+
+fn is_constant_m(leaf: Leaf) -> bool
+    ensures { result ≡ is_m leaf }
+{
+    matches!(leaf, Leaf::Constant(Tri::M))
+}
+
+impl Store {
+    ghost use Rattle.kc_expr.specs.Store.{names_held, exprs_in, IsSound, Extends};
+
+    /// The operand that a word is.
+    fn word_leaf(&mut self, text: &str) -> Result<Leaf, ExprFault>
+        requires { IsSound self.old }
+        ensures sound { IsSound self.new }
+        ensures extends { Extends self.old self.new }
+        ensures fits { IfOk result (λ l. LeafFits (length (names_held self.new)) (length self.new.texts.items) l) }
+        ensures operand { IfOk result (λ l. operand_of (names_held self.new) self.new.texts.items l ≡ constant_or named text.now) }
+        ensures memory { IfErr result (λ e. e.kind ≡ OutOfMemory) }
+    {
+        match constant_of(text) {
+            Some(t) => Ok(Leaf::Constant(t)),
+            None => {
+                let index = self.intern(text)?;
+                Ok(Leaf::Name(index))
+            }
+        }
+    }
+
+    /// The operand that a quoted token is.
+    fn quoted_leaf(&mut self, text: &str) -> Result<Leaf, ExprFault>
+        requires { IsSound self.old }
+        ensures sound { IsSound self.new }
+        ensures extends { Extends self.old self.new }
+        ensures fits { IfOk result (λ l. LeafFits (length (names_held self.new)) (length self.new.texts.items) l) }
+        ensures operand { IfOk result (λ l. operand_of (names_held self.new) self.new.texts.items l ≡ constant_or quoted (quoted_text text.now)) }
+        ensures memory { IfErr result (λ e. e.kind ≡ OutOfMemory) }
+    {
+        let inside = text_of(self.alloc(), text)?;
+        match constant_of(inside.as_str()) {
+            Some(t) => Ok(Leaf::Constant(t)),
+            None => {
+                let index = self.keep(Text::from_string(inside))?;
+                Ok(Leaf::Quoted(index))
+            }
+        }
+    }
+
+    /// The operand that the token at a place is, if it is one.
+    pub(crate) fn leaf_at(
+        &mut self,
+        tokens: &[Token<'_>],
+        at: usize,
+    ) -> Result<Option<Leaf>, ExprFault>
+        requires { IsSound self.old }
+        ensures sound { IsSound self.new }
+        ensures extends { Extends self.old self.new }
+        ensures fits { IfOk result (λ o. IfSome o (LeafFits (length (names_held self.new)) (length self.new.texts.items))) }
+        ensures operand { IfOk result (λ o. option_map (operand_of (names_held self.new) self.new.texts.items) o ≡ first_operand (drop at (pieces_of tokens.now))) }
+        ensures memory { IfErr result (λ e. e.kind ≡ OutOfMemory) }
+    {
+        if at >= tokens.len() {
+            return Ok(None);
+        }
+        let token = tokens[at];
+        match token.kind {
+            TokenKind::Word => Ok(Some(self.word_leaf(token.text)?)),
+            TokenKind::Quoted => Ok(Some(self.quoted_leaf(token.text)?)),
+            _ => Ok(None),
+        }
+    }
+
+    /// A node for an operand that stands alone. In a condition `m` means `m && MODULES`.
+    pub(crate) fn push_alone(&mut self, leaf: Leaf, condition: bool) -> Result<usize, ExprFault>
+        requires sound { IsSound self.old }
+        requires fits { LeafFits (length (names_held self.old)) (length self.old.texts.items) leaf }
+        ensures sound { IsSound self.new }
+        ensures extends { Extends self.old self.new }
+        ensures stands { IfOk result (λ id. Stands (exprs_in self.new) id (as_condition condition (alone (operand_of (names_held self.old) self.old.texts.items leaf)))) }
+        ensures memory { IfErr result (λ e. e.kind ≡ OutOfMemory) }
+    {
+        let id = self.push(Node::Alone(leaf))?;
+        if !condition || !is_constant_m(leaf) {
+            return Ok(id);
+        }
+        let modules = self.intern("MODULES")?;
+        let name = self.push(Node::Alone(Leaf::Name(modules)))?;
+        self.push(Node::Both(id, name))
+    }
+}

@@ -1,0 +1,29 @@
+//! Tokens of lines, and expressions.
+#![tactic(auto)]
+
+mod arena;
+mod evaluate;
+mod fault;
+mod ids;
+mod laws;
+mod leaf;
+mod lookup;
+mod mentioned;
+mod node;
+mod operand;
+mod parse;
+mod quoted;
+mod store;
+mod token;
+
+pub use arena::Arena;
+pub use fault::{ExprFault, ExprKind};
+pub use ids::{ExprId, NameId};
+pub use laws::{reading_is_the_grammar, tokens_are_the_language};
+pub use lookup::{Looked, Lookup};
+pub use operand::Operand;
+pub use quoted::quoted_text;
+pub use token::{Relop, Token, TokenKind, tokens};
+
+#[cfg(test)]
+mod tests;

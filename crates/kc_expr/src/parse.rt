@@ -1,0 +1,235 @@
+//! The parser of expressions.
+ghost use Rattle.std.specs.Prelude.{◌≡◌, ◌↔◌, ◌≤◌, Some, length, drop, ◌&&◌, ◌||◌, ◌⊎◌, IsTrue, IfOk, IfErr};
+ghost use Rattle.kc_expr.specs.declared.token.TokenKind.TheVariants.{Word, Quoted, Not, Open};
+ghost use Rattle.kc_expr.specs.Grammar.{beyond, extent, fault_of, is_close, is_operand_kind};
+ghost use Rattle.kc_expr.specs.Parsing.{first_kind, first_relation, operand_read, factor_read, ands_read, ors_read, whole_read, Parses, IsParsedWhole, IsRefusedWhole, MeetsFault};
+ghost use Rattle.kc_expr.specs.Token.{pieces_of};
+
+use super::fault::{ExprFault, ExprKind};
+use super::node::Node;
+use super::store::Store;
+use super::token::{Relop, Token, TokenKind};
+
+/// Whether a token of a kind stands at a place.
+fn stands_at(tokens: &[Token<'_>], at: usize, kind: TokenKind) -> bool
+    ensures { IsTrue result ↔ (first_kind (drop at (pieces_of tokens.now)) ≡ Some kind) }
+{
+    at < tokens.len() && same_kind(tokens[at].kind, kind)
+}
+
+fn same_kind(kind: TokenKind, other: TokenKind) -> bool
+    ensures { IsTrue result ↔ (kind ≡ other) }
+{
+    kind == other
+}
+
+/// The relation at a place, if one stands there.
+fn relation_at(tokens: &[Token<'_>], at: usize) -> Option<Relop>
+    ensures { result ≡ first_relation (drop at (pieces_of tokens.now)) }
+{
+    if at >= tokens.len() {
+        return None;
+    }
+    match tokens[at].kind {
+        TokenKind::Relation(op) => Some(op),
+        _ => None,
+    }
+}
+
+/// The fault of a kind at a place: at the token there, and behind the last one where there is none.
+fn fault_at(tokens: &[Token<'_>], at: usize, kind: ExprKind) -> ExprFault
+    ensures { result ≡ fault_of (pieces_of tokens.now) (kind, drop at (pieces_of tokens.now)) }
+{
+    let offset = if at < tokens.len() {
+        tokens[at].start
+    } else if tokens.is_empty() {
+        0
+    } else {
+        tokens[tokens.len() - 1].end
+    };
+    ExprFault { offset, kind }
+}
+
+/// Whether a `!` or a `(` stands at a place.
+fn opens_at(tokens: &[Token<'_>], at: usize) -> bool
+    ensures { IsTrue result ↔ ((first_kind (drop at (pieces_of tokens.now)) ≡ Some Not) ⊎ (first_kind (drop at (pieces_of tokens.now)) ≡ Some Open)) }
+{
+    stands_at(tokens, at, TokenKind::Not) || stands_at(tokens, at, TokenKind::Open)
+}
+
+/// Whether a word or a quoted token stands at a place.
+fn symbol_at(tokens: &[Token<'_>], at: usize) -> bool
+    ensures { IsTrue result ↔ ((first_kind (drop at (pieces_of tokens.now)) ≡ Some Word) ⊎ (first_kind (drop at (pieces_of tokens.now)) ≡ Some Quoted)) }
+{
+    stands_at(tokens, at, TokenKind::Word) || stands_at(tokens, at, TokenKind::Quoted)
+}
+
+/// The fault past the greatest depth: the first symbol is too deep, unless something else stands before it.
+fn too_deep(tokens: &[Token<'_>], at: usize) -> ExprFault
+    requires { at ≤ length tokens.now }
+    ensures { MeetsFault (pieces_of tokens.now) (beyond (drop at (pieces_of tokens.now))) result }
+{
+    let mut symbol = at;
+    while opens_at(tokens, symbol) {
+        symbol += 1;
+    }
+    if symbol_at(tokens, symbol) {
+        fault_at(tokens, symbol, ExprKind::TooDeep)
+    } else {
+        fault_at(tokens, symbol, ExprKind::Malformed)
+    }
+}
+
+/// How many tokens an expression at the front has: up to the first word or quoted token behind an operand or a `)`.
+pub(crate) fn extent_len(tokens: &[Token<'_>]) -> usize
+    ensures count { result ≡ length (extent (pieces_of tokens.now)) }
+    ensures within { result ≤ length tokens.now }
+{
+    for i in 1..tokens.len() {
+        if parts_at(tokens[i - 1].kind, tokens[i].kind) {
+            return i;
+        }
+    }
+    tokens.len()
+}
+
+/// Whether an expression ends between two tokens.
+fn parts_at(left: TokenKind, right: TokenKind) -> bool
+    ensures { result ≡ ((is_operand_kind left || is_close left) && is_operand_kind right) }
+{
+    matches!(left, TokenKind::Word | TokenKind::Quoted | TokenKind::Close)
+        && matches!(right, TokenKind::Word | TokenKind::Quoted)
+}
+
+impl Store {
+    ghost use Rattle.kc_expr.specs.Store.{IsSound, Extends};
+
+    /// An operand, or a relation of two.
+    fn parse_relation(
+        &mut self,
+        tokens: &[Token<'_>],
+        at: usize,
+        condition: bool,
+    ) -> Result<(usize, usize), ExprFault>
+        requires within { at ≤ length tokens.now }
+        requires sound { IsSound self.old }
+        ensures sound { IsSound self.new }
+        ensures extends { Extends self.old self.new }
+        ensures parses { Parses self.new (pieces_of tokens.now) condition at (operand_read (drop at (pieces_of tokens.now))) result }
+    {
+        let Some(left) = self.leaf_at(tokens, at)? else {
+            return Err(fault_at(tokens, at, ExprKind::Malformed));
+        };
+        let Some(op) = relation_at(tokens, at + 1) else {
+            return Ok((self.push_alone(left, condition)?, at + 1));
+        };
+        let Some(right) = self.leaf_at(tokens, at + 2)? else {
+            return Err(fault_at(tokens, at + 2, ExprKind::Malformed));
+        };
+        Ok((self.push(Node::Related(op, left, right))?, at + 3))
+    }
+
+    /// A factor, with so many `!` and parentheses round a symbol at most.
+    #[cycle(parser)]
+    fn parse_factor(
+        &mut self,
+        tokens: &[Token<'_>],
+        at: usize,
+        depth: usize,
+        condition: bool,
+    ) -> Result<(usize, usize), ExprFault>
+        requires within { at ≤ length tokens.now }
+        requires sound { IsSound self.old }
+        ensures sound { IsSound self.new }
+        ensures extends { Extends self.old self.new }
+        ensures parses { Parses self.new (pieces_of tokens.now) condition at (factor_read depth (drop at (pieces_of tokens.now))) result }
+    {
+        let negated = stands_at(tokens, at, TokenKind::Not);
+        if !negated && !stands_at(tokens, at, TokenKind::Open) {
+            return self.parse_relation(tokens, at, condition);
+        }
+        if depth == 0 {
+            return Err(too_deep(tokens, at + 1));
+        }
+        if negated {
+            let (part, next) = self.parse_factor(tokens, at + 1, depth - 1, condition)?;
+            return Ok((self.push(Node::Negated(part))?, next));
+        }
+        let (inside, next) = self.parse_ors(tokens, at + 1, depth - 1, condition)?;
+        if stands_at(tokens, next, TokenKind::Close) {
+            Ok((inside, next + 1))
+        } else {
+            Err(fault_at(tokens, next, ExprKind::Malformed))
+        }
+    }
+
+    /// Factors joined by `&&`.
+    #[cycle(parser)]
+    fn parse_ands(
+        &mut self,
+        tokens: &[Token<'_>],
+        at: usize,
+        depth: usize,
+        condition: bool,
+    ) -> Result<(usize, usize), ExprFault>
+        requires within { at ≤ length tokens.now }
+        requires sound { IsSound self.old }
+        ensures sound { IsSound self.new }
+        ensures extends { Extends self.old self.new }
+        ensures parses { Parses self.new (pieces_of tokens.now) condition at (ands_read depth (drop at (pieces_of tokens.now))) result }
+    {
+        let (mut left, mut next) = self.parse_factor(tokens, at, depth, condition)?;
+        'ands: while stands_at(tokens, next, TokenKind::And) {
+            let (right, after) = self.parse_factor(tokens, next + 1, depth, condition)?;
+            left = self.push(Node::Both(left, right))?;
+            next = after;
+        }
+        Ok((left, next))
+    }
+
+    /// Conjunctions joined by `||`.
+    #[cycle(parser)]
+    fn parse_ors(
+        &mut self,
+        tokens: &[Token<'_>],
+        at: usize,
+        depth: usize,
+        condition: bool,
+    ) -> Result<(usize, usize), ExprFault>
+        requires within { at ≤ length tokens.now }
+        requires sound { IsSound self.old }
+        ensures sound { IsSound self.new }
+        ensures extends { Extends self.old self.new }
+        ensures parses { Parses self.new (pieces_of tokens.now) condition at (ors_read depth (drop at (pieces_of tokens.now))) result }
+    {
+        let (mut left, mut next) = self.parse_ands(tokens, at, depth, condition)?;
+        'ors: while stands_at(tokens, next, TokenKind::Or) {
+            let (right, after) = self.parse_ands(tokens, next + 1, depth, condition)?;
+            left = self.push(Node::Either(left, right))?;
+            next = after;
+        }
+        Ok((left, next))
+    }
+
+    /// All tokens from a place on.
+    pub(crate) fn parse_whole(
+        &mut self,
+        tokens: &[Token<'_>],
+        at: usize,
+        depth: usize,
+        condition: bool,
+    ) -> Result<usize, ExprFault>
+        requires within { at ≤ length tokens.now }
+        requires sound { IsSound self.old }
+        ensures sound { IsSound self.new }
+        ensures extends { Extends self.old self.new }
+        ensures ok { IfOk result (IsParsedWhole self.new condition (whole_read depth (drop at (pieces_of tokens.now)))) }
+        ensures fault { IfErr result (IsRefusedWhole (pieces_of tokens.now) (whole_read depth (drop at (pieces_of tokens.now)))) }
+    {
+        let (id, next) = self.parse_ors(tokens, at, depth, condition)?;
+        if next < tokens.len() {
+            return Err(fault_at(tokens, next, ExprKind::Malformed));
+        }
+        Ok(id)
+    }
+}

@@ -1,0 +1,33 @@
+//! Texts for which quoted tokens stand.
+ghost use Rattle.std.specs.Prelude.{◌≡◌, IfOk, string_bytes};
+ghost use Rattle.kc_expr.specs.Grammar.{between_quotes, is_quote, quoted_text};
+
+use kc_value::unescape;
+use std::alloc::{AllocError, Global};
+
+/// What stands between the quotes of a text; all of it where it doesn't stand in quotes.
+fn inside_quotes(text: &str) -> &str
+    ensures { result.now ≡ between_quotes text.now }
+{
+    let bytes = text.as_bytes();
+    let len = bytes.len();
+    if len >= 2 && is_quote(bytes[0]) && is_quote(bytes[len - 1]) {
+        &text[1..len - 1]
+    } else {
+        text
+    }
+}
+
+fn is_quote(byte: u8) -> bool
+    ensures { result ≡ is_quote byte }
+{
+    byte == b'"' || byte == b'\''
+}
+
+/// The text for which a quoted token of a text stands: what stands between its quotes, with the character alone for
+/// each `\` and character. An `Err` is want of memory.
+pub fn quoted_text(alloc: Global, text: &str) -> Result<String, AllocError>
+    ensures { IfOk result (λ t. string_bytes t ≡ quoted_text text.now) }
+{
+    unescape(alloc, inside_quotes(text))
+}

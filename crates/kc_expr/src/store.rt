@@ -1,0 +1,144 @@
+//! The lists that an arena holds.
+ghost use Rattle.std.specs.Prelude.{◌≡◌, ◌<◌, [], length, take, IfOk, IfErr, OnErr, slice_index_or};
+ghost use Rattle.kc_expr.specs.declared.fault.ExprKind.TheVariants.{OutOfMemory};
+ghost use Rattle.kc_expr.specs.Arena.{Stands};
+ghost use Rattle.kc_expr.specs.Lookup.{place_of};
+ghost use Rattle.kc_expr.specs.Nodes.{NodeFits, expr_of, some_node};
+
+use super::fault::ExprFault;
+use super::node::Node;
+use indexmap::IndexSet;
+use kc_value::Text;
+use std::alloc::Global;
+
+/// Names by order of first sight, other quoted texts, and nodes whose children have smaller numbers.
+#[derive(Drop)]
+pub(crate) struct Store {
+    alloc: Global,
+    names: IndexSet<String>,
+    texts: Vec<Text>,
+    nodes: Vec<Node>,
+}
+
+/// How long the lists of a store are.
+#[derive(Clone, Copy)]
+pub(crate) struct Mark {
+    names: usize,
+    texts: usize,
+    nodes: usize,
+}
+
+impl Store {
+    ghost use Rattle.kc_expr.specs.Store.{names_held, exprs_in, IsSound, Extends, IsMark};
+
+    pub(crate) fn new(alloc: Global) -> Store
+        ensures names { result.names.keys ≡ [] }
+        ensures texts { result.texts.items ≡ [] }
+        ensures nodes { result.nodes.items ≡ [] }
+    {
+        Store {
+            alloc,
+            names: IndexSet::new(alloc),
+            texts: Vec::new(alloc),
+            nodes: Vec::new(alloc),
+        }
+    }
+
+    pub(crate) fn alloc(&self) -> Global {
+        self.alloc
+    }
+
+    /// The node of a number.
+    pub(crate) fn node(&self, index: usize) -> Node
+        requires { index < length self.now.nodes.items }
+        ensures { result ≡ slice_index_or self.now.nodes.items index some_node }
+    {
+        self.nodes[index]
+    }
+
+    /// The name of a number.
+    pub(crate) fn name(&self, index: usize) -> &str
+        requires { index < length (names_held self.now) }
+        ensures { result.now ≡ slice_index_or (names_held self.now) index [] }
+    {
+        self.names.as_slice()[index].as_str()
+    }
+
+    /// The quoted text of a number.
+    pub(crate) fn text(&self, index: usize) -> &str
+        requires { index < length self.now.texts.items }
+        ensures { result.now ≡ slice_index_or self.now.texts.items index [] }
+    {
+        self.texts[index].as_str()
+    }
+
+    /// The number of a name that is held.
+    pub(crate) fn find(&self, name: &str) -> Option<usize>
+        ensures { result ≡ place_of name.now (names_held self.now) }
+    {
+        self.names.get_index_of(name)
+    }
+
+    /// Puts a node behind the others.
+    pub(crate) fn push(&mut self, node: Node) -> Result<usize, ExprFault>
+        requires sound { IsSound self.old }
+        requires fits { NodeFits (length (names_held self.old)) (length self.old.texts.items) (length self.old.nodes.items) node }
+        ensures sound { IsSound self.new }
+        ensures extends { Extends self.old self.new }
+        ensures stands { IfOk result (λ id. Stands (exprs_in self.new) id (expr_of (names_held self.old) self.old.texts.items (exprs_in self.old).nodes node)) }
+        ensures memory { IfErr result (λ e. e.kind ≡ OutOfMemory) }
+        ensures err { OnErr result (exprs_in self.new ≡ exprs_in self.old) }
+    {
+        let id = self.nodes.len();
+        self.nodes.push(node)?;
+        Ok(id)
+    }
+
+    /// The number of a name, which is put behind the others where it is new.
+    pub(crate) fn intern(&mut self, name: &str) -> Result<usize, ExprFault>
+        requires { IsSound self.old }
+        ensures sound { IsSound self.new }
+        ensures extends { Extends self.old self.new }
+        ensures within { IfOk result (λ i. i < length (names_held self.new)) }
+        ensures name { IfOk result (λ i. slice_index_or (names_held self.new) i [] ≡ name.now) }
+        ensures memory { IfErr result (λ e. e.kind ≡ OutOfMemory) }
+    {
+        let (index, _) = self.names.insert_full(String::from_str(self.alloc, name)?)?;
+        Ok(index)
+    }
+
+    /// Puts a quoted text behind the others.
+    pub(crate) fn keep(&mut self, text: Text) -> Result<usize, ExprFault>
+        requires { IsSound self.old }
+        ensures sound { IsSound self.new }
+        ensures extends { Extends self.old self.new }
+        ensures within { IfOk result (λ i. i < length self.new.texts.items) }
+        ensures text { IfOk result (λ i. slice_index_or self.new.texts.items i [] ≡ text) }
+        ensures memory { IfErr result (λ e. e.kind ≡ OutOfMemory) }
+    {
+        let id = self.texts.len();
+        self.texts.push(text)?;
+        Ok(id)
+    }
+
+    pub(crate) fn mark(&self) -> Mark
+        ensures { IsMark self.now result }
+    {
+        Mark {
+            names: self.names.len(),
+            texts: self.texts.len(),
+            nodes: self.nodes.len(),
+        }
+    }
+
+    /// Takes away what came since a mark.
+    pub(crate) fn back_to(&mut self, mark: Mark)
+        ensures names { self.new.names.keys ≡ take mark.names self.old.names.keys }
+        ensures texts { self.new.texts.items ≡ take mark.texts self.old.texts.items }
+        ensures nodes { self.new.nodes.items ≡ take mark.nodes self.old.nodes.items }
+    {
+        self.names.truncate(mark.names);
+        self.texts.truncate(mark.texts);
+        self.nodes.truncate(mark.nodes);
+    }
+}

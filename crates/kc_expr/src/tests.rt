@@ -1,0 +1,403 @@
+//! Worked rows, and the calls whose refusals leave all as it was.
+ghost use Rattle.std.specs.Prelude.{◌≡◌, ◌<◌, length, IfOk, option_map, option_and_then, slice_get};
+ghost use Rattle.kc_expr.specs.Lookup.{seen_of};
+
+use crate::arena::Arena;
+use crate::fault::{ExprFault, ExprKind};
+use crate::ids::{ExprId, NameId};
+use crate::lookup::{Looked, Lookup};
+use crate::operand::Operand;
+use crate::quoted::quoted_text;
+use crate::token::{Relop, Token, TokenKind, tokens};
+use kc_value::{Kind, Tri};
+use std::alloc::{AllocError, Global};
+
+/// What the names of an arena stand for, by their numbers.
+#[derive(Drop)]
+struct Symbols {
+    rows: Vec<Option<Looked<'static>>>,
+}
+
+impl Lookup for Symbols {
+    ghost sees = { λ s i. option_and_then (λ o. option_map seen_of o) (slice_get s.rows.items i) };
+
+    fn look(&self, name: NameId) -> Option<Looked<'_>> {
+        if name.index() < self.rows.len() {
+            self.rows[name.index()]
+        } else {
+            None
+        }
+    }
+}
+
+fn row(kind: Kind, tri: Tri, text: &'static str) -> Option<Looked<'static>> {
+    Some(Looked { kind, tri, text })
+}
+
+/// A is `y`, B `m`, C `n`; N is the int 10, H the hex 0x0A, S the string 10; MODULES is `y`; others are undefined.
+fn known_symbols(alloc: Global) -> Result<Symbols, AllocError> {
+    let rows = vec![in alloc;
+        row(Kind::Tristate, Tri::Y, "y"),
+        row(Kind::Tristate, Tri::M, "m"),
+        row(Kind::Tristate, Tri::N, "n"),
+        row(Kind::Int, Tri::N, "10"),
+        row(Kind::Hex, Tri::N, "0x0A"),
+        row(Kind::Text, Tri::N, "10"),
+        row(Kind::Bool, Tri::Y, "y"),
+    ]?;
+    Ok(Symbols { rows })
+}
+
+/// An arena that holds the names of the table, in its order.
+fn known_arena(alloc: Global) -> Result<Arena, ExprFault> {
+    let mut arena = Arena::new(alloc);
+    for name in ["A", "B", "C", "N", "H", "S", "MODULES"] {
+        let list = tokens(alloc, name)?;
+        arena.parse_expr(&list, 0, false)?;
+    }
+    Ok(arena)
+}
+
+/// The value of a text, under the table.
+fn value_of(alloc: Global, text: &str, condition: bool) -> Result<Tri, ExprFault> {
+    let mut arena = known_arena(alloc)?;
+    let symbols = known_symbols(alloc)?;
+    let list = tokens(alloc, text)?;
+    let (id, _) = arena.parse_expr(&list, 0, condition)?;
+    Ok(arena.value(id, &symbols))
+}
+
+const VALUES: [(&str, Tri); 33] = [
+    ("A && B || C", Tri::M),
+    ("!B", Tri::M),
+    ("!A = C", Tri::Y),
+    ("!(A) && B", Tri::N),
+    ("N", Tri::N),
+    ("U", Tri::N),
+    ("N = H", Tri::Y),
+    ("N = S", Tri::Y),
+    ("S = \"010\"", Tri::N),
+    ("N = \"010\"", Tri::Y),
+    ("S = 010", Tri::Y),
+    ("U = \"U\"", Tri::Y),
+    ("B = 1", Tri::Y),
+    ("B < A", Tri::Y),
+    ("C = \"\"", Tri::N),
+    ("N <= 9", Tri::N),
+    ("m", Tri::M),
+    ("B = m", Tri::Y),
+    ("!B = B", Tri::N),
+    ("A || B && C", Tri::Y),
+    ("(A || B) && C", Tri::N),
+    ("\"y\" && 'm'", Tri::M),
+    ("\"A\"", Tri::N),
+    ("A != B", Tri::Y),
+    ("A > B", Tri::Y),
+    ("B >= m", Tri::Y),
+    ("N > 9", Tri::Y),
+    ("N >= 11", Tri::N),
+    ("S < \"2\"", Tri::Y),
+    ("S = '1\\0'", Tri::Y),
+    ("MODULES = y", Tri::Y),
+    ("!!B", Tri::M),
+    ("U != U", Tri::N),
+];
+
+#[test]
+fn evaluates_the_table(rt: HostRuntime) -> Result<(), std::test::Fail> {
+    for (text, want) in VALUES {
+        assert_eq!(rt; value_of(rt.alloc(), text, false)?, want, "{text}");
+    }
+    assert_eq!(rt; value_of(rt.alloc(), "m", true)?, Tri::M);
+    assert_eq!(rt; value_of(rt.alloc(), "B = m", true)?, Tri::Y);
+    Ok(())
+}
+
+/// A text so many times, before and behind another.
+fn repeated(
+    alloc: Global,
+    times: usize,
+    before: &str,
+    middle: &str,
+    behind: &str,
+) -> Result<String, AllocError> {
+    let mut text = String::new(alloc);
+    for _ in 0..times {
+        text.push_str(before)?;
+    }
+    text.push_str(middle)?;
+    for _ in 0..times {
+        text.push_str(behind)?;
+    }
+    Ok(text)
+}
+
+#[test]
+fn goes_64_deep(rt: HostRuntime) -> Result<(), std::test::Fail> {
+    let alloc = rt.alloc();
+    for (before, behind) in [("!", ""), ("(", ")")] {
+        let text = repeated(alloc, 64, before, "y", behind)?;
+        assert_eq!(rt; value_of(alloc, text.as_str(), true)?, Tri::Y);
+        let text = repeated(alloc, 65, before, "y", behind)?;
+        let too_deep = ExprFault {
+            offset: 65,
+            kind: ExprKind::TooDeep,
+        };
+        assert_eq!(rt; value_of(alloc, text.as_str(), true), Err(too_deep));
+    }
+    Ok(())
+}
+
+#[test]
+fn walks_a_line_of_ands(rt: HostRuntime) -> Result<(), std::test::Fail> {
+    let text = repeated(rt.alloc(), 13107, "y && ", "y", "")?;
+    assert_eq!(rt; text.len(), 65536);
+    assert_eq!(rt; value_of(rt.alloc(), text.as_str(), true)?, Tri::Y);
+    Ok(())
+}
+
+#[test]
+fn cuts_lines_into_tokens(rt: HostRuntime) -> Result<(), std::test::Fail> {
+    let line = "A-1.x/y\t!=<=>=<>=!&&||()'a\\'b' \"q\"# \" $";
+    let want = [
+        (TokenKind::Word, 0, "A-1.x/y"),
+        (TokenKind::Relation(Relop::NotEqual), 8, "!="),
+        (TokenKind::Relation(Relop::LessEqual), 10, "<="),
+        (TokenKind::Relation(Relop::GreaterEqual), 12, ">="),
+        (TokenKind::Relation(Relop::Less), 14, "<"),
+        (TokenKind::Relation(Relop::GreaterEqual), 15, ">="),
+        (TokenKind::Not, 17, "!"),
+        (TokenKind::And, 18, "&&"),
+        (TokenKind::Or, 20, "||"),
+        (TokenKind::Open, 22, "("),
+        (TokenKind::Close, 23, ")"),
+        (TokenKind::Quoted, 24, "'a\\'b'"),
+        (TokenKind::Quoted, 31, "\"q\""),
+    ];
+    let found = tokens(rt.alloc(), line)?;
+    assert_eq!(rt; found.len(), want.len());
+    for (token, (kind, start, text)) in found.iter().zip(&want) {
+        assert_eq!(rt; token.kind, *kind, "at {start}");
+        assert_eq!(rt; token.start, *start);
+        assert_eq!(rt; token.text, *text);
+    }
+    assert_eq!(rt; tokens(rt.alloc(), " \t# only a comment")?.len(), 0);
+    Ok(())
+}
+
+#[test]
+fn tells_the_first_fault_of_a_line(rt: HostRuntime) {
+    for (line, kind, offset) in [
+        ("a \"b", ExprKind::UnclosedQuote, 2),
+        ("a \"b\\\"", ExprKind::UnclosedQuote, 2),
+        ("a 'b\"$", ExprKind::UnclosedQuote, 2),
+        ("a \"b$\"", ExprKind::LeftOut, 4),
+        ("a $b", ExprKind::LeftOut, 2),
+        ("a & b", ExprKind::BadToken, 2),
+        ("a |", ExprKind::BadToken, 2),
+        ("a, $", ExprKind::BadToken, 1),
+        ("\\", ExprKind::BadToken, 0),
+        ("\u{feff}a", ExprKind::BadToken, 0),
+    ] {
+        match tokens(rt.alloc(), line) {
+            Ok(_) => assert!(rt; false, "{line}"),
+            Err(fault) => assert_eq!(rt; fault, ExprFault { offset, kind }, "{line}"),
+        }
+    }
+}
+
+#[test]
+fn tells_where_an_expression_cannot_go_on(rt: HostRuntime) {
+    for (text, kind, offset) in [
+        ("", ExprKind::Malformed, 0),
+        ("A = B = C", ExprKind::Malformed, 6),
+        ("A &&", ExprKind::Malformed, 4),
+        ("A && )", ExprKind::Malformed, 5),
+        ("(A", ExprKind::Malformed, 2),
+        ("(A if B", ExprKind::Malformed, 2),
+        ("A =", ExprKind::Malformed, 3),
+        ("A = (B)", ExprKind::Malformed, 4),
+        ("!", ExprKind::Malformed, 1),
+        ("|| A", ExprKind::Malformed, 0),
+        ("A !B", ExprKind::Malformed, 2),
+    ] {
+        assert_eq!(rt;
+            value_of(rt.alloc(), text, true),
+            Err(ExprFault { offset, kind }),
+            "{text}"
+        );
+    }
+}
+
+#[test]
+fn ends_before_the_next_word(rt: HostRuntime) -> Result<(), std::test::Fail> {
+    let mut arena = known_arena(rt.alloc())?;
+    let list = tokens(rt.alloc(), "depends on !A = B && (C || D) if X")?;
+    assert_eq!(rt; list.len(), 14);
+    let (_, end) = arena.parse_expr(&list, 2, true)?;
+    assert_eq!(rt; end, 12);
+    let (_, end) = arena.parse_expr(&list, 13, true)?;
+    assert_eq!(rt; end, 14);
+    let fault = ExprFault {
+        offset: 34,
+        kind: ExprKind::Malformed,
+    };
+    assert_eq!(rt; arena.parse_expr(&list, 14, true).map(|_| ()), Err(fault));
+    Ok(())
+}
+
+#[test]
+fn tells_names(rt: HostRuntime) -> Result<(), std::test::Fail> {
+    let alloc = rt.alloc();
+    let mut arena = Arena::new(alloc);
+    let list = tokens(alloc, "Z = \"x\" && (!A || Z) && m")?;
+    let (id, _) = arena.parse_expr(&list, 0, true)?;
+    let names = arena.names(id)?;
+    assert_eq!(rt; names.len(), 3);
+    for (name, text) in names.iter().zip(["Z", "A", "MODULES"]) {
+        assert_eq!(rt; arena.find(text).map(|n| n.index()), Some(name.index()));
+    }
+    assert_eq!(rt; arena.find("x").map(|n| n.index()), None);
+    assert!(rt; arena.operand(id).is_none());
+    Ok(())
+}
+
+/// What an operand is, in a letter and its text.
+fn spelled(arena: &Arena, id: ExprId) -> (char, &str)
+    requires { id < length arena.now.nodes }
+{
+    let Some(operand) = arena.operand(id) else {
+        return ('-', "");
+    };
+    match &operand {
+        Operand::Name(name) => ('N', arena.name(*name)),
+        Operand::Quoted(text) => ('Q', text),
+        Operand::Tri(Tri::N) => ('T', "n"),
+        Operand::Tri(Tri::M) => ('T', "m"),
+        Operand::Tri(Tri::Y) => ('T', "y"),
+    }
+}
+
+#[test]
+fn tells_operands(rt: HostRuntime) -> Result<(), std::test::Fail> {
+    let mut arena = known_arena(rt.alloc())?;
+    for (text, letter, want) in [
+        ("A", 'N', "A"),
+        ("(B)", 'N', "B"),
+        ("'Q'", 'Q', "Q"),
+        ("\"m\"", 'T', "m"),
+        ("n", 'T', "n"),
+        ("y", 'T', "y"),
+        ("!A", '-', ""),
+        ("A = B", '-', ""),
+    ] {
+        let list = tokens(rt.alloc(), text)?;
+        let (id, _) = arena.parse_expr(&list, 0, false)?;
+        let (found, spelling) = spelled(&arena, id);
+        assert_eq!(rt; found, letter, "{text}");
+        assert_eq!(rt; spelling, want);
+    }
+    Ok(())
+}
+
+#[test]
+fn joins_and_shows(rt: HostRuntime) -> Result<(), std::test::Fail> {
+    let alloc = rt.alloc();
+    let mut arena = known_arena(alloc)?;
+    let symbols = known_symbols(alloc)?;
+    let list = tokens(alloc, "A")?;
+    let (a, _) = arena.parse_expr(&list, 0, true)?;
+    let list = tokens(alloc, "B")?;
+    let (b, _) = arena.parse_expr(&list, 0, true)?;
+    let list = tokens(alloc, "C")?;
+    let (c, _) = arena.parse_expr(&list, 0, true)?;
+    let ab = arena.join(a, b)?;
+    assert_eq!(rt; arena.value(ab, &symbols), Tri::M);
+    let shown = arena.shown(ab)?;
+    assert_eq!(rt; arena.value(shown, &symbols), Tri::Y);
+    let none = arena.join(shown, c)?;
+    assert_eq!(rt; arena.value(none, &symbols), Tri::N);
+    let hidden = arena.shown(c)?;
+    assert_eq!(rt; arena.value(hidden, &symbols), Tri::N);
+    Ok(())
+}
+
+#[test]
+fn unquotes(rt: HostRuntime) -> Result<(), std::test::Fail> {
+    for (text, want) in [
+        ("\"a\\\"b\\\\\"", "a\"b\\"),
+        ("'é\\n'", "én"),
+        ("''", ""),
+        ("a", "a"),
+    ] {
+        assert_eq!(rt; quoted_text(rt.alloc(), text)?.as_str(), want);
+    }
+    Ok(())
+}
+
+/// Both of an expression, shown and as it is; what was refused is asked for again.
+fn joined(arena: &mut Arena, id: ExprId) -> Result<ExprId, ExprFault>
+    requires { id < length arena.old.nodes }
+    ensures { IfOk result (λ id. id < length arena.new.nodes) }
+{
+    let shown = match arena.shown(id) {
+        Ok(shown) => shown,
+        Err(_) => arena.shown(id)?,
+    };
+    match arena.join(shown, shown) {
+        Ok(both) => Ok(both),
+        Err(_) => arena.join(shown, shown),
+    }
+}
+
+#[test]
+fn a_fault_leaves_the_arena(rt: HostRuntime) -> Result<(), std::test::Fail> {
+    let mut arena = known_arena(rt.alloc())?;
+    let list = tokens(rt.alloc(), "X && \"q\" = (Y")?;
+    assert!(rt; arena.parse_expr(&list, 0, true).is_err());
+    assert_eq!(rt; arena.find("X").map(|n| n.index()), None);
+    Ok(())
+}
+
+#[test]
+fn want_of_memory_leaves_the_arena(rt: HostRuntime) -> Result<(), std::test::Fail> {
+    let mut arena = known_arena(rt.alloc())?;
+    let list = tokens(rt.alloc(), "X && \"q\" = \"r\" || !(m && Z)")?;
+    if let Err(fault) = arena.parse_expr(&list, 0, true) {
+        assert_eq!(rt; fault.kind, ExprKind::OutOfMemory);
+        assert_eq!(rt; arena.find("X").map(|n| n.index()), None);
+        arena.parse_expr(&list, 0, true)?;
+    }
+    assert_eq!(rt; arena.find("X").map(|n| n.index()), Some(7));
+    assert_eq!(rt; arena.find("Z").map(|n| n.index()), Some(8));
+    Ok(())
+}
+
+#[test]
+fn joins_again_after_a_refusal(rt: HostRuntime) -> Result<(), std::test::Fail> {
+    let mut arena = Arena::new(rt.alloc());
+    let list = tokens(rt.alloc(), "A")?;
+    let (a, _) = arena.parse_expr(&list, 0, true)?;
+    let last = joined(&mut arena, a)?;
+    let last = joined(&mut arena, last)?;
+    let last = joined(&mut arena, last)?;
+    let last = joined(&mut arena, last)?;
+    let last = joined(&mut arena, last)?;
+    assert_eq!(rt; arena.names(last)?.len(), 1);
+    Ok(())
+}
+
+#[test]
+fn a_kind_is_its_name(rt: HostRuntime) -> Result<(), std::test::Fail> {
+    for (kind, name) in [
+        (ExprKind::BadToken, "BadToken"),
+        (ExprKind::UnclosedQuote, "UnclosedQuote"),
+        (ExprKind::Malformed, "Malformed"),
+        (ExprKind::TooDeep, "TooDeep"),
+        (ExprKind::LeftOut, "LeftOut"),
+        (ExprKind::OutOfMemory, "OutOfMemory"),
+    ] {
+        assert_eq!(rt; format!(in rt.alloc(); "{kind}")?.as_str(), name);
+    }
+    Ok(())
+}

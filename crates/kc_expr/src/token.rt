@@ -1,0 +1,175 @@
+//! Words, quoted texts and operators of a line.
+ghost use Rattle.std.specs.Prelude.{◌≡◌, ◌<◌, ◌≤◌, true, length, IfSome, position, take_while, ◌==◌, ◌-◌, slice_index, [], ◌∷◌};
+ghost use Rattle.kc_expr.specs.Token.{is_white_byte, is_word_byte, lead_of, lead_of_quoted, lead_of_operator, lexed, pieces_of, Reaches};
+ghost use Rattle.kc_expr.specs.Answers.{Answers};
+
+use super::fault::{ExprFault, ExprKind};
+use kc_value::closing_quote;
+use std::alloc::Global;
+
+/// A relation between two operands.
+#[derive(Clone, Copy, Debug, PartialEq, Eq)]
+pub enum Relop {
+    Equal,
+    NotEqual,
+    Less,
+    Greater,
+    LessEqual,
+    GreaterEqual,
+}
+
+/// What a token is.
+#[derive(Clone, Copy, Debug, PartialEq, Eq)]
+pub enum TokenKind {
+    Word,
+    Quoted,
+    Relation(Relop),
+    Not,
+    And,
+    Or,
+    Open,
+    Close,
+}
+
+/// A token, its first byte in its line and the byte after it.
+#[derive(Clone, Copy)]
+pub struct Token<'a> {
+    pub kind: TokenKind,
+    pub start: usize,
+    pub end: usize,
+    pub text: &'a str,
+}
+
+/// What stands at the front of bytes.
+#[derive(Clone, Copy)]
+pub(crate) enum Lead {
+    White,
+    Comment,
+    Token(TokenKind, usize),
+    Fault(ExprKind, usize),
+}
+
+fn is_white(byte: u8) -> bool
+    ensures { result ≡ is_white_byte byte }
+{
+    matches!(byte, 0x09 | 0x0B | 0x0C | 0x0D | 0x20)
+}
+
+fn is_word(byte: u8) -> bool
+    ensures { result ≡ is_word_byte byte }
+{
+    matches!(byte, b'A'..=b'Z' | b'a'..=b'z' | b'0'..=b'9' | b'_' | b'-' | b'.' | b'/')
+}
+
+/// The first `$`.
+fn dollar_in(bytes: &[u8]) -> Option<usize>
+    ensures place { result ≡ position (λ c. c == 36) bytes.now }
+    ensures within { IfSome result (λ k. k < length bytes.now) }
+{
+    bytes.iter().position(|b| *b == b'$')
+}
+
+/// How many word bytes stand at the front.
+#[tactic(auto, using(crate::proofs::Lexing::word_run, crate::proofs::Lexing::word_ends))]
+fn word_len(bytes: &[u8]) -> usize
+    ensures count { result ≡ length (take_while is_word_byte bytes.now) }
+    ensures within { result ≤ length bytes.now }
+    ensures run { 0 < length bytes.now → is_word_byte (slice_index bytes.now 0) ≡ true → 0 < result }
+    ensures ends { 0 < result → slice_index bytes.now (result - 1) < 128 }
+{
+    bytes.iter().take_while(|b| is_word(**b)).count()
+}
+
+/// What stands behind an opening quote, at bytes that begin with it.
+fn quoted_lead(bytes: &[u8]) -> Lead
+    requires some { 0 < length bytes.now }
+    requires quote { slice_index bytes.now 0 < 128 }
+    ensures lead { result ≡ lead_of_quoted bytes.now }
+    ensures reaches { Reaches bytes.now result }
+{
+    match closing_quote(bytes[0], &bytes[1..]) {
+        None => Lead::Fault(ExprKind::UnclosedQuote, 0),
+        Some(n) => match dollar_in(&bytes[..n + 1]) {
+            None => Lead::Token(TokenKind::Quoted, n + 1),
+            Some(k) => Lead::Fault(ExprKind::LeftOut, k),
+        },
+    }
+}
+
+/// The operator at the front of bytes.
+fn operator_lead(first: u8, second: u8) -> Lead
+    ensures lead { result ≡ lead_of_operator first second }
+    ensures reaches { Reaches (first ∷ second ∷ []) result }
+    ensures one { second ≡ 0 → Reaches (first ∷ []) result }
+{
+    match (first, second) {
+        (b'!', b'=') => Lead::Token(TokenKind::Relation(Relop::NotEqual), 2),
+        (b'<', b'=') => Lead::Token(TokenKind::Relation(Relop::LessEqual), 2),
+        (b'>', b'=') => Lead::Token(TokenKind::Relation(Relop::GreaterEqual), 2),
+        (b'&', b'&') => Lead::Token(TokenKind::And, 2),
+        (b'|', b'|') => Lead::Token(TokenKind::Or, 2),
+        (b'!', _) => Lead::Token(TokenKind::Not, 1),
+        (b'=', _) => Lead::Token(TokenKind::Relation(Relop::Equal), 1),
+        (b'<', _) => Lead::Token(TokenKind::Relation(Relop::Less), 1),
+        (b'>', _) => Lead::Token(TokenKind::Relation(Relop::Greater), 1),
+        (b'(', _) => Lead::Token(TokenKind::Open, 1),
+        (b')', _) => Lead::Token(TokenKind::Close, 1),
+        (b'$', _) => Lead::Fault(ExprKind::LeftOut, 0),
+        _ => Lead::Fault(ExprKind::BadToken, 0),
+    }
+}
+
+/// What stands at the front of bytes.
+#[tactic(auto, unfolding(crate::specs::Token::lead_of))]
+fn front_of(bytes: &[u8]) -> Lead
+    requires { 0 < length bytes.now }
+    ensures lead { result ≡ lead_of bytes.now }
+    ensures reaches { Reaches bytes.now result }
+{
+    let first = bytes[0];
+    if is_white(first) {
+        Lead::White
+    } else if first == b'#' {
+        Lead::Comment
+    } else if is_word(first) {
+        Lead::Token(TokenKind::Word, word_len(bytes))
+    } else if first == b'"' || first == b'\'' {
+        quoted_lead(bytes)
+    } else {
+        let second = if bytes.len() > 1 { bytes[1] } else { 0 };
+        operator_lead(first, second)
+    }
+}
+
+/// The tokens of a line, up to a comment.
+pub fn tokens(alloc: Global, line: &str) -> Result<Vec<Token<'_>>, ExprFault>
+    ensures { Answers (λ v. pieces_of v.items) result (lexed 0 0 line.now) }
+{
+    let bytes = line.as_bytes();
+    let mut found = Vec::new(alloc);
+    let mut at = 0;
+    while at < bytes.len() {
+        match front_of(&bytes[at..]) {
+            Lead::White => at += 1,
+            Lead::Comment => break,
+            Lead::Token(kind, len) => {
+                let end = at + len;
+                let text = &line[at..end];
+                found.push(Token {
+                    kind,
+                    start: at,
+                    end,
+                    text,
+                })?;
+                at = end;
+            }
+            Lead::Fault(kind, ahead) => {
+                return Err(ExprFault {
+                    offset: at + ahead,
+                    kind,
+                });
+            }
+        }
+    }
+    Ok(found)
+}

@@ -1,0 +1,11 @@
+pub mod Lookups
+pub mod Ink
+pub mod Numbers
+pub mod FittingValues
+pub mod AssignedTexts
+pub mod RowTrees
+mod TristateRows
+mod ImplyRows
+mod TextRows
+mod ChoiceRows
+mod DependencyRows

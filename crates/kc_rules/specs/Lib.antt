@@ -1,0 +1,13 @@
+pub mod Kinds
+pub mod SymbolValues
+pub mod Rule
+pub mod Dependencies
+pub mod Shapes
+pub mod Equality
+pub mod Reports
+pub mod Laws
+pub mod Agreement
+pub mod FrameLaw
+pub mod RestoreLaw
+pub mod GraphLaw
+pub mod EqualityLaws

@@ -1,0 +1,12 @@
+pub mod Lists
+pub mod Cycles
+pub mod Takings
+pub mod OneSolution
+pub mod Least
+pub mod Walks
+pub mod Undo
+pub mod Dependents
+pub mod Sets
+pub mod UserChanges
+pub mod Revisions
+pub mod Sorting

@@ -1,0 +1,9 @@
+use Rattle.std.proofs.Common.{◌≤◌, length, take}
+use Rattle.kc_system.specs.Pending.{MarksPlaces, is_pending}
+use Rattle.kc_system.proofs.places.mark.Given as goal
+
+abbrev pub invariant-loop-u : goal.invariant-loop-u
+invariant-loop-u l = record {
+  within : l.u-index ≤ length l.units;
+  marks : MarksPlaces (is_pending l.initial.pending) (is_pending l.pending) (take l.u-index l.units) l.places;
+}

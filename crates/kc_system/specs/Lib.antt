@@ -1,0 +1,14 @@
+pub mod Dependencies
+pub mod Faults
+pub mod Solutions
+pub mod LeastAssignments
+pub mod Rows
+pub mod Taking
+pub mod Changes
+pub mod Held
+pub mod Logs
+pub mod Pending
+pub mod Revising
+pub mod Plans
+pub mod Sums
+pub mod SumsLaws

@@ -1,0 +1,4 @@
+pub mod TextsLemmas
+mod Rows
+pub mod NestedTrees
+pub mod Consistency

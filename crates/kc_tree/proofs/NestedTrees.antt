@@ -1,0 +1,7 @@
+-- The nested tree of what was read.
+pub mod OpenBlocks
+pub mod Walks
+pub mod OneListing
+pub mod Building
+pub mod LineFits
+pub mod ReadingNests

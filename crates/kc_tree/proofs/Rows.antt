@@ -1,0 +1,9 @@
+-- Worked rows, computed.
+pub mod Trees
+mod Lines
+mod ReadingFaults
+mod TreeFaults
+mod Cuts
+mod Contents
+mod Limits
+mod SourcedFiles

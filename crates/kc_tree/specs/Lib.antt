@@ -1,0 +1,16 @@
+pub mod Trees
+pub mod Files
+pub mod Lines
+pub mod Statements
+pub mod Keywords
+pub mod Forms
+pub mod Blocks
+pub mod Placement
+pub mod Limits
+pub mod Reading
+pub mod Conditions
+pub mod Contents
+pub mod TreeFaults
+pub mod NestedTrees
+pub mod TextsView
+pub mod TreeLookup

@@ -1,0 +1,136 @@
+-- What the lines of a tree say.
+use Rattle.std.specs.Prelude.{ℕ, Bool, true, false, List, Option, Some, None}
+use Rattle.kc_value.specs.declared.value.Kind.{Kind}
+use Rattle.kc_expr.specs.Expr.{Expr, Operand}
+
+-- the blocks that a statement opens and an end closes ("Menu structure")
+pub data Block : Type 0 where
+  menu_block : Block
+  if_block : Block
+  choice_block : Block
+
+-- a statement that closes the open entry ("Kconfig syntax")
+pub data Head : Type 0 where
+  config : (name : List ℕ) → Head
+  choice : Head
+  menu : (title : List ℕ) → Head
+  condition : Expr → Head
+  comment : (title : List ℕ) → Head
+  source : (path : List ℕ) → Head
+  mainmenu : Head
+  ends : Block → Head
+
+-- the value of a default, whether it is one operand (in parentheses it isn't), and its `if`
+pub record Valued : Type 0 where
+  pub value : Expr
+  pub single : Bool
+  pub condition : Option Expr
+
+-- the name in a `select` or an `imply`, and its `if`
+pub record Aimed : Type 0 where
+  pub name : List ℕ
+  pub condition : Option Expr
+
+-- the bounds of a `range`, and its `if`
+pub record Bounded : Type 0 where
+  pub low : Operand
+  pub high : Operand
+  pub condition : Option Expr
+
+-- an attribute of the open entry ("Menu attributes"); of a prompt only its `if` is kept
+pub data Attribute : Type 0 where
+  typed : Kind → Attribute
+  typed_prompt : Kind → Option Expr → Attribute
+  typed_default : Kind → Valued → Attribute
+  prompt : Option Expr → Attribute
+  default : Valued → Attribute
+  depends : Expr → Attribute
+  select : Aimed → Attribute
+  imply : Aimed → Attribute
+  range : Bounded → Attribute
+  visible : Expr → Attribute
+  help : Attribute
+  modules : Attribute
+
+-- what a line says
+pub data Statement : Type 0 where
+  head : Head → Statement
+  attribute : Attribute → Statement
+
+-- the name that is defined
+abbrev pub name_of_head : Head → Option (List ℕ)
+name_of_head (config name) = Some name
+name_of_head h = None
+
+-- the path that is sourced
+abbrev pub path_of_head : Head → Option (List ℕ)
+path_of_head (source path) = Some path
+path_of_head h = None
+
+-- a menu's title
+abbrev pub title_of_head : Head → Option (List ℕ)
+title_of_head (menu title) = Some title
+title_of_head h = None
+
+-- the block that a statement opens
+abbrev pub block_of_head : Head → Option Block
+block_of_head choice = Some choice_block
+block_of_head (menu title) = Some menu_block
+block_of_head (condition e) = Some if_block
+block_of_head h = None
+
+-- whether two blocks are of one sort
+abbrev pub same_block : Block → Block → Bool
+same_block menu_block menu_block = true
+same_block if_block if_block = true
+same_block choice_block choice_block = true
+same_block b c = false
+
+-- the type that an attribute gives
+abbrev pub type_of : Attribute → Option Kind
+type_of (typed k) = Some k
+type_of (typed_prompt k c) = Some k
+type_of (typed_default k d) = Some k
+type_of a = None
+
+-- the `if` of a prompt, if there is one
+abbrev pub prompt_of : Attribute → Option (Option Expr)
+prompt_of (prompt c) = Some c
+prompt_of (typed_prompt k c) = Some c
+prompt_of a = None
+
+-- a default
+abbrev pub default_of : Attribute → Option Valued
+default_of (default d) = Some d
+default_of (typed_default k d) = Some d
+default_of a = None
+
+-- a dependency
+abbrev pub depends_of : Attribute → Option Expr
+depends_of (depends e) = Some e
+depends_of a = None
+
+-- a `visible if`
+abbrev pub visible_of : Attribute → Option Expr
+visible_of (visible e) = Some e
+visible_of a = None
+
+-- a range
+abbrev pub range_of : Attribute → Option Bounded
+range_of (range r) = Some r
+range_of a = None
+
+-- a `select`
+abbrev pub select_of : Attribute → Option Aimed
+select_of (select s) = Some s
+select_of a = None
+
+-- an `imply`
+abbrev pub imply_of : Attribute → Option Aimed
+imply_of (imply s) = Some s
+imply_of a = None
+
+-- the mark of the modules symbol
+abbrev pub is_modules : Attribute → Bool
+is_modules modules = true
+is_modules a = false

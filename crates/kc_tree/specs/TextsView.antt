@@ -1,0 +1,7 @@
+-- What the entries of the map behind `Texts` stand for.
+use Rattle.std.specs.Prelude.{ℕ, List, String, Vec, string_bytes}
+use Rattle.std.specs.declared.alloc.Global.{Global}
+
+-- a path and its bytes
+abbrev pub file_of : String Global × Vec ℕ Global → List ℕ × List ℕ
+file_of e = (string_bytes e.0, e.1.items)

@@ -1,0 +1,68 @@
+-- What a tree is: symbols, choices, entries and units, with all conditions joined.
+use Rattle.std.specs.Prelude.{ℕ, List, Option}
+use Rattle.kc_value.specs.declared.value.Kind.{Kind}
+use Rattle.kc_expr.specs.Expr.{Expr, Operand}
+
+-- a default: its value and its condition
+pub record Default : Type 0 where
+  pub value : Expr
+  pub condition : Expr
+
+-- a range: its bounds and its condition
+pub record Range : Type 0 where
+  pub low : Operand
+  pub high : Operand
+  pub condition : Expr
+
+-- a symbol that selects or implies this one, by its number, with the condition
+pub record Force : Type 0 where
+  pub by : ℕ
+  pub condition : Expr
+
+-- a symbol: its first place, and the attributes of all its definitions in reading order, each condition joined with
+-- what stands round it; `direct` has the dependency of each definition, and `choice` the number of its choice
+pub record Symbol : Type 0 where
+  pub name : List ℕ
+  pub kind : Kind
+  pub file : ℕ
+  pub line : ℕ
+  pub prompts : List Expr
+  pub defaults : List Default
+  pub ranges : List Range
+  pub selectors : List Force
+  pub impliers : List Force
+  pub direct : List Expr
+  pub choice : Option ℕ
+
+-- a default of a choice: the member's number among the symbols, and its condition
+pub record MemberDefault : Type 0 where
+  pub member : ℕ
+  pub condition : Expr
+
+-- a choice: its place, and its members by their numbers among the symbols, in order of definition
+pub record Choice : Type 0 where
+  pub file : ℕ
+  pub line : ℕ
+  pub members : List ℕ
+  pub prompt : Option Expr
+  pub defaults : List MemberDefault
+
+-- what stands in reading order; the second condition of a menu is its `visible if`, joined with those round it
+pub data Entry : Type 0 where
+  definition : ℕ → Entry
+  choice_begins : ℕ → Entry
+  menu_begins : (title : List ℕ) (dependency visible : Expr) → Entry
+  menu_ends : (title : List ℕ) (dependency visible : Expr) → Entry
+  comment : (title : List ℕ) (dependency : Expr) → Entry
+
+-- a symbol outside choices, or a choice
+pub data TreeUnit : Type 0 where
+  of_symbol : ℕ → TreeUnit
+  of_choice : ℕ → TreeUnit
+
+-- symbols and choices in order of first definition, entries in reading order, units in the order of their numbers
+pub record Whole : Type 0 where
+  pub symbols : List Symbol
+  pub choices : List Choice
+  pub entries : List Entry
+  pub units : List TreeUnit

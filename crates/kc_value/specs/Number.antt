@@ -1,0 +1,60 @@
+-- The number texts of int and hex symbols.
+use Rattle.std.specs.Prelude.{ℕ, false, unsigned_abs, ◌^◌, ◌<◌, ℤ, pos, neg_ℤ, ◌≤ℤ◌, ◌<ℤ◌, ◌&&◌, nat_lt, nat_le, ◌==◌, List, [], ◌∷◌, length, Option, Some, None, option_map, if◌then◌else◌}
+use Rattle.std.specs.Char.{is_digit}
+use Rattle.std.specs.Fmt.{digits, signed_decimal}
+use Rattle.std.specs.List.{list_all}
+use Rattle.std.specs.Str.Parse.{digits_value}
+use Rattle.kc_value.specs.declared.value.Kind.{Kind}
+use Rattle.kc_value.specs.declared.value.Kind.TheVariants.{Bool, Tristate, Text, Int, Hex}
+
+-- one or more digits of a base, that write a number below a limit
+abbrev pub magnitude : ℕ → ℕ → List ℕ → Option ℕ
+magnitude base limit digits =
+    if nat_lt 0 (length digits) && list_all (λ c. is_digit c base) digits && nat_lt (digits_value base digits) limit then Some (digits_value base digits) else None
+
+-- an optional minus, then decimal digits
+abbrev pub signed_text : List ℕ → Option ℤ
+signed_text [] = None
+signed_text (c ∷ cs) = if c == 45 then option_map (λ n. neg_ℤ (pos n)) (magnitude 10 (2 ^ 63) cs) else option_map pos (magnitude 10 (2 ^ 63) (c ∷ cs))
+
+-- the text without `0x` or `0X` in front
+abbrev pub without_prefix : List ℕ → List ℕ
+without_prefix (a ∷ b ∷ rest) = if a == 48 && (b == 120) then rest else if a == 48 && (b == 88) then rest else (a ∷ b ∷ rest)
+without_prefix rest = rest
+
+-- the number of an int text, of at most 64 bytes
+unfoldable pub int_text : List ℕ → Option ℤ
+int_text text = if nat_le (length text) 64 then signed_text text else None
+
+-- the number of a hex text
+unfoldable pub hex_text : List ℕ → Option ℤ
+hex_text text = if nat_le (length text) 64 then option_map pos (magnitude 16 (2 ^ 64) (without_prefix text)) else None
+
+-- hex where a text begins with the prefix, else int
+unfoldable pub loose_number : List ℕ → Option ℤ
+loose_number text = if nat_lt (length (without_prefix text)) (length text) then hex_text text else int_text text
+
+-- the number that a text is for a kind
+abbrev pub number_of_text : Kind → List ℕ → Option ℤ
+number_of_text Int text = int_text text
+number_of_text Hex text = hex_text text
+number_of_text Bool text = None
+number_of_text Tristate text = None
+number_of_text Text text = None
+
+-- the numbers of a kind that can be printed
+abbrev pub IsPrintable : Kind → ℤ → Type 0
+IsPrintable Int n = unsigned_abs n < 2 ^ 63
+IsPrintable Hex n = (pos 0 ≤ℤ n) × (n <ℤ pos (2 ^ 64))
+IsPrintable Bool n = ⊥
+IsPrintable Tristate n = ⊥
+IsPrintable Text n = ⊥
+
+-- the one text of a number, without leading zeros: `0x` and lower-case digits for hex, else decimal digits behind a
+-- minus where it is negative
+abbrev pub number_spelling : Kind → ℤ → List ℕ
+number_spelling Hex n = 48 ∷ 120 ∷ digits 16 false (unsigned_abs n)
+number_spelling Int n = signed_decimal n
+number_spelling Bool n = signed_decimal n
+number_spelling Tristate n = signed_decimal n
+number_spelling Text n = signed_decimal n

@@ -1,0 +1,209 @@
+//! Number texts.
+ghost use Rattle.std.specs.Prelude.{◌≡◌, ◌^◌, ◌<◌, ◌≤◌, ◌↔◌, ℕ, ℤ, List, Some, IfOk, string_bytes};
+ghost use Rattle.kc_value.specs.DigitStep.{with_digit};
+ghost use Rattle.kc_value.specs.Number.{magnitude, int_text, hex_text, loose_number, without_prefix, number_of_text, number_spelling, IsPrintable};
+ghost use Rattle.kc_value.specs.NumberGrammar.{IsInt, IsHex, IsLoose};
+
+use super::value::Kind;
+use itoa::Buffer;
+use std::alloc::{AllocError, Global};
+
+/// The most bytes of a number text.
+const MAX_TEXT: usize = 64;
+
+/// One digit more behind a number.
+fn push_digit(value: u64, byte: u8, base: u32) -> Option<u64>
+    requires low { 2 ≤ base }
+    requires high { base ≤ 36 }
+    ensures { result ≡ with_digit base (2 ^ 64) value byte }
+{
+    let digit = char::from(byte).to_digit(base)?;
+    value.checked_mul(base as u64)?.checked_add(digit as u64)
+}
+
+/// Digits of a base, one or more, that write a number of 64 bits.
+fn digits(text: &[u8], base: u32) -> Option<u64>
+    requires low { 2 ≤ base }
+    requires high { base ≤ 36 }
+    ensures { result ≡ magnitude base (2 ^ 64) text.now }
+{
+    if text.is_empty() {
+        return None;
+    }
+    let mut value: u64 = 0;
+    for byte in text {
+        value = push_digit(value, *byte, base)?;
+    }
+    Some(value)
+}
+
+/// The text without `0x` or `0X` in front.
+fn strip_prefix(text: &[u8]) -> &[u8]
+    ensures { result.now ≡ without_prefix text.now }
+{
+    match text {
+        [b'0', b'x', rest @ ..] => rest,
+        [b'0', b'X', rest @ ..] => rest,
+        _ => text,
+    }
+}
+
+/// The number of an int text: an optional `-`, then decimal digits, of a magnitude of at most 2^63 - 1. `None` for
+/// every other text, and for one of more than 64 bytes.
+#[tactic(auto, unfolding(crate::specs::Number::int_text))]
+pub fn int_of(text: &[u8]) -> Option<i128>
+    ensures { result ≡ int_text text.now }
+{
+    if text.len() > MAX_TEXT {
+        return None;
+    }
+    let (negative, rest) = match text {
+        [b'-', rest @ ..] => (true, rest),
+        _ => (false, text),
+    };
+    let value = digits(rest, 10)?;
+    if value >= 1 << 63 {
+        return None;
+    }
+    if negative {
+        Some(-(value as i128))
+    } else {
+        Some(value as i128)
+    }
+}
+
+/// The number of a hex text: an optional `0x` or `0X`, then hex digits, at most 2^64 - 1. `None` for every other text,
+/// and for one of more than 64 bytes.
+#[tactic(auto, unfolding(crate::specs::Number::hex_text))]
+pub fn hex_of(text: &[u8]) -> Option<i128>
+    ensures { result ≡ hex_text text.now }
+{
+    if text.len() > MAX_TEXT {
+        return None;
+    }
+    let value = digits(strip_prefix(text), 16)?;
+    Some(value as i128)
+}
+
+/// The number of a text of no known type: a hex text behind `0x` or `0X`, else an int text.
+#[tactic(auto, unfolding(crate::specs::Number::loose_number))]
+pub fn loose_number_of(text: &[u8]) -> Option<i128>
+    ensures { result ≡ loose_number text.now }
+{
+    if strip_prefix(text).len() < text.len() {
+        hex_of(text)
+    } else {
+        int_of(text)
+    }
+}
+
+/// The three readings above are those of the grammars: a text is read as a number exactly where the grammar has it
+/// as that number.
+pub fn number_texts_are_the_grammars()
+    ensures int { (text : List ℕ) (z : ℤ) → (int_text text ≡ Some z) ↔ IsInt text z }
+    ensures hex { (text : List ℕ) (z : ℤ) → (hex_text text ≡ Some z) ↔ IsHex text z }
+    ensures loose { (text : List ℕ) (z : ℤ) → (loose_number text ≡ Some z) ↔ IsLoose text z }
+{}
+
+/// The one text of a number of an int or a hex symbol, without leading zeros: decimal digits behind a minus where it
+/// is negative, or `0x` and lower-case hex digits. An `Err` is want of memory.
+pub fn number_text(alloc: Global, kind: Kind, value: i128) -> Result<String, AllocError>
+    requires { IsPrintable kind value }
+    ensures text { IfOk result (λ t. string_bytes t ≡ number_spelling kind value) }
+    ensures reads_back { IfOk result (λ t. number_of_text kind (string_bytes t) ≡ Some value) }
+{
+    match kind {
+        Kind::Int => {
+            let mut buffer = Buffer::new();
+            String::from_str(alloc, buffer.format(value))
+        }
+        Kind::Hex => {
+            let value = value as u64;
+            format!(in alloc; "0x{value:x}")
+        }
+        Kind::Bool | Kind::Tristate | Kind::Text => unreachable!(),
+    }
+}
+
+#[cfg(test)]
+mod tests {
+    use super::*;
+
+    type Row = (&'static str, Option<i128>, Option<i128>, Option<i128>);
+
+    const ROWS: [Row; 16] = [
+        ("", None, None, None),
+        ("0", Some(0), Some(0), Some(0)),
+        ("-0", Some(0), None, Some(0)),
+        ("010", Some(10), Some(16), Some(10)),
+        ("-5", Some(-5), None, Some(-5)),
+        ("1F", None, Some(31), None),
+        ("0x1F", None, Some(31), Some(31)),
+        ("0X1f", None, Some(31), Some(31)),
+        ("0x", None, None, None),
+        ("-", None, None, None),
+        ("+1", None, None, None),
+        (
+            "9223372036854775807",
+            Some(9223372036854775807),
+            None,
+            Some(9223372036854775807),
+        ),
+        ("9223372036854775808", None, None, None),
+        (
+            "-9223372036854775807",
+            Some(-9223372036854775807),
+            None,
+            Some(-9223372036854775807),
+        ),
+        (
+            "0xffffffffffffffff",
+            None,
+            Some(18446744073709551615),
+            Some(18446744073709551615),
+        ),
+        ("0x10000000000000000", None, None, None),
+    ];
+
+    #[test]
+    fn reads_the_table(rt: HostRuntime) {
+        for (text, int, hex, loose) in ROWS {
+            assert_eq!(rt; int_of(text.as_bytes()), int, "int {text}");
+            assert_eq!(rt; hex_of(text.as_bytes()), hex, "hex {text}");
+            assert_eq!(rt; loose_number_of(text.as_bytes()), loose, "loose {text}");
+        }
+    }
+
+    #[test]
+    fn reads_at_most_64_bytes(rt: HostRuntime) {
+        let zeros = [b'0'; 65];
+        assert_eq!(rt; int_of(&zeros[..64]), Some(0));
+        assert_eq!(rt; int_of(&zeros), None);
+        assert_eq!(rt; hex_of(&zeros[..64]), Some(0));
+        assert_eq!(rt; hex_of(&zeros), None);
+    }
+
+    #[test]
+    fn prints_numbers(rt: HostRuntime) -> Result<(), std::test::Fail> {
+        let rows = [
+            (Kind::Hex, 31, "0x1f"),
+            (Kind::Hex, 0, "0x0"),
+            (Kind::Hex, 18446744073709551615, "0xffffffffffffffff"),
+            (Kind::Int, -5, "-5"),
+            (Kind::Int, 0, "0"),
+            (Kind::Int, 10, "10"),
+            (Kind::Int, -9223372036854775807, "-9223372036854775807"),
+        ];
+        for (kind, value, text) in rows {
+            let printable = match kind {
+                Kind::Int => -9223372036854775807 <= value && value <= 9223372036854775807,
+                Kind::Hex => 0 <= value && value <= 18446744073709551615,
+                _ => false,
+            };
+            if printable {
+                assert_eq!(rt; number_text(rt.alloc(), kind, value)?.as_str(), text);
+            }
+        }
+        Ok(())
+    }
+}

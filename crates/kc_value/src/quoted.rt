@@ -1,0 +1,175 @@
+//! Texts in quotes.
+ghost use Rattle.std.specs.Prelude.{◌≡◌, ◌+◌, ◌-◌, ◌<◌, ◌≤◌, ℕ, List, take, false, length, slice_index, ◌++◌, OnOk, OnErr, IfOk, IfSome, IfNone, string_bytes};
+ghost use Rattle.kc_value.specs.Quoted.{quoted, closing, unescaped, IsQuoted, HasBody};
+
+use std::alloc::{AllocError, Global};
+
+/// Appends the quoted spelling of a text: between two `"`, with a `\` before each `"` and each `\`. An `Err` is want
+/// of memory, and leaves the bytes as they were.
+pub fn push_escaped(out: &mut Vec<u8>, text: &str) -> Result<(), AllocError>
+    ensures ok { OnOk result (out.new.items ≡ out.old.items ++ quoted text.now) }
+    ensures err { OnErr result (out.new.items ≡ out.old.items) }
+{
+    let len = out.len();
+    let pushed = push_quoted(out, text);
+    if pushed.is_err() {
+        out.truncate(len);
+    }
+    pushed
+}
+
+/// As `push_escaped`, but an `Err` may leave a part behind the bytes.
+fn push_quoted(out: &mut Vec<u8>, text: &str) -> Result<(), AllocError>
+    ensures ok { OnOk result (out.new.items ≡ out.old.items ++ quoted text.now) }
+    ensures kept { take (length out.old.items) out.new.items ≡ out.old.items }
+{
+    out.push(b'"')?;
+    for byte in text.as_bytes() {
+        if *byte == b'"' || *byte == b'\\' {
+            out.push(b'\\')?;
+        }
+        out.push(*byte)?;
+    }
+    out.push(b'"')?;
+    Ok(())
+}
+
+/// How many bytes reach up to the closing quote and with it, behind an opening one. A byte behind a backslash closes
+/// nothing. `None` where nothing closes.
+pub fn closing_quote(quote: u8, bytes: &[u8]) -> Option<usize>
+    ensures place { result ≡ closing quote false bytes.now }
+    ensures within { IfSome result (λ n. (0 < n) × (n ≤ length bytes.now)) }
+    ensures quote { IfSome result (λ n. slice_index bytes.now (n - 1) ≡ quote) }
+{
+    let mut escaped = false;
+    for (i, byte) in bytes.iter().enumerate() {
+        if escaped {
+            escaped = false;
+        } else if *byte == quote {
+            return Some(i + 1);
+        } else {
+            escaped = *byte == b'\\';
+        }
+    }
+    None
+}
+
+/// The text between quotes, with the character alone for each backslash and character. An `Err` is want of memory.
+pub fn unescape(alloc: Global, text: &str) -> Result<String, AllocError>
+    ensures { IfOk result (λ t. string_bytes t ≡ unescaped false text.now) }
+{
+    let mut read = String::new(alloc);
+    let mut escaped = false;
+    for c in text.chars() {
+        if c == '\\' && !escaped {
+            escaped = true;
+        } else {
+            read.push(c)?;
+            escaped = false;
+        }
+    }
+    Ok(read)
+}
+
+/// What stands between the quotes of a text in `"`.
+fn body_of(text: &str) -> Option<&str>
+    ensures body { IfSome result (λ b. HasBody text.now b.now) }
+    ensures none { IfNone result ((means : List ℕ) → IsQuoted text.now means → ⊥) }
+{
+    let bytes = text.as_bytes();
+    if bytes.is_empty() || bytes[0] != b'"' {
+        return None;
+    }
+    let n = closing_quote(b'"', &bytes[1..])?;
+    if n + 1 < bytes.len() {
+        return None;
+    }
+    Some(&text[1..n])
+}
+
+/// The text for which a quoted one stands: `"`, then characters other than `"` and `\` or a `\` and any character,
+/// then `"`. `None` for every other text. An `Err` is want of memory.
+pub fn read_quoted(alloc: Global, text: &str) -> Result<Option<String>, AllocError>
+    ensures read { IfOk result (λ o. IfSome o (λ t. IsQuoted text.now (string_bytes t))) }
+    ensures none { IfOk result (λ o. IfNone o ((means : List ℕ) → IsQuoted text.now means → ⊥)) }
+{
+    match body_of(text) {
+        None => Ok(None),
+        Some(body) => Ok(Some(unescape(alloc, body)?)),
+    }
+}
+
+/// A quoted spelling is read back as its text, and no text is read as two.
+pub fn quoted_texts_read_back()
+    ensures spelled { (text : List ℕ) → IsQuoted (quoted text) text }
+    ensures one { (whole a b : List ℕ) → IsQuoted whole a → IsQuoted whole b → a ≡ b }
+{}
+
+#[cfg(test)]
+mod tests {
+    use super::*;
+
+    const TEXTS: [(&str, &str); 5] = [
+        ("", "\"\""),
+        ("a", "\"a\""),
+        ("a\"b\\c", "\"a\\\"b\\\\c\""),
+        ("\\", "\"\\\\\""),
+        ("zażółć", "\"zażółć\""),
+    ];
+
+    #[test]
+    fn spells_and_reads_back(rt: HostRuntime) -> Result<(), std::test::Fail> {
+        for (text, spelling) in TEXTS {
+            let mut out = Vec::from_slice(rt.alloc(), b"S=")?;
+            push_escaped(&mut out, text)?;
+            assert_eq!(rt; &out[..2], b"S=".as_slice());
+            assert_eq!(rt; &out[2..], spelling.as_bytes());
+            let read = read_quoted(rt.alloc(), spelling)?;
+            assert_eq!(rt; read.as_ref().map(|t| t.as_str()), Some(text));
+        }
+        Ok(())
+    }
+
+    #[test]
+    fn reads_other_spellings(rt: HostRuntime) -> Result<(), std::test::Fail> {
+        for (spelling, text) in [
+            ("\"\\a\\é\"", Some("aé")),
+            ("\"a\"b\"", None),
+            ("\"ab", None),
+            ("\"a\\\"", None),
+            ("\"", None),
+            ("", None),
+            ("ab\"", None),
+            ("'ab'", None),
+        ] {
+            let read = read_quoted(rt.alloc(), spelling)?;
+            assert_eq!(rt; read.as_ref().map(|t| t.as_str()), text, "{spelling}");
+        }
+        Ok(())
+    }
+
+    #[test]
+    fn finds_the_closing_quote(rt: HostRuntime) {
+        assert_eq!(rt; closing_quote(b'\'', b"a\\'b\" ' c'"), Some(7));
+        assert_eq!(rt; closing_quote(b'"', b"a\\"), None);
+    }
+
+    #[test]
+    fn takes_escapes_away(rt: HostRuntime) -> Result<(), std::test::Fail> {
+        assert_eq!(rt; unescape(rt.alloc(), "a\\\\b\\\"\\é")?.as_str(), "a\\b\"é");
+        Ok(())
+    }
+
+    #[test]
+    fn a_refusal_leaves_the_vector(rt: HostRuntime) -> Result<(), std::test::Fail> {
+        let mut out = Vec::from_slice(rt.alloc(), b"S=")?;
+        let long =
+            "a longer text with a \" and a \\, so that the vector grows more than once on the way";
+        if push_escaped(&mut out, long).is_err() {
+            assert_eq!(rt; out.as_slice(), b"S=".as_slice());
+            push_escaped(&mut out, long)?;
+        }
+        assert_eq!(rt; out.len(), 2 + long.len() + 4);
+        Ok(())
+    }
+}
