@@ -15,6 +15,7 @@ build/kmin: $(SOURCES)
 test:
 	rt ci
 	tests/refused_allocations
+	tests/refused_test_allocations
 
 clean:
 	rm -rf build crates/*/out

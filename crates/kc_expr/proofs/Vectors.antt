@@ -1,4 +1,4 @@
--- Some values, computed.
+-- Some lines, expressions and values, computed.
 use Rattle.std.proofs.Common.{◌≡◌, ℕ, List, [], ◌∷◌, refl, Some, None, Ok, Err, cond, Result}
 use Rattle.std.specs.Prelude.{codes, bytes_eq}
 use Rattle.kc_value.specs.declared.tri.Tri.TheVariants.{N, M, Y}
@@ -26,34 +26,34 @@ names x =
 word : List ℕ → Expr
 word x = alone (named x)
 
-one : value names (negated (related Equal (named (codes "B")) (named (codes "B")))) ≡ N
+negation_is_of_the_relation : value names (negated (related Equal (named (codes "B")) (named (codes "B")))) ≡ N
 unfolding names word int_text hex_text loose_number
-one = refl
+negation_is_of_the_relation = refl
 
-two : value names (related Equal (named (codes "N")) (named (codes "H"))) ≡ Y
+int_equals_hex : value names (related Equal (named (codes "N")) (named (codes "H"))) ≡ Y
 unfolding names int_text hex_text loose_number
-two = refl
+int_equals_hex = refl
 
-three : value names (related Equal (named (codes "S")) (quoted (codes "010"))) ≡ N
+texts_compare_by_bytes : value names (related Equal (named (codes "S")) (quoted (codes "010"))) ≡ N
 unfolding names int_text hex_text loose_number
-three = refl
+texts_compare_by_bytes = refl
 
-four : value names (related Equal (named (codes "S")) (named (codes "010"))) ≡ Y
+text_compares_with_a_number : value names (related Equal (named (codes "S")) (named (codes "010"))) ≡ Y
 unfolding names int_text hex_text loose_number
-four = refl
+text_compares_with_a_number = refl
 
 -- a line of a word and a quoted text, and a comment
-five : lexed 0 0 (codes "bool \"a b\" # x") ≡ Ok (record { kind = Word; start = 0; stop = 4; text = codes "bool" } ∷ record { kind = Quoted; start = 5; stop = 10; text = codes "\"a b\"" } ∷ [])
+words_quotes_comment : lexed 0 0 (codes "bool \"a b\" # x") ≡ Ok (record { kind = Word; start = 0; stop = 4; text = codes "bool" } ∷ record { kind = Quoted; start = 5; stop = 10; text = codes "\"a b\"" } ∷ [])
 unfolding lead_of
-five = refl
+words_quotes_comment = refl
 
-six : lexed 0 0 (codes "a \"b") ≡ Err (record { offset = 2; kind = UnclosedQuote })
+quote_is_not_closed : lexed 0 0 (codes "a \"b") ≡ Err (record { offset = 2; kind = UnclosedQuote })
 unfolding lead_of
-six = refl
+quote_is_not_closed = refl
 
-seven : lexed 0 0 (codes "a \"b$\"") ≡ Err (record { offset = 4; kind = LeftOut })
+dollar_is_left_out : lexed 0 0 (codes "a \"b$\"") ≡ Err (record { offset = 4; kind = LeftOut })
 unfolding lead_of
-seven = refl
+dollar_is_left_out = refl
 
 -- the expression of a text
 pieces : List ℕ → List Piece
@@ -62,14 +62,14 @@ pieces text = elim (lexed 0 0 text) [ Ok ps ↦ ps | Err e ↦ [] ]
 read : List ℕ → Result Expr (ExprKind × ℕ)
 read text = elim (read_expr (extent (pieces text))) [ Ok e ↦ Ok e | Err f ↦ Err (f.0, length f.1) ]
 
-eight : read (codes "!A = B && (C || D) if X") ≡ Ok (both (negated (related Equal (named (codes "A")) (named (codes "B")))) (either (word (codes "C")) (word (codes "D"))))
+reads_up_to_the_next_word : read (codes "!A = B && (C || D) if X") ≡ Ok (both (negated (related Equal (named (codes "A")) (named (codes "B")))) (either (word (codes "C")) (word (codes "D"))))
 unfolding lead_of word read pieces read_expr
-eight = refl
+reads_up_to_the_next_word = refl
 
-nine : read (codes "A = B = C") ≡ Err (Malformed, 2)
+relations_do_not_chain : read (codes "A = B = C") ≡ Err (Malformed, 2)
 unfolding lead_of read pieces read_expr
-nine = refl
+relations_do_not_chain = refl
 
-ten : read (codes "A && B || C && D || E") ≡ Ok (either (either (both (word (codes "A")) (word (codes "B"))) (both (word (codes "C")) (word (codes "D")))) (word (codes "E")))
+ands_bind_tighter_than_ors : read (codes "A && B || C && D || E") ≡ Ok (either (either (both (word (codes "A")) (word (codes "B"))) (both (word (codes "C")) (word (codes "D")))) (word (codes "E")))
 unfolding lead_of word read pieces read_expr
-ten = refl
+ands_bind_tighter_than_ors = refl
