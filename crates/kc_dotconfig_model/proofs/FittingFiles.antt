@@ -1,0 +1,180 @@
+-- What a file assigns fits its units.
+use Rattle.std.proofs.Common.{◌≡◌, ◌≢◌, inl, inr, ℕ, zero, suc, Bool, true, false, not, ◌||◌, ◌==◌, cond, IsTrue, IfSome, List, [], ◌∷◌, ◌++◌, Option, Some, None, length, take, get_or, refl, sym, ◌∙◌, ap, subst, arith}
+use Rattle.std.specs.Prelude.{slice_get, slice_set, is_some, replicate, codes, bytes_eq}
+use Rattle.std.specs.List.{AllZip, AllByRecursion, onto_first}
+use Rattle.std.proofs.lemmas.Bool.{cases_eq, false≢true, and_parts, and_from, not-true}
+use Rattle.std.proofs.lemmas.List.{get_or-set_same, get_or-set_other, length-set}
+use Rattle.std.proofs.lemmas.List.Folds.{list_all-append}
+use Rattle.kc_value.specs.declared.tri.Tri.{Tri}
+use Rattle.kc_value.specs.declared.tri.Tri.TheVariants.{N, Y}
+use Rattle.kc_value.specs.declared.value.Kind.{Kind}
+use Rattle.kc_value.specs.declared.value.Kind.TheVariants.{Bool as Boolean, Tristate, Text, Int, Hex}
+use Rattle.kc_value.specs.Quoted.{IsBody, none, plain, pair, IsQuoted}
+use Rattle.kc_tree_model.specs.Trees.{Whole, Symbol}
+use Rattle.kc_tree_model.specs.TreeLookup.{has_newline, IsConsistent, unit_of}
+use Rattle.kc_system.specs.Solutions.{user_of, FitsUsers}
+use Rattle.kc_rules_model.specs.declared.values.UserValue.{UserValue}
+use Rattle.kc_rules_model.specs.declared.values.UserValue.TheVariants.{Tri as TriUser, Text as TextUser, Member as MemberUser}
+use Rattle.kc_rules_model.specs.Kinds.{is_tri_kind}
+use Rattle.kc_value.specs.Number.{number_of_text}
+use Rattle.kc_rules_model.specs.Shapes.{user_fits, unit_user_fits, symbol_user_fits, is_member, tri_fits, user_text_fits, is_m}
+use Rattle.kc_rules_model.proofs.Lookups.{unit_is}
+use Rattle.kc_dotconfig_model.specs.Names.{lacks}
+use Rattle.kc_dotconfig_model.specs.Lines.{Saying, assigns, notice, silent, tri_meant, ValueSays, tri, chosen, not_chosen, quoted, number, no_int, no_hex, no_tri, no_text, no_number, unset_saying, Says, value, unset, unknown_value, unknown_unset, empty, comment, without_white_end}
+use Rattle.kc_dotconfig_model.specs.Files.{file_lines, assigned_over, no_users}
+use Rattle.kc_dotconfig_model.specs.Laws.{FilesFit}
+
+-- what a saying assigns fits
+abbrev SayingFits : Whole → Saying → Type 0
+SayingFits tree (assigns u x) = user_fits tree u x ≡ true
+SayingFits tree (notice kind) = Unit {0}
+SayingFits tree silent = Unit {0}
+
+bool_meant : (text : List ℕ) (t : Tri) → tri_meant Boolean text ≡ Some t → not (is_m t) ≡ true
+bool_meant text t e = go (bytes_eq text (codes "y")) (bytes_eq text (codes "n")) e where
+  go : (a b : Bool) → cond a (Some Y) (cond b (Some N) None) ≡ Some t → not (is_m t) ≡ true
+  go true b e = let same : Y ≡ t = cc in ap (λ s. not (is_m s)) (sym same)
+  go false true e = let same : N ≡ t = cc in ap (λ s. not (is_m s)) (sym same)
+  go false false e = cc
+
+tri_meant_fits : (kind : Kind) (text : List ℕ) (t : Tri) → tri_meant kind text ≡ Some t → tri_fits kind t ≡ true
+tri_meant_fits Boolean text t e = bool_meant text t e
+tri_meant_fits Tristate text t e = refl
+tri_meant_fits Text text t e = cc
+tri_meant_fits Int text t e = cc
+tri_meant_fits Hex text t e = cc
+
+n_fits : (kind : Kind) → is_tri_kind kind ≡ true → tri_fits kind N ≡ true
+n_fits Boolean e = refl
+n_fits Tristate e = refl
+n_fits Text e = absurd (false≢true e)
+n_fits Int e = absurd (false≢true e)
+n_fits Hex e = absurd (false≢true e)
+
+number_fits : (kind : Kind) (text : List ℕ) → is_some (number_of_text kind text) ≡ true → (user_text_fits kind text ≡ true) × (kind ≢ Boolean)
+number_fits Boolean text e = absurd (false≢true e)
+number_fits Tristate text e = absurd (false≢true e)
+number_fits Text text e = absurd (false≢true e)
+number_fits Int text e = (e, λ same. cc)
+number_fits Hex text e = (e, λ same. cc)
+
+body_one_line : (body means : List ℕ) → IsBody 34 body means → lacks 10 body ≡ true → has_newline means ≡ false
+body_one_line body means none one = refl
+body_one_line body means (plain {c = c} {bs = bs} {cs = cs} q e rest) one =
+    let parts = and_parts (not (c == 10)) (lacks 10 bs) one in ap (λ b. b || has_newline cs) (not-true (c == 10) parts.0) ∙ body_one_line bs cs rest parts.1
+body_one_line body means (pair {c = c} {bs = bs} {cs = cs} rest) one =
+    let parts = and_parts (not (c == 10)) (lacks 10 bs) one in ap (λ b. b || has_newline cs) (not-true (c == 10) parts.0) ∙ body_one_line bs cs rest parts.1
+
+second_lacks : (xs ys : List ℕ) → lacks 10 (xs ++ ys) ≡ true → lacks 10 ys ≡ true
+second_lacks xs ys one = (and_parts (lacks 10 xs) (lacks 10 ys) (sym (list_all-append (λ c. not (c == 10)) xs ys) ∙ one)).1
+
+first_lacks : (xs ys : List ℕ) → lacks 10 (xs ++ ys) ≡ true → lacks 10 xs ≡ true
+first_lacks xs ys one = (and_parts (lacks 10 xs) (lacks 10 ys) (sym (list_all-append (λ c. not (c == 10)) xs ys) ∙ one)).0
+
+quoted_one_line : (text means : List ℕ) → IsQuoted text means → lacks 10 text ≡ true → has_newline means ≡ false
+quoted_one_line text means q one = body_one_line q.0 means q.2 (first_lacks q.0 (34 ∷ []) (second_lacks (34 ∷ []) (q.0 ++ 34 ∷ []) (ap (lacks 10) (sym q.1) ∙ one)))
+
+module _ (tree : Whole) (sound : IsConsistent tree) (s : ℕ) (symbol : Symbol) (at : slice_get tree.symbols s ≡ Some symbol) where
+  outside_fits : (x : UserValue) → symbol.choice ≡ None → symbol_user_fits (Some symbol) x ≡ true → user_fits tree (unit_of tree s) x ≡ true
+  unfolding user_fits
+  outside_fits x out fits =
+      let own = sound.own_units s symbol at out in
+      ap (λ o. unit_user_fits tree o x) (ap (slice_get tree.units) (unit_is tree sound s own.0 symbol None at out own.1) ∙ own.1) ∙ ap (λ o. symbol_user_fits o x) at ∙ fits
+
+  member_fits : (c : ℕ) → symbol.choice ≡ Some c → user_fits tree (unit_of tree s) (MemberUser s) ≡ true
+  unfolding user_fits
+  member_fits c within =
+      let own = sound.units_of_members s c symbol at within in
+      let listed = sound.listed s c symbol at within in
+      ap (λ o. unit_user_fits tree o (MemberUser s)) (ap (slice_get tree.units) (unit_is tree sound s own.0 symbol (Some c) at within own.1) ∙ own.1) ∙ ap (λ o. is_member o s) listed.1 ∙ listed.2
+
+  -- only bools are members
+  outside : (o : Option ℕ) → symbol.choice ≡ o → symbol.kind ≢ Boolean → symbol.choice ≡ None
+  outside None e other = e
+  outside (Some c) e other = absurd (other (sound.bool_members s c symbol at e))
+
+  value_fits_unit : (text : List ℕ) (saying : Saying) → lacks 10 text ≡ true → ValueSays tree s symbol text saying → SayingFits tree saying
+  value_fits_unit text saying one (tri _ t out meant) = outside_fits (TriUser t) out (tri_meant_fits symbol.kind text t meant)
+  value_fits_unit text saying one (chosen c _ within meant) = member_fits c within
+  value_fits_unit text saying one (not_chosen c _ t within meant other) = tt
+  value_fits_unit text saying one (quoted _ means is stands) =
+      outside_fits (TextUser means) (outside symbol.choice refl (λ same. cc (is, same))) (ap (λ k. user_text_fits k means) is ∙ ap not (quoted_one_line text means stands one))
+  value_fits_unit text saying one (number _ some) =
+      let fits = number_fits symbol.kind text some in outside_fits (TextUser text) (outside symbol.choice refl fits.1) fits.0
+  value_fits_unit text saying one (no_int is) = tt
+  value_fits_unit text saying one (no_hex is) = tt
+  value_fits_unit text saying one (no_tri _ small meant) = tt
+  value_fits_unit text saying one (no_text _ is without) = tt
+  value_fits_unit text saying one (no_number b rest large other without) = tt
+
+  unset_fits : (o : Option ℕ) → symbol.choice ≡ o → (t : Bool) → is_tri_kind symbol.kind ≡ t → SayingFits tree (unset_saying tree s symbol o)
+  unset_fits (Some c) e t small = tt
+  unset_fits None e true small = subst (λ b. SayingFits tree (cond b (assigns (unit_of tree s) (TriUser N)) silent)) (sym small) (outside_fits (TriUser N) e (n_fits symbol.kind small))
+  unset_fits None e false small = subst (λ b. SayingFits tree (cond b (assigns (unit_of tree s) (TriUser N)) silent)) (sym small) tt
+
+module _ (prefix : List ℕ) (tree : Whole) (sound : IsConsistent tree) where
+  line_fits : (line : List ℕ) (saying : Saying) → lacks 10 line ≡ true → Says prefix tree line saying → SayingFits tree saying
+  line_fits line saying one (value _ name text s symbol _ is named at says) =
+      let behind_name = second_lacks name (61 ∷ text) (second_lacks prefix (name ++ (61 ∷ text)) (ap (lacks 10) (sym is.2) ∙ one)) in
+      value_fits_unit tree sound s symbol at text saying (second_lacks (61 ∷ []) text behind_name) says
+  line_fits line saying one (unset _ name s symbol is named at) = unset_fits tree sound s symbol at symbol.choice refl (is_tri_kind symbol.kind) refl
+  line_fits line saying one (unknown_value _ name text is named) = tt
+  line_fits line saying one (unknown_unset _ name is named) = tt
+  line_fits line saying one empty = tt
+  line_fits line saying one (comment _ hash without) = tt
+
+  front_lacks : (n : ℕ) (line : List ℕ) → lacks 10 line ≡ true → lacks 10 (take n line) ≡ true
+  front_lacks zero line one = refl
+  front_lacks (suc n) [] one = refl
+  front_lacks (suc n) (b ∷ line) one = let parts = and_parts (not (b == 10)) (lacks 10 line) one in and_from (not (b == 10)) (lacks 10 (take n line)) parts.0 (front_lacks n line parts.1)
+
+  onto_lacks : (b : ℕ) (lines : List (List ℕ)) → (b == 10) ≡ false → AllByRecursion (λ line. lacks 10 line ≡ true) lines → AllByRecursion (λ line. lacks 10 line ≡ true) (onto_first b lines)
+  onto_lacks b [] other all = (and_from (not (b == 10)) true (ap not other) refl, tt)
+  onto_lacks b (line ∷ lines) other all = (and_from (not (b == 10)) (lacks 10 line) (ap not other) all.0, all.1)
+
+  -- no line has a newline
+  lines_lack : (bytes : List ℕ) → AllByRecursion (λ line. lacks 10 line ≡ true) (file_lines bytes)
+  lines_lack [] = tt
+  lines_lack (b ∷ bytes) = go (b == 10) refl (lines_lack bytes) where
+    go : (t : Bool) → (b == 10) ≡ t → AllByRecursion (λ line. lacks 10 line ≡ true) (file_lines bytes) → AllByRecursion (λ line. lacks 10 line ≡ true) (cond t ([] ∷ file_lines bytes) (onto_first b (file_lines bytes)))
+    go true e all = (refl, all)
+    go false e all = onto_lacks b (file_lines bytes) e all
+
+  sayings_fit : (lines : List (List ℕ)) (sayings : List Saying) → AllByRecursion (λ line. lacks 10 line ≡ true) lines → AllZip (λ line saying. Says prefix tree (without_white_end line) saying) lines sayings → AllByRecursion (SayingFits tree) sayings
+  sayings_fit [] [] one all = tt
+  sayings_fit [] (saying ∷ sayings) one all = absurd all
+  sayings_fit (line ∷ lines) [] one all = absurd all
+  sayings_fit (line ∷ lines) (saying ∷ sayings) one all = (line_fits (without_white_end line) saying (front_lacks _ line one.0) all.0, sayings_fit lines sayings one.1 all.1)
+
+  set_fits : (users : List (Option UserValue)) (u : ℕ) (x : UserValue) → FitsUsers (length tree.units) (λ w y. IsTrue (user_fits tree w y)) users → user_fits tree u x ≡ true → FitsUsers (length tree.units) (λ w y. IsTrue (user_fits tree w y)) (slice_set users u (Some x))
+  set_fits users u x fitting fits = (
+    length-set users u (Some x) ∙ fitting.0,
+    λ w h. elim (cases_eq w u) [
+      | inl same ↦
+          let here : user_of (slice_set users u (Some x)) w ≡ Some x = ap (user_of (slice_set users u (Some x))) same ∙ get_or-set_same users u (Some x) None (let len = fitting.0 in omega arith) in
+          let there : user_fits tree w x ≡ true = ap (λ k. user_fits tree k x) same ∙ fits in
+          subst (λ o. IfSome o (λ y. IsTrue (user_fits tree w y))) (sym here) there
+      | inr other ↦ subst (λ o. IfSome o (λ y. IsTrue (user_fits tree w y))) (sym (get_or-set_other users u w (Some x) None other)) (fitting.1 w h)
+    ],
+  )
+
+  over_fits : (sayings : List Saying) (users : List (Option UserValue)) → FitsUsers (length tree.units) (λ w y. IsTrue (user_fits tree w y)) users → AllByRecursion (SayingFits tree) sayings → FitsUsers (length tree.units) (λ w y. IsTrue (user_fits tree w y)) (assigned_over sayings users)
+  over_fits [] users fitting all = fitting
+  over_fits (assigns u x ∷ sayings) users fitting all = over_fits sayings (slice_set users u (Some x)) (set_fits users u x fitting all.0) all.1
+  over_fits (notice kind ∷ sayings) users fitting all = over_fits sayings users fitting all.1
+  over_fits (silent ∷ sayings) users fitting all = over_fits sayings users fitting all.1
+
+none_held : (n u : ℕ) → get_or {A = Option UserValue} (replicate n None) u None ≡ None
+none_held zero u = refl
+none_held (suc n) zero = refl
+none_held (suc n) (suc u) = none_held n u
+
+none_length : (n : ℕ) → length {A = Option UserValue} (replicate n None) ≡ n
+none_length zero = refl
+none_length (suc n) = let rest = none_length n in omega arith
+
+pub file_fits : FilesFit
+file_fits prefix tree bytes sayings sound says =
+    over_fits prefix tree sound sayings (no_users tree)
+    (none_length (length tree.units), λ u h. subst (λ o. IfSome o (λ y. IsTrue (user_fits tree u y))) (sym (none_held (length tree.units) u)) tt)
+    (sayings_fit prefix tree sound (file_lines bytes) sayings (lines_lack prefix tree sound bytes) says)

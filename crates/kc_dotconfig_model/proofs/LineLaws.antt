@@ -1,0 +1,167 @@
+-- A line says what the function of `Reading` tells, and nothing else.
+use Rattle.std.proofs.Common.{◌≡◌, inl, inr, ℕ, ◌<◌, ◌≤◌, Bool, true, false, not, ◌||◌, ◌==◌, cond, List, [], ◌∷◌, ◌++◌, Option, Some, None, length, find, refl, sym, ◌∙◌, ap, subst, arith}
+use Rattle.std.specs.Prelude.{codes, slice_get, nat_lt}
+use Rattle.std.specs.Option.{option_and_then}
+use Rattle.std.specs.List.{AllZip, list_all}
+use Rattle.std.proofs.lemmas.Bool.{cases_Bool, false≢true, eqb-true, and_parts, ltb-true}
+use Rattle.std.proofs.lemmas.Option.{slice_get_cases}
+use Rattle.kc_expr.specs.Token.{is_white_byte}
+use Rattle.kc_tree_model.specs.Trees.{Whole, Symbol}
+use Rattle.kc_tree_model.specs.TreeLookup.{is_name_byte, symbol_named, found_at}
+use Rattle.kc_dotconfig_model.specs.Names.{is_prefix}
+use Rattle.kc_dotconfig_model.specs.Lines.{Saying, silent, Says, value, unset, unknown_value, unknown_unset, empty, comment, IsValueLine, IsUnsetLine, unset_saying, without_white_end}
+use Rattle.kc_dotconfig_model.specs.Files.{file_lines}
+use Rattle.kc_dotconfig_model.specs.Reading.{value_saying, value_parts, unset_name, named_before, behind, of_symbol_at, of_named, is_hash, of_other, of_unset, of_value, line_saying, with_rest, sayings_of_lines}
+use Rattle.kc_dotconfig_model.specs.Laws.{LinesAreRead, FilesAreRead}
+use Rattle.kc_dotconfig_model.proofs.ValueLaws.{value_says, value_said}
+use Rattle.kc_dotconfig_model.proofs.LineForms.{value_line_is, value_line_read, unset_line_is, unset_line_read}
+
+isn't : (k b : ℕ) → is_name_byte k ≡ false → is_name_byte b ≡ true → (b == k) ≡ false
+isn't k b fails passes = elim (cases_Bool (b == k)) [ inl same ↦ absurd (false≢true (sym fails ∙ ap is_name_byte (sym (eqb-true b k same)) ∙ passes)) | inr other ↦ other ]
+
+none_white : (a b c d e : Bool) → a ≡ false → b ≡ false → c ≡ false → d ≡ false → e ≡ false → not (a || b || c || d || e) ≡ true
+none_white a b c d e p q r s t = rw (p, q, r, s, t) refl
+
+name_not_white : (b : ℕ) → is_name_byte b ≡ true → not (is_white_byte b) ≡ true
+name_not_white b e = none_white (b == 9) (b == 11) (b == 12) (b == 13) (b == 32) (isn't 9 b refl e) (isn't 11 b refl e) (isn't 12 b refl e) (isn't 13 b refl e) (isn't 32 b refl e)
+
+-- the first byte of a prefix
+record IsHead (prefix : List ℕ) (b : ℕ) : Type 0 where
+  rest : List ℕ
+  whole : prefix ≡ b ∷ rest
+  word : is_name_byte b ≡ true
+
+head_of : (prefix : List ℕ) → is_prefix prefix ≡ true → (b : ℕ) × IsHead prefix b
+head_of [] e = absurd (false≢true e)
+head_of (b ∷ rest) e = (b, record { rest = rest; whole = refl; word = (and_parts (is_name_byte b) (list_all is_name_byte rest) (and_parts _ (list_all is_name_byte (b ∷ rest)) e).1).0 })
+
+-- a line that begins with another byte gives no name a text
+no_value_line : (prefix : List ℕ) → is_prefix prefix ≡ true → (b : ℕ) (line : List ℕ) → is_name_byte b ≡ false → value_parts prefix (b ∷ line) ≡ None
+no_value_line prefix valid b line fails =
+    let head = head_of prefix valid in
+    ap (λ p. value_parts p (b ∷ line)) head.1.whole ∙ ap (λ t. option_and_then (named_before 61) (cond t (behind head.1.rest line) None)) (isn't b head.0 fails head.1.word)
+
+no_value_in_nothing : (prefix : List ℕ) → is_prefix prefix ≡ true → value_parts prefix [] ≡ None
+no_value_in_nothing prefix valid = let head = head_of prefix valid in ap (λ p. value_parts p []) head.1.whole
+
+no_value_in_comment : (prefix : List ℕ) → is_prefix prefix ≡ true → (line : List ℕ) → find (λ b. not (is_white_byte b)) line ≡ Some 35 → (o : Option (List ℕ × List ℕ)) → value_parts prefix line ≡ o → o ≡ None
+no_value_in_comment prefix valid line hash None e = refl
+no_value_in_comment prefix valid line hash (Some parts) e =
+    let head = head_of prefix valid in
+    let is = value_line_is prefix line parts e in
+    let found : find (λ b. not (is_white_byte b)) line ≡ Some head.0 =
+    ap (find (λ b. not (is_white_byte b))) (is.2 ∙ ap (λ p. p ++ (parts.0 ++ (61 ∷ parts.1))) head.1.whole)
+    ∙ ap (λ t. cond t (Some head.0) (find (λ b. not (is_white_byte b)) (head.1.rest ++ (parts.0 ++ (61 ∷ parts.1))))) (name_not_white head.0 head.1.word) in
+    let same : head.0 ≡ 35 = cc in
+    absurd (false≢true (sym (ap is_name_byte same) ∙ head.1.word))
+
+found_below : (place count s : ℕ) → found_at place count ≡ Some s → s < count
+found_below place count s e = go (nat_lt place count) refl e where
+  go : (t : Bool) → nat_lt place count ≡ t → cond t (Some place) None ≡ Some s → s < count
+  go true below e = let same : place ≡ s = cc in subst (λ k. k < count) same (ltb-true place count below)
+  go false below e = cc
+
+-- a name stands for a symbol that is there
+named_inside : (tree : Whole) (name : List ℕ) (s : ℕ) → symbol_named tree name ≡ Some s → slice_get tree.symbols s ≡ None → ⊥
+named_inside tree name s named past =
+    let below : s < length tree.symbols = found_below _ (length tree.symbols) s named in
+    elim (slice_get_cases tree.symbols s).1 [
+      | inl there ↦ let same : slice_get tree.symbols s ≡ Some there.0 = there.2 in cc
+      | inr beyond ↦ (let past_end : length tree.symbols ≤ s = beyond.0 in omega arith)
+    ]
+
+module _ (prefix : List ℕ) (tree : Whole) where
+  value_sound : (line : List ℕ) (parts : List ℕ × List ℕ) → IsValueLine prefix line parts.0 parts.1 → (o : Option ℕ) → symbol_named tree parts.0 ≡ o → Says prefix tree line (of_named tree (λ s symbol. value_saying tree s symbol parts.1) o)
+  value_sound line parts is None named = unknown_value line parts.0 parts.1 is named
+  value_sound line parts is (Some s) named = go (slice_get tree.symbols s) refl where
+    go : (o : Option Symbol) → slice_get tree.symbols s ≡ o → Says prefix tree line (of_symbol_at (λ s symbol. value_saying tree s symbol parts.1) s o)
+    go None at = absurd (named_inside tree parts.0 s named at)
+    go (Some symbol) at = value line parts.0 parts.1 s symbol (value_saying tree s symbol parts.1) is named at (value_says tree s symbol parts.1)
+
+  unset_sound : (line name : List ℕ) → IsUnsetLine prefix line name → (o : Option ℕ) → symbol_named tree name ≡ o → Says prefix tree line (of_named tree (λ s symbol. unset_saying tree s symbol symbol.choice) o)
+  unset_sound line name is None named = unknown_unset line name is named
+  unset_sound line name is (Some s) named = go (slice_get tree.symbols s) refl where
+    go : (o : Option Symbol) → slice_get tree.symbols s ≡ o → Says prefix tree line (of_symbol_at (λ s symbol. unset_saying tree s symbol symbol.choice) s o)
+    go None at = absurd (named_inside tree name s named at)
+    go (Some symbol) at = unset line name s symbol is named at
+
+  hash_found : (o : Option ℕ) → is_hash o ≡ true → o ≡ Some 35
+  hash_found None e = absurd (false≢true e)
+  hash_found (Some b) e = ap Some (eqb-true b 35 e)
+
+  other_sound : (line : List ℕ) (saying : Saying) → unset_name prefix line ≡ None → of_other line ≡ Some saying → Says prefix tree line saying
+  other_sound [] saying unnamed e = let same : silent ≡ saying = cc in subst (Says prefix tree []) same empty
+  other_sound (b ∷ line) saying unnamed e = go (is_hash (find (λ c. not (is_white_byte c)) (b ∷ line))) refl e where
+    go : (t : Bool) → is_hash (find (λ c. not (is_white_byte c)) (b ∷ line)) ≡ t → cond t (Some silent) None ≡ Some saying → Says prefix tree (b ∷ line) saying
+    go true hash e =
+        let same : silent ≡ saying = cc in
+        subst (Says prefix tree (b ∷ line)) same (comment (b ∷ line) (hash_found _ hash) (λ name is. let read = unset_line_read prefix (b ∷ line) name is in cc))
+    go false hash e = cc
+
+  unset_form_sound : (line : List ℕ) (saying : Saying) (o : Option (List ℕ)) → unset_name prefix line ≡ o → of_unset tree line o ≡ Some saying → Says prefix tree line saying
+  unset_form_sound line saying None e f = other_sound line saying e f
+  unset_form_sound line saying (Some name) e f =
+      let same : of_named tree (λ s symbol. unset_saying tree s symbol symbol.choice) (symbol_named tree name) ≡ saying = cc in
+      subst (Says prefix tree line) same (unset_sound line name (unset_line_is prefix line name e) (symbol_named tree name) refl)
+
+  form_sound : (line : List ℕ) (saying : Saying) (o : Option (List ℕ × List ℕ)) → value_parts prefix line ≡ o → of_value prefix tree line o ≡ Some saying → Says prefix tree line saying
+  form_sound line saying None e f = unset_form_sound line saying (unset_name prefix line) refl f
+  form_sound line saying (Some parts) e f =
+      let same : of_named tree (λ s symbol. value_saying tree s symbol parts.1) (symbol_named tree parts.0) ≡ saying = cc in
+      subst (Says prefix tree line) same (value_sound line parts (value_line_is prefix line parts e) (symbol_named tree parts.0) refl)
+
+  no_name : (line : List ℕ) → ((name : List ℕ) → IsUnsetLine prefix line name → ⊥) → (o : Option (List ℕ)) → unset_name prefix line ≡ o → o ≡ None
+  no_name line lacks None e = refl
+  no_name line lacks (Some name) e = absurd (lacks name (unset_line_is prefix line name e))
+
+  other_of : (line : List ℕ) → find (λ b. not (is_white_byte b)) line ≡ Some 35 → of_other line ≡ Some silent
+  other_of [] hash = cc
+  other_of (b ∷ line) hash = ap (λ o. cond (is_hash o) (Some silent) None) hash
+
+  module _ (valid : is_prefix prefix ≡ true) where
+    of_unset_line : (line name : List ℕ) → IsUnsetLine prefix line name → of_value prefix tree line (value_parts prefix line) ≡ Some (of_named tree (λ s symbol. unset_saying tree s symbol symbol.choice) (symbol_named tree name))
+    of_unset_line line name is =
+        ap (of_value prefix tree line) (ap (value_parts prefix) is.2 ∙ no_value_line prefix valid 35 (32 ∷ (prefix ++ (name ++ codes " is not set"))) refl)
+        ∙ ap (of_unset tree line) (unset_line_read prefix line name is)
+
+    form_complete : (line : List ℕ) (saying : Saying) → Says prefix tree line saying → of_value prefix tree line (value_parts prefix line) ≡ Some saying
+    form_complete line saying (value _ name text s symbol _ is named at says) =
+        ap (of_value prefix tree line) (value_line_read prefix line name text is) ∙ ap (λ o. Some (of_named tree (λ s symbol. value_saying tree s symbol text) o)) named
+        ∙ ap (λ o. Some (of_symbol_at (λ s symbol. value_saying tree s symbol text) s o)) at ∙ ap Some (value_said tree s symbol text saying says)
+    form_complete line saying (unset _ name s symbol is named at) =
+        of_unset_line line name is ∙ ap (λ o. Some (of_named tree (λ s symbol. unset_saying tree s symbol symbol.choice) o)) named ∙ ap (λ o. Some (of_symbol_at (λ s symbol. unset_saying tree s symbol symbol.choice) s o)) at
+    form_complete line saying (unknown_value _ name text is named) =
+        ap (of_value prefix tree line) (value_line_read prefix line name text is) ∙ ap (λ o. Some (of_named tree (λ s symbol. value_saying tree s symbol text) o)) named
+    form_complete line saying (unknown_unset _ name is named) =
+        of_unset_line line name is ∙ ap (λ o. Some (of_named tree (λ s symbol. unset_saying tree s symbol symbol.choice) o)) named
+    form_complete line saying empty = ap (of_value prefix tree []) (no_value_in_nothing prefix valid)
+    form_complete line saying (comment _ hash lacks) =
+        ap (of_value prefix tree line) (no_value_in_comment prefix valid line hash (value_parts prefix line) refl) ∙ ap (of_unset tree line) (no_name line lacks (unset_name prefix line) refl) ∙ other_of line hash
+
+pub line_read : LinesAreRead
+unfolding line_saying
+line_read prefix tree line saying valid = (form_sound prefix tree line saying (value_parts prefix line) refl, form_complete prefix tree valid line saying)
+
+lines_sound : (prefix : List ℕ) (tree : Whole) → is_prefix prefix ≡ true → (lines : List (List ℕ)) (sayings : List Saying) → sayings_of_lines prefix tree lines ≡ Some sayings → AllZip (λ line saying. Says prefix tree (without_white_end line) saying) lines sayings
+lines_sound prefix tree valid [] [] e = tt
+lines_sound prefix tree valid [] (saying ∷ sayings) e = cc
+lines_sound prefix tree valid (line ∷ lines) sayings e =
+    go (line_saying prefix tree (without_white_end line)) (sayings_of_lines prefix tree lines) refl refl e (lines_sound prefix tree valid lines) where
+      go : (o : Option Saying) (os : Option (List Saying)) → line_saying prefix tree (without_white_end line) ≡ o → sayings_of_lines prefix tree lines ≡ os → with_rest o os ≡ Some sayings
+          → ((rest : List Saying) → sayings_of_lines prefix tree lines ≡ Some rest → AllZip (λ line saying. Says prefix tree (without_white_end line) saying) lines rest)
+          → AllZip (λ line saying. Says prefix tree (without_white_end line) saying) (line ∷ lines) sayings
+      go None os a b e next = cc
+      go (Some saying) None a b e next = cc
+      go (Some saying) (Some rest) a b e next =
+          let same : saying ∷ rest ≡ sayings = cc in
+          subst (AllZip (λ line saying. Says prefix tree (without_white_end line) saying) (line ∷ lines)) same ((line_read prefix tree (without_white_end line) saying valid).0 a, next rest b)
+
+lines_complete : (prefix : List ℕ) (tree : Whole) → is_prefix prefix ≡ true → (lines : List (List ℕ)) (sayings : List Saying) → AllZip (λ line saying. Says prefix tree (without_white_end line) saying) lines sayings → sayings_of_lines prefix tree lines ≡ Some sayings
+lines_complete prefix tree valid [] [] all = refl
+lines_complete prefix tree valid [] (saying ∷ sayings) all = absurd all
+lines_complete prefix tree valid (line ∷ lines) [] all = absurd all
+lines_complete prefix tree valid (line ∷ lines) (saying ∷ sayings) all =
+    ap (λ o. with_rest o (sayings_of_lines prefix tree lines)) ((line_read prefix tree (without_white_end line) saying valid).1 all.0) ∙ ap (with_rest (Some saying)) (lines_complete prefix tree valid lines sayings all.1)
+
+pub file_read : FilesAreRead
+file_read prefix tree bytes sayings valid = (lines_sound prefix tree valid (file_lines bytes) sayings, lines_complete prefix tree valid (file_lines bytes) sayings)

@@ -1,0 +1,177 @@
+-- The text after `=` says what the function tells, and nothing else.
+use Rattle.std.proofs.Common.{◌≡◌, ◌≢◌, ℕ, Bool, true, false, ◌==◌, cond, List, [], ◌∷◌, ◌++◌, Option, Some, None, ℤ, refl, sym, ◌∙◌, ap, subst}
+use Rattle.std.specs.Prelude.{is_some, option_map}
+use Rattle.std.proofs.lemmas.Bool.{false≢true, eqb-true}
+use Rattle.kc_value.specs.declared.tri.Tri.{Tri}
+use Rattle.kc_value.specs.declared.tri.Tri.TheVariants.{N, M, Y}
+use Rattle.kc_value.specs.declared.value.Kind.{Kind}
+use Rattle.kc_value.specs.declared.value.Kind.TheVariants.{Bool as Boolean, Tristate, Text, Int, Hex}
+use Rattle.kc_value.specs.Number.{int_text, hex_text}
+use Rattle.kc_value.specs.Quoted.{IsBody, none, plain, pair, IsQuoted}
+use Rattle.kc_tree_model.specs.Trees.{Whole, Symbol}
+use Rattle.kc_tree_model.specs.TreeLookup.{unit_of}
+use Rattle.kc_rules_model.specs.declared.values.UserValue.TheVariants.{Text as TextUser, Member as MemberUser}
+use Rattle.kc_rules_model.specs.Kinds.{is_y, is_tri_kind}
+use Rattle.kc_value.specs.Number.{number_of_text}
+use Rattle.kc_dotconfig_model.specs.declared.notice.NoticeKind.TheVariants.{NotOfType}
+use Rattle.kc_dotconfig_model.specs.Lines.{Saying, assigns, notice, silent, tri_meant, ValueSays, tri, chosen, not_chosen, quoted, number, no_int, no_hex, no_tri, no_text, no_number}
+use Rattle.kc_dotconfig_model.specs.Reading.{ended, unquoted_rest, unquoted, tri_saying, string_saying, without_number, number_saying, saying_of_kind, value_saying}
+
+-- what is read behind an opening quote is a body and a closing quote
+record IsRest (rest means : List ℕ) : Type 0 where
+  body : List ℕ
+  whole : rest ≡ body ++ 34 ∷ []
+  stands : IsBody 34 body means
+
+some_mapped : (c : ℕ) (o : Option (List ℕ)) (means : List ℕ) → option_map (λ text. c ∷ text) o ≡ Some means → (text : List ℕ) × (o ≡ Some text) × (means ≡ c ∷ text)
+some_mapped c None means e = cc
+some_mapped c (Some text) means e = (text, refl, cc)
+
+at_end : (rest means : List ℕ) → ended rest ≡ Some means → (rest ≡ []) × (means ≡ [])
+at_end [] means e = (refl, cc)
+at_end (x ∷ rest) means e = cc
+
+one_more : (c : ℕ) (rest text means : List ℕ) → (c == 34) ≡ false → (c == 92) ≡ false → means ≡ c ∷ text → IsRest rest text → IsRest (c ∷ rest) means
+one_more c rest text means not_quote not_escape same r =
+    record { body = c ∷ r.body; whole = ap (λ l. c ∷ l) r.whole; stands = subst (IsBody 34 (c ∷ r.body)) (sym same) (plain not_quote not_escape r.stands) }
+
+pair_more : (c d : ℕ) (rest text means : List ℕ) → (c == 92) ≡ true → means ≡ d ∷ text → IsRest rest text → IsRest (c ∷ d ∷ rest) means
+pair_more c d rest text means escape same r =
+    record { body = c ∷ d ∷ r.body; whole = ap (λ l. c ∷ d ∷ l) r.whole; stands = subst (λ b. IsBody 34 (b ∷ d ∷ r.body) means) (sym (eqb-true c 92 escape)) (subst (IsBody 34 (92 ∷ d ∷ r.body)) (sym same) (pair r.stands)) }
+
+just_quote : (c : ℕ) (rest means : List ℕ) → (c == 34) ≡ true → ended rest ≡ Some means → IsRest (c ∷ rest) means
+just_quote c rest means quote e =
+    let o = at_end rest means e in
+    record { body = []; whole = ap (λ b. b ∷ rest) (eqb-true c 34 quote) ∙ ap (λ l. 34 ∷ l) o.0; stands = subst (IsBody 34 []) (sym o.1) none }
+
+unquoted_sound : (rest means : List ℕ) → unquoted_rest false rest ≡ Some means → IsRest rest means
+unquoted_sound [] means e = cc
+unquoted_sound (c ∷ []) means e = go (c == 34) (c == 92) refl refl e where
+  go : (q b : Bool) → (c == 34) ≡ q → (c == 92) ≡ b → cond q (ended []) (cond b (unquoted_rest true []) (option_map (λ text. c ∷ text) (unquoted_rest false []))) ≡ Some means → IsRest (c ∷ []) means
+  go true b quote escape e = just_quote c [] means quote e
+  go false true quote escape e = cc
+  go false false quote escape e = cc
+unquoted_sound (c ∷ d ∷ rest) means e = go (c == 34) (c == 92) refl refl e (unquoted_sound (d ∷ rest)) (unquoted_sound rest) where
+  go : (q b : Bool) → (c == 34) ≡ q → (c == 92) ≡ b → cond q (ended (d ∷ rest)) (cond b (unquoted_rest true (d ∷ rest)) (option_map (λ text. c ∷ text) (unquoted_rest false (d ∷ rest)))) ≡ Some means
+      → ((m : List ℕ) → unquoted_rest false (d ∷ rest) ≡ Some m → IsRest (d ∷ rest) m) → ((m : List ℕ) → unquoted_rest false rest ≡ Some m → IsRest rest m) → IsRest (c ∷ d ∷ rest) means
+  go true b quote escape e one two = just_quote c (d ∷ rest) means quote e
+  go false true quote escape e one two = let o = some_mapped d (unquoted_rest false rest) means e in pair_more c d rest o.0 means escape o.2 (two o.0 o.1)
+  go false false quote escape e one two = let o = some_mapped c (unquoted_rest false (d ∷ rest)) means e in one_more c (d ∷ rest) o.0 means quote escape o.2 (one o.0 o.1)
+
+unquoted_complete : (body means : List ℕ) → IsBody 34 body means → unquoted_rest false (body ++ 34 ∷ []) ≡ Some means
+unquoted_complete body means none = refl
+unquoted_complete body means (plain {c = c} {bs = bs} {cs = cs} quote escape rest) =
+    ap (λ q. cond q (ended (bs ++ 34 ∷ [])) (cond (c == 92) (unquoted_rest true (bs ++ 34 ∷ [])) (option_map (λ text. c ∷ text) (unquoted_rest false (bs ++ 34 ∷ []))))) quote
+    ∙ ap (λ b. cond b (unquoted_rest true (bs ++ 34 ∷ [])) (option_map (λ text. c ∷ text) (unquoted_rest false (bs ++ 34 ∷ [])))) escape
+    ∙ ap (option_map (λ text. c ∷ text)) (unquoted_complete bs cs rest)
+unquoted_complete body means (pair {c = c} {bs = bs} {cs = cs} rest) = ap (option_map (λ text. c ∷ text)) (unquoted_complete bs cs rest)
+
+-- a quoted text stands for what is read between its quotes, and for nothing else
+pub unquoted_means : (text means : List ℕ) → unquoted text ≡ Some means → IsQuoted text means
+unquoted_means [] means e = cc
+unquoted_means (c ∷ rest) means e = go (c == 34) refl e where
+  go : (t : Bool) → (c == 34) ≡ t → cond t (unquoted_rest false rest) None ≡ Some means → IsQuoted (c ∷ rest) means
+  go true quote e = let r = unquoted_sound rest means e in (r.body, ap (λ b. b ∷ rest) (eqb-true c 34 quote) ∙ ap (λ l. 34 ∷ l) r.whole, r.stands)
+  go false quote e = cc
+
+pub means_unquoted : (text means : List ℕ) → IsQuoted text means → unquoted text ≡ Some means
+means_unquoted text means q = ap unquoted q.1 ∙ unquoted_complete q.0 means q.2
+
+tri_sound : (tree : Whole) (s : ℕ) (symbol : Symbol) (kind : Kind) (text : List ℕ) → symbol.kind ≡ kind → is_tri_kind kind ≡ true → (c : Option ℕ) → symbol.choice ≡ c → (o : Option Tri) → tri_meant symbol.kind text ≡ o
+    → ValueSays tree s symbol text (tri_saying (unit_of tree s) s c o)
+tri_sound tree s symbol kind text is small c choice None meant = no_tri text (ap is_tri_kind is ∙ small) meant
+tri_sound tree s symbol kind text is small None choice (Some t) meant = tri text t choice meant
+tri_sound tree s symbol kind text is small (Some c) choice (Some Y) meant = chosen c text choice meant
+tri_sound tree s symbol kind text is small (Some c) choice (Some N) meant = not_chosen c text N choice meant (λ e. cc)
+tri_sound tree s symbol kind text is small (Some c) choice (Some M) meant = not_chosen c text M choice meant (λ e. cc)
+
+string_sound : (tree : Whole) (s : ℕ) (symbol : Symbol) (text : List ℕ) → symbol.kind ≡ Text → (o : Option (List ℕ)) → unquoted text ≡ o → ValueSays tree s symbol text (string_saying (unit_of tree s) o)
+string_sound tree s symbol text is None e = no_text text is (λ means q. let same = means_unquoted text means q in cc)
+string_sound tree s symbol text is (Some means) e = quoted text means is (unquoted_means text means e)
+
+number_sound : (tree : Whole) (s : ℕ) (symbol : Symbol) (text : List ℕ) → is_tri_kind symbol.kind ≡ false → symbol.kind ≢ Text → ValueSays tree s symbol [] silent → (o : Option ℤ) → number_of_text symbol.kind text ≡ o
+    → ValueSays tree s symbol text (cond (is_some o) (assigns (unit_of tree s) (TextUser text)) (without_number text))
+number_sound tree s symbol text large other empty (Some n) e = number text (ap is_some e)
+number_sound tree s symbol [] large other empty None e = empty
+number_sound tree s symbol (b ∷ text) large other empty None e = no_number b text large other e
+
+says_at : (tree : Whole) (s : ℕ) (symbol : Symbol) (text : List ℕ) (kind : Kind) → symbol.kind ≡ kind → ValueSays tree s symbol text (saying_of_kind kind (unit_of tree s) s symbol.choice text)
+says_at tree s symbol text Boolean is = tri_sound tree s symbol Boolean text is refl symbol.choice refl (tri_meant Boolean text) (ap (λ k. tri_meant k text) is)
+says_at tree s symbol text Tristate is = tri_sound tree s symbol Tristate text is refl symbol.choice refl (tri_meant Tristate text) (ap (λ k. tri_meant k text) is)
+says_at tree s symbol text Text is = string_sound tree s symbol text is (unquoted text) refl
+says_at tree s symbol text Int is = number_sound tree s symbol text (ap is_tri_kind is) (λ e. cc) (no_int is) (number_of_text Int text) (ap (λ k. number_of_text k text) is)
+says_at tree s symbol text Hex is = number_sound tree s symbol text (ap is_tri_kind is) (λ e. cc) (no_hex is) (number_of_text Hex text) (ap (λ k. number_of_text k text) is)
+
+-- the text says what the function tells
+pub value_says : (tree : Whole) (s : ℕ) (symbol : Symbol) (text : List ℕ) → ValueSays tree s symbol text (value_saying tree s symbol text)
+value_says tree s symbol text = says_at tree s symbol text symbol.kind refl
+
+is_tri_meant : (kind : Kind) (text : List ℕ) (t : Tri) → tri_meant kind text ≡ Some t → is_tri_kind kind ≡ true
+is_tri_meant Boolean text t e = refl
+is_tri_meant Tristate text t e = refl
+is_tri_meant Text text t e = cc
+is_tri_meant Int text t e = cc
+is_tri_meant Hex text t e = cc
+
+of_tri_kind : (kind : Kind) (u s : ℕ) (choice : Option ℕ) (text : List ℕ) → is_tri_kind kind ≡ true → saying_of_kind kind u s choice text ≡ tri_saying u s choice (tri_meant kind text)
+of_tri_kind Boolean u s choice text e = refl
+of_tri_kind Tristate u s choice text e = refl
+of_tri_kind Text u s choice text e = absurd (false≢true e)
+of_tri_kind Int u s choice text e = absurd (false≢true e)
+of_tri_kind Hex u s choice text e = absurd (false≢true e)
+
+of_number_kind : (kind : Kind) (u s : ℕ) (choice : Option ℕ) (text : List ℕ) → is_tri_kind kind ≡ false → kind ≢ Text → saying_of_kind kind u s choice text ≡ number_saying u kind text
+of_number_kind Boolean u s choice text e other = absurd (false≢true (sym e))
+of_number_kind Tristate u s choice text e other = absurd (false≢true (sym e))
+of_number_kind Text u s choice text e other = absurd (other refl)
+of_number_kind Int u s choice text e other = refl
+of_number_kind Hex u s choice text e other = refl
+
+number_kind : (kind : Kind) (text : List ℕ) → is_some (number_of_text kind text) ≡ true → (is_tri_kind kind ≡ false) × (kind ≢ Text)
+number_kind Boolean text e = absurd (false≢true e)
+number_kind Tristate text e = absurd (false≢true e)
+number_kind Text text e = absurd (false≢true e)
+number_kind Int text e = (refl, λ same. cc)
+number_kind Hex text e = (refl, λ same. cc)
+
+not_y : (t : Tri) → t ≢ Y → is_y t ≡ false
+not_y N other = refl
+not_y M other = refl
+not_y Y other = absurd (other refl)
+
+no_int_number : number_of_text Int [] ≡ None
+unfolding int_text
+no_int_number = refl
+
+no_hex_number : number_of_text Hex [] ≡ None
+unfolding hex_text
+no_hex_number = refl
+
+no_meaning : (text : List ℕ) (o : Option (List ℕ)) → unquoted text ≡ o → ((means : List ℕ) → IsQuoted text means → ⊥) → o ≡ None
+no_meaning text None e lacks = refl
+no_meaning text (Some means) e lacks = absurd (lacks means (unquoted_means text means e))
+
+-- and nothing else
+pub value_said : (tree : Whole) (s : ℕ) (symbol : Symbol) (text : List ℕ) (saying : Saying) → ValueSays tree s symbol text saying → value_saying tree s symbol text ≡ saying
+value_said tree s symbol text saying (tri _ t out meant) =
+    of_tri_kind symbol.kind (unit_of tree s) s symbol.choice text (is_tri_meant symbol.kind text t meant) ∙ ap (λ o. tri_saying (unit_of tree s) s symbol.choice o) meant ∙ ap (λ c. tri_saying (unit_of tree s) s c (Some t)) out
+value_said tree s symbol text saying (chosen c _ within meant) =
+    of_tri_kind symbol.kind (unit_of tree s) s symbol.choice text (is_tri_meant symbol.kind text Y meant) ∙ ap (λ o. tri_saying (unit_of tree s) s symbol.choice o) meant ∙ ap (λ k. tri_saying (unit_of tree s) s k (Some Y)) within
+value_said tree s symbol text saying (not_chosen c _ t within meant other) =
+    of_tri_kind symbol.kind (unit_of tree s) s symbol.choice text (is_tri_meant symbol.kind text t meant) ∙ ap (λ o. tri_saying (unit_of tree s) s symbol.choice o) meant ∙ ap (λ k. tri_saying (unit_of tree s) s k (Some t)) within
+    ∙ ap (λ b. cond b (assigns (unit_of tree s) (MemberUser s)) silent) (not_y t other)
+value_said tree s symbol text saying (quoted _ means is stands) =
+    ap (λ k. saying_of_kind k (unit_of tree s) s symbol.choice text) is ∙ ap (string_saying (unit_of tree s)) (means_unquoted text means stands)
+value_said tree s symbol text saying (number _ some) =
+    let kinds = number_kind symbol.kind text some in
+    of_number_kind symbol.kind (unit_of tree s) s symbol.choice text kinds.0 kinds.1 ∙ ap (λ b. cond b (assigns (unit_of tree s) (TextUser text)) (without_number text)) some
+value_said tree s symbol text saying (no_int is) =
+    ap (λ k. saying_of_kind k (unit_of tree s) s symbol.choice []) is ∙ ap (λ o. cond (is_some o) (assigns (unit_of tree s) (TextUser [])) silent) no_int_number
+value_said tree s symbol text saying (no_hex is) =
+    ap (λ k. saying_of_kind k (unit_of tree s) s symbol.choice []) is ∙ ap (λ o. cond (is_some o) (assigns (unit_of tree s) (TextUser [])) silent) no_hex_number
+value_said tree s symbol text saying (no_tri _ small meant) =
+    of_tri_kind symbol.kind (unit_of tree s) s symbol.choice text small ∙ ap (λ o. tri_saying (unit_of tree s) s symbol.choice o) meant
+value_said tree s symbol text saying (no_text _ is lacks) =
+    ap (λ k. saying_of_kind k (unit_of tree s) s symbol.choice text) is ∙ ap (string_saying (unit_of tree s)) (no_meaning text (unquoted text) refl lacks)
+value_said tree s symbol text saying (no_number b rest large other lacks) =
+    of_number_kind symbol.kind (unit_of tree s) s symbol.choice (b ∷ rest) large other ∙ ap (λ o. cond (is_some o) (assigns (unit_of tree s) (TextUser (b ∷ rest))) (notice NotOfType)) lacks

@@ -1,0 +1,50 @@
+-- What a configuration file says and assigns.
+use Rattle.std.specs.Prelude.{ℕ, ◌+◌, List, [], ◌∷◌, Option, Some, None, length, ◌==◌, slice_set, replicate, if◌then◌else◌}
+use Rattle.std.specs.List.{AllZip, onto_first}
+use Rattle.kc_tree_model.specs.Trees.{Whole}
+use Rattle.kc_rules_model.specs.declared.values.UserValue.{UserValue}
+use Rattle.kc_dotconfig_model.specs.declared.notice.NoticeKind.{NoticeKind}
+use Rattle.kc_dotconfig_model.specs.Lines.{Saying, assigns, notice, silent, Says, without_white_end}
+
+-- the lines of a file, without their newlines; the last needs none
+abbrev pub file_lines : List ℕ → List (List ℕ)
+file_lines [] = []
+file_lines (b ∷ bytes) = if b == 10 then [] ∷ file_lines bytes else onto_first b (file_lines bytes)
+
+-- what the lines of a file say, one after another
+abbrev pub FileSays : List ℕ → Whole → List ℕ → List Saying → Type 0
+FileSays prefix tree bytes sayings =
+    AllZip (λ line saying. Says prefix tree (without_white_end line) saying) (file_lines bytes) sayings
+
+-- the assignment after one line, over the one before it
+abbrev pub assigned : Saying → List (Option UserValue) → List (Option UserValue)
+assigned (assigns u x) users = slice_set users u (Some x)
+assigned (notice kind) users = users
+assigned silent users = users
+
+-- a file over an assignment: later lines override earlier ones and what was held
+abbrev pub assigned_over : List Saying → List (Option UserValue) → List (Option UserValue)
+assigned_over [] users = users
+assigned_over (saying ∷ sayings) users = assigned_over sayings (assigned saying users)
+
+-- the assignment of nothing
+abbrev pub no_users : Whole → List (Option UserValue)
+no_users tree = replicate (length tree.units) None
+
+-- a file's own assignment
+abbrev pub file_users : Whole → List Saying → List (Option UserValue)
+file_users tree sayings = assigned_over sayings (no_users tree)
+
+-- an assignment over another: it wins where it has a user value
+abbrev pub laid_over : List (Option UserValue) → List (Option UserValue) → List (Option UserValue)
+laid_over [] users = users
+laid_over (x ∷ over) [] = []
+laid_over (None ∷ over) (x ∷ users) = x ∷ laid_over over users
+laid_over (Some y ∷ over) (x ∷ users) = Some y ∷ laid_over over users
+
+-- the notices of a file with the numbers of their lines, the first line having this number
+abbrev pub notices_from : ℕ → List Saying → List (ℕ × NoticeKind)
+notices_from n [] = []
+notices_from n (assigns u x ∷ sayings) = notices_from (n + 1) sayings
+notices_from n (notice kind ∷ sayings) = (n, kind) ∷ notices_from (n + 1) sayings
+notices_from n (silent ∷ sayings) = notices_from (n + 1) sayings

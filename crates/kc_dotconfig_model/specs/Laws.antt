@@ -1,0 +1,37 @@
+-- A line says what the function of `Reading` tells, and nothing else.
+use Rattle.std.specs.Prelude.{◌≡◌, ◌↔◌, ℕ, true, List, Option, Some, length, IsTrue}
+use Rattle.kc_tree_model.specs.Trees.{Whole}
+use Rattle.kc_tree_model.specs.TreeLookup.{IsConsistent}
+use Rattle.kc_system.specs.Solutions.{FitsUsers}
+use Rattle.kc_rules_model.specs.Shapes.{user_fits}
+use Rattle.kc_rules_model.specs.declared.values.UserValue.{UserValue}
+use Rattle.kc_dotconfig_model.specs.Names.{is_prefix}
+use Rattle.kc_dotconfig_model.specs.Lines.{Saying, Says}
+use Rattle.kc_dotconfig_model.specs.Files.{FileSays, assigned_over, file_users, laid_over}
+use Rattle.kc_dotconfig_model.specs.LoadFaults.{IsAccepted}
+use Rattle.kc_dotconfig_model.specs.Reading.{line_saying, file_sayings}
+
+-- each line says one thing at most
+abbrev pub LinesAreRead : Type 0
+LinesAreRead = (prefix : List ℕ) (tree : Whole) (line : List ℕ) (saying : Saying) → is_prefix prefix ≡ true
+    → (line_saying prefix tree line ≡ Some saying) ↔ Says prefix tree line saying
+
+abbrev pub FilesAreRead : Type 0
+FilesAreRead = (prefix : List ℕ) (tree : Whole) (bytes : List ℕ) (sayings : List Saying) → is_prefix prefix ≡ true
+    → (file_sayings prefix tree bytes ≡ Some sayings) ↔ FileSays prefix tree bytes sayings
+
+-- the lines of a file over an assignment are its own assignment over it
+abbrev pub FilesLieOverAssignments : Type 0
+FilesLieOverAssignments = (tree : Whole) (sayings : List Saying) (users : List (Option UserValue))
+    → length users ≡ length tree.units → assigned_over sayings users ≡ laid_over (file_users tree sayings) users
+
+-- what a file assigns fits its units
+abbrev pub FilesFit : Type 0
+FilesFit = (prefix : List ℕ) (tree : Whole) (bytes : List ℕ) (sayings : List Saying) → IsConsistent tree
+    → FileSays prefix tree bytes sayings
+    → FitsUsers (length tree.units) (λ u x. IsTrue (user_fits tree u x)) (file_users tree sayings)
+
+-- an accepted file says something
+abbrev pub AcceptedFilesAreRead : Type 0
+AcceptedFilesAreRead = (prefix : List ℕ) (tree : Whole) (bytes : List ℕ) → is_prefix prefix ≡ true
+    → IsAccepted prefix tree bytes → (sayings : List Saying) × FileSays prefix tree bytes sayings

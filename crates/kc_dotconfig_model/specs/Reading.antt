@@ -1,0 +1,133 @@
+-- What a line says, as a function: `None` where it is malformed. The forms of `Lines` are its meaning.
+use Rattle.std.specs.Prelude.{ℕ, Bool, true, false, not, List, [], ◌∷◌, ◌++◌, Option, Some, None, is_some, length, nat_lt, ◌==◌, slice_get, codes, bytes_eq, option_map, if◌then◌else◌}
+use Rattle.std.specs.Option.{option_and_then}
+use Rattle.std.specs.List.{find}
+use Rattle.kc_value.specs.declared.tri.Tri.{Tri}
+use Rattle.kc_value.specs.declared.value.Kind.{Kind}
+use Rattle.kc_value.specs.declared.value.Kind.TheVariants.{Bool as Boolean, Tristate, Text, Int, Hex}
+use Rattle.kc_expr.specs.Token.{is_white_byte}
+use Rattle.kc_tree_model.specs.Trees.{Whole, Symbol}
+use Rattle.kc_tree_model.specs.TreeLookup.{symbol_named, unit_of}
+use Rattle.kc_rules_model.specs.Kinds.{is_y}
+use Rattle.kc_value.specs.Number.{number_of_text}
+use Rattle.kc_rules_model.specs.declared.values.UserValue.TheVariants.{Tri as TriUser, Text as TextUser, Member as MemberUser}
+use Rattle.kc_dotconfig_model.specs.declared.notice.NoticeKind.TheVariants.{UnknownSymbol, NotOfType}
+use Rattle.kc_dotconfig_model.specs.Lines.{Saying, assigns, notice, silent, tri_meant, unset_saying, without_white_end}
+use Rattle.kc_dotconfig_model.specs.Files.{file_lines}
+
+abbrev pub ended : List ℕ → Option (List ℕ)
+ended [] = Some []
+ended (c ∷ rest) = None
+
+-- behind an opening quote, up to the closing one
+abbrev pub unquoted_rest : Bool → List ℕ → Option (List ℕ)
+unquoted_rest escaped [] = None
+unquoted_rest true (c ∷ rest) = option_map (λ text. c ∷ text) (unquoted_rest false rest)
+unquoted_rest false (c ∷ rest) = if c == 34
+    then ended rest
+    else (if c == 92 then unquoted_rest true rest else option_map (λ text. c ∷ text) (unquoted_rest false rest))
+
+abbrev pub unquoted : List ℕ → Option (List ℕ)
+unquoted [] = None
+unquoted (c ∷ rest) = if c == 34 then unquoted_rest false rest else None
+
+abbrev pub tri_saying : ℕ → ℕ → Option ℕ → Option Tri → Saying
+tri_saying u s choice None = notice NotOfType
+tri_saying u s None (Some t) = assigns u (TriUser t)
+tri_saying u s (Some c) (Some t) = if is_y t then assigns u (MemberUser s) else silent
+
+abbrev pub string_saying : ℕ → Option (List ℕ) → Saying
+string_saying u None = notice NotOfType
+string_saying u (Some text) = assigns u (TextUser text)
+
+abbrev pub without_number : List ℕ → Saying
+without_number [] = silent
+without_number (b ∷ text) = notice NotOfType
+
+abbrev pub number_saying : ℕ → Kind → List ℕ → Saying
+number_saying u kind text = if is_some (number_of_text kind text)
+    then assigns u (TextUser text)
+    else without_number text
+
+abbrev pub saying_of_kind : Kind → ℕ → ℕ → Option ℕ → List ℕ → Saying
+saying_of_kind Boolean u s choice text = tri_saying u s choice (tri_meant Boolean text)
+saying_of_kind Tristate u s choice text = tri_saying u s choice (tri_meant Tristate text)
+saying_of_kind Text u s choice text = string_saying u (unquoted text)
+saying_of_kind Int u s choice text = number_saying u Int text
+saying_of_kind Hex u s choice text = number_saying u Hex text
+
+-- what the text after `=` says
+abbrev pub value_saying : Whole → ℕ → Symbol → List ℕ → Saying
+value_saying tree s symbol text = saying_of_kind symbol.kind (unit_of tree s) s symbol.choice text
+
+-- the rest of a text behind its front
+abbrev pub behind : List ℕ → List ℕ → Option (List ℕ)
+behind [] text = Some text
+behind (a ∷ front) [] = None
+behind (a ∷ front) (b ∷ text) = if a == b then behind front text else None
+
+-- what stands before the first such byte, and behind it
+abbrev pub cut_at : ℕ → List ℕ → Option (List ℕ × List ℕ)
+cut_at b [] = None
+cut_at b (c ∷ text) = if c == b then Some ([], text) else option_map (λ parts. (c ∷ parts.0, parts.1)) (cut_at b text)
+
+abbrev pub if_named : List ℕ × List ℕ → Option (List ℕ × List ℕ)
+if_named parts = if nat_lt 0 (length parts.0) then Some parts else None
+
+abbrev pub named_before : ℕ → List ℕ → Option (List ℕ × List ℕ)
+named_before b text = option_and_then if_named (cut_at b text)
+
+-- the name and the text of a line with `=`
+abbrev pub value_parts : List ℕ → List ℕ → Option (List ℕ × List ℕ)
+value_parts prefix line = option_and_then (named_before 61) (behind prefix line)
+
+abbrev pub if_not_set : List ℕ × List ℕ → Option (List ℕ)
+if_not_set parts = if bytes_eq parts.1 (codes "is not set") then Some parts.0 else None
+
+-- the name of an unset line
+abbrev pub unset_name : List ℕ → List ℕ → Option (List ℕ)
+unset_name prefix line =
+    option_and_then if_not_set (option_and_then (named_before 32) (behind (codes "# " ++ prefix) line))
+
+abbrev pub of_symbol_at : (ℕ → Symbol → Saying) → ℕ → Option Symbol → Saying
+of_symbol_at say s None = notice UnknownSymbol
+of_symbol_at say s (Some symbol) = say s symbol
+
+abbrev pub of_named : Whole → (ℕ → Symbol → Saying) → Option ℕ → Saying
+of_named tree say None = notice UnknownSymbol
+of_named tree say (Some s) = of_symbol_at say s (slice_get tree.symbols s)
+
+abbrev pub is_hash : Option ℕ → Bool
+is_hash None = false
+is_hash (Some b) = b == 35
+
+abbrev pub of_other : List ℕ → Option Saying
+of_other [] = Some silent
+of_other (b ∷ line) = if is_hash (find (λ c. not (is_white_byte c)) (b ∷ line)) then Some silent else None
+
+abbrev pub of_unset : Whole → List ℕ → Option (List ℕ) → Option Saying
+of_unset tree line None = of_other line
+of_unset tree line (Some name) =
+    Some (of_named tree (λ s symbol. unset_saying tree s symbol symbol.choice) (symbol_named tree name))
+
+abbrev pub of_value : List ℕ → Whole → List ℕ → Option (List ℕ × List ℕ) → Option Saying
+of_value prefix tree line None = of_unset tree line (unset_name prefix line)
+of_value prefix tree line (Some parts) =
+    Some (of_named tree (λ s symbol. value_saying tree s symbol parts.1) (symbol_named tree parts.0))
+
+-- what a line without white bytes at its end says
+unfoldable pub line_saying : List ℕ → Whole → List ℕ → Option Saying
+line_saying prefix tree line = of_value prefix tree line (value_parts prefix line)
+
+abbrev pub with_rest : Option Saying → Option (List Saying) → Option (List Saying)
+with_rest (Some saying) (Some sayings) = Some (saying ∷ sayings)
+with_rest _ _ = None
+
+abbrev pub sayings_of_lines : List ℕ → Whole → List (List ℕ) → Option (List Saying)
+sayings_of_lines prefix tree [] = Some []
+sayings_of_lines prefix tree (line ∷ lines) =
+    with_rest (line_saying prefix tree (without_white_end line)) (sayings_of_lines prefix tree lines)
+
+-- what the lines of a file say, if none is malformed
+abbrev pub file_sayings : List ℕ → Whole → List ℕ → Option (List Saying)
+file_sayings prefix tree bytes = sayings_of_lines prefix tree (file_lines bytes)

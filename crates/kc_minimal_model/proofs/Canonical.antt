@@ -1,0 +1,153 @@
+-- Minimal files are canonical: what the law of the least assignment gives over all files.
+use Rattle.std.proofs.Common.{◌≡◌, ◌≢◌, ◌⊎◌, ◌↔◌, inl, inr, ℕ, ◌<◌, Bool, true, false, ◌||◌, ◌==◌, cond, IsTrue, List, [], ◌∷◌, None, length, map, filter, refl, sym, ◌∙◌, ap, subst, arith}
+use Rattle.std.specs.Prelude.{slice_get}
+use Rattle.std.specs.List.{list_any, list_all}
+use Rattle.std.proofs.lemmas.Bool.{cases_Bool, false≢true, and_from, and_parts, eqb-true, or_cases, or_left, or_right}
+use Rattle.kc_tree_model.specs.Trees.{Whole}
+use Rattle.kc_tree_model.specs.TreeLookup.{unit_of}
+use Rattle.kc_system.specs.Solutions.{user_of, Solves, FitsUsers}
+use Rattle.kc_system.specs.LeastAssignments.{IsKept, IsCutTo}
+use Rattle.kc_system.proofs.Least.{least_gives}
+use Rattle.kc_system.proofs.OneSolution as solving
+use Rattle.kc_rules_model.specs.declared.profile.Profile.{Profile}
+use Rattle.kc_rules_model.specs.declared.values.UnitValue.{UnitValue}
+use Rattle.kc_rules_model.specs.Equality.{same_value}
+use Rattle.kc_rules_model.specs.EqualityLaws.{values_decided}
+use Rattle.kc_rules_model.specs.Rule.{rule, as_user}
+use Rattle.kc_rules_model.specs.Dependencies.{dependencies}
+use Rattle.kc_rules_model.specs.Shapes.{user_fits}
+use Rattle.kc_rules_model.specs.FrameLaw.{rules_frame}
+use Rattle.kc_rules_model.specs.RestoreLaw.{rules_restore}
+use Rattle.kc_dotconfig_model.specs.Names.{is_prefix}
+use Rattle.kc_dotconfig_model.specs.Lines.{Saying}
+use Rattle.kc_rules_model.specs.SymbolValues.{symbol_seen}
+use Rattle.kc_rules_model.specs.Reports.{symbol_numbers}
+use Rattle.kc_dotconfig_model.specs.Files.{FileSays, file_users, no_users}
+use Rattle.kc_dotconfig_model.proofs.FittingFiles.{file_fits}
+use Rattle.kc_dotconfig_model.proofs.LineLaws.{file_read}
+use Rattle.kc_minimal_model.specs.MinimalFile.{is_kept, has_line, may_have_line, minimal_symbols, minimal_file}
+use Rattle.kc_minimal_model.specs.Laws.{IsReadAsLeast}
+use Rattle.kc_minimal_model.specs.Headline.{IsSettled, ReadsTo, with_lines, MinimalFilesAreCanonical}
+use Rattle.kc_minimal_model.proofs.KeptUnits.{others_fail}
+use Rattle.kc_minimal_model.proofs.KeptLines.{meant, user_meant, unit_inside}
+use Rattle.kc_minimal_model.proofs.LineUnits.{different_units}
+use Rattle.kc_minimal_model.proofs.LeastFile.{passes_filter, none_held, none_length, after_lines, length_after, lines_say, least_of_lines, reads_as_least}
+
+pub decides : (a b : UnitValue) → (a ≡ b) ⊎ (a ≢ b)
+decides a b = elim (cases_Bool (same_value a b)) [ inl same ↦ inl ((values_decided a b).0 same) | inr other ↦ inr (λ e. false≢true (sym other ∙ (values_decided a b).1 e)) ]
+
+module _ (prefix : List ℕ) (valid : is_prefix prefix ≡ true) (profile : Profile) (tree : Whole) (settled : IsSettled tree) where
+  fits_of : (bytes : List ℕ) (sayings : List Saying) → FileSays prefix tree bytes sayings → FitsUsers (length tree.units) (λ u x. IsTrue (user_fits tree u x)) (file_users tree sayings)
+  fits_of bytes sayings says = file_fits prefix tree bytes sayings settled.consistent says
+
+  each : (bytes : List ℕ) (sayings : List Saying) → FileSays prefix tree bytes sayings → (values : List UnitValue) × ReadsTo prefix profile tree bytes values
+  each bytes sayings says =
+      let fitting = fits_of bytes sayings says in
+      let found = solving.solution (length tree.units) (dependencies tree) (rule profile tree) (λ u x. IsTrue (user_fits tree u x)) settled.order settled.ordered (rules_frame profile tree) (file_users tree sayings) fitting.1 in
+      (found.0, record { sayings = sayings; says = says; gives = solving.gives (length tree.units) (dependencies tree) (rule profile tree) (λ u x. IsTrue (user_fits tree u x)) settled.order settled.ordered (rules_frame profile tree) (file_users tree sayings) fitting.1 found.0 found.1 })
+
+  -- a file says one thing
+  same_sayings : (bytes : List ℕ) (a b : List Saying) → FileSays prefix tree bytes a → FileSays prefix tree bytes b → a ≡ b
+  same_sayings bytes a b first second = let e = (file_read prefix tree bytes a valid).1 first in let f = (file_read prefix tree bytes b valid).1 second in cc (e, f)
+
+  one : (bytes : List ℕ) (v w : List UnitValue) → ReadsTo prefix profile tree bytes v → ReadsTo prefix profile tree bytes w → v ≡ w
+  one bytes v w a b =
+      let same = same_sayings bytes a.sayings b.sayings a.says b.says in
+      b.gives.only v (subst (λ s. Solves (length tree.units) (rule profile tree) (file_users tree s) v) same a.gives.solves)
+
+  least : (bytes : List ℕ) (values : List UnitValue) → ReadsTo prefix profile tree bytes values → IsReadAsLeast prefix profile tree values
+  least bytes values a = reads_as_least prefix valid profile tree settled.consistent (file_users tree a.sayings) values (fits_of bytes a.sayings a.says) a.gives.solves
+
+  back : (bytes : List ℕ) (values : List UnitValue) → ReadsTo prefix profile tree bytes values → ReadsTo prefix profile tree (minimal_file prefix profile tree values) values
+  back bytes values a =
+      let l = least bytes values a in
+      let given = least_gives (length tree.units) (dependencies tree) (rule profile tree) (λ u x. IsTrue (user_fits tree u x)) settled.order settled.ordered (rules_frame profile tree) decides as_user (rules_restore profile tree)
+      (file_users tree a.sayings) (file_users tree l.sayings) values (fits_of bytes a.sayings a.says) a.gives.solves l.least in
+      record { sayings = l.sayings; says = l.says; gives = given.2 }
+
+  same : (a b : List ℕ) (v w : List UnitValue) → ReadsTo prefix profile tree a v → ReadsTo prefix profile tree b w → (v ≡ w) ↔ (minimal_file prefix profile tree v ≡ minimal_file prefix profile tree w)
+  same a b v w first second = (
+    λ e. ap (minimal_file prefix profile tree) e,
+    λ e. one (minimal_file prefix profile tree w) v w (subst (λ t. ReadsTo prefix profile tree t v) e (back a v first)) (back b w second),
+  )
+
+  once : (bytes : List ℕ) (v w : List UnitValue) → ReadsTo prefix profile tree bytes v → ReadsTo prefix profile tree (minimal_file prefix profile tree v) w → minimal_file prefix profile tree w ≡ minimal_file prefix profile tree v
+  once bytes v w a b = ap (minimal_file prefix profile tree) (one (minimal_file prefix profile tree v) w v b (back bytes v a))
+
+all_of_filter : (p q : ℕ → Bool) (xs : List ℕ) → list_all p xs ≡ true → list_all p (filter q xs) ≡ true
+all_of_filter p q [] all = refl
+all_of_filter p q (x ∷ xs) all = let parts = and_parts (p x) (list_all p xs) all in go (q x) parts.0 (all_of_filter p q xs parts.1) where
+  go : (t : Bool) → p x ≡ true → list_all p (filter q xs) ≡ true → list_all p (cond t (x ∷ filter q xs) (filter q xs)) ≡ true
+  go true here rest = and_from (p x) (list_all p (filter q xs)) here rest
+  go false here rest = rest
+
+any_of_filter : (p q : ℕ → Bool) (xs : List ℕ) → list_any p (filter q xs) ≡ true → list_any p xs ≡ true
+any_of_filter p q [] any = any
+any_of_filter p q (x ∷ xs) any = go (q x) any (any_of_filter p q xs) where
+  go : (t : Bool) → list_any p (cond t (x ∷ filter q xs) (filter q xs)) ≡ true → (list_any p (filter q xs) ≡ true → list_any p xs ≡ true) → (p x || list_any p xs) ≡ true
+  go true any next = elim (or_cases (p x) (list_any p (filter q xs)) any) [ inl here ↦ or_left (p x) (list_any p xs) here | inr later ↦ or_right (p x) (list_any p xs) (next later) ]
+  go false any next = or_right (p x) (list_any p xs) (next any)
+
+none_of_two : (p q r : ℕ → Bool) (xs : List ℕ) → ((x : ℕ) → q x ≡ true → r x ≡ true → p x ≡ false) → list_any p (filter q (filter r xs)) ≡ false
+none_of_two p q r [] fails = refl
+none_of_two p q r (x ∷ xs) fails = go (r x) (q x) refl refl (none_of_two p q r xs fails) where
+  go : (s t : Bool) → r x ≡ s → q x ≡ t → list_any p (filter q (filter r xs)) ≡ false → list_any p (filter q (cond s (x ∷ filter r xs) (filter r xs))) ≡ false
+  go false t e f rest = rest
+  go true t e f rest = at_head t f where
+    at_head : (t : Bool) → q x ≡ t → list_any p (filter q (x ∷ filter r xs)) ≡ false
+    at_head true f = ap (λ b. list_any p (cond b (x ∷ filter q (filter r xs)) (filter q (filter r xs)))) f ∙ ap (λ b. b || list_any p (filter q (filter r xs))) (fails x f e) ∙ rest
+    at_head false f = ap (λ b. list_any p (cond b (x ∷ filter q (filter r xs)) (filter q (filter r xs)))) f ∙ rest
+
+module _ (prefix : List ℕ) (valid : is_prefix prefix ≡ true) (profile : Profile) (tree : Whole) (settled : IsSettled tree) (bytes : List ℕ) (values : List UnitValue) (reads : ReadsTo prefix profile tree bytes values) (keeps : ℕ → Bool) where
+  fitting : FitsUsers (length tree.units) (λ u x. IsTrue (user_fits tree u x)) (file_users tree reads.sayings)
+  fitting = fits_of prefix valid profile tree settled bytes reads.sayings reads.says
+
+  says_some : FileSays prefix tree (with_lines keeps prefix profile tree values) (map (λ s. meant values (unit_of tree s)) (filter keeps (minimal_symbols profile tree values)))
+  says_some = lines_say prefix valid profile tree settled.consistent (file_users tree reads.sayings) values fitting reads.gives.solves (filter keeps (minimal_symbols profile tree values))
+      (all_of_filter (has_line profile tree values) keeps (minimal_symbols profile tree values) (passes_filter (has_line profile tree values) (symbol_numbers tree)))
+
+  user_after : (xs : List ℕ) (u : ℕ) → u < length tree.units → user_of (file_users tree (map (λ s. meant values (unit_of tree s)) xs)) u ≡ cond (list_any (λ s. unit_of tree s == u) xs) (user_meant values u) None
+  user_after xs u h = after_lines tree values u xs (no_users tree) false (let len = none_length (length tree.units) in omega (arith, len)) (none_held (length tree.units) u)
+
+  cut : IsCutTo (length tree.units) (λ u. list_any (λ s. unit_of tree s == u) (filter keeps (minimal_symbols profile tree values)))
+      (file_users tree (map (λ s. meant values (unit_of tree s)) (minimal_symbols profile tree values))) (file_users tree (map (λ s. meant values (unit_of tree s)) (filter keeps (minimal_symbols profile tree values))))
+  cut = record {
+    one_each = length_after tree values (filter keeps (minimal_symbols profile tree values)) (no_users tree) ∙ none_length (length tree.units);
+    cut = λ u h. user_after (filter keeps (minimal_symbols profile tree values)) u h ∙ elim (cases_Bool (list_any (λ s. unit_of tree s == u) (filter keeps (minimal_symbols profile tree values)))) [
+      | inl some ↦
+          let there = any_of_filter (λ s. unit_of tree s == u) keeps (minimal_symbols profile tree values) some in
+          ap (λ b. cond b (user_meant values u) None) some
+          ∙ sym (ap (λ b. cond b (user_of (file_users tree (map (λ s. meant values (unit_of tree s)) (minimal_symbols profile tree values))) u) None) some ∙ user_after (minimal_symbols profile tree values) u h ∙ ap (λ b. cond b (user_meant values u) None) there)
+      | inr lost ↦
+          ap (λ b. cond b (user_meant values u) None) lost ∙ sym (ap (λ b. cond b (user_of (file_users tree (map (λ s. meant values (unit_of tree s)) (minimal_symbols profile tree values))) u) None) lost)
+    ];
+  }
+
+  needed : (s : ℕ) → has_line profile tree values s ≡ true → keeps s ≡ false → (others : List UnitValue) × ReadsTo prefix profile tree (with_lines keeps prefix profile tree values) others × (others ≢ values)
+  needed s has dropped =
+      let parts = and_parts (is_kept profile tree values (unit_of tree s)) (may_have_line (slice_get tree.symbols s) (symbol_seen tree values s)) has in
+      let solved = reads.gives.solves in
+      let inside = unit_inside prefix valid profile tree settled.consistent (file_users tree reads.sayings) values fitting solved s (slice_get tree.symbols s) refl parts.1 in
+      let kept : IsKept (rule profile tree) values (unit_of tree s) = λ same. false≢true (sym (others_fail profile tree (file_users tree reads.sayings) values fitting solved (unit_of tree s) same) ∙ parts.0) in
+      let fails : (t : ℕ) → keeps t ≡ true → has_line profile tree values t ≡ true → (unit_of tree t == unit_of tree s) ≡ false = λ t kept_line line. elim (cases_Bool (unit_of tree t == unit_of tree s)) [
+        | inl equal ↦
+            let same = different_units profile tree settled.consistent (file_users tree reads.sayings) values fitting solved t s line has (eqb-true (unit_of tree t) (unit_of tree s) equal) in
+            absurd (false≢true (sym dropped ∙ ap keeps (sym same) ∙ kept_line))
+        | inr other ↦ other
+      ] in
+      let lost = none_of_two (λ t. unit_of tree t == unit_of tree s) keeps (has_line profile tree values) (symbol_numbers tree) fails in
+      let given = least_gives (length tree.units) (dependencies tree) (rule profile tree) (λ u x. IsTrue (user_fits tree u x)) settled.order settled.ordered (rules_frame profile tree) decides as_user (rules_restore profile tree)
+      (file_users tree reads.sayings) (file_users tree (map (λ t. meant values (unit_of tree t)) (minimal_symbols profile tree values))) values fitting solved
+      (least_of_lines prefix valid profile tree settled.consistent (file_users tree reads.sayings) values fitting solved) in
+      let found = given.3 (λ u. list_any (λ t. unit_of tree t == u) (filter keeps (minimal_symbols profile tree values))) (file_users tree (map (λ t. meant values (unit_of tree t)) (filter keeps (minimal_symbols profile tree values)))) (unit_of tree s) cut inside kept lost in
+      (found.0, record { sayings = map (λ t. meant values (unit_of tree t)) (filter keeps (minimal_symbols profile tree values)); says = says_some; gives = found.1 }, found.2)
+
+pub canonical : MinimalFilesAreCanonical
+canonical prefix profile tree valid settled = record {
+  each = each prefix valid profile tree settled;
+  one = one prefix valid profile tree settled;
+  back = back prefix valid profile tree settled;
+  same = same prefix valid profile tree settled;
+  once = once prefix valid profile tree settled;
+  needed = λ bytes values keeps s reads. needed prefix valid profile tree settled bytes values reads keeps s;
+}

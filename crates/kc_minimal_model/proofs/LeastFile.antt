@@ -1,0 +1,201 @@
+-- What the lines of a minimal file assign is the least assignment of its values.
+use Rattle.std.proofs.Common.{◌≡◌, inl, inr, ℕ, zero, suc, ◌+◌, ◌<◌, ◌≤◌, Bool, true, false, not, ◌||◌, ◌==◌, cond, IsTrue, List, [], ◌∷◌, ◌++◌, Option, Some, None, length, get_or, map, filter, refl, sym, ◌∙◌, ap, subst, append_assoc, arith}
+use Rattle.std.specs.Prelude.{slice_get, slice_set, replicate}
+use Rattle.std.specs.Option.{option_map, option_and_then}
+use Rattle.std.specs.List.{AllZip, list_any, list_all, flat_map, range_with_len}
+use Rattle.std.proofs.lemmas.Bool.{cases_Bool, cases_eq, false≢true, and_from, and_parts, or_left, or_right, eqb-true, eqb-false, eq-eqb}
+use Rattle.std.proofs.lemmas.List.{get_or-set_same, get_or-set_other, length-set}
+use Rattle.std.proofs.lemmas.Option.{slice_get-get_or}
+use Rattle.kc_value.specs.declared.tri.Tri.TheVariants.{N, Y}
+use Rattle.kc_tree_model.specs.Trees.{Whole, Symbol, TreeUnit, of_symbol, of_choice}
+use Rattle.kc_tree_model.specs.TreeLookup.{IsConsistent, unit_of, place_of_unit}
+use Rattle.kc_system.specs.Solutions.{user_of, Solves, FitsUsers}
+use Rattle.kc_system.specs.LeastAssignments.{IsLeastAssignment}
+use Rattle.kc_rules_model.specs.declared.profile.Profile.{Profile}
+use Rattle.kc_rules_model.specs.declared.values.UnitValue.{UnitValue}
+use Rattle.kc_rules_model.specs.declared.values.UserValue.{UserValue}
+use Rattle.kc_rules_model.specs.declared.values.UserValue.TheVariants.{Tri as TriUser, Text as TextUser, Member as MemberUser}
+use Rattle.kc_rules_model.specs.Kinds.{is_n}
+use Rattle.kc_rules_model.specs.SymbolValues.{seen_in, tri_if_chosen, member_of}
+use Rattle.kc_rules_model.specs.Rule.{rule, as_user}
+use Rattle.kc_rules_model.specs.Shapes.{user_fits, unit_user_fits, choice_user_fits, is_member}
+use Rattle.kc_rules_model.specs.Reports.{symbol_numbers}
+use Rattle.kc_dotconfig_model.specs.Names.{is_prefix}
+use Rattle.kc_dotconfig_model.specs.Lines.{Saying, Says, without_white_end}
+use Rattle.kc_dotconfig_model.specs.Files.{file_lines, assigned, assigned_over, file_users, no_users}
+use Rattle.kc_minimal_model.specs.Spelling.{symbol_line, ended_line}
+use Rattle.kc_minimal_model.specs.MinimalFile.{is_kept, has_line, may_have_line, is_no_other_member, minimal_symbols}
+use Rattle.kc_minimal_model.specs.Laws.{IsReadAsLeast}
+use Rattle.kc_minimal_model.proofs.Bytes.{first_line}
+use Rattle.kc_rules_model.proofs.Lookups.{inside, place_is, unit_is}
+use Rattle.kc_minimal_model.proofs.KeptUnits.{KeptUnit, kept_unit, kept_passes, others_fail}
+use Rattle.kc_minimal_model.proofs.KeptLines.{line_reads, meant, user_meant, saying_of_user, value_of_member}
+
+-- what passes among some numbers
+pub passes_filter : (p : ℕ → Bool) (xs : List ℕ) → list_all p (filter p xs) ≡ true
+passes_filter p [] = refl
+passes_filter p (x ∷ xs) = go (p x) refl (passes_filter p xs) where
+  go : (t : Bool) → p x ≡ t → list_all p (filter p xs) ≡ true → list_all p (cond t (x ∷ filter p xs) (filter p xs)) ≡ true
+  go true e rest = and_from (p x) (list_all p (filter p xs)) e rest
+  go false e rest = rest
+
+pub none_of_filter : (p q : ℕ → Bool) (xs : List ℕ) → ((x : ℕ) → q x ≡ true → p x ≡ false) → list_any p (filter q xs) ≡ false
+none_of_filter p q [] fails = refl
+none_of_filter p q (x ∷ xs) fails = go (q x) refl (none_of_filter p q xs fails) where
+  go : (t : Bool) → q x ≡ t → list_any p (filter q xs) ≡ false → list_any p (cond t (x ∷ filter q xs) (filter q xs)) ≡ false
+  go true e rest = ap (λ b. b || list_any p (filter q xs)) (fails x e) ∙ rest
+  go false e rest = rest
+
+one_of_filter : (p q : ℕ → Bool) (n a s : ℕ) → a ≤ s → s < a + n → q s ≡ true → p s ≡ true → list_any p (filter q (range_with_len a n)) ≡ true
+one_of_filter p q zero a s low high kept passes = absurd (omega arith)
+one_of_filter p q (suc n) a s low high kept passes = elim (cases_eq s a) [
+  | inl same ↦
+      subst (λ t. list_any p (cond t (a ∷ filter q (range_with_len (a + 1) n)) (filter q (range_with_len (a + 1) n))) ≡ true) (sym (ap q (sym same) ∙ kept))
+      (or_left (p a) (list_any p (filter q (range_with_len (a + 1) n))) (ap p (sym same) ∙ passes))
+  | inr other ↦ onto (q a) (one_of_filter p q n (a + 1) s (omega arith) (omega arith) kept passes)
+] where
+  onto : (t : Bool) → list_any p (filter q (range_with_len (a + 1) n)) ≡ true → list_any p (cond t (a ∷ filter q (range_with_len (a + 1) n)) (filter q (range_with_len (a + 1) n))) ≡ true
+  onto true has = or_right (p a) (list_any p (filter q (range_with_len (a + 1) n))) has
+  onto false has = has
+
+pub none_held : (n u : ℕ) → get_or {A = Option UserValue} (replicate n None) u None ≡ None
+none_held zero u = refl
+none_held (suc n) zero = refl
+none_held (suc n) (suc u) = none_held n u
+
+pub none_length : (n : ℕ) → length {A = Option UserValue} (replicate n None) ≡ n
+none_length zero = refl
+none_length (suc n) = let rest = none_length n in omega arith
+
+or_false : (b : Bool) → (b || false) ≡ b
+or_false true = refl
+or_false false = refl
+
+or_true : (b : Bool) → (b || true) ≡ true
+or_true true = refl
+or_true false = refl
+
+either_none : {X : Type 0} (t : Bool) (o : Option X) → o ≡ None → cond t o None ≡ None
+either_none true o e = e
+either_none false o e = refl
+
+or_assoc : (a b c : Bool) → ((a || b) || c) ≡ (a || (b || c))
+or_assoc true b c = refl
+or_assoc false b c = refl
+
+-- after one line, a unit has its user value where the line or one before it is of the unit
+after_line : (X : Option UserValue) (w u : ℕ) (o : Option UserValue) (users : List (Option UserValue)) (before : Bool) → (w ≡ u → o ≡ X) → u < length users → user_of users u ≡ cond before X None
+    → user_of (assigned (saying_of_user w o) users) u ≡ cond (before || (w == u)) X None
+after_line X w u None users before same h e = elim (cases_Bool (w == u)) [
+  | inl here ↦ e ∙ either_none before X (sym (same (eqb-true w u here))) ∙ sym (either_none (before || (w == u)) X (sym (same (eqb-true w u here))))
+  | inr other ↦ e ∙ sym (ap (λ b. cond (before || b) X None) other ∙ ap (λ b. cond b X None) (or_false before))
+]
+after_line X w u (Some x) users before same h e = elim (cases_Bool (w == u)) [
+  | inl here ↦
+      let equal : w ≡ u = eqb-true w u here in
+      subst (λ k. get_or (slice_set users k (Some x)) u None ≡ Some x) (sym equal) (get_or-set_same users u (Some x) None h)
+      ∙ same equal ∙ sym (ap (λ b. cond (before || b) X None) here ∙ ap (λ b. cond b X None) (or_true before))
+  | inr other ↦
+      get_or-set_other users w u (Some x) None (λ equal. eqb-false w u other (sym equal)) ∙ e ∙ sym (ap (λ b. cond (before || b) X None) other ∙ ap (λ b. cond b X None) (or_false before))
+]
+
+same_length : (w : ℕ) (o : Option UserValue) (users : List (Option UserValue)) → length (assigned (saying_of_user w o) users) ≡ length users
+same_length w None users = refl
+same_length w (Some x) users = length-set users w (Some x)
+
+module _ (tree : Whole) (values : List UnitValue) where
+  -- what the lines of some symbols say
+  abbrev pub meanings : List ℕ → List Saying
+  meanings xs = map (λ s. meant values (unit_of tree s)) xs
+
+  pub after_lines : (u : ℕ) (xs : List ℕ) (users : List (Option UserValue)) (before : Bool) → u < length users → user_of users u ≡ cond before (user_meant values u) None
+      → user_of (assigned_over (map (λ s. meant values (unit_of tree s)) xs) users) u ≡ cond (before || list_any (λ s. unit_of tree s == u) xs) (user_meant values u) None
+  after_lines u [] users before h e = e ∙ sym (ap (λ b. cond b (user_meant values u) None) (or_false before))
+  after_lines u (s ∷ xs) users before h e =
+      let w = unit_of tree s in
+      let now = after_line (user_meant values u) w u (user_meant values w) users before (λ same. ap (user_meant values) same) h e in
+      let len = same_length w (user_meant values w) users in
+      after_lines u xs (assigned (meant values w) users) (before || (w == u)) (omega (arith, len)) now
+      ∙ ap (λ b. cond b (user_meant values u) None) (or_assoc before (w == u) (list_any (λ t. unit_of tree t == u) xs))
+
+  pub length_after : (xs : List ℕ) (users : List (Option UserValue)) → length (assigned_over (map (λ s. meant values (unit_of tree s)) xs) users) ≡ length users
+  length_after [] users = refl
+  length_after (s ∷ xs) users = length_after xs (assigned (meant values (unit_of tree s)) users) ∙ same_length (unit_of tree s) (user_meant values (unit_of tree s)) users
+
+module _ (prefix : List ℕ) (valid : is_prefix prefix ≡ true) (profile : Profile) (tree : Whole) (sound : IsConsistent tree) (users : List (Option UserValue)) (values : List UnitValue)
+    (fitting : FitsUsers (length tree.units) (λ u x. IsTrue (user_fits tree u x)) users) (solved : Solves (length tree.units) (rule profile tree) users values) where
+  -- the lines of some symbols that have one
+  pub lines_say : (xs : List ℕ) → list_all (has_line profile tree values) xs ≡ true
+      → AllZip (λ line saying. Says prefix tree (without_white_end line) saying) (file_lines (flat_map (ended_line prefix tree values) xs)) (map (λ s. meant values (unit_of tree s)) xs)
+  lines_say [] all = tt
+  lines_say (s ∷ xs) all =
+      let rest = flat_map (ended_line prefix tree values) xs in
+      let parts = and_parts (has_line profile tree values s) (list_all (has_line profile tree values) xs) all in
+      let line = line_reads prefix valid profile tree sound users values fitting solved s parts.0 in
+      let cut : file_lines (ended_line prefix tree values s ++ rest) ≡ symbol_line prefix tree values s ∷ file_lines rest =
+      ap file_lines (append_assoc (symbol_line prefix tree values s) (10 ∷ []) rest) ∙ first_line (symbol_line prefix tree values s) rest line.one in
+      subst (λ lines. AllZip (λ l saying. Says prefix tree (without_white_end l) saying) lines (meant values (unit_of tree s) ∷ map (λ t. meant values (unit_of tree t)) xs)) (sym cut)
+      (subst (λ l. Says prefix tree l (meant values (unit_of tree s))) (sym line.whole) line.says, lines_say xs parts.1)
+
+  -- a symbol whose line is of the unit
+  pub speaks_at : (u : ℕ) → is_kept profile tree values u ≡ true → KeptUnit tree values u → (unit : TreeUnit) → slice_get tree.units u ≡ Some unit
+      → list_any (λ s. unit_of tree s == u) (minimal_symbols profile tree values) ≡ true
+  unfolding user_fits
+  speaks_at u kept k (of_symbol s) at =
+      let found = sound.symbol_units u s at in
+      let number : unit_of tree s ≡ u = unit_is tree sound s u found.0 None found.1 found.2 at in
+      let may : may_have_line (slice_get tree.symbols s) (option_map (λ (symbol : Symbol). seen_in tree values s symbol symbol.choice) (slice_get tree.symbols s)) ≡ true =
+      ap (λ o. may_have_line o (option_map (λ (symbol : Symbol). seen_in tree values s symbol symbol.choice) o)) found.1 ∙ ap (λ c. is_no_other_member c (seen_in tree values s found.0 found.0.choice)) found.2 in
+      let below : s < length tree.symbols = inside tree.symbols s found.0 found.1 in
+      one_of_filter (λ t. unit_of tree t == u) (has_line profile tree values) (length tree.symbols) 0 s (omega arith) (omega arith)
+      (and_from (is_kept profile tree values (unit_of tree s)) _ (ap (is_kept profile tree values) number ∙ kept) may) (eq-eqb (unit_of tree s) u number)
+  speaks_at u kept k (of_choice c) at = by_member k.again k.assigned (sym (ap (λ o. unit_user_fits tree o k.again) at) ∙ k.fits) where
+    by_member : (again : UserValue) → as_user k.held ≡ Some again → choice_user_fits (slice_get tree.choices c) again ≡ true → list_any (λ s. unit_of tree s == u) (minimal_symbols profile tree values) ≡ true
+    by_member (TriUser t) again fits = absurd (false≢true fits)
+    by_member (TextUser t) again fits = absurd (false≢true fits)
+    by_member (MemberUser m) gives fits =
+        let choice = sound.choice_units u c at in
+        let found = sound.members c m choice.0 choice.1 (sym (ap (λ o. is_member o m) choice.1) ∙ fits) in
+        let number : unit_of tree m ≡ u = unit_is tree sound m u found.0 (Some c) found.1 found.2 at in
+        let tri : tri_if_chosen m (member_of (slice_get values (place_of_unit tree (of_choice c)))) ≡ Y =
+        ap (λ o. tri_if_chosen m (member_of o)) (ap (slice_get values) (place_is tree sound u (of_choice c) at) ∙ k.has ∙ ap Some (value_of_member k.held m gives)) ∙ ap (λ b. cond b Y N) (eq-eqb m m refl) in
+        let may : may_have_line (slice_get tree.symbols m) (option_map (λ (symbol : Symbol). seen_in tree values m symbol symbol.choice) (slice_get tree.symbols m)) ≡ true =
+        ap (λ o. may_have_line o (option_map (λ (symbol : Symbol). seen_in tree values m symbol symbol.choice) o)) found.1
+        ∙ ap (λ c. is_no_other_member c (seen_in tree values m found.0 c)) found.2 ∙ ap (λ t. not (is_n t)) tri in
+        let below : m < length tree.symbols = inside tree.symbols m found.0 found.1 in
+        one_of_filter (λ t. unit_of tree t == u) (has_line profile tree values) (length tree.symbols) 0 m (omega arith) (omega arith)
+        (and_from (is_kept profile tree values (unit_of tree m)) _ (ap (is_kept profile tree values) number ∙ kept) may) (eq-eqb (unit_of tree m) u number)
+
+  pub unit_there : (u : ℕ) → u < length tree.units → (unit : TreeUnit) × (slice_get tree.units u ≡ Some unit)
+  unit_there u h = (get_or tree.units u (of_symbol 0), slice_get-get_or tree.units u (of_symbol 0) h)
+
+  pub file_user : (u : ℕ) → u < length tree.units → user_of (file_users tree (map (λ s. meant values (unit_of tree s)) (minimal_symbols profile tree values))) u
+      ≡ cond (list_any (λ s. unit_of tree s == u) (minimal_symbols profile tree values)) (user_meant values u) None
+  file_user u h = after_lines tree values u (minimal_symbols profile tree values) (no_users tree) false (let len = none_length (length tree.units) in omega (arith, len)) (none_held (length tree.units) u)
+
+  -- what the lines of the minimal file assign
+  pub least_of_lines : IsLeastAssignment (length tree.units) (rule profile tree) as_user values (file_users tree (map (λ s. meant values (unit_of tree s)) (minimal_symbols profile tree values)))
+  least_of_lines = record {
+    one_each = length_after tree values (minimal_symbols profile tree values) (no_users tree) ∙ none_length (length tree.units);
+    kept = λ u value h has kept.
+        let test = kept_passes profile tree users values fitting solved u h kept in
+        let unit = unit_there u h in
+        let k = kept_unit profile tree users values fitting solved u h test in
+        file_user u h ∙ ap (λ b. cond b (user_meant values u) None) (speaks_at u test k unit.0 unit.1) ∙ ap (option_and_then as_user) has;
+    others = λ u h same.
+        let fails : (s : ℕ) → has_line profile tree values s ≡ true → (unit_of tree s == u) ≡ false = λ s has. elim (cases_Bool (unit_of tree s == u)) [
+          | inl here ↦
+              let kept = (and_parts (is_kept profile tree values (unit_of tree s)) _ has).0 in
+              absurd (false≢true (sym (others_fail profile tree users values fitting solved u same) ∙ ap (is_kept profile tree values) (sym (eqb-true (unit_of tree s) u here)) ∙ kept))
+          | inr other ↦ other
+        ] in
+        file_user u h ∙ ap (λ b. cond b (user_meant values u) None) (none_of_filter (λ s. unit_of tree s == u) (has_line profile tree values) (symbol_numbers tree) fails);
+  }
+
+  -- the minimal file is read as the least assignment
+  pub reads_as_least : IsReadAsLeast prefix profile tree values
+  reads_as_least = record {
+    sayings = map (λ s. meant values (unit_of tree s)) (minimal_symbols profile tree values);
+    says = lines_say (minimal_symbols profile tree values) (passes_filter (has_line profile tree values) (symbol_numbers tree));
+    least = least_of_lines;
+  }

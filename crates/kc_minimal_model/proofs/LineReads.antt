@@ -1,0 +1,135 @@
+-- The line of a kept value is read as its assignment.
+use Rattle.std.proofs.Common.{◌≡◌, ℕ, Bool, true, false, not, ◌||◌, ◌==◌, cond, List, [], ◌∷◌, ◌++◌, Some, None, refl, sym, ◌∙◌, ap, subst, append_assoc, arith}
+use Rattle.std.specs.Prelude.{codes, slice_get, is_some}
+use Rattle.std.specs.List.{list_all, flat_map}
+use Rattle.std.proofs.lemmas.Bool.{false≢true, and_from, and_parts, or_parts, not-true}
+use Rattle.kc_value.specs.declared.tri.Tri.{Tri}
+use Rattle.kc_value.specs.declared.tri.Tri.TheVariants.{N, M, Y}
+use Rattle.kc_value.specs.declared.value.Kind.{Kind}
+use Rattle.kc_value.specs.declared.value.Kind.TheVariants.{Bool as Boolean, Tristate, Text, Int, Hex}
+use Rattle.kc_value.specs.Quoted.{quoted, escaped_byte, IsBody, none, plain, pair, IsQuoted}
+use Rattle.kc_expr.specs.Expr.{Seen, letter}
+use Rattle.kc_tree_model.specs.Trees.{Whole, Symbol}
+use Rattle.kc_tree_model.specs.TreeLookup.{has_newline, IsConsistent, is_name_byte, unit_of}
+use Rattle.kc_rules_model.specs.declared.values.UserValue.TheVariants.{Tri as TriUser, Text as TextUser, Member as MemberUser}
+use Rattle.kc_rules_model.specs.Kinds.{is_tri_kind}
+use Rattle.kc_value.specs.Number.{number_of_text}
+use Rattle.kc_rules_model.specs.Shapes.{tri_fits, user_text_fits}
+use Rattle.kc_dotconfig_model.specs.Names.{is_prefix, lacks}
+use Rattle.kc_dotconfig_model.specs.Lines.{Saying, assigns, silent, Says, value, unset, unset_saying, ValueSays, tri as says_tri, chosen, quoted as says_quoted, number, tri_meant, without_white_end}
+use Rattle.kc_minimal_model.specs.Spelling.{line_with, value_line, unset_line}
+use Rattle.kc_minimal_model.proofs.Bytes.{name_lacks, all_of_both, keeps_text, ends_in_ink}
+use Rattle.kc_rules_model.proofs.Ink.{is_ink, all_weaker}
+use Rattle.kc_rules_model.proofs.Numbers.{IsInk, number_ink}
+use Rattle.kc_rules_model.proofs.Lookups.{found_by_name}
+
+-- the escaped text is what stands between the quotes of a text
+body_of : (text : List ℕ) → IsBody 34 (flat_map escaped_byte text) text
+body_of [] = none
+body_of (c ∷ text) = go (c == 34 || (c == 92)) refl (body_of text) where
+  go : (t : Bool) → (c == 34 || (c == 92)) ≡ t → IsBody 34 (flat_map escaped_byte text) text → IsBody 34 (cond t (92 ∷ c ∷ []) (c ∷ []) ++ flat_map escaped_byte text) (c ∷ text)
+  go true e rest = pair rest
+  go false e rest = let both = or_parts (c == 34) (c == 92) e in plain both.0 both.1 rest
+
+-- the quoted spelling of a text stands for it
+pub quoted_means : (text : List ℕ) → IsQuoted (quoted text) text
+quoted_means text = (flat_map escaped_byte text, refl, body_of text)
+
+escaped_lacks : (text : List ℕ) → has_newline text ≡ false → lacks 10 (flat_map escaped_byte text) ≡ true
+escaped_lacks [] e = refl
+escaped_lacks (c ∷ text) e =
+    let parts = or_parts (c == 10) (has_newline text) e in
+    all_of_both (λ b. not (b == 10)) (escaped_byte c) (flat_map escaped_byte text) (go (c == 34 || (c == 92))) (escaped_lacks text parts.1) where
+      go : (t : Bool) → lacks 10 (cond t (92 ∷ c ∷ []) (c ∷ [])) ≡ true
+      go true = and_from (not (c == 10)) true (ap not (or_parts (c == 10) (has_newline text) e).0) refl
+      go false = and_from (not (c == 10)) true (ap not (or_parts (c == 10) (has_newline text) e).0) refl
+
+-- what is asked of a written line
+pub record IsLine (prefix : List ℕ) (tree : Whole) (line : List ℕ) (saying : Saying) : Type 0 where
+  pub says : Says prefix tree line saying
+  pub whole : without_white_end line ≡ line
+  pub one : lacks 10 line ≡ true
+
+prefix_bytes : (prefix : List ℕ) → is_prefix prefix ≡ true → list_all is_name_byte prefix ≡ true
+prefix_bytes prefix e = (and_parts _ (list_all is_name_byte prefix) e).1
+
+module _ (prefix : List ℕ) (valid : is_prefix prefix ≡ true) (tree : Whole) (sound : IsConsistent tree) (s : ℕ) (symbol : Symbol) (at : slice_get tree.symbols s ≡ Some symbol) where
+  one_value_line : (text : List ℕ) → lacks 10 text ≡ true → lacks 10 (value_line prefix symbol.name text) ≡ true
+  one_value_line text one =
+      all_of_both (λ c. not (c == 10)) prefix (symbol.name ++ (61 ∷ text)) (name_lacks 10 refl prefix (prefix_bytes prefix valid))
+      (all_of_both (λ c. not (c == 10)) symbol.name (61 ∷ text) (name_lacks 10 refl symbol.name (sound.words s symbol at).1) one)
+
+  split_value_line : (text : List ℕ) → value_line prefix symbol.name text ≡ (prefix ++ (symbol.name ++ 61 ∷ [])) ++ text
+  split_value_line text = simp append_assoc
+
+  says_value : (text : List ℕ) (saying : Saying) → ValueSays tree s symbol text saying → Says prefix tree (value_line prefix symbol.name text) saying
+  says_value text saying says =
+      value (value_line prefix symbol.name text) symbol.name text s symbol saying ((sound.words s symbol at).0, name_lacks 61 refl symbol.name (sound.words s symbol at).1, refl)
+      (found_by_name tree sound s symbol at) at says
+
+  -- a value line whose text is of ink
+  pub ink_line : (text : List ℕ) (saying : Saying) → IsInk text → ValueSays tree s symbol text saying → IsLine prefix tree (value_line prefix symbol.name text) saying
+  ink_line text saying ink says = record {
+    says = says_value text saying says;
+    whole = ap without_white_end (split_value_line text) ∙ keeps_text (prefix ++ (symbol.name ++ 61 ∷ [])) text ink.some ink.ink ∙ sym (split_value_line text);
+    one = one_value_line text (all_weaker is_ink (λ c. not (c == 10)) ink_newline text ink.ink);
+  } where
+    ink_newline : (b : ℕ) → is_ink b ≡ true → not (b == 10) ≡ true
+    ink_newline b e = ap not (or_parts _ (b == 10) (not-true _ e)).1
+
+  -- the line of a string
+  pub string_line : (text : List ℕ) (saying : Saying) → has_newline text ≡ false → ValueSays tree s symbol (quoted text) saying → IsLine prefix tree (value_line prefix symbol.name (quoted text)) saying
+  string_line text saying one says =
+      let front = prefix ++ (symbol.name ++ (61 ∷ 34 ∷ flat_map escaped_byte text)) in
+      let same : value_line prefix symbol.name (quoted text) ≡ front ++ 34 ∷ [] = simp append_assoc in
+      record {
+        says = says_value (quoted text) saying says;
+        whole = ap without_white_end same ∙ ends_in_ink front 34 refl ∙ sym same;
+        one = one_value_line (quoted text) (all_of_both (λ c. not (c == 10)) (flat_map escaped_byte text) (34 ∷ []) (escaped_lacks text one) refl);
+      }
+
+  -- an unset line
+  pub not_set_line : IsLine prefix tree (unset_line prefix symbol.name) (unset_saying tree s symbol symbol.choice)
+  not_set_line =
+      let front = codes "# " ++ (prefix ++ (symbol.name ++ codes " is not ")) in
+      let same : unset_line prefix symbol.name ≡ front ++ codes "set" = simp append_assoc in
+      record {
+        says = unset (unset_line prefix symbol.name) symbol.name s symbol ((sound.words s symbol at).0, name_lacks 32 refl symbol.name (sound.words s symbol at).1, refl) (found_by_name tree sound s symbol at) at;
+        whole = ap without_white_end same ∙ keeps_text front (codes "set") (omega arith) refl ∙ sym same;
+        one = all_of_both (λ c. not (c == 10)) (codes "# ") (prefix ++ (symbol.name ++ codes " is not set")) refl
+            (all_of_both (λ c. not (c == 10)) prefix (symbol.name ++ codes " is not set") (name_lacks 10 refl prefix (prefix_bytes prefix valid))
+            (all_of_both (λ c. not (c == 10)) symbol.name (codes " is not set") (name_lacks 10 refl symbol.name (sound.words s symbol at).1) refl));
+      }
+
+  abbrev of_tri : Kind → Tri → Seen
+  of_tri kind t = record { kind = kind; tri = t; text = letter t }
+
+  abbrev of_text : Kind → List ℕ → Seen
+  of_text kind text = record { kind = kind; tri = N; text = text }
+
+  letter_line : (t : Tri) → symbol.choice ≡ None → tri_meant symbol.kind (letter t) ≡ Some t → IsInk (letter t) → IsLine prefix tree (value_line prefix symbol.name (letter t)) (assigns (unit_of tree s) (TriUser t))
+  letter_line t out meant ink = ink_line (letter t) (assigns (unit_of tree s) (TriUser t)) ink (says_tri (letter t) t out meant)
+
+  -- the line of a bool or tristate outside choices
+  pub tri_line : (kind : Kind) (t : Tri) → symbol.kind ≡ kind → symbol.choice ≡ None → tri_fits kind t ≡ true → IsLine prefix tree (line_with prefix symbol.name (of_tri kind t)) (assigns (unit_of tree s) (TriUser t))
+  tri_line Boolean N is out fits = subst (IsLine prefix tree (unset_line prefix symbol.name)) (ap (unset_saying tree s symbol) out ∙ ap (λ k. cond (is_tri_kind k) (assigns (unit_of tree s) (TriUser N)) silent) is) not_set_line
+  tri_line Boolean M is out fits = absurd (false≢true fits)
+  tri_line Boolean Y is out fits = letter_line Y out (ap (λ k. tri_meant k (letter Y)) is) (record { some = omega arith; ink = refl })
+  tri_line Tristate N is out fits = subst (IsLine prefix tree (unset_line prefix symbol.name)) (ap (unset_saying tree s symbol) out ∙ ap (λ k. cond (is_tri_kind k) (assigns (unit_of tree s) (TriUser N)) silent) is) not_set_line
+  tri_line Tristate M is out fits = letter_line M out (ap (λ k. tri_meant k (letter M)) is) (record { some = omega arith; ink = refl })
+  tri_line Tristate Y is out fits = letter_line Y out (ap (λ k. tri_meant k (letter Y)) is) (record { some = omega arith; ink = refl })
+  tri_line Text t is out fits = absurd (false≢true fits)
+  tri_line Int t is out fits = absurd (false≢true fits)
+  tri_line Hex t is out fits = absurd (false≢true fits)
+
+  -- the line of a string, int or hex
+  pub text_line : (kind : Kind) (text : List ℕ) → symbol.kind ≡ kind → user_text_fits kind text ≡ true → IsLine prefix tree (line_with prefix symbol.name (of_text kind text)) (assigns (unit_of tree s) (TextUser text))
+  text_line Boolean text is fits = absurd (false≢true fits)
+  text_line Tristate text is fits = absurd (false≢true fits)
+  text_line Text text is fits = string_line text (assigns (unit_of tree s) (TextUser text)) (not-true (has_newline text) fits) (says_quoted (quoted text) text is (quoted_means text))
+  text_line Int text is fits = ink_line text (assigns (unit_of tree s) (TextUser text)) (number_ink Int text fits) (number text (ap (λ k. is_some (number_of_text k text)) is ∙ fits))
+  text_line Hex text is fits = ink_line text (assigns (unit_of tree s) (TextUser text)) (number_ink Hex text fits) (number text (ap (λ k. is_some (number_of_text k text)) is ∙ fits))
+
+  -- the line of a selected member
+  pub member_line : (c : ℕ) → symbol.choice ≡ Some c → symbol.kind ≡ Boolean → IsLine prefix tree (line_with prefix symbol.name (of_tri Boolean Y)) (assigns (unit_of tree s) (MemberUser s))
+  member_line c within is = ink_line (letter Y) (assigns (unit_of tree s) (MemberUser s)) (record { some = omega arith; ink = refl }) (chosen c (letter Y) within (ap (λ k. tri_meant k (letter Y)) is))

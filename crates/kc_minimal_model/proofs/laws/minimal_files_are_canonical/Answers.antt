@@ -1,0 +1,5 @@
+use Rattle.kc_minimal_model.proofs.Canonical.{canonical}
+use Rattle.kc_minimal_model.proofs.laws.minimal_files_are_canonical.Goals as goal
+
+pub returns : goal.returns
+returns c = canonical

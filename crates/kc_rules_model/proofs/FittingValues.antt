@@ -1,0 +1,246 @@
+-- What a rule gives fits its unit, over a consistent tree.
+use Rattle.std.proofs.Common.{◌≡◌, inl, inr, ℕ, zero, suc, ◌<◌, ◌^◌, Bool, true, false, not, ◌&&◌, ◌||◌, ◌==◌, cond, IsTrue, IfSome, List, [], ◌∷◌, Option, Some, None, ℤ, pos, find, length, unwrap_or, int_lt, refl, sym, ◌∙◌, ap, subst, arith}
+use Rattle.std.specs.Prelude.{slice_get, is_some, unsigned_abs, neg_ℤ, ◌≤ℤ◌, ◌<ℤ◌}
+use Rattle.std.specs.Option.{option_map, option_and_then}
+use Rattle.std.specs.List.{list_any, list_all}
+use Rattle.std.proofs.lemmas.Bool.{eq-eqb, false≢true, and_parts, or_cases, or_left, or_right, not-true, eqb-true}
+use Rattle.std.proofs.lemmas.Option.{slice_get-get_or}
+use Rattle.std.proofs.lemmas.Int.{ints}
+use Rattle.kc_value.specs.declared.tri.Tri.{Tri}
+use Rattle.kc_value.specs.declared.tri.Tri.TheVariants.{N, M, Y}
+use Rattle.kc_value.specs.declared.value.Kind.{Kind}
+use Rattle.kc_value.specs.declared.value.Kind.TheVariants.{Bool as Boolean, Tristate, Text, Int, Hex}
+use Rattle.kc_value.specs.Number.{number_of_text, number_spelling, IsPrintable}
+use Rattle.kc_value.specs.NumberGrammar.{IsInt, IsHex, decimal, negative, bare, prefixed}
+use Rattle.kc_value.proofs.NumberLaws.{int_sound}
+use Rattle.kc_value.proofs.HexLaws.{hex_sound}
+use Rattle.kc_value.proofs.NumberSpelling.{spelling_read_back}
+use Rattle.kc_expr.specs.Expr.{Expr, alone, related, negated, both, either, shown, constant, named, quoted, Seen, letter, text_seen, operand_text}
+use Rattle.kc_tree_model.specs.Trees.{Whole, Symbol, Choice, Default, Range, MemberDefault, TreeUnit, of_symbol, of_choice}
+use Rattle.kc_tree_model.specs.TreeLookup.{IsConsistent, has_newline, own_text, unit_of, symbol_named}
+use Rattle.kc_system.specs.Solutions.{FitsValues}
+use Rattle.kc_rules_model.specs.declared.profile.Profile.{Profile}
+use Rattle.kc_rules_model.specs.declared.values.UnitValue.{UnitValue}
+use Rattle.kc_rules_model.specs.declared.values.UnitValue.TheVariants.{Tri as TriValue, Text as TextValue, Member as MemberValue}
+use Rattle.kc_rules_model.specs.declared.values.UserValue.{UserValue}
+use Rattle.kc_rules_model.specs.declared.values.UserValue.TheVariants.{Tri as TriUser, Text as TextUser, Member as MemberUser}
+use Rattle.kc_rules_model.specs.Kinds.{is_n, is_tri_kind, is_tristate}
+use Rattle.kc_rules_model.specs.SymbolValues.{seen_in, seen_as_tri, symbol_seen, names_under, condition, tri_of, text_of}
+use Rattle.kc_rules_model.specs.Rule.{rule, rule_of_unit, rule_of_symbol, rule_of_choice, symbol_rule, string_rule, number_rule, choice_rule, expression_text, default_text, number_default, limited, bound, active_range, active_default, is_within, is_visible, is_visible_member, is_shown, assigned_text, assigned_member, or_else, modules_value, leaves_no_m}
+use Rattle.kc_rules_model.specs.Shapes.{user_fits, value_fits, unit_user_fits, unit_value_fits, symbol_user_fits, symbol_value_fits, choice_user_fits, choice_value_fits, user_text_fits, text_fits}
+use Rattle.kc_rules_model.specs.RestoreLaw.{fits_promoted}
+use Rattle.kc_rules_model.specs.Laws.{RulesFit}
+use Rattle.kc_rules_model.proofs.Lookups.{inside, unit_is}
+use Rattle.kc_rules_model.proofs.Ink.{is_ink, isn't}
+use Rattle.kc_rules_model.proofs.Numbers.{number_ink}
+
+letter_one_line : (t : Tri) → has_newline (letter t) ≡ false
+letter_one_line N = refl
+letter_one_line M = refl
+letter_one_line Y = refl
+
+ink_one_line : (text : List ℕ) → list_all is_ink text ≡ true → has_newline text ≡ false
+ink_one_line [] all = refl
+ink_one_line (b ∷ text) all =
+    let parts = and_parts (is_ink b) (list_all is_ink text) all in
+    ap (λ t. t || has_newline text) (isn't is_ink 10 b refl parts.0) ∙ ink_one_line text parts.1
+
+number_one_line : (kind : Kind) (text : List ℕ) → (length text == 0 || is_some (number_of_text kind text)) ≡ true → has_newline text ≡ false
+number_one_line kind [] e = refl
+number_one_line kind (b ∷ text) e = elim (or_cases (length (b ∷ text) == 0) (is_some (number_of_text kind (b ∷ text))) e) [
+  | inl none ↦ (let zero_bytes = eqb-true (length (b ∷ text)) 0 none in absurd (omega arith))
+  | inr number ↦ ink_one_line (b ∷ text) (number_ink kind (b ∷ text) number).ink
+]
+
+text_one_line : (kind : Kind) (text : List ℕ) → text_fits kind text ≡ true → has_newline text ≡ false
+text_one_line Boolean text e = absurd (false≢true e)
+text_one_line Tristate text e = absurd (false≢true e)
+text_one_line Text text e = not-true (has_newline text) e
+text_one_line Int text e = number_one_line Int text e
+text_one_line Hex text e = number_one_line Hex text e
+
+found_passes : {X : Type 0} (p q : X → Bool) (xs : List X) (x : X) → list_all q xs ≡ true → find p xs ≡ Some x → q x ≡ true
+found_passes p q [] x all e = cc
+found_passes p q (y ∷ xs) x all e = let parts = and_parts (q y) (list_all q xs) all in go (p y) parts.0 e (found_passes p q xs x parts.1) where
+  go : (t : Bool) → q y ≡ true → cond t (Some y) (find p xs) ≡ Some x → (find p xs ≡ Some x → q x ≡ true) → q x ≡ true
+  go true here e next = let same : y ≡ x = cc in ap q (sym same) ∙ here
+  go false here e next = next e
+
+int_printable : (text : List ℕ) (z : ℤ) → IsInt text z → unsigned_abs z < 2 ^ 63
+int_printable text z (decimal n writes below is len) = subst (λ k. unsigned_abs k < 2 ^ 63) (sym is) below
+int_printable text z (negative digits n parts writes below is len) = subst (λ k. unsigned_abs k < 2 ^ 63) (sym is) (size n below) where
+  size : (n : ℕ) → n < 2 ^ 63 → unsigned_abs (neg_ℤ (pos n)) < 2 ^ 63
+  size zero below = below
+  size (suc n) below = below
+
+hex_printable : (text : List ℕ) (z : ℤ) → IsHex text z → (pos 0 ≤ℤ z) × (z <ℤ pos (2 ^ 64))
+hex_printable text z (bare n writes below is len) = subst (λ k. (pos 0 ≤ℤ k) × (k <ℤ pos (2 ^ 64))) (sym is) (omega (arith, ints), omega (arith, ints))
+hex_printable text z (prefixed digits n parts writes below is len) = subst (λ k. (pos 0 ≤ℤ k) × (k <ℤ pos (2 ^ 64))) (sym is) (omega (arith, ints), omega (arith, ints))
+
+-- a bound can be printed
+bound_printable : (kind : Kind) (text : List ℕ) (o : Option ℤ) → is_tri_kind kind ≡ false → (kind ≡ Text → ⊥) → number_of_text kind text ≡ o → IsPrintable kind (unwrap_or o (pos 0))
+bound_printable Boolean text o large other e = absurd (false≢true (sym large))
+bound_printable Tristate text o large other e = absurd (false≢true (sym large))
+bound_printable Text text o large other e = absurd (other refl)
+bound_printable Int text None large other e = omega arith
+bound_printable Int text (Some z) large other e = int_printable text z (int_sound text z e)
+bound_printable Hex text None large other e = (omega (arith, ints), omega (arith, ints))
+bound_printable Hex text (Some z) large other e = hex_printable text z (hex_sound text z e)
+
+module _ (tree : Whole) (sound : IsConsistent tree) (values : List UnitValue) (fitting : FitsValues (length tree.units) (λ u v. IsTrue (value_fits tree u v)) values) where
+  held_one_line : (s : ℕ) (symbol : Symbol) → slice_get tree.symbols s ≡ Some symbol → symbol.choice ≡ None → has_newline (text_of (slice_get values (unit_of tree s))) ≡ false
+  unfolding value_fits
+  held_one_line s symbol at out =
+      let own = sound.own_units s symbol at out in
+      let here : slice_get tree.units (unit_of tree s) ≡ Some (of_symbol s) = ap (slice_get tree.units) (unit_is tree sound s own.0 symbol None at out own.1) ∙ own.1 in
+      go (slice_get values (unit_of tree s)) (fitting.1 (unit_of tree s) (inside tree.units (unit_of tree s) (of_symbol s) here)) here where
+        go : (o : Option UnitValue) → IfSome o (λ v. IsTrue (unit_value_fits tree (slice_get tree.units (unit_of tree s)) v)) → slice_get tree.units (unit_of tree s) ≡ Some (of_symbol s) → has_newline (text_of o) ≡ false
+        go None fits here = refl
+        go (Some (TriValue t)) fits here = refl
+        go (Some (MemberValue m)) fits here = refl
+        go (Some (TextValue text)) fits here = text_one_line symbol.kind text (sym (ap (λ o. unit_value_fits tree o (TextValue text)) here ∙ ap (λ o. symbol_value_fits o (TextValue text)) at) ∙ fits)
+
+  seen_one_line : (s : ℕ) (symbol : Symbol) → slice_get tree.symbols s ≡ Some symbol → (c : Option ℕ) → symbol.choice ≡ c → has_newline (seen_in tree values s symbol c).text ≡ false
+  seen_one_line s symbol at (Some c) e = letter_one_line _
+  seen_one_line s symbol at None e = go (is_tri_kind symbol.kind) where
+    go : (t : Bool) → has_newline (cond {A = Seen} t (seen_as_tri symbol.kind (tri_of (slice_get values (unit_of tree s)))) (record { kind = symbol.kind; tri = N; text = text_of (slice_get values (unit_of tree s)) })).text ≡ false
+    go true = letter_one_line _
+    go false = held_one_line s symbol at e
+
+  name_one_line : (name : List ℕ) (o : Option ℕ) → has_newline name ≡ false → has_newline (text_seen name (option_and_then (λ s. symbol_seen tree values s) o)) ≡ false
+  name_one_line name None e = e
+  name_one_line name (Some s) e = go (slice_get tree.symbols s) refl where
+    go : (o : Option Symbol) → slice_get tree.symbols s ≡ o → has_newline (text_seen name (option_map (λ (symbol : Symbol). seen_in tree values s symbol symbol.choice) o)) ≡ false
+    go None at = e
+    go (Some symbol) at = seen_one_line s symbol at symbol.choice refl
+
+  expression_one_line : (e : Expr) → has_newline (own_text e) ≡ false → has_newline (expression_text tree values e) ≡ false
+  expression_one_line (alone (constant t)) e = letter_one_line t
+  expression_one_line (alone (named x)) e = name_one_line x (symbol_named tree x) e
+  expression_one_line (alone (quoted x)) e = e
+  expression_one_line (related op a b) e = refl
+  expression_one_line (negated a) e = refl
+  expression_one_line (both a b) e = refl
+  expression_one_line (either a b) e = refl
+  expression_one_line (shown a) e = refl
+
+  default_one_line : (s : ℕ) (symbol : Symbol) → slice_get tree.symbols s ≡ Some symbol → has_newline (default_text tree values symbol) ≡ false
+  default_one_line s symbol at = go (active_default tree values symbol) refl where
+    go : (o : Option Default) → active_default tree values symbol ≡ o → has_newline (unwrap_or (option_map (λ (d : Default). expression_text tree values d.value) o) []) ≡ false
+    go None e = refl
+    go (Some d) e = expression_one_line d.value (not-true _ (found_passes (λ (d : Default). not (is_n (condition tree values d.condition))) (λ (d : Default). not (has_newline (own_text d.value))) symbol.defaults d (sound.one_line s symbol at) e))
+
+  string_fits : (s : ℕ) (symbol : Symbol) → slice_get tree.symbols s ≡ Some symbol → symbol.kind ≡ Text → (x : Option UserValue) → IfSome x (λ y. IsTrue (symbol_user_fits (Some symbol) y)) → has_newline (string_rule tree symbol x values) ≡ false
+  string_fits s symbol at is x fits = go (is_visible tree values symbol) x fits where
+    none_line : (t : Bool) → has_newline (unwrap_or (cond t None None) (default_text tree values symbol)) ≡ false
+    none_line true = default_one_line s symbol at
+    none_line false = default_one_line s symbol at
+
+    go : (t : Bool) (x : Option UserValue) → IfSome x (λ y. IsTrue (symbol_user_fits (Some symbol) y)) → has_newline (unwrap_or (cond t (assigned_text x) None) (default_text tree values symbol)) ≡ false
+    go t None fits = none_line t
+    go t (Some (TriUser a)) fits = none_line t
+    go t (Some (MemberUser m)) fits = none_line t
+    go false (Some (TextUser text)) fits = default_one_line s symbol at
+    go true (Some (TextUser text)) fits = not-true (has_newline text) (sym (ap (λ k. user_text_fits k text) is) ∙ fits)
+
+  spelled_fits : (kind : Kind) (z : ℤ) → IsPrintable kind z → (length (number_spelling kind z) == 0 || is_some (number_of_text kind (number_spelling kind z))) ≡ true
+  spelled_fits kind z printable = or_right (length (number_spelling kind z) == 0) (is_some (number_of_text kind (number_spelling kind z))) (ap is_some (spelling_read_back kind z printable))
+
+  limited_fits : (kind : Kind) → is_tri_kind kind ≡ false → (kind ≡ Text → ⊥) → (o : Option Range) (n : ℤ) (text : List ℕ) → (length text == 0 || is_some (number_of_text kind text)) ≡ true
+      → (length (limited tree values kind o n text) == 0 || is_some (number_of_text kind (limited tree values kind o n text))) ≡ true
+  limited_fits kind large other None n text fits = fits
+  limited_fits kind large other (Some r) n text fits = go (int_lt n (bound tree values kind r.low)) (int_lt (bound tree values kind r.high) n) where
+    go : (a b : Bool) → (length (cond a (number_spelling kind (bound tree values kind r.low)) (cond b (number_spelling kind (bound tree values kind r.high)) text)) == 0
+        || is_some (number_of_text kind (cond a (number_spelling kind (bound tree values kind r.low)) (cond b (number_spelling kind (bound tree values kind r.high)) text)))) ≡ true
+    go true b = spelled_fits kind _ (bound_printable kind (operand_text (names_under tree values) r.low) (number_of_text kind (operand_text (names_under tree values) r.low)) large other refl)
+    go false true = spelled_fits kind _ (bound_printable kind (operand_text (names_under tree values) r.high) (number_of_text kind (operand_text (names_under tree values) r.high)) large other refl)
+    go false false = fits
+
+  default_fits : (symbol : Symbol) → is_tri_kind symbol.kind ≡ false → (symbol.kind ≡ Text → ⊥) → (length (number_default tree values symbol) == 0 || is_some (number_of_text symbol.kind (number_default tree values symbol))) ≡ true
+  default_fits symbol large other = go (is_some (number_of_text symbol.kind (default_text tree values symbol))) refl where
+    go : (t : Bool) → is_some (number_of_text symbol.kind (default_text tree values symbol)) ≡ t
+        → (length (cond t (limited tree values symbol.kind (active_range tree values symbol) (unwrap_or (number_of_text symbol.kind (default_text tree values symbol)) (pos 0)) (default_text tree values symbol)) (limited tree values symbol.kind (active_range tree values symbol) (pos 0) [])) == 0
+        || is_some (number_of_text symbol.kind (cond t (limited tree values symbol.kind (active_range tree values symbol) (unwrap_or (number_of_text symbol.kind (default_text tree values symbol)) (pos 0)) (default_text tree values symbol)) (limited tree values symbol.kind (active_range tree values symbol) (pos 0) [])))) ≡ true
+    go true e = limited_fits symbol.kind large other (active_range tree values symbol) _ (default_text tree values symbol) (or_right (length (default_text tree values symbol) == 0) _ e)
+    go false e = limited_fits symbol.kind large other (active_range tree values symbol) (pos 0) [] refl
+
+  number_fits : (symbol : Symbol) → is_tri_kind symbol.kind ≡ false → (symbol.kind ≡ Text → ⊥) → (x : Option UserValue) → IfSome x (λ y. IsTrue (symbol_user_fits (Some symbol) y))
+      → (length (number_rule tree symbol x values) == 0 || is_some (number_of_text symbol.kind (number_rule tree symbol x values))) ≡ true
+  number_fits symbol large other x fits = go (is_visible tree values symbol) x fits where
+    user_number : (kind : Kind) (text : List ℕ) → is_tri_kind kind ≡ false → (kind ≡ Text → ⊥) → user_text_fits kind text ≡ true → is_some (number_of_text kind text) ≡ true
+    user_number Boolean text large other e = e
+    user_number Tristate text large other e = e
+    user_number Text text large other e = absurd (other refl)
+    user_number Int text large other e = e
+    user_number Hex text large other e = e
+
+    go : (t : Bool) (x : Option UserValue) → IfSome x (λ y. IsTrue (symbol_user_fits (Some symbol) y)) → (length (unwrap_or (option_and_then (λ text. cond (is_within tree values symbol.kind (active_range tree values symbol) (unwrap_or (number_of_text symbol.kind text) (pos 0))) (Some text) None) (cond t (assigned_text x) None)) (number_default tree values symbol)) == 0
+        || is_some (number_of_text symbol.kind (unwrap_or (option_and_then (λ text. cond (is_within tree values symbol.kind (active_range tree values symbol) (unwrap_or (number_of_text symbol.kind text) (pos 0))) (Some text) None) (cond t (assigned_text x) None)) (number_default tree values symbol)))) ≡ true
+    go false x fits = default_fits symbol large other
+    go true None fits = default_fits symbol large other
+    go true (Some (TriUser a)) fits = default_fits symbol large other
+    go true (Some (MemberUser m)) fits = default_fits symbol large other
+    go true (Some (TextUser text)) fits = kept (is_within tree values symbol.kind (active_range tree values symbol) (unwrap_or (number_of_text symbol.kind text) (pos 0))) where
+      kept : (b : Bool) → (length (unwrap_or (cond b (Some text) None) (number_default tree values symbol)) == 0 || is_some (number_of_text symbol.kind (unwrap_or (cond b (Some text) None) (number_default tree values symbol)))) ≡ true
+      kept true = or_right (length text == 0) _ (user_number symbol.kind text large other fits)
+      kept false = default_fits symbol large other
+
+  found_in : (p : ℕ → Bool) (xs : List ℕ) (m : ℕ) → find p xs ≡ Some m → list_any (λ k. k == m) xs ≡ true
+  found_in p [] m e = cc
+  found_in p (x ∷ xs) m e = go (p x) e (found_in p xs m) where
+    go : (t : Bool) → cond t (Some x) (find p xs) ≡ Some m → (find p xs ≡ Some m → list_any (λ k. k == m) xs ≡ true) → (x == m || list_any (λ k. k == m) xs) ≡ true
+    go true e next = let same : x ≡ m = cc in or_left (x == m) (list_any (λ k. k == m) xs) (eq-eqb x m same)
+    go false e next = or_right (x == m) (list_any (λ k. k == m) xs) (next e)
+
+  choice_fits : (c : ℕ) (choice : Choice) → slice_get tree.choices c ≡ Some choice → (x : Option UserValue) → IfSome x (λ y. IsTrue (choice_user_fits (Some choice) y)) → choice_value_fits (Some choice) (MemberValue (choice_rule tree choice x values)) ≡ true
+  choice_fits c choice at x fits = shown_or_not (is_shown tree values choice) where
+    by_first : (o : Option ℕ) → find (is_visible_member tree values) choice.members ≡ o → choice_value_fits (Some choice) (MemberValue o) ≡ true
+    by_first None e = refl
+    by_first (Some m) e = found_in (is_visible_member tree values) choice.members m e
+
+    by_default : (o : Option MemberDefault) → find (λ (d : MemberDefault). not (is_n (condition tree values d.condition)) && is_visible_member tree values d.member) choice.defaults ≡ o
+        → choice_value_fits (Some choice) (MemberValue (or_else (option_map (λ (d : MemberDefault). d.member) o) (find (is_visible_member tree values) choice.members))) ≡ true
+    by_default None e = by_first (find (is_visible_member tree values) choice.members) refl
+    by_default (Some d) e = found_passes _ (λ (d : MemberDefault). list_any (λ m. m == d.member) choice.members) choice.defaults d (sound.default_members c choice at) e
+
+    others : choice_value_fits (Some choice) (MemberValue (or_else (option_map (λ (d : MemberDefault). d.member) (find (λ (d : MemberDefault). not (is_n (condition tree values d.condition)) && is_visible_member tree values d.member) choice.defaults)) (find (is_visible_member tree values) choice.members))) ≡ true
+    others = by_default (find (λ (d : MemberDefault). not (is_n (condition tree values d.condition)) && is_visible_member tree values d.member) choice.defaults) refl
+
+    by_user : (x : Option UserValue) → IfSome x (λ y. IsTrue (choice_user_fits (Some choice) y))
+        → choice_value_fits (Some choice) (MemberValue (or_else (option_and_then (λ s. cond (is_visible_member tree values s) (Some s) None) (assigned_member x)) (or_else (option_map (λ (d : MemberDefault). d.member) (find (λ (d : MemberDefault). not (is_n (condition tree values d.condition)) && is_visible_member tree values d.member) choice.defaults)) (find (is_visible_member tree values) choice.members)))) ≡ true
+    by_user None fits = others
+    by_user (Some (TriUser t)) fits = others
+    by_user (Some (TextUser t)) fits = others
+    by_user (Some (MemberUser s)) fits = seen (is_visible_member tree values s) where
+      seen : (t : Bool) → choice_value_fits (Some choice) (MemberValue (or_else (cond t (Some s) None) (or_else (option_map (λ (d : MemberDefault). d.member) (find (λ (d : MemberDefault). not (is_n (condition tree values d.condition)) && is_visible_member tree values d.member) choice.defaults)) (find (is_visible_member tree values) choice.members)))) ≡ true
+      seen true = fits
+      seen false = others
+
+    shown_or_not : (t : Bool) → choice_value_fits (Some choice) (MemberValue (cond t (or_else (option_and_then (λ s. cond (is_visible_member tree values s) (Some s) None) (assigned_member x)) (or_else (option_map (λ (d : MemberDefault). d.member) (find (λ (d : MemberDefault). not (is_n (condition tree values d.condition)) && is_visible_member tree values d.member) choice.defaults)) (find (is_visible_member tree values) choice.members))) None)) ≡ true
+    shown_or_not true = by_user x fits
+    shown_or_not false = refl
+
+  symbol_fits : (profile : Profile) (s : ℕ) (symbol : Symbol) → slice_get tree.symbols s ≡ Some symbol → (kind : Kind) → symbol.kind ≡ kind → (x : Option UserValue) → IfSome x (λ y. IsTrue (symbol_user_fits (Some symbol) y))
+      → symbol_value_fits (Some symbol) (symbol_rule kind profile tree symbol x values) ≡ true
+  symbol_fits profile s symbol at Boolean is x fits = fits_promoted tree values symbol.kind (is_tristate symbol.kind && is_n (modules_value tree values)) (leaves_no_m profile tree values symbol) _ (ap is_tri_kind is)
+  symbol_fits profile s symbol at Tristate is x fits = fits_promoted tree values symbol.kind (is_tristate symbol.kind && is_n (modules_value tree values)) (leaves_no_m profile tree values symbol) _ (ap is_tri_kind is)
+  symbol_fits profile s symbol at Text is x fits = ap (λ k. text_fits k (string_rule tree symbol x values)) is ∙ ap not (string_fits s symbol at is x fits)
+  symbol_fits profile s symbol at Int is x fits = ap (λ k. text_fits k (number_rule tree symbol x values)) is ∙ ap (λ k. length (number_rule tree symbol x values) == 0 || is_some (number_of_text k (number_rule tree symbol x values))) (sym is) ∙ number_fits symbol (ap is_tri_kind is) (λ e. cc) x fits
+  symbol_fits profile s symbol at Hex is x fits = ap (λ k. text_fits k (number_rule tree symbol x values)) is ∙ ap (λ k. length (number_rule tree symbol x values) == 0 || is_some (number_of_text k (number_rule tree symbol x values))) (sym is) ∙ number_fits symbol (ap is_tri_kind is) (λ e. cc) x fits
+
+  at_symbol : (profile : Profile) (u s : ℕ) → slice_get tree.units u ≡ Some (of_symbol s) → (o : Option Symbol) → slice_get tree.symbols s ≡ o → (x : Option UserValue) → IfSome x (λ y. IsTrue (symbol_user_fits o y)) → symbol_value_fits o (rule_of_symbol profile tree o x values) ≡ true
+  at_symbol profile u s unit None at x fits = let found = (sound.symbol_units u s unit).1 in cc
+  at_symbol profile u s unit (Some symbol) at x fits = symbol_fits profile s symbol at symbol.kind refl x fits
+
+  at_choice : (u c : ℕ) → slice_get tree.units u ≡ Some (of_choice c) → (o : Option Choice) → slice_get tree.choices c ≡ o → (x : Option UserValue) → IfSome x (λ y. IsTrue (choice_user_fits o y)) → choice_value_fits o (rule_of_choice tree o x values) ≡ true
+  at_choice u c unit None at x fits = let found = (sound.choice_units u c unit).1 in cc
+  at_choice u c unit (Some choice) at x fits = choice_fits c choice at x fits
+
+  at_unit : (profile : Profile) (u : ℕ) → u < length tree.units → (o : Option TreeUnit) → slice_get tree.units u ≡ o → (x : Option UserValue) → IfSome x (λ y. IsTrue (unit_user_fits tree o y)) → unit_value_fits tree o (rule_of_unit profile tree o x values) ≡ true
+  at_unit profile u inside None at x fits = let there = slice_get-get_or tree.units u (of_symbol 0) inside in cc
+  at_unit profile u inside (Some (of_symbol s)) at x fits = at_symbol profile u s at (slice_get tree.symbols s) refl x fits
+  at_unit profile u inside (Some (of_choice c)) at x fits = at_choice u c at (slice_get tree.choices c) refl x fits
+
+pub rules_fit : RulesFit
+unfolding rule user_fits value_fits
+rules_fit profile tree u x values sound inside fits fitting = at_unit tree sound values fitting profile u inside (slice_get tree.units u) refl x fits

@@ -1,0 +1,5 @@
+use Rattle.kc_rules_model.specs.GraphLaw.{rules_graph as law}
+use Rattle.kc_rules_model.proofs.laws.dependencies_are_a_graph.Goals as goal
+
+pub returns : goal.returns
+returns c = law

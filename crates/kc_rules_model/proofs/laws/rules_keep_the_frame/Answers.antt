@@ -1,0 +1,5 @@
+use Rattle.kc_rules_model.specs.FrameLaw.{rules_frame as law}
+use Rattle.kc_rules_model.proofs.laws.rules_keep_the_frame.Goals as goal
+
+pub returns : goal.returns
+returns c = law

@@ -1,0 +1,5 @@
+use Rattle.kc_rules_model.specs.RestoreLaw.{rules_restore as law}
+use Rattle.kc_rules_model.proofs.laws.rules_restore.Goals as goal
+
+pub returns : goal.returns
+returns c = law

@@ -1,0 +1,29 @@
+-- Equality of values: the same letter, the same text byte for byte, or the same member.
+use Rattle.std.specs.Prelude.{Bool, true, false, ◌==◌, Option, Some, None, bytes_eq}
+use Rattle.kc_value.specs.declared.tri.Tri.{Tri}
+use Rattle.kc_value.specs.Tri.{rank}
+use Rattle.kc_rules_model.specs.declared.values.UnitValue.{UnitValue}
+use Rattle.kc_rules_model.specs.declared.values.UnitValue.TheVariants.{Tri as TriValue, Text as TextValue, Member as MemberValue}
+use Rattle.kc_rules_model.specs.declared.values.UserValue.{UserValue}
+use Rattle.kc_rules_model.specs.declared.values.UserValue.TheVariants.{Tri as TriUser, Text as TextUser, Member as MemberUser}
+
+abbrev pub same_tri : Tri → Tri → Bool
+same_tri a b = rank a == rank b
+
+abbrev pub same_value : UnitValue → UnitValue → Bool
+same_value (TriValue a) (TriValue b) = same_tri a b
+same_value (TextValue a) (TextValue b) = bytes_eq a b
+same_value (MemberValue None) (MemberValue None) = true
+same_value (MemberValue (Some a)) (MemberValue (Some b)) = a == b
+same_value _ _ = false
+
+-- whether the value of a unit is this one
+abbrev pub value_is : Option UnitValue → UnitValue → Bool
+value_is None value = false
+value_is (Some held) value = same_value held value
+
+abbrev pub same_user : UserValue → UserValue → Bool
+same_user (TriUser a) (TriUser b) = same_tri a b
+same_user (TextUser a) (TextUser b) = bytes_eq a b
+same_user (MemberUser a) (MemberUser b) = a == b
+same_user _ _ = false

@@ -1,0 +1,60 @@
+-- What is told of a valuation: the symbols of a full file, unmet dependencies and lifted tristates.
+use Rattle.std.specs.Prelude.{◌≡◌, ◌≢◌, ℕ, Bool, true, false, not, ◌&&◌, ◌||◌, List, Some, is_some, is_none, length, nat_lt, slice_get, filter, unwrap_or, if◌then◌else◌}
+use Rattle.std.specs.List.{range_with_len}
+use Rattle.std.specs.Option.{option_map}
+use Rattle.kc_value.specs.Tri.{rank}
+use Rattle.kc_tree_model.specs.Trees.{Whole, Symbol, of_symbol}
+use Rattle.kc_rules_model.specs.declared.profile.Profile.{Profile}
+use Rattle.kc_rules_model.specs.declared.values.UnitValue.{UnitValue}
+use Rattle.kc_rules_model.specs.Kinds.{is_n, is_tri_kind, is_tristate}
+use Rattle.kc_rules_model.specs.Rule.{rule, as_user, is_visible, selected, implied, direct_dependency, active_default, default_tri}
+
+-- the numbers of the symbols, in order of first definition
+abbrev pub symbol_numbers : Whole → List ℕ
+symbol_numbers tree = range_with_len 0 (length tree.symbols)
+
+-- a bool or tristate with a default that isn't `n`, or another symbol with a default
+abbrev pub has_default : Whole → List UnitValue → Symbol → Bool
+has_default tree values symbol =
+    if is_tri_kind symbol.kind
+    then not (is_n (default_tri tree values (active_default tree values symbol)))
+    else is_some (active_default tree values symbol)
+
+-- a full file has each visible symbol, and outside choices each that has a default, is selected, or is implied where
+-- its direct dependency isn't `n`
+abbrev pub is_written_symbol : Whole → List UnitValue → Symbol → Bool
+is_written_symbol tree values symbol =
+    is_visible tree values symbol
+    || (is_none symbol.choice
+    && (has_default tree values symbol
+    || not (is_n (selected tree values symbol))
+    || (not (is_n (implied tree values symbol)) && not (is_n (direct_dependency tree values symbol)))))
+
+-- whether a symbol of this number is there and written
+abbrev pub is_written : Whole → List UnitValue → ℕ → Bool
+is_written tree values s = unwrap_or (option_map (is_written_symbol tree values) (slice_get tree.symbols s)) false
+
+-- a symbol outside choices that is selected above its direct dependency
+abbrev pub is_unmet_symbol : Whole → List UnitValue → Symbol → Bool
+is_unmet_symbol tree values symbol = is_none symbol.choice
+    && nat_lt (rank (direct_dependency tree values symbol)) (rank (selected tree values symbol))
+
+-- whether a symbol of this number is there and unmet
+abbrev pub is_unmet : Whole → List UnitValue → ℕ → Bool
+is_unmet tree values s = unwrap_or (option_map (is_unmet_symbol tree values) (slice_get tree.symbols s)) false
+
+-- the unmet symbols, in order of first definition
+abbrev pub unmet : Whole → List UnitValue → List ℕ
+unmet tree values = filter (is_unmet tree values) (symbol_numbers tree)
+
+-- a visible tristate whose value, as its user value, gives another value
+pub record IsLifted (profile : Profile) (tree : Whole) (values : List UnitValue) (u : ℕ) : Type 0 where
+  pub s : ℕ
+  pub symbol : Symbol
+  pub value : UnitValue
+  pub of_unit : slice_get tree.units u ≡ Some (of_symbol s)
+  pub is_symbol : slice_get tree.symbols s ≡ Some symbol
+  pub tristate : is_tristate symbol.kind ≡ true
+  pub visible : is_visible tree values symbol ≡ true
+  pub has : slice_get values u ≡ Some value
+  pub differs : rule profile tree u (as_user value) values ≢ value

@@ -1,0 +1,85 @@
+-- Which values and user values fit a unit.
+use Rattle.std.specs.Prelude.{ℕ, Bool, true, false, not, ◌||◌, List, Option, Some, None, is_some, length, ◌==◌, slice_get}
+use Rattle.std.specs.List.{list_any}
+use Rattle.kc_value.specs.declared.tri.Tri.{Tri}
+use Rattle.kc_value.specs.declared.tri.Tri.TheVariants.{N, M, Y}
+use Rattle.kc_value.specs.declared.value.Kind.{Kind}
+use Rattle.kc_value.specs.declared.value.Kind.TheVariants.{Bool as Boolean, Tristate, Text}
+use Rattle.kc_tree_model.specs.Trees.{Whole, Symbol, Choice, TreeUnit, of_symbol, of_choice}
+use Rattle.kc_tree_model.specs.TreeLookup.{has_newline}
+use Rattle.kc_rules_model.specs.declared.values.UnitValue.{UnitValue}
+use Rattle.kc_rules_model.specs.declared.values.UnitValue.TheVariants.{Tri as TriValue, Text as TextValue, Member as MemberValue}
+use Rattle.kc_rules_model.specs.declared.values.UserValue.{UserValue}
+use Rattle.kc_rules_model.specs.declared.values.UserValue.TheVariants.{Tri as TriUser, Text as TextUser, Member as MemberUser}
+use Rattle.kc_value.specs.Number.{number_of_text}
+
+abbrev pub is_m : Tri → Bool
+is_m N = false
+is_m M = true
+is_m Y = false
+
+-- a bool isn't `m`
+abbrev pub tri_fits : Kind → Tri → Bool
+tri_fits Boolean t = not (is_m t)
+tri_fits Tristate t = true
+tri_fits _ t = false
+
+-- a string has no newline, and an int or hex is a number of its type
+abbrev pub user_text_fits : Kind → List ℕ → Bool
+user_text_fits Text text = not (has_newline text)
+user_text_fits kind text = is_some (number_of_text kind text)
+
+-- a tristate for a bool or tristate, a text for the other types
+abbrev pub symbol_user_fits : Option Symbol → UserValue → Bool
+symbol_user_fits (Some symbol) (TriUser t) = tri_fits symbol.kind t
+symbol_user_fits (Some symbol) (TextUser text) = user_text_fits symbol.kind text
+symbol_user_fits _ _ = false
+
+-- whether a symbol is a member of the choice
+abbrev pub is_member : Option Choice → ℕ → Bool
+is_member None s = false
+is_member (Some choice) s = list_any (λ m. m == s) choice.members
+
+-- a member for a choice
+abbrev pub choice_user_fits : Option Choice → UserValue → Bool
+choice_user_fits choice (MemberUser s) = is_member choice s
+choice_user_fits choice _ = false
+
+-- nothing fits a unit that isn't there
+abbrev pub unit_user_fits : Whole → Option TreeUnit → UserValue → Bool
+unit_user_fits tree None x = false
+unit_user_fits tree (Some (of_symbol s)) x = symbol_user_fits (slice_get tree.symbols s) x
+unit_user_fits tree (Some (of_choice c)) x = choice_user_fits (slice_get tree.choices c) x
+
+-- whether a user value has the shape of unit u
+unfoldable pub user_fits : Whole → ℕ → UserValue → Bool
+user_fits tree u x = unit_user_fits tree (slice_get tree.units u) x
+
+-- as for user values, but that the text of an int or hex may be empty
+abbrev pub text_fits : Kind → List ℕ → Bool
+text_fits Boolean text = false
+text_fits Tristate text = false
+text_fits Text text = not (has_newline text)
+text_fits kind text = (length text == 0) || is_some (number_of_text kind text)
+
+-- a tristate for a bool or tristate, a text for the other types
+abbrev pub symbol_value_fits : Option Symbol → UnitValue → Bool
+symbol_value_fits (Some symbol) (TriValue t) = tri_fits symbol.kind t
+symbol_value_fits (Some symbol) (TextValue text) = text_fits symbol.kind text
+symbol_value_fits _ _ = false
+
+-- a choice may have no selection
+abbrev pub choice_value_fits : Option Choice → UnitValue → Bool
+choice_value_fits choice (MemberValue None) = true
+choice_value_fits choice (MemberValue (Some s)) = is_member choice s
+choice_value_fits choice _ = false
+
+-- nothing fits a unit that isn't there
+abbrev pub unit_value_fits : Whole → Option TreeUnit → UnitValue → Bool
+unit_value_fits tree None x = false
+unit_value_fits tree (Some (of_symbol s)) x = symbol_value_fits (slice_get tree.symbols s) x
+unit_value_fits tree (Some (of_choice c)) x = choice_value_fits (slice_get tree.choices c) x
+
+-- whether a value has the shape of unit u
+unfoldable pub value_fits : Whole → ℕ → UnitValue → Bool
+value_fits tree u x = unit_value_fits tree (slice_get tree.units u) x

@@ -1,5 +1,0 @@
-use Rattle.kc_tree.proofs.Consistency.Consistent.{tree_is_consistent}
-use Rattle.kc_tree.proofs.laws.trees_are_consistent.Goals as goal
-
-pub returns : goal.returns
-returns c = tree_is_consistent

@@ -1,7 +1,0 @@
-use Rattle.std.proofs.Common.{subst}
-use Rattle.kc_tree.specs.Files.{HasDistinctPaths}
-use Rattle.kc_tree.proofs.TextsLemmas.{distinct_paths}
-use Rattle.kc_tree.proofs.texts.Texts.len.Goals as goal
-
-pub returns-clause-distinct : goal.returns-clause-distinct
-returns-clause-distinct c = subst HasDistinctPaths c.self.view_is (distinct_paths c.self.inside.files.entries c.len.ensures.unique)

@@ -1,0 +1,184 @@
+-- What is read without a fault is a consistent tree.
+use Rattle.kc_tree_model.specs.Statements.{Valued, default_of}
+use Rattle.std.proofs.Common.{◌≡◌, ℕ, ◌<◌, true, List, [], Option, Some, None, refl, ap, sym, ◌∙◌, subst, length, filter, inl, inr, not, ◌&&◌, cond, Bool, false, ◌∷◌}
+use Rattle.std.specs.Prelude.{slice_get, filter_map, flat_map, ◌==◌, option_map, option_and_then}
+use Rattle.std.specs.List.{list_any, list_all}
+use Rattle.kc_value.specs.declared.value.Kind.TheVariants.{Bool as Boolean}
+use Rattle.kc_expr.specs.Lookup.{place_of}
+use Rattle.kc_tree_model.specs.declared.fault.TreeFault.{TreeFault}
+use Rattle.kc_tree_model.specs.Trees.{Symbol, Choice, TreeUnit, of_symbol, of_choice, Default, MemberDefault}
+use Rattle.kc_tree_model.specs.TreeLookup.{IsConsistent, is_name_byte, has_newline, own_text}
+use Rattle.kc_tree_model.specs.Files.{Files}
+use Rattle.kc_tree_model.specs.Blocks.{name_of, Line}
+use Rattle.kc_tree_model.specs.Conditions.{Placed, attribute_condition, said_in}
+use Rattle.kc_tree_model.specs.Reading.{reading}
+use Rattle.kc_tree_model.specs.Contents.{Contents, contents_of, choice_number, symbol_of, is_member_of, member_names, choice_of, whole_of, tree_of_files, defaults_at, bare_name, name_among, member_named, member_default, definitions_of, defines}
+use Rattle.kc_tree_model.specs.TreeFaults.{faults_of_group, tree_faults, fault_told}
+use Rattle.kc_tree_model.proofs.Consistency.Lists.{Has, has-at, has-filter, filter-has, has-filter_map, filter_map-has, has-any, any-has, place-get, number-get, at_most_once, has-append}
+use Rattle.kc_tree_model.proofs.Consistency.Places.{IsWord, is_read, value_of_group}
+use Rattle.kc_tree_model.proofs.Consistency.Definitions.{IsSound, choice_places, choices_of, member_kind, no_first, nothing_at, sound_contents, symbols_of, unit_at, units_of}
+use Rattle.kc_tree_model.proofs.Consistency.Units.{at_number, choice_around, choice_at, choice_of_member, choice_of_name, choice_place, choice_there_at, choice_unit, choice_unit_at, first_defined, is_member, member_is, number_at, place_is, symbol_at, symbol_there, symbol_unit, symbol_unit_at, unique_in, unit_listed, unit_place, and_then_some, has_mapped}
+
+-- the members of a choice
+member_number : (c : Contents) (n s : ℕ) → Has s (filter_map (λ x. place_of x c.names) (member_names c n)) → (q : Placed) × (x : List ℕ) × Has q c.places × (name_of q.group ≡ Some x) × (q.around.choice ≡ Some n) × (place_of x c.names ≡ Some s)
+member_number c n s h =
+    let a = has-filter_map (λ x. place_of x c.names) (member_names c n) s h in
+    let b = has-filter_map (λ (p : Placed). name_of p.group) (filter (is_member_of n) c.places) a.0 a.1 in
+    let d = has-filter (is_member_of n) c.places b.0 b.1 in
+    (b.0, a.0, d.0, b.2, member_is n b.0 d.1, a.2)
+
+number_of_member : (c : Contents) (n s : ℕ) (q : Placed) (x : List ℕ) → Has q c.places → name_of q.group ≡ Some x → q.around.choice ≡ Some n → place_of x c.names ≡ Some s → Has s (filter_map (λ x. place_of x c.names) (member_names c n))
+number_of_member c n s q x h e m k =
+    filter_map-has (λ x. place_of x c.names) (member_names c n) x s
+    (filter_map-has (λ (p : Placed). name_of p.group) (filter (is_member_of n) c.places) q x (filter-has (is_member_of n) c.places q h (is_member n q m)) e) k
+
+module _ (c : Contents) (s : IsSound c) (none : (p : Placed) → Has p c.places → faults_of_group c p ≡ []) where
+  words : (i : ℕ) (symbol : Symbol) → slice_get (symbols_of c) i ≡ Some symbol → (0 < length symbol.name) × (list_all is_name_byte symbol.name ≡ true)
+  words i symbol h =
+      let r = symbol_at c i symbol h in
+      subst (λ (x : Symbol). IsWord x.name) r.2 (s.words r.0 (has-at r.0 c.names i r.1))
+
+  names_differ : (i j : ℕ) (a b : Symbol) → slice_get (symbols_of c) i ≡ Some a → slice_get (symbols_of c) j ≡ Some b → a.name ≡ b.name → i ≡ j
+  names_differ i j a b h k e =
+      let x = symbol_at c i a h in
+      let y = symbol_at c j b k in
+      let same : x.0 ≡ y.0 = ap (λ (z : Symbol). z.name) x.2 ∙ e ∙ sym (ap (λ (z : Symbol). z.name) y.2) in
+      at_most_once x.0 c.names i j s.names x.1 (y.1 ∙ ap Some (sym same))
+
+  units_differ : (u w : ℕ) (unit : TreeUnit) → slice_get (units_of c) u ≡ Some unit → slice_get (units_of c) w ≡ Some unit → u ≡ w
+  unfolding units_of
+  units_differ u w unit h k = unique_in c s unit c.places u w s.numbers h k
+
+  symbol_units : (u i : ℕ) → slice_get (units_of c) u ≡ Some (of_symbol i) → (symbol : Symbol) × (slice_get (symbols_of c) i ≡ Some symbol) × (symbol.choice ≡ None)
+  unfolding unit_at
+  symbol_units u i h =
+      let p = unit_place c u (of_symbol i) h in
+      let r = symbol_unit c p.0 p.0.group.what i refl p.2 in
+      (symbol_of c r.name, symbol_there c i r.name (place-get r.name c.names i r.number), r.alone)
+
+  choice_units : (u k : ℕ) → slice_get (units_of c) u ≡ Some (of_choice k) → (choice : Choice) × (slice_get (choices_of c) k ≡ Some choice)
+  unfolding unit_at
+  choice_units u k h =
+      let p = unit_place c u (of_choice k) h in
+      let n = number-get p.0.group.number c.choices k (choice_unit c p.0 p.0.group.what k refl p.2) in
+      let q = number_at c s k p.0.group.number n in
+      (choice_of c q.0, choice_there_at c k q.0 q.1)
+
+  own_units : (i : ℕ) (symbol : Symbol) → slice_get (symbols_of c) i ≡ Some symbol → symbol.choice ≡ None → (u : ℕ) × (slice_get (units_of c) u ≡ Some (of_symbol i))
+  own_units i symbol h e =
+      let r = symbol_at c i symbol h in
+      let p = first_defined c s r.0 (has-at r.0 c.names i r.1) in
+      unit_listed c p.0 (of_symbol i) p.1 (symbol_unit_at c p.0 r.0 i p.2 p.3 (choice_of_name c r.0 symbol None r.2 e) (place_is c s r.0 i r.1))
+
+  units_of_members : (i k : ℕ) (symbol : Symbol) → slice_get (symbols_of c) i ≡ Some symbol → symbol.choice ≡ Some k → (u : ℕ) × (slice_get (units_of c) u ≡ Some (of_choice k))
+  units_of_members i k symbol h e =
+      let r = symbol_at c i symbol h in
+      let m = choice_around c r.0 k (choice_of_name c r.0 symbol (Some k) r.2 e) in
+      let p = number_at c s k m.1 (number-get m.1 c.choices k m.5) in
+      let there = choice_place c k p.0 p.1 in
+      unit_listed c p.0 (of_choice k) there.0 (choice_unit_at c p.0 k there.1 (ap (choice_number c) p.2 ∙ m.5))
+
+  bool_members : (i k : ℕ) (symbol : Symbol) → slice_get (symbols_of c) i ≡ Some symbol → symbol.choice ≡ Some k → symbol.kind ≡ Boolean
+  bool_members i k symbol h e =
+      let r = symbol_at c i symbol h in
+      let m = choice_around c r.0 k (choice_of_name c r.0 symbol (Some k) r.2 e) in
+      sym (ap (λ (x : Symbol). x.kind) r.2) ∙ member_kind c none m.0 r.0 m.1 m.2 m.3 m.4
+
+  members : (k i : ℕ) (choice : Choice) → slice_get (choices_of c) k ≡ Some choice → list_any (λ m. m == i) choice.members ≡ true → (symbol : Symbol) × (slice_get (symbols_of c) i ≡ Some symbol) × (symbol.choice ≡ Some k)
+  members k i x h e =
+      let p = choice_at c k x h in
+      let m = member_number c p.0.group.number i (has-any i (filter_map (λ x. place_of x c.names) (member_names c p.0.group.number)) (subst (λ (x : Choice). list_any (λ m. m == i) x.members ≡ true) (sym p.2) e)) in
+      (symbol_of c m.1, symbol_there c i m.1 (place-get m.1 c.names i m.5), choice_of_member c s none m.0 m.1 p.0.group.number k m.2 m.3 m.4 (at_number c s k p.0 p.1))
+
+  listed : (i k : ℕ) (symbol : Symbol) → slice_get (symbols_of c) i ≡ Some symbol → symbol.choice ≡ Some k → (choice : Choice) × (slice_get (choices_of c) k ≡ Some choice) × (list_any (λ m. m == i) choice.members ≡ true)
+  listed i k symbol h e =
+      let r = symbol_at c i symbol h in
+      let m = choice_around c r.0 k (choice_of_name c r.0 symbol (Some k) r.2 e) in
+      let p = number_at c s k m.1 (number-get m.1 c.choices k m.5) in
+      (choice_of c p.0, choice_there_at c k p.0 p.1, any-has i (filter_map (λ x. place_of x c.names) (member_names c p.0.group.number)) (number_of_member c p.0.group.number i m.0 r.0 m.2 m.3 (m.4 ∙ ap Some (sym p.2)) (place_is c s r.0 i r.1)))
+
+-- a test that each element passes
+all_pass : {A : Type 0} (test : A → Bool) (xs : List A) → ((x : A) → Has x xs → test x ≡ true) → list_all test xs ≡ true
+all_pass test [] h = refl
+all_pass test (x ∷ xs) h = pass_both (test x) (list_all test xs) (h x (inl refl)) (all_pass test xs (λ y k. h y (inr k)))
+  where
+    pass_both : (a b : Bool) → a ≡ true → b ≡ true → (a && b) ≡ true
+    pass_both true b e k = k
+    pass_both false b e k = cc
+
+has_flat_map : {A B : Type 0} (f : A → List B) (xs : List A) (y : B) → Has y (flat_map f xs) → (x : A) × Has x xs × Has y (f x)
+has_flat_map f [] y h = absurd h
+has_flat_map f (x ∷ xs) y h = elim (has-append y (f x) (flat_map f xs) h) [ inl a ↦ (x, inl refl, a) | inr b ↦ let r = has_flat_map f xs y b in (r.0, inr r.1, r.2) ]
+
+-- a default of a choice is of a member
+mapped_from : {A B : Type 0} (f : A → B) (o : Option A) (y : B) → option_map f o ≡ Some y → (x : A) × (o ≡ Some x) × (f x ≡ y)
+mapped_from f None y h = cc
+mapped_from f (Some x) y h = (x, refl, cc)
+
+named_member : (members : List (List ℕ)) (b : Bool) (o : Option (List ℕ)) (x : List ℕ) → cond b (option_and_then (name_among members) o) None ≡ Some x → Has x members
+named_member members true o x h =
+    let a = and_then_some (name_among members) o x h in
+    let b = mapped_from (λ _. a.0) (place_of a.0 members) x a.2 in
+    subst (λ y. Has y members) b.2 (has-at a.0 members b.0 (place-get a.0 members b.0 b.1))
+named_member members false o x h = cc
+
+default_of_member : (c : Contents) (p : Placed) (v : Valued) (d : MemberDefault) → member_default c p v ≡ Some d → Has d.member (filter_map (λ x. place_of x c.names) (member_names c p.group.number))
+default_of_member c p v d h =
+    let a = mapped_from (λ s. record { member = s; condition = attribute_condition p.around p.group v.condition }) _ d h in
+    let b = and_then_some (λ x. place_of x c.names) (member_named (member_names c p.group.number) v) a.0 a.1 in
+    let m : Has b.0 (member_names c p.group.number) = named_member (member_names c p.group.number) v.single (bare_name v.value) b.0 b.1 in
+    subst (λ n. Has n (filter_map (λ x. place_of x c.names) (member_names c p.group.number))) (ap (λ (y : MemberDefault). y.member) a.2) (filter_map-has (λ x. place_of x c.names) (member_names c p.group.number) b.0 a.0 m b.2)
+
+default_members : (c : Contents) (k : ℕ) (x : Choice) → slice_get (choices_of c) k ≡ Some x → list_all (λ (d : MemberDefault). list_any (λ m. m == d.member) x.members) x.defaults ≡ true
+default_members c k x h =
+    let p = choice_at c k x h in
+    subst (λ (y : Choice). list_all (λ (d : MemberDefault). list_any (λ m. m == d.member) y.members) y.defaults ≡ true) p.2
+    (all_pass (λ (d : MemberDefault). list_any (λ m. m == d.member) (choice_of c p.0).members) (choice_of c p.0).defaults
+    (λ d e. let r = has-filter_map (member_default c p.0) (said_in default_of p.0.group) d e in any-has d.member (choice_of c p.0).members (default_of_member c p.0 r.0 d r.2)))
+
+-- the values of defaults have one line
+default_is_one : (c : Contents) (s : IsSound c) (p : Placed) (d : Default) → Has p c.places → Has d (defaults_at p) → not (has_newline (own_text d.value)) ≡ true
+default_is_one c s p d h k =
+    let a = has_mapped (λ (v : Valued). record { value = v.value; condition = attribute_condition p.around p.group v.condition }) (said_in default_of p.group) d k in
+    let b = has-filter_map (λ (l : Line). default_of l.attribute) p.group.attributes a.0 a.1 in
+    let one : has_newline (own_text a.0.value) ≡ false = value_of_group p.group.attributes b.0 a.0 (s.values p h) b.1 b.2 in
+    ap (λ (y : Default). not (has_newline (own_text y.value))) (sym a.2) ∙ ap not one
+
+one_line : (c : Contents) (s : IsSound c) (i : ℕ) (symbol : Symbol) → slice_get (symbols_of c) i ≡ Some symbol → list_all (λ (d : Default). not (has_newline (own_text d.value))) symbol.defaults ≡ true
+one_line c s i symbol h =
+    let r = symbol_at c i symbol h in
+    subst (λ (y : Symbol). list_all (λ (d : Default). not (has_newline (own_text d.value))) y.defaults ≡ true) r.2
+    (all_pass (λ (d : Default). not (has_newline (own_text d.value))) (symbol_of c r.0).defaults
+    (λ d e. let a = has_flat_map defaults_at (definitions_of c r.0) d e in default_is_one c s a.0 d (has-filter (defines r.0) c.places a.0 a.1).0 a.2))
+
+-- what is told of a tree without a fault
+no_reading_fault : (o : Option TreeFault) (t : Option TreeFault) → elim o as (λ _. Option TreeFault) [ None ↦ t | Some f ↦ Some f ] ≡ None → t ≡ None
+no_reading_fault None t h = h
+no_reading_fault (Some f) t h = cc
+
+no_faults : (files : Files) (root : List ℕ) → fault_told files root ≡ None → (p : Placed) → Has p (contents_of (reading files root).read).places → faults_of_group (contents_of (reading files root).read) p ≡ []
+unfolding fault_told tree_faults
+no_faults files root h p k =
+    let read = (reading files root).read in
+    nothing_at (faults_of_group (contents_of read)) (contents_of read).places p (no_first (flat_map (faults_of_group (contents_of read)) (contents_of read).places) (no_reading_fault (reading files root).fault _ h)) k
+
+pub tree_is_consistent : (files : Files) (root : List ℕ) → fault_told files root ≡ None → IsConsistent (tree_of_files files root)
+unfolding tree_of_files whole_of symbols_of choices_of choice_places units_of unit_at
+tree_is_consistent files root h =
+    let c = contents_of (reading files root).read in
+    let s = sound_contents (reading files root).read (is_read files root) in
+    let none = no_faults files root h in
+    record {
+      words = words c s none;
+      names_differ = names_differ c s none;
+      units_differ = units_differ c s none;
+      symbol_units = symbol_units c s none;
+      choice_units = choice_units c s none;
+      own_units = own_units c s none;
+      units_of_members = units_of_members c s none;
+      bool_members = bool_members c s none;
+      members = members c s none;
+      listed = listed c s none;
+      default_members = default_members c;
+      one_line = one_line c s;
+    }

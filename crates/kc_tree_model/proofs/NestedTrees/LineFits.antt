@@ -1,0 +1,333 @@
+-- What a line says fits what was read: an end matches the innermost block, and an attribute has an open entry.
+use Rattle.std.proofs.Common.{ap, ◌∙◌, ◌≡◌, ℕ, Bool, true, false, not, cond, List, [], ◌∷◌, Option, Some, None, Result, Ok, Err, refl, sym, subst, length}
+use Rattle.std.specs.Prelude.{nat_lt}
+use Rattle.std.specs.Str.{is_utf8}
+use Rattle.kc_value.specs.declared.value.Kind.{Kind}
+use Rattle.kc_expr.specs.Expr.{Expr, Operand}
+use Rattle.kc_expr.specs.Token.{Piece, lexed}
+use Rattle.kc_expr.specs.Grammar.{operand_of_piece, quoted_text}
+use Rattle.kc_expr.specs.declared.fault.ExprFault.{ExprFault}
+use Rattle.kc_tree_model.specs.declared.fault.TreeKind.{TreeKind}
+use Rattle.kc_tree_model.specs.declared.fault.TreeKind.TheVariants.{Malformed, LeftOut, Misplaced, StrayEnd, TooDeep, TooMany, LineTooLong, NotUtf8}
+use Rattle.kc_tree_model.specs.Lines.{Logical}
+use Rattle.kc_tree_model.specs.Statements.{Block, Head, config, menu, condition, comment, source, mainmenu, ends, Valued, Aimed, Attribute, typed_prompt, typed_default, prompt, default, depends, select, imply, range, visible, help, modules, default_of, Statement, head, attribute}
+use Rattle.kc_tree_model.specs.Keywords.{Keyword, config_word, choice_word, menu_word, if_word, comment_word, source_word, mainmenu_word, end_word, type_word, default_type_word, prompt_word, default_word, depends_word, select_word, imply_word, range_word, visible_word, help_word, modules_word, option_word, left_out_word, keyword_of, is_name, is_word_kind, is_quoted_kind, is_the_word}
+use Rattle.kc_tree_model.specs.Forms.{Taken, expr_at, ◌>>=◌, statement_of, config_line, choice_line, titled_line, source_line, path_of, prompt_line, type_line, default_line, aimed_line, range_of_operands, range_line, worded_line, option_line, no_more, last_condition, optional_if}
+use Rattle.kc_tree_model.specs.Blocks.{Group, is_stray}
+use Rattle.kc_tree_model.specs.Placement.{Open, open_entry, takes, entry_takes, is_allowed, is_left_out, is_stray_end}
+use Rattle.kc_tree_model.specs.Limits.{most_line_bytes, is_too_deep, is_too_many}
+use Rattle.kc_tree_model.specs.Reading.{unless, said_with, said_by, said_by_word, said_by_tokens, line_says}
+
+-- sorts of statements: definitions, ends, defaults, other attributes, and all others
+pub data Sort : Type 0 where
+  config_sort : Sort
+  default_sort : Sort
+  end_sort : Block → Sort
+  attribute_sort : Sort
+  other_sort : Sort
+
+abbrev sort_of_head : Head → Sort
+sort_of_head (config name) = config_sort
+sort_of_head (ends b) = end_sort b
+sort_of_head h = other_sort
+
+abbrev sort_of_attribute : Attribute → Sort
+sort_of_attribute (default d) = default_sort
+sort_of_attribute (typed_default k d) = default_sort
+sort_of_attribute a = attribute_sort
+
+abbrev sort_of : Statement → Sort
+sort_of (head h) = sort_of_head h
+sort_of (attribute a) = sort_of_attribute a
+
+abbrev sort_of_word : Keyword → Sort
+sort_of_word config_word = config_sort
+sort_of_word choice_word = other_sort
+sort_of_word menu_word = other_sort
+sort_of_word if_word = other_sort
+sort_of_word comment_word = other_sort
+sort_of_word source_word = other_sort
+sort_of_word mainmenu_word = other_sort
+sort_of_word (end_word b) = end_sort b
+sort_of_word default_word = default_sort
+sort_of_word (default_type_word k) = default_sort
+sort_of_word k = attribute_sort
+
+-- a line's statement is of this sort, unless it is refused
+abbrev Gives : Sort → Result Statement TreeKind → Type 0
+Gives t (Ok s) = sort_of s ≡ t
+Gives t (Err e) = Unit {0}
+
+gives_if : (b : Bool) (t : Sort) (r : Result Statement TreeKind) (e : TreeKind) → Gives t r → Gives t (cond b r (Err e))
+gives_if true t r e h = h
+gives_if false t r e h = tt
+
+gives_last : (s : Statement) (ts : List Piece) (t : Sort) → sort_of s ≡ t → Gives t (no_more s ts)
+gives_last s [] t h = h
+gives_last s (p ∷ ts) t h = tt
+
+gives_bind : {A : Type 0} (r : Result A TreeKind) (f : A → Result Statement TreeKind) (t : Sort) → ((x : A) → Gives t (f x)) → Gives t (r >>= f)
+gives_bind (Ok x) f t h = h x
+gives_bind (Err e) f t h = tt
+
+gives_config : (ts : List Piece) → Gives config_sort (config_line ts)
+gives_config [] = tt
+gives_config (p ∷ ts) = gives_if (is_name p) config_sort (no_more (head (config p.text)) ts) Malformed (gives_last (head (config p.text)) ts config_sort refl)
+
+gives_choice_by : (b : Bool) → Gives other_sort (cond b (Err LeftOut) (Err Malformed))
+gives_choice_by true = tt
+gives_choice_by false = tt
+
+gives_choice : (ts : List Piece) → Gives other_sort (choice_line ts)
+gives_choice [] = refl
+gives_choice (p ∷ ts) = gives_choice_by (is_word_kind p.kind)
+
+gives_title : (f : List ℕ → Head) → ((x : List ℕ) → sort_of_head (f x) ≡ other_sort) → (ts : List Piece) → Gives other_sort (titled_line f ts)
+gives_title f h [] = tt
+gives_title f h (p ∷ ts) = gives_if (is_quoted_kind p.kind) other_sort (no_more (head (f (quoted_text p.text))) ts) Malformed (gives_last (head (f (quoted_text p.text))) ts other_sort (h (quoted_text p.text)))
+
+gives_source_by : (o : Option (List ℕ)) (ts : List Piece) → Gives other_sort (elim o [ None ↦ Err Malformed | Some path ↦ no_more (head (source path)) ts ])
+gives_source_by None ts = tt
+gives_source_by (Some path) ts = gives_last (head (source path)) ts other_sort refl
+
+gives_source : (ts : List Piece) → Gives other_sort (source_line ts)
+gives_source [] = tt
+gives_source (p ∷ ts) = gives_source_by (path_of p) ts
+
+gives_prompt : (f : Option Expr → Attribute) → ((c : Option Expr) → sort_of_attribute (f c) ≡ attribute_sort) → (ts : List Piece) → Gives attribute_sort (prompt_line f ts)
+gives_prompt f h [] = tt
+gives_prompt f h (p ∷ ts) = gives_if (is_quoted_kind p.kind) attribute_sort (optional_if ts >>= λ c. Ok (attribute (f c))) Malformed (gives_bind (optional_if ts) (λ c. Ok (attribute (f c))) attribute_sort h)
+
+gives_type : (k : Kind) (ts : List Piece) → Gives attribute_sort (type_line k ts)
+gives_type k [] = refl
+gives_type k (p ∷ ts) = gives_prompt (typed_prompt k) (λ c. refl) (p ∷ ts)
+
+gives_default : (f : Valued → Attribute) → ((d : Valued) → sort_of_attribute (f d) ≡ default_sort) → (ts : List Piece) → Gives default_sort (default_line f ts)
+gives_default f h ts = gives_bind (expr_at ts) (λ e. optional_if e.rest >>= λ c. Ok (attribute (f (record { value = e.expr; single = e.single; condition = c })))) default_sort (λ e. gives_bind (optional_if e.rest) (λ c. Ok (attribute (f (record { value = e.expr; single = e.single; condition = c })))) default_sort (λ c. h (record { value = e.expr; single = e.single; condition = c })))
+
+gives_aimed : (f : Aimed → Attribute) → ((a : Aimed) → sort_of_attribute (f a) ≡ attribute_sort) → (ts : List Piece) → Gives attribute_sort (aimed_line f ts)
+gives_aimed f h [] = tt
+gives_aimed f h (p ∷ ts) = gives_if (is_name p) attribute_sort (optional_if ts >>= λ c. Ok (attribute (f (record { name = p.text; condition = c })))) Malformed (gives_bind (optional_if ts) (λ c. Ok (attribute (f (record { name = p.text; condition = c })))) attribute_sort (λ c. h (record { name = p.text; condition = c })))
+
+gives_bounds : (a b : Option Operand) (ts : List Piece) → Gives attribute_sort (range_of_operands a b ts)
+gives_bounds (Some a) (Some b) ts = gives_bind (optional_if ts) (λ c. Ok (attribute (range (record { low = a; high = b; condition = c })))) attribute_sort (λ c. refl)
+gives_bounds (Some a) None ts = tt
+gives_bounds None b ts = tt
+
+gives_range : (ts : List Piece) → Gives attribute_sort (range_line ts)
+gives_range [] = tt
+gives_range (p ∷ []) = tt
+gives_range (p ∷ q ∷ ts) = gives_bounds (operand_of_piece p) (operand_of_piece q) ts
+
+gives_worded : (w : List ℕ) (f : Expr → Attribute) → ((e : Expr) → sort_of_attribute (f e) ≡ attribute_sort) → (ts : List Piece) → Gives attribute_sort (worded_line w f ts)
+gives_worded w f h [] = tt
+gives_worded w f h (p ∷ ts) = gives_if (is_the_word w p) attribute_sort (last_condition ts >>= λ e. Ok (attribute (f e))) Malformed (gives_bind (last_condition ts) (λ e. Ok (attribute (f e))) attribute_sort h)
+
+gives_option : (ts : List Piece) → Gives attribute_sort (option_line ts)
+gives_option [] = tt
+gives_option (p ∷ ts) = gives_if (is_the_word _ p) attribute_sort (no_more (attribute modules) ts) Malformed (gives_last (attribute modules) ts attribute_sort refl)
+
+gives_statement : (k : Keyword) (ts : List Piece) → Gives (sort_of_word k) (statement_of k ts)
+gives_statement config_word ts = gives_config ts
+gives_statement choice_word ts = gives_choice ts
+gives_statement menu_word ts = gives_title menu (λ _. refl) ts
+gives_statement if_word ts = gives_bind (last_condition ts) (λ e. Ok (head (condition e))) other_sort (λ e. refl)
+gives_statement comment_word ts = gives_title comment (λ _. refl) ts
+gives_statement source_word ts = gives_source ts
+gives_statement mainmenu_word ts = gives_title (λ _. mainmenu) (λ _. refl) ts
+gives_statement (end_word b) ts = gives_last (head (ends b)) ts (end_sort b) refl
+gives_statement (type_word k) ts = gives_type k ts
+gives_statement (default_type_word k) ts = gives_default (typed_default k) (λ d. refl) ts
+gives_statement prompt_word ts = gives_prompt prompt (λ c. refl) ts
+gives_statement default_word ts = gives_default default (λ d. refl) ts
+gives_statement depends_word ts = gives_worded _ depends (λ e. refl) ts
+gives_statement select_word ts = gives_aimed select (λ a. refl) ts
+gives_statement imply_word ts = gives_aimed imply (λ a. refl) ts
+gives_statement range_word ts = gives_range ts
+gives_statement visible_word ts = gives_worded _ visible (λ e. refl) ts
+gives_statement help_word ts = gives_last (attribute help) ts attribute_sort refl
+gives_statement modules_word ts = gives_last (attribute modules) ts attribute_sort refl
+gives_statement option_word ts = gives_option ts
+gives_statement left_out_word ts = tt
+
+-- what a line may say behind what was read
+abbrev FitsHead : List Group → Head → Type 0
+FitsHead read (ends b) = is_stray read b ≡ false
+FitsHead read h = Unit {0}
+
+abbrev pub Fits : List Group → Option Statement → Type 0
+Fits read None = Unit {0}
+Fits read (Some (head h)) = FitsHead read h
+Fits read (Some (attribute a)) = (e : Open) × (open_entry read ≡ Some e)
+
+-- an attribute's keyword is allowed where an entry is open
+entry_of_taken : (o : Option Open) (k : Keyword) → elim o [ None ↦ false | Some e ↦ takes e k ] ≡ true → (e : Open) × (o ≡ Some e)
+entry_of_taken None k h = cc
+entry_of_taken (Some e) k h = (e, refl)
+
+abbrev is_attribute_sort : Sort → Bool
+is_attribute_sort default_sort = true
+is_attribute_sort attribute_sort = true
+is_attribute_sort t = false
+
+attribute_sorted : (a : Attribute) → is_attribute_sort (sort_of_attribute a) ≡ true
+attribute_sorted (default d) = refl
+attribute_sorted (typed_default k d) = refl
+attribute_sorted a = refl
+
+taken : (read : List Group) (k : Keyword) → is_attribute_sort (sort_of_word k) ≡ true → is_allowed read k ≡ true → entry_takes read k ≡ true
+taken read config_word e h = cc
+taken read choice_word e h = cc
+taken read menu_word e h = cc
+taken read if_word e h = cc
+taken read comment_word e h = cc
+taken read source_word e h = cc
+taken read mainmenu_word e h = cc
+taken read (end_word b) e h = cc
+taken read k e h = h
+
+stray_of_word : (read : List Group) (k : Keyword) (b : Block) → sort_of_word k ≡ end_sort b → is_stray_end read k ≡ false → is_stray read b ≡ false
+stray_of_word read (end_word c) b e h = let same : c ≡ b = cc in subst (λ x. is_stray read x ≡ false) same h
+stray_of_word read k b e h = cc
+
+fits_statement : (read : List Group) (k : Keyword) (s : Statement) → sort_of s ≡ sort_of_word k → is_allowed read k ≡ true → is_stray_end read k ≡ false → Fits read (Some s)
+fits_statement read k (attribute a) e h g = entry_of_taken (open_entry read) k (taken read k (ap is_attribute_sort (sym e) ∙ attribute_sorted a) h)
+fits_statement read k (head (ends b)) e h g = stray_of_word read k b (sym e) g
+fits_statement read k (head x) e h g = tt
+
+-- a reading that goes on: what was tested and read on the way
+unless_ok : {B : Type 0} (b : Bool) (k : TreeKind) (f : Unit {0} → Result B TreeKind) (y : B) → unless b k >>= f ≡ Ok y → (b ≡ false) × (f tt ≡ Ok y)
+unless_ok true k f y h = cc
+unless_ok false k f y h = (refl, h)
+
+bind_ok : {A B : Type 0} (r : Result A TreeKind) (f : A → Result B TreeKind) (y : B) → r >>= f ≡ Ok y → (x : A) × (r ≡ Ok x) × (f x ≡ Ok y)
+bind_ok (Ok x) f y h = (x, refl, h)
+bind_ok (Err e) f y h = cc
+
+not_false : (b : Bool) → not b ≡ false → b ≡ true
+not_false true h = refl
+not_false false h = cc
+
+-- what a line that says a statement is, by its tokens
+pub record Said (read : List Group) (tokens : Result (List Piece) ExprFault) (s : Statement) : Type 0 where
+  pub keyword : Keyword
+  pub first : Piece
+  pub rest : List Piece
+  pub stand : tokens ≡ Ok (first ∷ rest)
+  pub allowed : is_allowed read keyword ≡ true
+  pub matched : is_stray_end read keyword ≡ false
+  pub form : statement_of keyword rest ≡ Ok s
+  pub sort : sort_of s ≡ sort_of_word keyword
+
+abbrev pub SaidIfSome : List Group → Result (List Piece) ExprFault → Option Statement → Type 0
+SaidIfSome read tokens None = Unit {0}
+SaidIfSome read tokens (Some s) = Said read tokens s
+
+said_keyword : (read : List Group) (k : Keyword) (t : Piece) (ts : List Piece) (o : Option Statement) → said_with read k ts ≡ Ok o → SaidIfSome read (Ok (t ∷ ts)) o
+said_keyword read k t ts o h =
+    let a = unless_ok (is_left_out read k ts) LeftOut _ o h in
+    let b = unless_ok (not (is_allowed read k)) Misplaced _ o a.1 in
+    let c = unless_ok (is_stray_end read k) StrayEnd _ o b.1 in
+    let d = bind_ok (statement_of k ts) _ o c.1 in
+    let e = unless_ok (is_too_deep read d.0) TooDeep _ o d.2 in
+    let f = unless_ok (is_too_many read d.0) TooMany _ o e.1 in
+    let said : Some d.0 ≡ o = cc in
+    subst (SaidIfSome read (Ok (t ∷ ts))) said (record {
+      keyword = k;
+      first = t;
+      rest = ts;
+      stand = refl;
+      allowed = not_false (is_allowed read k) b.0;
+      matched = c.0;
+      form = d.1;
+      sort = subst (Gives (sort_of_word k)) d.1 (gives_statement k ts);
+    })
+
+said_by_keyword : (read : List Group) (w : Option Keyword) (t : Piece) (ts : List Piece) (o : Option Statement) → said_by_word read ts w ≡ Ok o → SaidIfSome read (Ok (t ∷ ts)) o
+said_by_keyword read None t ts o h = cc
+said_by_keyword read (Some k) t ts o h = said_keyword read k t ts o h
+
+said_in_line : (read : List Group) (ts : List Piece) (o : Option Statement) → said_by read ts ≡ Ok o → SaidIfSome read (Ok ts) o
+said_in_line read [] None h = tt
+said_in_line read [] (Some s) h = cc
+said_in_line read (t ∷ ts) o h = said_by_keyword read (keyword_of t) t ts o h
+
+said_lexed : (read : List Group) (r : Result (List Piece) ExprFault) (o : Option Statement) → said_by_tokens read r ≡ Ok o → SaidIfSome read r o
+said_lexed read (Err e) o h = cc
+said_lexed read (Ok ts) o h = said_in_line read ts o h
+
+said_or_help : (read : List Group) (b : Bool) (r : Result (List Piece) ExprFault) (o : Option Statement) → cond b (Ok None) (said_by_tokens read r) ≡ Ok o → SaidIfSome read r o
+said_or_help read true r None h = tt
+said_or_help read true r (Some s) h = cc
+said_or_help read false r o h = said_lexed read r o h
+
+past_test : (b : Bool) (e : TreeKind) (r : Result (Option Statement) TreeKind) (o : Option Statement) → cond b (Err e) r ≡ Ok o → r ≡ Ok o
+past_test true e r o h = cc
+past_test false e r o h = h
+
+pub line_said : (read : List Group) (l : Logical) (o : Option Statement) → line_says read l ≡ Ok o → SaidIfSome read (lexed 0 0 l.text) o
+unfolding line_says
+line_said read l o h = said_or_help read l.help (lexed 0 0 l.text) o (past_test (not (is_utf8 l.text)) NotUtf8 _ o (past_test (nat_lt most_line_bytes (length l.text)) LineTooLong _ o h))
+
+fits_said : (read : List Group) (r : Result (List Piece) ExprFault) (o : Option Statement) → SaidIfSome read r o → Fits read o
+fits_said read r None h = tt
+fits_said read r (Some s) h = fits_statement read h.keyword s h.sort h.allowed h.matched
+
+pub line_fits : (read : List Group) (l : Logical) (o : Option Statement) → line_says read l ≡ Ok o → Fits read o
+line_fits read l o h = fits_said read (lexed 0 0 l.text) o (line_said read l o h)
+
+-- the name that a line defines
+named_well : (t : Piece) (ts : List Piece) (name : List ℕ) (b : Bool) → is_name t ≡ b → cond b (no_more (head (config t.text)) ts) (Err Malformed) ≡ Ok (head (config name)) → (t.text ≡ name) × (is_name t ≡ true)
+named_well t [] name true e h = (cc, e)
+named_well t (u ∷ ts) name true e h = cc
+named_well t ts name false e h = cc
+
+config_named : (ts : List Piece) (name : List ℕ) → config_line ts ≡ Ok (head (config name)) → (t : Piece) × (t.text ≡ name) × (is_name t ≡ true)
+config_named [] name h = cc
+config_named (t ∷ ts) name h = let r = named_well t ts name (is_name t) refl h in (t, r.0, r.1)
+
+config_said : (k : Keyword) (ts : List Piece) (name : List ℕ) → config_sort ≡ sort_of_word k → statement_of k ts ≡ Ok (head (config name)) → (t : Piece) × (t.text ≡ name) × (is_name t ≡ true)
+config_said config_word ts name e h = config_named ts name h
+config_said k ts name e h = cc
+
+pub line_names : (read : List Group) (l : Logical) (name : List ℕ) → line_says read l ≡ Ok (Some (head (config name))) → (t : Piece) × (t.text ≡ name) × (is_name t ≡ true)
+line_names read l name h = let s = line_said read l (Some (head (config name))) h in config_said s.keyword s.rest name s.sort s.form
+
+-- the value of a default is read of the tokens behind its word
+pub record IsValueOf (tokens : Result (List Piece) ExprFault) (value : Expr) : Type 0 where
+  pub first : Piece
+  pub rest : List Piece
+  pub stand : tokens ≡ Ok (first ∷ rest)
+  pub taken : Taken
+  pub read_as : expr_at rest ≡ Ok taken
+  pub is : taken.expr ≡ value
+
+attribute_same : (x y : Attribute) (r : Result Statement TreeKind) → r ≡ Ok (attribute x) → r ≡ Ok (attribute y) → x ≡ y
+attribute_same x y r h k = cc
+
+valued_same : (x y : Valued) → Some x ≡ Some y → x.value ≡ y.value
+valued_same x y k = let z : x ≡ y = cc in ap (λ (v : Valued). v.value) z
+
+default_value : (f : Valued → Attribute) (g : Attribute → Option Valued) → ((d : Valued) → g (f d) ≡ Some d) → (ts : List Piece) (a : Attribute) (d : Valued) → g a ≡ Some d → default_line f ts ≡ Ok (attribute a) → (x : Taken) × (expr_at ts ≡ Ok x) × (x.expr ≡ d.value)
+default_value f g same ts a d e h =
+    let x = bind_ok (expr_at ts) _ (attribute a) h in
+    let c = bind_ok (optional_if x.0.rest) _ (attribute a) x.2 in
+    let made : f (record { value = x.0.expr; single = x.0.single; condition = c.0 }) ≡ a = attribute_same (f (record { value = x.0.expr; single = x.0.single; condition = c.0 })) a (Ok (attribute (f (record { value = x.0.expr; single = x.0.single; condition = c.0 })))) refl c.2 in
+    let told : Some (record { value = x.0.expr; single = x.0.single; condition = c.0 }) ≡ Some d = sym (same (record { value = x.0.expr; single = x.0.single; condition = c.0 })) ∙ ap g made ∙ e in
+    (x.0, x.1, valued_same (record { value = x.0.expr; single = x.0.single; condition = c.0 }) d told)
+
+default_said : (k : Keyword) (ts : List Piece) (a : Attribute) (d : Valued) → default_sort ≡ sort_of_word k → default_of a ≡ Some d → statement_of k ts ≡ Ok (attribute a) → (x : Taken) × (expr_at ts ≡ Ok x) × (x.expr ≡ d.value)
+default_said default_word ts a d e m h = default_value default default_of (λ d. refl) ts a d m h
+default_said (default_type_word k) ts a d e m h = default_value (typed_default k) default_of (λ d. refl) ts a d m h
+default_said k ts a d e m h = cc
+
+sorted_default : (a : Attribute) (d : Valued) → default_of a ≡ Some d → sort_of_attribute a ≡ default_sort
+sorted_default (default x) d h = refl
+sorted_default (typed_default k x) d h = refl
+sorted_default a d h = cc
+
+pub line_values : (read : List Group) (l : Logical) (a : Attribute) (d : Valued) → default_of a ≡ Some d → line_says read l ≡ Ok (Some (attribute a)) → IsValueOf (lexed 0 0 l.text) d.value
+line_values read l a d m h =
+    let s = line_said read l (Some (attribute a)) h in
+    let x = default_said s.keyword s.rest a d (sym (sorted_default a d m) ∙ s.sort) m s.form in
+    record { first = s.first; rest = s.rest; stand = s.stand; taken = x.0; read_as = x.1; is = x.2 }

@@ -1,0 +1,62 @@
+-- The open blocks as a stack: an opening pushes, and a closing pops.
+use Rattle.std.proofs.Common.{◌≡◌, ℕ, suc, zero, true, false, List, [], ◌∷◌, Option, None, refl, ap, sym, ◌∙◌, drop, drop-drop, arith, ◌+◌}
+use Rattle.kc_tree_model.specs.Statements.{Block, config, choice, menu, condition, comment, source, mainmenu, ends, block_of_head}
+use Rattle.kc_tree_model.specs.Blocks.{Group, What, said, file_end, Side, side_of, opening, closing, inside, open_blocks}
+use Rattle.kc_tree_model.specs.NestedTrees.{is_ended_by, ends_block, is_file_end}
+
+-- what ends a block closes it, and what it ends opens it
+no_end : (e : What) → ends_block None e ≡ false
+no_end (said (ends c)) = refl
+no_end (said h) = refl
+no_end file_end = refl
+
+closes : (b : Option Block) (e : What) → ends_block b e ≡ true → side_of e ≡ closing
+closes b (said (ends c)) h = refl
+closes b (said x) h = cc
+closes b file_end h = cc
+
+closes_file : (e : What) → is_file_end e ≡ true → side_of e ≡ closing
+closes_file (said x) h = cc
+closes_file file_end h = refl
+
+pub ends_closing : (b e : What) → is_ended_by b e ≡ true → side_of e ≡ closing
+ends_closing (said (source path)) e h = closes_file e h
+ends_closing (said x) e h = closes (block_of_head x) e h
+ends_closing file_end e h = cc
+
+pub ends_opening : (b e : What) → is_ended_by b e ≡ true → side_of b ≡ opening
+ends_opening (said (config name)) e h = let k : ends_block None e ≡ false = no_end e in cc
+ends_opening (said choice) e h = refl
+ends_opening (said (menu title)) e h = refl
+ends_opening (said (condition c)) e h = refl
+ends_opening (said (comment title)) e h = let k : ends_block None e ≡ false = no_end e in cc
+ends_opening (said (source path)) e h = refl
+ends_opening (said mainmenu) e h = let k : ends_block None e ≡ false = no_end e in cc
+ends_opening (said (ends b)) e h = let k : ends_block None e ≡ false = no_end e in cc
+ends_opening file_end e h = cc
+
+pub open_inside : (n : ℕ) (g : Group) (gs : List Group) → side_of g.what ≡ inside → open_blocks n (g ∷ gs) ≡ open_blocks n gs
+open_inside n g gs e = rw (e, open_blocks) refl
+
+pub open_closing : (n : ℕ) (g : Group) (gs : List Group) → side_of g.what ≡ closing → open_blocks n (g ∷ gs) ≡ open_blocks (suc n) gs
+open_closing n g gs e = rw (e, open_blocks) refl
+
+pub open_opening : (n : ℕ) (g : Group) (gs : List Group) → side_of g.what ≡ opening → open_blocks (suc n) (g ∷ gs) ≡ open_blocks n gs
+open_opening n g gs e = rw (e, open_blocks) refl
+
+pub pushed : (g : Group) (gs : List Group) → side_of g.what ≡ opening → open_blocks 0 (g ∷ gs) ≡ g ∷ open_blocks 0 gs
+pushed g gs e = rw (e, open_blocks) refl
+
+open-drop_by : (s : Side) (n : ℕ) (g : Group) (gs : List Group) → side_of g.what ≡ s → ((m : ℕ) → open_blocks m gs ≡ drop m (open_blocks 0 gs)) → open_blocks n (g ∷ gs) ≡ drop n (open_blocks 0 (g ∷ gs))
+open-drop_by inside n g gs e ih = open_inside n g gs e ∙ ih n ∙ ap (drop n) (sym (open_inside 0 g gs e))
+open-drop_by closing n g gs e ih = open_closing n g gs e ∙ ih (suc n) ∙ sym (ap (drop n) (open_closing 0 g gs e ∙ ih 1) ∙ drop-drop n 1 (open_blocks 0 gs) ∙ ap (λ k. drop k (open_blocks 0 gs)) (let h : 1 + n ≡ suc n = omega arith in h))
+open-drop_by opening zero g gs e ih = refl
+open-drop_by opening (suc m) g gs e ih = open_opening m g gs e ∙ ih m ∙ sym (ap (drop (suc m)) (pushed g gs e))
+
+pub open-drop : (n : ℕ) (gs : List Group) → open_blocks n gs ≡ drop n (open_blocks 0 gs)
+open-drop zero [] = refl
+open-drop (suc n) [] = refl
+open-drop n (g ∷ gs) = open-drop_by (side_of g.what) n g gs refl (λ m. open-drop m gs)
+
+pub popped : (g : Group) (gs : List Group) → side_of g.what ≡ closing → open_blocks 0 (g ∷ gs) ≡ drop 1 (open_blocks 0 gs)
+popped g gs e = open_closing 0 g gs e ∙ open-drop 1 gs

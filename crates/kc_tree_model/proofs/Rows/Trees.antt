@@ -1,0 +1,32 @@
+-- How the rows below write trees and look at what is read of them.
+use Rattle.std.proofs.Common.{ℕ, List, [], ◌∷◌, Option}
+use Rattle.std.specs.Prelude.{codes, option_map}
+use Rattle.kc_value.specs.declared.tri.Tri.TheVariants.{Y}
+use Rattle.kc_expr.specs.Expr.{Expr, alone, named, constant}
+use Rattle.kc_tree_model.specs.declared.fault.TreeKind.{TreeKind}
+use Rattle.kc_tree_model.specs.declared.fault.TreeFault.{TreeFault}
+use Rattle.kc_tree_model.specs.Files.{Files}
+use Rattle.kc_tree_model.specs.Trees.{Whole}
+use Rattle.kc_tree_model.specs.Reading.{reading}
+use Rattle.kc_tree_model.specs.Contents.{whole_of}
+use Rattle.kc_tree_model.specs.TreeFaults.{fault_told}
+
+abbrev pub one_file : List ℕ → Files
+one_file text = (codes "Kconfig", text) ∷ []
+
+abbrev pub line_and_kind : TreeFault → ℕ × TreeKind
+line_and_kind f = (f.line, f.kind)
+
+-- the line and the kind of the fault that is told of a tree of one file
+abbrev pub fault : List ℕ → Option (ℕ × TreeKind)
+fault text = option_map line_and_kind (fault_told (one_file text) (codes "Kconfig"))
+
+-- what a tree of one file holds
+abbrev pub whole : List ℕ → Whole
+whole text = whole_of (reading (one_file text) (codes "Kconfig")).read
+
+abbrev pub word : List ℕ → Expr
+word x = alone (named x)
+
+abbrev pub yes : Expr
+yes = alone (constant Y)

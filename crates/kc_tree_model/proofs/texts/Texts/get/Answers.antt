@@ -1,0 +1,20 @@
+use Rattle.std.proofs.Common.{ap, ◌∙◌, List, ℕ, Some}
+use Rattle.std.specs.Prelude.{Vec, Option, option_map}
+use Rattle.std.specs.declared.alloc.Global.{Global}
+use Rattle.kc_tree_model.specs.Files.{file_at}
+use Rattle.kc_tree_model.proofs.TextsLemmas.{find_file}
+use Rattle.kc_tree_model.proofs.texts.Texts.get.Goals as goal
+
+pub returns : goal.returns
+returns c =
+    ap (λ (b : List ℕ). Some b) c.as_slice.ensures.value
+    ∙ ap (λ (o : Option (Vec ℕ Global)). option_map (λ (v : Vec ℕ Global). v.items) o) c.in_ok-bytes.ensures.value
+    ∙ find_file c.args.path.now c.self.inside.files.entries
+    ∙ ap (λ fs. file_at fs c.args.path.now) c.self.view_is
+
+pub returns-in_err-bytes : goal.returns-in_err-bytes
+returns-in_err-bytes c =
+    rw c.from_residual.ensures
+    (ap (λ (o : Option (Vec ℕ Global)). option_map (λ (v : Vec ℕ Global). v.items) o) c.in_err-bytes.ensures.value
+    ∙ find_file c.args.path.now c.self.inside.files.entries
+    ∙ ap (λ fs. file_at fs c.args.path.now) c.self.view_is)

@@ -1,0 +1,104 @@
+-- What was read so far, the newest first, and what stands open there.
+use Rattle.std.specs.Prelude.{ℕ, zero, suc, Bool, false, not, List, [], ◌∷◌, Option, Some, None, option_map}
+use Rattle.std.specs.List.{list_any}
+use Rattle.kc_tree_model.specs.Statements.{Block, choice_block, Head, choice, menu, condition, source, ends, Attribute, block_of_head, name_of_head, path_of_head, same_block}
+
+-- A statement that closes the open entry, or the end of a sourced file: such a file is a block, which its `source`
+-- opens and its end closes.
+pub data What : Type 0 where
+  said : Head → What
+  file_end : What
+
+-- an attribute and its line
+pub record Line : Type 0 where
+  pub number : ℕ
+  pub attribute : Attribute
+
+-- a line of a file, by the file's number and the line's
+pub record Position : Type 0 where
+  pub file : ℕ
+  pub line : ℕ
+
+-- a statement, its number among all of them, its place, and the attributes that follow it
+pub record Group : Type 0 where
+  pub number : ℕ
+  pub at : Position
+  pub what : What
+  pub attributes : List Line
+
+-- whether what was read opens a block, closes one or stands in one
+pub data Side : Type 0 where
+  opening : Side
+  closing : Side
+  inside : Side
+
+-- a choice, a menu, an `if` and a `source` open a block ("Menu structure")
+abbrev pub side_of_head : Head → Side
+side_of_head choice = opening
+side_of_head (menu title) = opening
+side_of_head (condition e) = opening
+side_of_head (source path) = opening
+side_of_head (ends b) = closing
+side_of_head h = inside
+
+-- the end of a sourced file closes it
+abbrev pub side_of : What → Side
+side_of (said h) = side_of_head h
+side_of file_end = closing
+
+-- the blocks that stand open, the innermost first: an opening is open where as many ends as openings came behind it
+abbrev pub open_blocks : ℕ → List Group → List Group
+open_blocks n [] = []
+open_blocks n (g ∷ before) = elim (side_of g.what) [
+  | opening ↦ elim n [ zero ↦ g ∷ open_blocks 0 before | suc m ↦ open_blocks m before ]
+  | closing ↦ open_blocks (suc n) before
+  | inside ↦ open_blocks n before
+]
+
+-- what a statement gives; the end of a file gives nothing
+abbrev pub head_gives : {A : Type 0} → (Head → Option A) → What → Option A
+head_gives f (said h) = f h
+head_gives f file_end = None
+
+-- the block that a group opens, where that is no file
+abbrev pub block_of : Group → Option Block
+block_of g = head_gives block_of_head g.what
+
+-- the name that a group defines
+abbrev pub name_of : Group → Option (List ℕ)
+name_of g = head_gives name_of_head g.what
+
+-- the path of the file that a group sources
+abbrev pub source_of : Group → Option (List ℕ)
+source_of g = head_gives path_of_head g.what
+
+-- whether there is a block, and it is of this sort
+abbrev pub is_some_block : Block → Option Block → Bool
+is_some_block b None = false
+is_some_block b (Some c) = same_block b c
+
+-- whether a group opens a choice
+abbrev pub opens_choice : Group → Bool
+opens_choice g = is_some_block choice_block (block_of g)
+
+-- whether a choice stands open, here or in a file that sources this one
+abbrev pub in_choice : List Group → Bool
+in_choice read = list_any opens_choice (open_blocks 0 read)
+
+-- the innermost open block, unless that is the file that is read
+abbrev pub innermost_of : List Group → Option (Group × Block)
+innermost_of [] = None
+innermost_of (g ∷ outer) = option_map (λ b. (g, b)) (block_of g)
+
+-- the innermost open block of the file that is read
+abbrev pub innermost : List Group → Option (Group × Block)
+innermost read = innermost_of (open_blocks 0 read)
+
+-- an end matches a block of its own sort
+abbrev pub is_matched : Block → Option (Group × Block) → Bool
+is_matched b None = false
+is_matched b (Some o) = same_block b o.1
+
+-- an end that doesn't match the innermost open block of its file
+abbrev pub is_stray : List Group → Block → Bool
+is_stray read b = not (is_matched b (innermost read))

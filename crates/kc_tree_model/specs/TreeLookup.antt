@@ -1,0 +1,84 @@
+-- Where units and symbols stand in a tree.
+use Rattle.std.specs.Prelude.{◌≡◌, ℕ, ◌<◌, Bool, true, false, not, ◌&&◌, ◌||◌, List, [], ◌∷◌, length, Option, Some, None, ◌==◌, nat_lt, nat_le, if◌then◌else◌, slice_get, bytes_eq}
+use Rattle.std.specs.List.{position_or_len, list_all, list_any}
+use Rattle.kc_value.specs.declared.value.Kind.TheVariants.{Bool as Boolean}
+use Rattle.kc_expr.specs.Expr.{Expr, alone, named, quoted}
+use Rattle.kc_tree_model.specs.Trees.{Whole, Symbol, Choice, Default, MemberDefault, TreeUnit, of_symbol, of_choice}
+
+-- whether two units are the same
+abbrev pub is_unit : TreeUnit → TreeUnit → Bool
+is_unit (of_symbol a) (of_symbol b) = a == b
+is_unit (of_choice a) (of_choice b) = a == b
+is_unit (of_symbol a) (of_choice b) = false
+is_unit (of_choice a) (of_symbol b) = false
+
+-- the number of a unit, and the count of units if it isn't there
+abbrev pub place_of_unit : Whole → TreeUnit → ℕ
+place_of_unit tree unit = position_or_len (is_unit unit) tree.units
+
+-- a member's unit is its choice, and any other symbol is its own
+abbrev pub unit_in : ℕ → Option ℕ → TreeUnit
+unit_in s None = of_symbol s
+unit_in s (Some c) = of_choice c
+
+-- the number of the unit of a symbol, and the count of units if the symbol isn't there
+abbrev pub unit_of_symbol : Whole → ℕ → Option Symbol → ℕ
+unit_of_symbol tree s None = length tree.units
+unit_of_symbol tree s (Some symbol) = place_of_unit tree (unit_in s symbol.choice)
+
+-- the number of a symbol's unit
+abbrev pub unit_of : Whole → ℕ → ℕ
+unit_of tree s = unit_of_symbol tree s (slice_get tree.symbols s)
+
+-- a place in a list of so many elements
+abbrev pub found_at : ℕ → ℕ → Option ℕ
+found_at place count = if nat_lt place count then Some place else None
+
+-- the symbol of a name, if an entry defines it
+abbrev pub symbol_named : Whole → List ℕ → Option ℕ
+symbol_named tree name =
+    found_at (position_or_len (λ (s : Symbol). bytes_eq name s.name) tree.symbols) (length tree.symbols)
+
+-- a letter, a digit or `_`
+abbrev pub is_name_byte : ℕ → Bool
+is_name_byte b = (nat_le 97 b && nat_le b 122) || (nat_le 65 b && nat_le b 90) || (nat_le 48 b && nat_le b 57)
+    || (b == 95)
+
+-- the text of an operand that no symbol gives: a name that isn't defined stands for itself
+abbrev pub own_text : Expr → List ℕ
+own_text (alone (named x)) = x
+own_text (alone (quoted x)) = x
+own_text _ = []
+
+-- whether a text has a newline
+abbrev pub has_newline : List ℕ → Bool
+has_newline text = list_any (λ b. b == 10) text
+
+-- what every tree that is read has: names that are words and differ, each symbol outside choices and each choice as
+-- one unit, members that are bools of one choice, defaults of a choice that are its members, and texts of one line
+pub record IsConsistent (tree : Whole) : Type 0 where
+  pub words : (s : ℕ) (symbol : Symbol) → slice_get tree.symbols s ≡ Some symbol
+      → (0 < length symbol.name) × (list_all is_name_byte symbol.name ≡ true)
+  pub names_differ : (s t : ℕ) (a b : Symbol) → slice_get tree.symbols s ≡ Some a → slice_get tree.symbols t ≡ Some b
+      → a.name ≡ b.name → s ≡ t
+  pub units_differ : (u w : ℕ) (unit : TreeUnit) → slice_get tree.units u ≡ Some unit
+      → slice_get tree.units w ≡ Some unit → u ≡ w
+  pub symbol_units : (u s : ℕ) → slice_get tree.units u ≡ Some (of_symbol s)
+      → (symbol : Symbol) × (slice_get tree.symbols s ≡ Some symbol) × (symbol.choice ≡ None)
+  pub choice_units : (u c : ℕ) → slice_get tree.units u ≡ Some (of_choice c)
+      → (choice : Choice) × (slice_get tree.choices c ≡ Some choice)
+  pub own_units : (s : ℕ) (symbol : Symbol) → slice_get tree.symbols s ≡ Some symbol → symbol.choice ≡ None
+      → (u : ℕ) × (slice_get tree.units u ≡ Some (of_symbol s))
+  pub units_of_members : (s c : ℕ) (symbol : Symbol) → slice_get tree.symbols s ≡ Some symbol → symbol.choice ≡ Some c
+      → (u : ℕ) × (slice_get tree.units u ≡ Some (of_choice c))
+  pub bool_members : (s c : ℕ) (symbol : Symbol) → slice_get tree.symbols s ≡ Some symbol → symbol.choice ≡ Some c
+      → symbol.kind ≡ Boolean
+  pub members : (c s : ℕ) (choice : Choice) → slice_get tree.choices c ≡ Some choice
+      → list_any (λ m. m == s) choice.members ≡ true
+      → (symbol : Symbol) × (slice_get tree.symbols s ≡ Some symbol) × (symbol.choice ≡ Some c)
+  pub listed : (s c : ℕ) (symbol : Symbol) → slice_get tree.symbols s ≡ Some symbol → symbol.choice ≡ Some c
+      → (choice : Choice) × (slice_get tree.choices c ≡ Some choice) × (list_any (λ m. m == s) choice.members ≡ true)
+  pub default_members : (c : ℕ) (choice : Choice) → slice_get tree.choices c ≡ Some choice
+      → list_all (λ (d : MemberDefault). list_any (λ m. m == d.member) choice.members) choice.defaults ≡ true
+  pub one_line : (s : ℕ) (symbol : Symbol) → slice_get tree.symbols s ≡ Some symbol
+      → list_all (λ (d : Default). not (has_newline (own_text d.value))) symbol.defaults ≡ true

@@ -1,0 +1,20 @@
+//! Laws of the definitions.
+ghost use Rattle.std.specs.Prelude.{◌≡◌, ℕ, List, None};
+ghost use Rattle.kc_tree_model.specs.Files.{Files};
+ghost use Rattle.kc_tree_model.specs.Contents.{tree_of_files};
+ghost use Rattle.kc_tree_model.specs.TreeFaults.{fault_told};
+ghost use Rattle.kc_tree_model.specs.TreeLookup.{IsConsistent};
+ghost use Rattle.kc_tree_model.specs.NestedTrees.{IsReadAsOneTree};
+
+/// What is read without a fault is the listing of exactly one nested tree of menus, ifs, choices, sourced files and
+/// entries, and the walk down that tree gives each place the conditions that stand round it.
+pub fn reading_is_a_nested_tree()
+    ensures { (files : Files) (root : List ℕ) → IsReadAsOneTree files root }
+{}
+
+/// What is read without a fault is a consistent tree: its names are words and differ, each choice and each symbol
+/// outside choices is one unit, the members of a choice are bools of that choice alone and its defaults are members,
+/// and no default has a newline in a text of its own.
+pub fn trees_are_consistent()
+    ensures { (files : Files) (root : List ℕ) → fault_told files root ≡ None → IsConsistent (tree_of_files files root) }
+{}

@@ -1,0 +1,109 @@
+//! The files of a tree.
+ghost use Rattle.std.specs.Prelude.{◌≡◌, ◌↔◌, [], length, IsTrue, OnOk, OnErr, option_map};
+ghost use Rattle.kc_tree_model.specs.Files.{with_file, file_at, path_at, HasDistinctPaths};
+
+use indexmap::IndexMap;
+use std::alloc::{AllocError, Global};
+use std::marker::Model;
+
+/// Paths and their bytes, in order of insertion.
+#[derive(Drop)]
+pub struct Texts {
+    alloc: Global,
+    files: IndexMap<String, Vec<u8>>,
+}
+
+impl Model for Texts {
+    ghost use Rattle.std.specs.Prelude.{map};
+    ghost use Rattle.kc_tree_model.specs.Files.{Files};
+
+    ghost Value = { Files };
+
+    ghost use Rattle.kc_tree_model.specs.TextsView.{file_of};
+
+    ghost view = { λ a. map file_of a.files.entries };
+}
+
+impl Texts {
+    /// No files.
+    pub fn new(alloc: Global) -> Texts
+        ensures { result ≡ [] }
+    {
+        Texts {
+            alloc,
+            files: IndexMap::new(alloc),
+        }
+    }
+
+    /// Puts a new path last, or replaces the bytes of a path that is there in place; both are copied.
+    ///
+    /// # Errors
+    ///
+    /// Where memory runs out, nothing is changed.
+    pub fn insert(&mut self, path: &str, bytes: &[u8]) -> Result<(), AllocError>
+        ensures ok { OnOk result (self.new ≡ with_file self.old path.now bytes.now) }
+        ensures err { OnErr result (self.new ≡ self.old) }
+    {
+        let path = String::from_str(self.alloc, path)?;
+        let bytes = Vec::from_slice(self.alloc, bytes)?;
+        self.files.insert(path, bytes)?;
+        Ok(())
+    }
+
+    /// The bytes of a path, if it is there.
+    pub fn get(&self, path: &str) -> Option<&[u8]>
+        ensures { option_map (λ b. b.now) result ≡ file_at self.now path.now }
+    {
+        let bytes = self.files.get(path)?;
+        Some(bytes.as_slice())
+    }
+
+    /// The path of a file by its position.
+    pub fn path_at(&self, index: u32) -> Option<&str>
+        ensures { option_map (λ p. p.now) result ≡ path_at self.now index }
+    {
+        let (path, _) = self.files.get_index(index as usize)?;
+        Some(path.as_str())
+    }
+
+    /// The number of files; no two have one path.
+    pub fn len(&self) -> usize
+        ensures len { result ≡ length self.now }
+        ensures distinct { HasDistinctPaths self.now }
+    {
+        self.files.len()
+    }
+
+    /// Whether there are no files.
+    pub fn is_empty(&self) -> bool
+        ensures { IsTrue result ↔ (self.now ≡ []) }
+    {
+        self.len() == 0
+    }
+}
+
+#[cfg(test)]
+mod tests {
+    use super::*;
+    use std::test::Fail;
+
+    #[test]
+    fn keeps_files_in_order_of_insertion(rt: HostRuntime) -> Result<(), Fail> {
+        let mut texts = Texts::new(rt.alloc());
+        assert!(rt; texts.is_empty());
+        texts.insert("Kconfig", b"source \"a\"")?;
+        texts.insert("a", b"")?;
+        texts.insert("Kconfig", b"config A")?;
+        assert_eq!(rt; texts.len(), 2);
+        assert_eq!(rt;
+            texts.get("Kconfig").ok_or("absent")?,
+            b"config A".as_slice()
+        );
+        assert_eq!(rt; texts.get("a").ok_or("absent")?.len(), 0);
+        assert!(rt; texts.get("b").is_none());
+        assert_eq!(rt; texts.path_at(0).ok_or("absent")?, "Kconfig");
+        assert_eq!(rt; texts.path_at(1).ok_or("absent")?, "a");
+        assert!(rt; texts.path_at(2).is_none());
+        Ok(())
+    }
+}
