@@ -1,0 +1,10 @@
+use Rattle.std.proofs.Common.{◌≡◌, ◌≤◌, ◌<◌, ◌+◌, ◌-◌, ◌++◌, drop, length}
+use Rattle.kc_tree_model.specs.Lines.{physical_lines, joined}
+use Rattle.kc_listing.specs.checker.Cut.{AreJoined}
+use Rattle.kc_listing.proofs.lines.joined_at.Given as goal
+
+abbrev pub invariant-loop-begin : goal.invariant-loop-begin
+invariant-loop-begin l = AreJoined l.bytes l.fn.at l.begin l.text.items l.lines
+
+abbrev pub decreases-loop-begin : goal.decreases-loop-begin
+decreases-loop-begin l = length l.bytes - l.begin
