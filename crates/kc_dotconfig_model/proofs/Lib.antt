@@ -4,5 +4,6 @@ pub mod LineLaws
 pub mod Overlays
 pub mod FittingFiles
 pub mod AcceptedFiles
+pub mod FirstFaults
 mod FileRows
 mod MissedRows

@@ -1,14 +1,16 @@
 -- A line says what the function of `Reading` tells, and nothing else.
-use Rattle.std.specs.Prelude.{◌≡◌, ◌↔◌, ℕ, true, List, Option, Some, length, IsTrue}
+use Rattle.std.specs.Prelude.{◌≡◌, ◌↔◌, ℕ, ◌+◌, ◌≤◌, true, List, Option, Some, length, IsTrue}
 use Rattle.kc_tree_model.specs.Trees.{Whole}
 use Rattle.kc_tree_model.specs.TreeLookup.{IsConsistent}
 use Rattle.kc_system.specs.Solutions.{FitsUsers}
 use Rattle.kc_rules_model.specs.Shapes.{user_fits}
 use Rattle.kc_rules_model.specs.declared.values.UserValue.{UserValue}
+use Rattle.kc_dotconfig_model.specs.declared.fault.LoadKind.{LoadKind}
+use Rattle.kc_dotconfig_model.specs.declared.fault.LoadKind.TheVariants.{Read}
 use Rattle.kc_dotconfig_model.specs.Names.{is_prefix}
 use Rattle.kc_dotconfig_model.specs.Lines.{Saying, Says}
 use Rattle.kc_dotconfig_model.specs.Files.{FileSays, assigned_over, file_users, laid_over}
-use Rattle.kc_dotconfig_model.specs.LoadFaults.{IsAccepted}
+use Rattle.kc_dotconfig_model.specs.LoadFaults.{Extent, complete, cut_short, ComesAt, IsFirstFault, IsAccepted, newlines}
 use Rattle.kc_dotconfig_model.specs.Reading.{line_saying, file_sayings}
 
 -- each line says one thing at most
@@ -35,3 +37,20 @@ FilesFit = (prefix : List ℕ) (tree : Whole) (bytes : List ℕ) (sayings : List
 abbrev pub AcceptedFilesAreRead : Type 0
 AcceptedFilesAreRead = (prefix : List ℕ) (tree : Whole) (bytes : List ℕ) → is_prefix prefix ≡ true
     → IsAccepted prefix tree bytes → (sayings : List Saying) × FileSays prefix tree bytes sayings
+
+-- only one fault is the first, with one number of a line
+abbrev pub OneFaultIsFirst : Type 0
+OneFaultIsFirst = (prefix : List ℕ) (tree : Whole) (extent : Extent) (bytes : List ℕ) (a b : LoadKind) (m n : ℕ)
+    → IsFirstFault prefix tree extent bytes a m → IsFirstFault prefix tree extent bytes b n → (a ≡ b) × (m ≡ n)
+
+-- a file with a first fault isn't accepted
+abbrev pub FaultyFilesAreRefused : Type 0
+FaultyFilesAreRefused = (prefix : List ℕ) (tree : Whole) (bytes : List ℕ) (kind : LoadKind) (number : ℕ)
+    → IsFirstFault prefix tree complete bytes kind number → IsAccepted prefix tree bytes → ⊥
+
+-- a failed read is told exactly where no fault comes at a byte before it, with the line on which it failed
+abbrev pub FailedReadsAreTold : Type 0
+FailedReadsAreTold = (prefix : List ℕ) (tree : Whole) (bytes : List ℕ) (number : ℕ)
+    → IsFirstFault prefix tree cut_short bytes Read number
+    ↔ (((kind : LoadKind) (byte other : ℕ) → ComesAt prefix tree bytes kind byte other → length bytes ≤ byte)
+    × (number ≡ newlines bytes + 1))

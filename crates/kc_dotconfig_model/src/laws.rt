@@ -1,5 +1,5 @@
 //! Laws of lines and files.
-ghost use Rattle.kc_dotconfig_model.specs.Laws.{LinesAreRead, FilesAreRead, FilesLieOverAssignments, FilesFit, AcceptedFilesAreRead};
+ghost use Rattle.kc_dotconfig_model.specs.Laws.{LinesAreRead, FilesAreRead, FilesLieOverAssignments, FilesFit, AcceptedFilesAreRead, OneFaultIsFirst, FaultyFilesAreRefused, FailedReadsAreTold};
 
 /// A line says what the forms of lines have it say, and one thing at most.
 pub fn lines_are_read()
@@ -24,4 +24,19 @@ pub fn files_fit()
 /// An accepted file says something.
 pub fn accepted_files_are_read()
     ensures { AcceptedFilesAreRead }
+{}
+
+/// Only one fault of a file is the first, with one number of a line.
+pub fn one_fault_is_first()
+    ensures { OneFaultIsFirst }
+{}
+
+/// A file with a first fault isn't accepted.
+pub fn faulty_files_are_refused()
+    ensures { FaultyFilesAreRefused }
+{}
+
+/// A failed read is told exactly where no fault comes at a byte before it.
+pub fn failed_reads_are_told()
+    ensures { FailedReadsAreTold }
 {}
