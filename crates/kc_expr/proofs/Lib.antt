@@ -4,6 +4,7 @@ pub mod GrammarLaws
 pub mod LeafLemmas
 pub mod Lexing
 pub mod MentionedLemmas
+pub mod NameLemmas
 pub mod NodeLemmas
 pub mod ParseSteps
 pub mod Places

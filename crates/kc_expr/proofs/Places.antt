@@ -1,6 +1,6 @@
 -- Names and their places.
 use Rattle.std.proofs.Common.{◌≡◌, ℕ, suc, zero, ◌+◌, ◌<◌, ◌≤◌, Bool, true, false, List, [], ◌∷◌, length, get_or, Option, Some, None, map, ◌++◌, ◌||◌, not, ltb, ◌⊎◌, inl, inr, length-append, refl, ap, sym, ◌∙◌, arith, cond}
-use Rattle.std.specs.Prelude.{option_map, option_and_then, bytes_eq}
+use Rattle.std.specs.Prelude.{option_map, option_and_then, is_some, bytes_eq}
 use Rattle.std.proofs.lemmas.Slice.Eq.{bytes_eq-Decides}
 use Rattle.std.proofs.lemmas.Bool.{false_from_ne_true, both_ways, or_parts, ltb-true, ltb-false, lt-ltb, le-ltb, cases_lt}
 use Rattle.std.proofs.Math.Seq.{get_or-append_seam}
@@ -8,6 +8,7 @@ use Rattle.std.proofs.lemmas.List.{get_or_append_left, map-append}
 use Rattle.std.specs.List.{list_any, position_or_len, position}
 use Rattle.kc_expr.specs.Expr.{Seen}
 use Rattle.kc_expr.specs.Lookup.{place_of, AreDistinct, names_seen}
+use Rattle.kc_expr.specs.Names.{with_name}
 
 same_bytes : (n : List ℕ) → bytes_eq n n ≡ true
 same_bytes n = (bytes_eq-Decides n n).1 refl
@@ -89,6 +90,23 @@ module _ {K : Type 0} (name : K → List ℕ) (x : List ℕ) where
       by_any : (b : Bool) → list_any (λ k. bytes_eq x (name k)) ks ≡ b → place_of x (map name (cond b ks (ks ++ v ∷ []))) ≡ Some (position_or_len (λ k. bytes_eq x (name k)) ks)
       by_any true h = held ks h
       by_any false h = new_last v e ks h
+
+  some_by : (b : Bool) (o : Option ℕ) (r : Bool) → is_some o ≡ r → is_some (cond b (Some 0) (option_map suc o)) ≡ (b || r)
+  some_by true o r e = refl
+  some_by false None r e = e
+  some_by false (Some i) r e = e
+
+  has_place : (ks : List K) → is_some (place_of x (map name ks)) ≡ list_any (λ k. bytes_eq x (name k)) ks
+  has_place [] = refl
+  has_place (k ∷ ks) = some_by (bytes_eq x (name k)) (place_of x (map name ks)) (list_any (λ k. bytes_eq x (name k)) ks) (has_place ks)
+
+  -- it comes behind the others, unless it is there
+  pub names_put : (v : K) → name v ≡ x → (ks : List K) → map name (cond (list_any (λ k. bytes_eq x (name k)) ks) ks (ks ++ v ∷ [])) ≡ with_name x (map name ks)
+  names_put v e ks = by_any (list_any (λ k. bytes_eq x (name k)) ks) (has_place ks)
+    where
+      by_any : (b : Bool) → is_some (place_of x (map name ks)) ≡ b → map name (cond b ks (ks ++ v ∷ [])) ≡ with_name x (map name ks)
+      by_any true h = rw h refl
+      by_any false h = rw (h, map-append, e) refl
 
   -- and no name is then held twice
   pub distinct_put : (v : K) → name v ≡ x → (ks : List K) → AreDistinct (map name ks) → AreDistinct (map name (cond (list_any (λ k. bytes_eq x (name k)) ks) ks (ks ++ v ∷ [])))

@@ -6,6 +6,7 @@ pub mod ExprCode
 pub mod Grammar
 pub mod Lookup
 pub mod Mentioned
+pub mod Names
 pub mod Nodes
 pub mod Operand
 pub mod Parsing

@@ -1,5 +1,5 @@
 //! Expressions that share their parts.
-ghost use Rattle.std.specs.Prelude.{◌≡◌, ◌<◌, ◌≤◌, ◌⊎◌, ◌↔◌, ℕ, length, [], Contains, IfOk, IfErr, IfSome, OnErr, option_map, slice_index_or};
+ghost use Rattle.std.specs.Prelude.{◌≡◌, ◌<◌, ◌≤◌, ◌⊎◌, ◌↔◌, ◌++◌, ℕ, length, map, [], All, Contains, IfOk, IfErr, IfSome, OnOk, OnErr, Some, option_map, slice_index_or};
 ghost use Rattle.std.specs.List.Sorted.{IsStrictlyIncreasing};
 ghost use Rattle.kc_expr.specs.declared.fault.ExprKind.TheVariants.{OutOfMemory};
 
@@ -45,9 +45,11 @@ impl Arena {
     ghost use Rattle.kc_expr.specs.Expr.{both, shown, value};
     ghost use Rattle.kc_expr.specs.Lookup.{names_seen, place_of};
     ghost use Rattle.kc_expr.specs.Mentioned.{names_in};
+    ghost use Rattle.kc_expr.specs.Names.{name_alone, with_name};
     ghost use Rattle.kc_expr.specs.Operand.{operand_alone, operand_told, IsHeld};
     ghost use Rattle.kc_expr.specs.Reading.{expr_at, expr_end, IsRead, IsNotRead};
     ghost use Rattle.kc_expr.specs.Token.{pieces_of};
+    ghost use Rattle.kc_expr.specs.Words.{words};
 
     /// No names and no nodes. Takes no memory.
     pub fn new(alloc: Global) -> Arena
@@ -127,6 +129,36 @@ impl Arena {
         Ok(ExprId::at(id))
     }
 
+    /// How many names there are.
+    pub fn name_count(&self) -> usize
+        ensures { result ≡ length self.now.names }
+    {
+        self.store.name_count()
+    }
+
+    /// How many expressions there are: their numbers are those below.
+    pub fn node_count(&self) -> usize
+        ensures { result ≡ length self.now.nodes }
+    {
+        self.store.node_count()
+    }
+
+    /// The number of a name, which is put behind the others where it is new. No expression is made. An `Err` is want
+    /// of memory, and leaves the arena as it was.
+    pub fn intern(&mut self, name: &str) -> Result<NameId, ExprFault>
+        ensures names { IfOk result (λ id. self.new.names ≡ with_name name.now self.old.names) }
+        ensures place { IfOk result (λ id. place_of name.now self.new.names ≡ Some id) }
+        ensures name { IfOk result (λ id. slice_index_or self.new.names id [] ≡ name.now) }
+        ensures within { IfOk result (λ id. id < length self.new.names) }
+        ensures nodes { self.new.nodes ≡ self.old.nodes }
+        ensures grows { Grows self.old self.new }
+        ensures memory { IfErr result (λ e. e.kind ≡ OutOfMemory) }
+        ensures err { OnErr result (self.new ≡ self.old) }
+    {
+        let index = self.store.intern(name)?;
+        Ok(NameId::at(index))
+    }
+
     /// The word of a name.
     pub fn name(&self, id: NameId) -> &str
         requires { id < length self.now.names }
@@ -157,6 +189,32 @@ impl Arena {
             Leaf::Name(i) => Some(Operand::Name(NameId::at(i))),
             Leaf::Quoted(i) => Some(Operand::Quoted(self.store.text(i))),
         }
+    }
+
+    /// The name that an expression is; `None` where it isn't just one. Takes no memory.
+    pub fn bare_name(&self, id: ExprId) -> Option<NameId>
+        requires { id < length self.now.nodes }
+        ensures name { option_map (λ i. slice_index_or self.now.names i []) result ≡ name_alone (stands_for self.now id) }
+        ensures held { IfSome result (λ i. i < length self.now.names) }
+    {
+        let Node::Alone(leaf) = self.store.node(id.index()) else {
+            return None;
+        };
+        match leaf {
+            Leaf::Name(index) => Some(NameId::at(index)),
+            Leaf::Constant(_) => None,
+            Leaf::Quoted(_) => None,
+        }
+    }
+
+    /// Puts the names in an expression behind others, some perhaps more than once. An `Err` is want of memory.
+    pub fn push_names(&self, id: ExprId, found: &mut Vec<NameId>) -> Result<(), AllocError>
+        requires { id < length self.now.nodes }
+        ensures words { OnOk result (map (λ i. slice_index_or self.now.names i []) found.new.items
+            ≡ map (λ i. slice_index_or self.now.names i []) found.old.items ++ words (stands_for self.now id)) }
+        ensures held { OnOk result (All (λ i. i < length self.now.names) found.old.items → All (λ i. i < length self.now.names) found.new.items) }
+    {
+        push_names(&self.store, id.index(), found)
     }
 
     /// The names in an expression, ascending, each once. An `Err` is want of memory.

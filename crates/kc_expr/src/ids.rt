@@ -59,7 +59,8 @@ impl ExprId {
         ExprId { index }
     }
 
-    pub(crate) fn index(self) -> usize
+    /// The place in the list of expressions.
+    pub fn index(self) -> usize
         ensures { result ≡ self }
     {
         self.index

@@ -1,8 +1,9 @@
 //! The lists that an arena holds.
-ghost use Rattle.std.specs.Prelude.{◌≡◌, ◌<◌, [], length, take, IfOk, IfErr, OnErr, slice_index_or};
+ghost use Rattle.std.specs.Prelude.{◌≡◌, ◌<◌, [], length, take, Some, IfOk, IfErr, OnErr, slice_index_or};
 ghost use Rattle.kc_expr.specs.declared.fault.ExprKind.TheVariants.{OutOfMemory};
 ghost use Rattle.kc_expr.specs.Arena.{Stands};
 ghost use Rattle.kc_expr.specs.Lookup.{place_of};
+ghost use Rattle.kc_expr.specs.Names.{with_name};
 ghost use Rattle.kc_expr.specs.Nodes.{NodeFits, expr_of, some_node};
 
 use super::fault::ExprFault;
@@ -46,6 +47,18 @@ impl Store {
 
     pub(crate) fn alloc(&self) -> Global {
         self.alloc
+    }
+
+    pub(crate) fn name_count(&self) -> usize
+        ensures { result ≡ length (names_held self.now) }
+    {
+        self.names.len()
+    }
+
+    pub(crate) fn node_count(&self) -> usize
+        ensures { result ≡ length (exprs_in self.now).nodes }
+    {
+        self.nodes.len()
     }
 
     /// The node of a number.
@@ -99,9 +112,34 @@ impl Store {
         requires { IsSound self.old }
         ensures sound { IsSound self.new }
         ensures extends { Extends self.old self.new }
+        ensures place { IfOk result (λ i. place_of name.now (names_held self.new) ≡ Some i) }
         ensures within { IfOk result (λ i. i < length (names_held self.new)) }
         ensures name { IfOk result (λ i. slice_index_or (names_held self.new) i [] ≡ name.now) }
+        ensures names { IfOk result (λ i. names_held self.new ≡ with_name name.now (names_held self.old)) }
+        ensures texts { self.new.texts.items ≡ self.old.texts.items }
+        ensures nodes { self.new.nodes.items ≡ self.old.nodes.items }
         ensures memory { IfErr result (λ e. e.kind ≡ OutOfMemory) }
+        ensures err { OnErr result (exprs_in self.new ≡ exprs_in self.old) }
+    {
+        match self.find(name) {
+            Some(index) => Ok(index),
+            None => self.put_name(name),
+        }
+    }
+
+    /// Puts a name behind the others, unless it is there.
+    fn put_name(&mut self, name: &str) -> Result<usize, ExprFault>
+        requires { IsSound self.old }
+        ensures sound { IsSound self.new }
+        ensures extends { Extends self.old self.new }
+        ensures place { IfOk result (λ i. place_of name.now (names_held self.new) ≡ Some i) }
+        ensures within { IfOk result (λ i. i < length (names_held self.new)) }
+        ensures name { IfOk result (λ i. slice_index_or (names_held self.new) i [] ≡ name.now) }
+        ensures names { IfOk result (λ i. names_held self.new ≡ with_name name.now (names_held self.old)) }
+        ensures texts { self.new.texts.items ≡ self.old.texts.items }
+        ensures nodes { self.new.nodes.items ≡ self.old.nodes.items }
+        ensures memory { IfErr result (λ e. e.kind ≡ OutOfMemory) }
+        ensures err { OnErr result (exprs_in self.new ≡ exprs_in self.old) }
     {
         let (index, _) = self.names.insert_full(String::from_str(self.alloc, name)?)?;
         Ok(index)

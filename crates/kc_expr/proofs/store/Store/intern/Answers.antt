@@ -1,33 +1,9 @@
-use Rattle.std.proofs.Common.{◌≡◌, ℕ, ap, sym, ◌∙◌, refl, Some, map, List, subst}
-use Rattle.std.specs.Prelude.{String, string_bytes, bytes_eq}
-use Rattle.std.proofs.Math.Seq.{take-length}
-use Rattle.std.specs.List.{list_any}
-use Rattle.std.specs.declared.alloc.Global.{Global}
-use Rattle.kc_expr.specs.Lookup.{place_of, AreDistinct}
-use Rattle.kc_expr.specs.Store.{Extends}
-use Rattle.kc_expr.proofs.Places.{place_put, distinct_put, place_there}
-use Rattle.kc_expr.proofs.StoreLemmas.{sound_on, put_prefix}
+use Rattle.std.proofs.Common.{sym, ◌∙◌}
+use Rattle.kc_expr.proofs.Places.{place_there}
 use Rattle.kc_expr.proofs.store.Store.intern.Goals as goal
 
-placed : (c : goal.In_ok-index) → place_of c.args.name.now (map string_bytes c.insert_full.new.self.keys) ≡ Some c.in_ok-index.index
-placed c =
-    let v = c.in_ok-from_str.field-0 in
-    ap (λ (x : List ℕ). place_of x (map string_bytes c.insert_full.new.self.keys)) (sym c.in_ok-from_str.ensures.ok)
-    ∙ ap (λ (ks : List (String Global)). place_of (string_bytes v) (map string_bytes ks)) c.in_ok-index.ensures.keys
-    ∙ place_put string_bytes (string_bytes v) v refl c.args.self.now.names.keys
-    ∙ ap Some (sym c.in_ok-index.ensures.index)
+pub returns-in-Some-clause-within : goal.returns-in-Some-clause-within
+returns-in-Some-clause-within c = (place_there _ _ _ (sym c.find.ensures ∙ c.in-Some.is)).0
 
-pub returns-clause-sound : goal.returns-clause-sound
-returns-clause-sound c =
-    let v = c.in_ok-from_str.field-0 in
-    let distinct : AreDistinct (map string_bytes c.insert_full.new.self.keys) =
-    subst (λ (ks : List (String Global)). AreDistinct (map string_bytes ks)) (sym c.in_ok-index.ensures.keys) (distinct_put string_bytes (string_bytes v) v refl c.args.self.now.names.keys c.requires.distinct) in
-    let extends : Extends c.args.self.now (record c.args.self.now { names = c.insert_full.new.self }) =
-    record { names = rw c.in_ok-index.ensures.keys (put_prefix (list_any (λ k. bytes_eq (string_bytes v) (string_bytes k)) c.args.self.now.names.keys) c.args.self.now.names.keys v); texts = take-length c.args.self.now.texts.items; nodes = take-length c.args.self.now.nodes.items } in
-    sound_on c.args.self.now (record c.args.self.now { names = c.insert_full.new.self }) c.requires extends refl distinct
-
-pub returns-clause-within : goal.returns-clause-within
-returns-clause-within c = (place_there _ _ _ (placed c)).0
-
-pub returns-clause-name : goal.returns-clause-name
-returns-clause-name c = (place_there _ _ _ (placed c)).1
+pub returns-in-Some-clause-name : goal.returns-in-Some-clause-name
+returns-in-Some-clause-name c = (place_there _ _ _ (sym c.find.ensures ∙ c.in-Some.is)).1

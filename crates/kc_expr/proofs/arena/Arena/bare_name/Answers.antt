@@ -1,0 +1,31 @@
+use Rattle.std.proofs.Common.{◌≡◌, [], get_or, Some, None, ap, sym, ◌∙◌}
+use Rattle.kc_expr.specs.Arena.{Exprs, stands_for}
+use Rattle.kc_expr.specs.Expr.{named}
+use Rattle.kc_expr.specs.Names.{name_of_operand, name_alone}
+use Rattle.kc_expr.specs.Nodes.{operand_of}
+use Rattle.kc_expr.specs.Operand.{operand_alone}
+use Rattle.kc_expr.specs.Store.{names_held}
+use Rattle.std.specs.Prelude.{option_and_then}
+use Rattle.kc_expr.proofs.MentionedLemmas.{operand_is, operand_none}
+use Rattle.kc_expr.proofs.StoreLemmas.{within_nodes}
+use Rattle.kc_expr.proofs.arena.Arena.bare_name.Goals as goal
+
+pub node-requires : goal.node-requires
+node-requires c = rw c.index.ensures (within_nodes c.args.self.now c.self.inside.store c.args.id c.self.view_is c.requires)
+
+pub returns-in_default-clause-name : goal.returns-in_default-clause-name
+returns-in_default-clause-name c = ap (option_and_then name_of_operand) (sym (operand_none c.args.self.now c.self.inside.store c.args.id c.index.result c.node.result c.self.view_is c.index.ensures c.self.invariant c.requires c.node.ensures c.in_default.not-Alone))
+
+pub returns-in-Constant-clause-name : goal.returns-in-Constant-clause-name
+returns-in-Constant-clause-name c =
+    ap (option_and_then name_of_operand) (sym (operand_is c.args.self.now c.self.inside.store c.args.id c.index.result c.node.result c.self.view_is c.index.ensures c.self.invariant c.requires c.node.ensures c.in-Alone.leaf c.in-Alone.is ∙ ap (λ l. Some (operand_of (names_held c.self.inside.store) c.self.inside.store.texts.items l)) c.in-Constant.is))
+
+pub returns-in-Quoted-clause-name : goal.returns-in-Quoted-clause-name
+returns-in-Quoted-clause-name c =
+    ap (option_and_then name_of_operand) (sym (operand_is c.args.self.now c.self.inside.store c.args.id c.index.result c.node.result c.self.view_is c.index.ensures c.self.invariant c.requires c.node.ensures c.in-Alone.leaf c.in-Alone.is ∙ ap (λ l. Some (operand_of (names_held c.self.inside.store) c.self.inside.store.texts.items l)) c.in-Quoted.is))
+
+pub returns-in-Name-clause-name : goal.returns-in-Name-clause-name
+returns-in-Name-clause-name c =
+    ap (λ i. Some (get_or c.args.self.now.names i [])) c.at.ensures
+    ∙ ap (λ (x : Exprs). Some (get_or x.names c.in-Name.index [])) (sym c.self.view_is)
+    ∙ ap (option_and_then name_of_operand) (sym (operand_is c.args.self.now c.self.inside.store c.args.id c.index.result c.node.result c.self.view_is c.index.ensures c.self.invariant c.requires c.node.ensures c.in-Alone.leaf c.in-Alone.is ∙ ap (λ l. Some (operand_of (names_held c.self.inside.store) c.self.inside.store.texts.items l)) c.in-Name.is))

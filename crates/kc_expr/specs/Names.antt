@@ -1,0 +1,19 @@
+-- The names of an arena as they grow.
+use Rattle.std.specs.Prelude.{ℕ, List, [], ◌∷◌, ◌++◌, Option, Some, None, option_and_then, is_some, if◌then◌else◌}
+use Rattle.kc_expr.specs.Expr.{Operand, Expr, constant, named, quoted}
+use Rattle.kc_expr.specs.Lookup.{place_of}
+use Rattle.kc_expr.specs.Operand.{operand_alone}
+
+-- a name behind the others, unless it is there
+abbrev pub with_name : List ℕ → List (List ℕ) → List (List ℕ)
+with_name name names = if is_some (place_of name names) then names else names ++ name ∷ []
+
+-- the name that an operand is, if it is one
+abbrev pub name_of_operand : Operand → Option (List ℕ)
+name_of_operand (constant t) = None
+name_of_operand (named name) = Some name
+name_of_operand (quoted text) = None
+
+-- the name that an expression is, if it is just one
+abbrev pub name_alone : Expr → Option (List ℕ)
+name_alone e = option_and_then name_of_operand (operand_alone e)
