@@ -1,7 +1,7 @@
 -- Each line of a file has its number and place, and an accepted file says something.
 use Rattle.std.proofs.Common.{◌≡◌, inl, inr, ℕ, zero, suc, ◌+◌, ◌<◌, Bool, true, false, not, ◌==◌, cond, List, [], ◌∷◌, ◌++◌, Option, Some, None, length, refl, sym, ◌∙◌, ap, subst, arith}
 use Rattle.std.specs.Prelude.{slice_get}
-use Rattle.std.specs.List.{count_by, onto_first}
+use Rattle.std.specs.List.{onto_first}
 use Rattle.std.proofs.lemmas.Bool.{eqb-true, and_from}
 use Rattle.std.proofs.lemmas.List.Sums.{sum_by-cons, sum_by-append}
 use Rattle.kc_tree_model.specs.Trees.{Whole}
@@ -9,13 +9,10 @@ use Rattle.kc_dotconfig_model.specs.declared.fault.LoadKind.TheVariants.{Malform
 use Rattle.kc_dotconfig_model.specs.Names.{lacks}
 use Rattle.kc_dotconfig_model.specs.Lines.{Saying, IsMalformed, without_white_end}
 use Rattle.kc_dotconfig_model.specs.Files.{file_lines, FileSays}
-use Rattle.kc_dotconfig_model.specs.LoadFaults.{IsLineAt}
+use Rattle.kc_dotconfig_model.specs.LoadFaults.{IsLineAt, newlines}
 use Rattle.kc_dotconfig_model.specs.Reading.{line_saying, with_rest, sayings_of_lines, file_sayings}
 use Rattle.kc_dotconfig_model.specs.Laws.{AcceptedFilesAreRead}
 use Rattle.kc_dotconfig_model.proofs.LineLaws.{line_read, file_read}
-
-abbrev newlines : List ℕ → ℕ
-newlines bytes = count_by (λ b. b == 10) bytes
 
 count_more : (b : ℕ) (bytes : List ℕ) → newlines (b ∷ bytes) ≡ cond (b == 10) 1 0 + newlines bytes
 count_more b bytes = sum_by-cons (λ c. cond (c == 10) 1 0) b bytes

@@ -5,5 +5,8 @@ pub mod Overlays
 pub mod FittingFiles
 pub mod AcceptedFiles
 pub mod FirstFaults
+pub mod AcceptedLines
+pub mod TrimmedLines
+pub mod AssigningLines
 mod FileRows
 mod MissedRows

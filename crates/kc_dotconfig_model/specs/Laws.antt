@@ -1,5 +1,6 @@
 -- A line says what the function of `Reading` tells, and nothing else.
-use Rattle.std.specs.Prelude.{◌≡◌, ◌↔◌, ℕ, ◌+◌, ◌≤◌, true, List, Option, Some, length, IsTrue}
+use Rattle.std.specs.Prelude.{◌≡◌, ◌↔◌, ℕ, ◌+◌, ◌≤◌, true, List, Option, Some, length, slice_get, IsTrue}
+use Rattle.std.specs.Str.{IsUtf8}
 use Rattle.kc_tree_model.specs.Trees.{Whole}
 use Rattle.kc_tree_model.specs.TreeLookup.{IsConsistent}
 use Rattle.kc_system.specs.Solutions.{FitsUsers}
@@ -8,9 +9,9 @@ use Rattle.kc_rules_model.specs.declared.values.UserValue.{UserValue}
 use Rattle.kc_dotconfig_model.specs.declared.fault.LoadKind.{LoadKind}
 use Rattle.kc_dotconfig_model.specs.declared.fault.LoadKind.TheVariants.{Read}
 use Rattle.kc_dotconfig_model.specs.Names.{is_prefix}
-use Rattle.kc_dotconfig_model.specs.Lines.{Saying, Says}
-use Rattle.kc_dotconfig_model.specs.Files.{FileSays, assigned_over, file_users, laid_over}
-use Rattle.kc_dotconfig_model.specs.LoadFaults.{Extent, complete, cut_short, ComesAt, IsFirstFault, IsAccepted, newlines}
+use Rattle.kc_dotconfig_model.specs.Lines.{Saying, Says, without_white_end}
+use Rattle.kc_dotconfig_model.specs.Files.{file_lines, FileSays, assigned_over, file_users, laid_over}
+use Rattle.kc_dotconfig_model.specs.LoadFaults.{MOST_BYTES, MOST_LINES, MOST_LINE_BYTES, Extent, complete, cut_short, ComesAt, IsFirstFault, IsAccepted, newlines}
 use Rattle.kc_dotconfig_model.specs.Reading.{line_saying, file_sayings}
 
 -- each line says one thing at most
@@ -54,3 +55,21 @@ FailedReadsAreTold = (prefix : List ℕ) (tree : Whole) (bytes : List ℕ) (numb
     → IsFirstFault prefix tree cut_short bytes Read number
     ↔ (((kind : LoadKind) (byte other : ℕ) → ComesAt prefix tree bytes kind byte other → length bytes ≤ byte)
     × (number ≡ newlines bytes + 1))
+
+-- a line without a fault of its own
+pub record IsGoodLine (prefix : List ℕ) (tree : Whole) (line : List ℕ) : Type 0 where
+  pub short : length line ≤ MOST_LINE_BYTES
+  pub utf8 : IsUtf8 line
+  pub saying : Saying
+  pub says : Says prefix tree (without_white_end line) saying
+
+-- a file within the limits, of good lines alone
+pub record IsOfGoodLines (prefix : List ℕ) (tree : Whole) (bytes : List ℕ) : Type 0 where
+  pub small : length bytes ≤ MOST_BYTES
+  pub few : length (file_lines bytes) ≤ MOST_LINES
+  pub good : (i : ℕ) (line : List ℕ) → slice_get (file_lines bytes) i ≡ Some line → IsGoodLine prefix tree line
+
+-- just these files are accepted
+abbrev pub AcceptedFilesHaveGoodLines : Type 0
+AcceptedFilesHaveGoodLines = (prefix : List ℕ) (tree : Whole) (bytes : List ℕ) → is_prefix prefix ≡ true
+    → IsAccepted prefix tree bytes ↔ IsOfGoodLines prefix tree bytes

@@ -1,5 +1,5 @@
 //! Laws of lines and files.
-ghost use Rattle.kc_dotconfig_model.specs.Laws.{LinesAreRead, FilesAreRead, FilesLieOverAssignments, FilesFit, AcceptedFilesAreRead, OneFaultIsFirst, FaultyFilesAreRefused, FailedReadsAreTold};
+ghost use Rattle.kc_dotconfig_model.specs.Laws.{LinesAreRead, FilesAreRead, FilesLieOverAssignments, FilesFit, AcceptedFilesAreRead, OneFaultIsFirst, FaultyFilesAreRefused, FailedReadsAreTold, AcceptedFilesHaveGoodLines};
 
 /// A line says what the forms of lines have it say, and one thing at most.
 pub fn lines_are_read()
@@ -39,4 +39,10 @@ pub fn faulty_files_are_refused()
 /// A failed read is told exactly where no fault comes at a byte before it.
 pub fn failed_reads_are_told()
     ensures { FailedReadsAreTold }
+{}
+
+/// A file is accepted exactly if it is within the limits of bytes and lines, and each of its lines
+/// is within the limit of bytes, UTF-8 and not malformed.
+pub fn accepted_files_have_good_lines()
+    ensures { AcceptedFilesHaveGoodLines }
 {}

@@ -1,0 +1,151 @@
+-- A file whose lines are short, few, UTF-8 and not malformed is accepted.
+use Rattle.std.proofs.Common.{◌≡◌, ◌⊎◌, inl, inr, ℕ, zero, suc, ◌+◌, ◌<◌, ◌≤◌, true, false, not, ◌==◌, cond, List, [], ◌∷◌, ◌++◌, take, Option, Some, None, length, refl, sym, ◌∙◌, ap, arith}
+use Rattle.std.specs.Prelude.{slice_get}
+use Rattle.std.specs.Str.{IsUtf8, is_utf8}
+use Rattle.std.proofs.lemmas.Str.{IsUtf8-from_is_utf8, is_utf8-from_IsUtf8}
+use Rattle.std.specs.List.{onto_first}
+use Rattle.std.proofs.lemmas.Bool.{and_parts, not-true, cases_Bool, cases_lt, eq-eqb, false≢true}
+use Rattle.std.proofs.lemmas.List.Sums.{sum_by-cons, sum_by-append}
+use Rattle.std.proofs.lemmas.Option.{slice_get_within}
+use Rattle.kc_tree_model.specs.Trees.{Whole}
+use Rattle.kc_dotconfig_model.specs.declared.fault.LoadKind.TheVariants.{Malformed, NotUtf8, LineTooLong, TooManyLines, Read, OutOfMemory, TooLarge}
+use Rattle.kc_system.proofs.Lists.{get-some}
+use Rattle.kc_dotconfig_model.specs.Names.{lacks, is_prefix}
+use Rattle.kc_dotconfig_model.specs.Lines.{Saying, Says, IsMalformed, without_white_end}
+use Rattle.kc_dotconfig_model.specs.Files.{file_lines}
+use Rattle.kc_dotconfig_model.specs.Laws.{IsGoodLine, IsOfGoodLines, AcceptedFilesHaveGoodLines}
+use Rattle.kc_dotconfig_model.specs.Reading.{line_saying}
+use Rattle.kc_dotconfig_model.proofs.LineLaws.{line_read}
+use Rattle.kc_dotconfig_model.proofs.AcceptedFiles.{placed}
+use Rattle.kc_dotconfig_model.specs.LoadFaults.{IsLineAt, newlines, IsAccepted, MOST_BYTES, MOST_LINES, MOST_LINE_BYTES}
+
+count_more : (b : ℕ) (bytes : List ℕ) → newlines (b ∷ bytes) ≡ cond (b == 10) 1 0 + newlines bytes
+count_more b bytes = sum_by-cons (λ c. cond (c == 10) 1 0) b bytes
+
+count_ends : (earlier : List ℕ) → newlines (earlier ++ 10 ∷ []) ≡ newlines earlier + 1
+count_ends earlier = sum_by-append (λ c. cond (c == 10) 1 0) earlier (10 ∷ [])
+
+abbrev Ends : List ℕ → List ℕ → Type 0
+Ends line rest = ((rest ≡ []) × (0 < length line)) ⊎ ((later : List ℕ) × (rest ≡ 10 ∷ later))
+
+abbrev Begins : List ℕ → Type 0
+Begins front = (front ≡ []) ⊎ ((earlier : List ℕ) × (front ≡ earlier ++ 10 ∷ []))
+
+onto_head : (c : ℕ) (xs : List (List ℕ)) (l : List ℕ) → slice_get xs 0 ≡ Some l → slice_get (onto_first c xs) 0 ≡ Some (c ∷ l)
+onto_head c [] l e = cc
+onto_head c (x ∷ xs) l e = let same : x ≡ l = cc in ap (λ y. Some (c ∷ y)) same
+
+onto_rest : (c : ℕ) (xs : List (List ℕ)) (i : ℕ) → 0 < i → slice_get (onto_first c xs) i ≡ slice_get xs i
+onto_rest c xs zero h = absurd (omega arith)
+onto_rest c [] (suc i) h = refl
+onto_rest c (x ∷ xs) (suc i) h = refl
+
+-- the line at the front
+first_line : (line rest : List ℕ) → lacks 10 line ≡ true → Ends line rest → slice_get (file_lines (line ++ rest)) 0 ≡ Some line
+first_line [] rest none (inl e) = let h = e.1 in absurd (omega (arith, h))
+first_line [] rest none (inr e) = ap (λ r. slice_get (file_lines r) 0) e.1
+first_line (c ∷ cs) rest none ends =
+    let parts = and_parts (not (c == 10)) (lacks 10 cs) none in
+    let other = not-true (c == 10) parts.0 in
+    ap (λ t. slice_get (cond t ([] ∷ file_lines (cs ++ rest)) (onto_first c (file_lines (cs ++ rest)))) 0) other ∙ go cs ends (first_line cs rest parts.1) where
+      go : (ds : List ℕ) → Ends (c ∷ ds) rest → (Ends ds rest → slice_get (file_lines (ds ++ rest)) 0 ≡ Some ds) → slice_get (onto_first c (file_lines (ds ++ rest))) 0 ≡ Some (c ∷ ds)
+      go [] (inl e) next = ap (λ r. slice_get (onto_first c (file_lines r)) 0) e.0
+      go [] (inr e) next = onto_head c (file_lines rest) [] (next (inr e))
+      go (d ∷ ds) (inl e) next = onto_head c (file_lines ((d ∷ ds) ++ rest)) (d ∷ ds) (next (inl (e.0, omega arith)))
+      go (d ∷ ds) (inr e) next = onto_head c (file_lines ((d ∷ ds) ++ rest)) (d ∷ ds) (next (inr e))
+
+-- the line behind some lines, at their number
+later_line : (front line rest : List ℕ) → Begins front → lacks 10 line ≡ true → Ends line rest → slice_get (file_lines (front ++ (line ++ rest))) (newlines front) ≡ Some line
+later_line [] line rest begins none ends = first_line line rest none ends
+later_line (b ∷ front) line rest (inl e) none ends = cc
+later_line (b ∷ front) line rest (inr e) none ends = go e.0 e.1 (cases_Bool (b == 10)) (λ begins. later_line front line rest begins none ends) where
+  go : (earlier : List ℕ) → b ∷ front ≡ earlier ++ 10 ∷ [] → ((b == 10) ≡ true) ⊎ ((b == 10) ≡ false) → (Begins front → slice_get (file_lines (front ++ (line ++ rest))) (newlines front) ≡ Some line) → slice_get (file_lines (b ∷ (front ++ (line ++ rest)))) (newlines (b ∷ front)) ≡ Some line
+  go [] e (inl is) next =
+      let nothing : front ≡ [] = cc in
+      let count : newlines (b ∷ front) ≡ suc (newlines front) = count_more b front ∙ ap (λ t. cond t 1 0 + newlines front) is ∙ (omega arith) in
+      ap (λ t. slice_get (cond t ([] ∷ file_lines (front ++ (line ++ rest))) (onto_first b (file_lines (front ++ (line ++ rest))))) (newlines (b ∷ front))) is
+      ∙ ap (slice_get ([] ∷ file_lines (front ++ (line ++ rest)))) count ∙ next (inl nothing)
+  go [] e (inr isn't) next = let same : b ≡ 10 = cc in absurd (false≢true (sym isn't ∙ eq-eqb b 10 same))
+  go (x ∷ xs) e (inl is) next =
+      let ends_so : front ≡ xs ++ 10 ∷ [] = cc in
+      let count : newlines (b ∷ front) ≡ suc (newlines front) = count_more b front ∙ ap (λ t. cond t 1 0 + newlines front) is ∙ (omega arith) in
+      ap (λ t. slice_get (cond t ([] ∷ file_lines (front ++ (line ++ rest))) (onto_first b (file_lines (front ++ (line ++ rest))))) (newlines (b ∷ front))) is
+      ∙ ap (slice_get ([] ∷ file_lines (front ++ (line ++ rest)))) count ∙ next (inr (xs, ends_so))
+  go (x ∷ xs) e (inr isn't) next =
+      let ends_so : front ≡ xs ++ 10 ∷ [] = cc in
+      let count : newlines (b ∷ front) ≡ newlines front = count_more b front ∙ ap (λ t. cond t 1 0 + newlines front) isn't ∙ (omega arith) in
+      let some : newlines front ≡ newlines xs + 1 = ap newlines ends_so ∙ count_ends xs in
+      ap (λ t. slice_get (cond t ([] ∷ file_lines (front ++ (line ++ rest))) (onto_first b (file_lines (front ++ (line ++ rest))))) (newlines (b ∷ front))) isn't
+      ∙ ap (slice_get (onto_first b (file_lines (front ++ (line ++ rest))))) count ∙ onto_rest b (file_lines (front ++ (line ++ rest))) (newlines front) (omega (arith, some)) ∙ next (inr (xs, ends_so))
+
+-- each line is among the lines of the file
+pub line_listed : (bytes line : List ℕ) (number start : ℕ) → IsLineAt bytes line number start → (i : ℕ) × (slice_get (file_lines bytes) i ≡ Some line) × (number ≡ i + 1)
+line_listed bytes line number start at =
+    (newlines at.front, ap (λ b. slice_get (file_lines b) (newlines at.front)) at.whole ∙ later_line at.front line at.rest at.begins at.one_line at.ends, at.number_is)
+
+pub accepted_of_lines : (prefix : List ℕ) (tree : Whole) (bytes : List ℕ) → length bytes ≤ MOST_BYTES → length (file_lines bytes) ≤ MOST_LINES
+    → ((i : ℕ) (line : List ℕ) → slice_get (file_lines bytes) i ≡ Some line → IsGoodLine prefix tree line)
+    → IsAccepted prefix tree bytes
+accepted_of_lines prefix tree bytes small few good TooLarge byte number c = let long = c.0 in absurd (omega (arith, long, small))
+accepted_of_lines prefix tree bytes small few good TooManyLines byte number c =
+    let l = line_listed bytes c.0 number byte c.1 in
+    let within = slice_get_within (file_lines bytes) l.0 c.0 l.1 in
+    let is = l.2 in
+    let many = c.2 in
+    absurd (omega (arith, within, is, many, few))
+accepted_of_lines prefix tree bytes small few good LineTooLong byte number c =
+    let l = line_listed bytes c.0 number c.1 c.2 in
+    let short = (good l.0 c.0 l.1).short in
+    let long = c.3 in
+    absurd (omega (arith, short, long))
+accepted_of_lines prefix tree bytes small few good NotUtf8 byte number c = let l = line_listed bytes c.0 number c.1 c.2 in absurd (c.3 (good l.0 c.0 l.1).utf8)
+accepted_of_lines prefix tree bytes small few good Malformed byte number c = let l = line_listed bytes c.0 number c.1 c.2 in let g = good l.0 c.0 l.1 in absurd (c.3 g.saying g.says)
+accepted_of_lines prefix tree bytes small few good Read byte number c = absurd c
+accepted_of_lines prefix tree bytes small few good OutOfMemory byte number c = absurd c
+
+-- a line that says nothing is malformed
+says_something : (prefix : List ℕ) (tree : Whole) (line : List ℕ) → is_prefix prefix ≡ true → (IsMalformed prefix tree line → ⊥) → (saying : Saying) × Says prefix tree (without_white_end line) saying
+says_something prefix tree line valid good = go (line_saying prefix tree (without_white_end line)) refl where
+  go : (o : Option Saying) → line_saying prefix tree (without_white_end line) ≡ o → (saying : Saying) × Says prefix tree (without_white_end line) saying
+  go (Some saying) e = (saying, (line_read prefix tree (without_white_end line) saying valid).0 e)
+  go None e = absurd (good (λ saying says. let read = (line_read prefix tree (without_white_end line) saying valid).1 says in cc (read, e)))
+
+-- each line of an accepted file is good
+pub accepted_line : (prefix : List ℕ) (tree : Whole) (bytes : List ℕ) → is_prefix prefix ≡ true → IsAccepted prefix tree bytes → (i : ℕ) (line : List ℕ) → slice_get (file_lines bytes) i ≡ Some line → IsGoodLine prefix tree line
+accepted_line prefix tree bytes valid accepted i line at =
+    let place = placed bytes i (i + 1) line refl at in
+    let some = says_something prefix tree line valid (λ bad. accepted Malformed (place.0 + length line) (i + 1) (line, place.0, place.1, bad, refl)) in
+    record {
+      short = elim (cases_lt MOST_LINE_BYTES (length line)) [
+        | inl long ↦ absurd (accepted LineTooLong (place.0 + MOST_LINE_BYTES) (i + 1) (line, place.0, place.1, long, refl))
+        | inr short ↦ short
+      ];
+      utf8 = elim (cases_Bool (is_utf8 line)) [
+        | inl is ↦ IsUtf8-from_is_utf8 line is
+        | inr odd ↦ absurd (accepted NotUtf8 (place.0 + length line) (i + 1) (line, place.0, place.1, (λ u. false≢true (sym odd ∙ is_utf8-from_IsUtf8 line u)), refl))
+      ];
+      saying = some.0;
+      says = some.1;
+    }
+
+-- an accepted file is within the limits
+pub accepted_size : (prefix : List ℕ) (tree : Whole) (bytes : List ℕ) → IsAccepted prefix tree bytes → length bytes ≤ MOST_BYTES
+accepted_size prefix tree bytes accepted = elim (cases_lt MOST_BYTES (length bytes)) [
+  | inl large ↦ absurd (accepted TooLarge MOST_BYTES (newlines (take MOST_BYTES bytes) + 1) (large, refl, refl))
+  | inr small ↦ small
+]
+
+pub accepted_count : (prefix : List ℕ) (tree : Whole) (bytes : List ℕ) → IsAccepted prefix tree bytes → length (file_lines bytes) ≤ MOST_LINES
+accepted_count prefix tree bytes accepted = elim (cases_lt MOST_LINES (length (file_lines bytes))) [
+  | inl many ↦
+      let line = get-some (file_lines bytes) MOST_LINES many in
+      let place = placed bytes MOST_LINES (MOST_LINES + 1) line.0 refl line.1 in
+      absurd (accepted TooManyLines place.0 (MOST_LINES + 1) (line.0, place.1, refl))
+  | inr few ↦ few
+]
+
+pub accepted_exactly : AcceptedFilesHaveGoodLines
+accepted_exactly prefix tree bytes valid = (
+  λ accepted. record { small = accepted_size prefix tree bytes accepted; few = accepted_count prefix tree bytes accepted; good = accepted_line prefix tree bytes valid accepted },
+  λ lines. accepted_of_lines prefix tree bytes lines.small lines.few lines.good,
+)
