@@ -1,8 +1,18 @@
 -- What is read without a fault is a consistent tree.
 pub mod Lists
 pub mod OneLine
+pub mod TokenBytes
+pub mod OwnTexts
+pub mod PlainTexts
 pub mod Kept
 pub mod Places
 pub mod Definitions
 pub mod Units
+pub mod Numbers
+pub mod Entries
+pub mod TitledLines
+pub mod Titles
+pub mod EntryTitles
+pub mod FewLines
+pub mod NameLimits
 pub mod Consistent

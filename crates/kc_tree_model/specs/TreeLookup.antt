@@ -1,9 +1,11 @@
 -- Where units and symbols stand in a tree.
-use Rattle.std.specs.Prelude.{◌≡◌, ℕ, ◌<◌, Bool, true, false, not, ◌&&◌, ◌||◌, List, [], ◌∷◌, length, Option, Some, None, ◌==◌, nat_lt, nat_le, if◌then◌else◌, slice_get, bytes_eq}
+use Rattle.std.specs.Prelude.{◌≡◌, ℕ, ◌<◌, ◌≤◌, Bool, true, false, not, ◌&&◌, ◌||◌, List, [], length, Option, Some, None, ◌==◌, nat_lt, nat_le, if◌then◌else◌, slice_get, bytes_eq}
+use Rattle.std.specs.Str.{is_utf8}
 use Rattle.std.specs.List.{position_or_len, list_all, list_any}
 use Rattle.kc_value.specs.declared.value.Kind.TheVariants.{Bool as Boolean}
 use Rattle.kc_expr.specs.Expr.{Expr, alone, named, quoted}
-use Rattle.kc_tree_model.specs.Trees.{Whole, Symbol, Choice, Default, MemberDefault, TreeUnit, of_symbol, of_choice}
+use Rattle.kc_tree_model.specs.Trees.{Whole, Symbol, Choice, Default, Force, MemberDefault, Entry, definition, choice_begins, menu_begins, menu_ends, comment, TreeUnit, of_symbol, of_choice}
+use Rattle.kc_tree_model.specs.Limits.{most_symbols, most_name_bytes}
 
 -- whether two units are the same
 abbrev pub is_unit : TreeUnit → TreeUnit → Bool
@@ -54,8 +56,17 @@ own_text _ = []
 abbrev pub has_newline : List ℕ → Bool
 has_newline text = list_any (λ b. b == 10) text
 
--- what every tree that is read has: names that are words and differ, each symbol outside choices and each choice as
--- one unit, members that are bools of one choice, defaults of a choice that are its members, and texts of one line
+-- the title of an entry
+abbrev pub title_of_entry : Entry → Option (List ℕ)
+title_of_entry (menu_begins title dependency visible) = Some title
+title_of_entry (menu_ends title dependency visible) = Some title
+title_of_entry (comment title dependency) = Some title
+title_of_entry e = None
+
+-- What every tree that is read has: names that are words and differ, each symbol outside choices and each choice as
+-- one unit, members that are bools of one choice, defaults of a choice that are its members, own texts and titles that
+-- are one line of UTF-8, selectors, impliers and entries of symbols and choices that are there, an entry for each
+-- symbol (the full file writes it at the first), and the limits of symbols and names.
 pub record IsConsistent (tree : Whole) : Type 0 where
   pub words : (s : ℕ) (symbol : Symbol) → slice_get tree.symbols s ≡ Some symbol
       → (0 < length symbol.name) × (list_all is_name_byte symbol.name ≡ true)
@@ -82,3 +93,22 @@ pub record IsConsistent (tree : Whole) : Type 0 where
       → list_all (λ (d : MemberDefault). list_any (λ m. m == d.member) choice.members) choice.defaults ≡ true
   pub one_line : (s : ℕ) (symbol : Symbol) → slice_get tree.symbols s ≡ Some symbol
       → list_all (λ (d : Default). not (has_newline (own_text d.value))) symbol.defaults ≡ true
+  pub own_utf8 : (s : ℕ) (symbol : Symbol) → slice_get tree.symbols s ≡ Some symbol
+      → list_all (λ (d : Default). is_utf8 (own_text d.value)) symbol.defaults ≡ true
+  pub selectors_there : (s : ℕ) (symbol : Symbol) → slice_get tree.symbols s ≡ Some symbol
+      → list_all (λ (f : Force). nat_lt f.by (length tree.symbols)) symbol.selectors ≡ true
+  pub impliers_there : (s : ℕ) (symbol : Symbol) → slice_get tree.symbols s ≡ Some symbol
+      → list_all (λ (f : Force). nat_lt f.by (length tree.symbols)) symbol.impliers ≡ true
+  pub units_of_choices : (c : ℕ) (choice : Choice) → slice_get tree.choices c ≡ Some choice
+      → (u : ℕ) × (slice_get tree.units u ≡ Some (of_choice c))
+  pub few_symbols : length tree.symbols ≤ most_symbols
+  pub short_names : (s : ℕ) (symbol : Symbol) → slice_get tree.symbols s ≡ Some symbol
+      → length symbol.name ≤ most_name_bytes
+  pub defined : (s : ℕ) (symbol : Symbol) → slice_get tree.symbols s ≡ Some symbol
+      → (k : ℕ) × (slice_get tree.entries k ≡ Some (definition s))
+  pub entry_symbols : (k s : ℕ) → slice_get tree.entries k ≡ Some (definition s) → s < length tree.symbols
+  pub entry_choices : (k c : ℕ) → slice_get tree.entries k ≡ Some (choice_begins c) → c < length tree.choices
+  pub titles_one_line : (k : ℕ) (entry : Entry) (title : List ℕ) → slice_get tree.entries k ≡ Some entry
+      → title_of_entry entry ≡ Some title → has_newline title ≡ false
+  pub titles_utf8 : (k : ℕ) (entry : Entry) (title : List ℕ) → slice_get tree.entries k ≡ Some entry
+      → title_of_entry entry ≡ Some title → is_utf8 title ≡ true

@@ -14,7 +14,8 @@ pub fn reading_is_a_nested_tree()
 
 /// What is read without a fault is a consistent tree: its names are words and differ, each choice and each symbol
 /// outside choices is one unit, the members of a choice are bools of that choice alone and its defaults are members,
-/// and no default has a newline in a text of its own.
+/// titles and the own texts of defaults are one line of UTF-8, each symbol has an entry, selectors, impliers and
+/// entries are symbols and choices of the tree, and the limits of symbols and names hold.
 pub fn trees_are_consistent()
     ensures { (files : Files) (root : List ℕ) → fault_told files root ≡ None → IsConsistent (tree_of_files files root) }
 {}

@@ -1,6 +1,6 @@
 -- What is read without a fault is a consistent tree.
 use Rattle.kc_tree_model.specs.Statements.{Valued, default_of}
-use Rattle.std.proofs.Common.{◌≡◌, ℕ, ◌<◌, true, List, [], Option, Some, None, refl, ap, sym, ◌∙◌, subst, length, filter, inl, inr, not, ◌&&◌, cond, Bool, false, ◌∷◌}
+use Rattle.std.proofs.Common.{◌≡◌, ℕ, ◌<◌, true, List, [], Option, Some, None, refl, ap, sym, ◌∙◌, subst, length, filter, not, cond, Bool, false}
 use Rattle.std.specs.Prelude.{slice_get, filter_map, flat_map, ◌==◌, option_map, option_and_then}
 use Rattle.std.specs.List.{list_any, list_all}
 use Rattle.kc_value.specs.declared.value.Kind.TheVariants.{Bool as Boolean}
@@ -14,10 +14,17 @@ use Rattle.kc_tree_model.specs.Conditions.{Placed, attribute_condition, said_in}
 use Rattle.kc_tree_model.specs.Reading.{reading}
 use Rattle.kc_tree_model.specs.Contents.{Contents, contents_of, choice_number, symbol_of, is_member_of, member_names, choice_of, whole_of, tree_of_files, defaults_at, bare_name, name_among, member_named, member_default, definitions_of, defines}
 use Rattle.kc_tree_model.specs.TreeFaults.{faults_of_group, tree_faults, fault_told}
-use Rattle.kc_tree_model.proofs.Consistency.Lists.{Has, has-at, has-filter, filter-has, has-filter_map, filter_map-has, has-any, any-has, place-get, number-get, at_most_once, has-append}
+use Rattle.kc_tree_model.proofs.Consistency.Lists.{Has, has-at, has-filter, filter-has, has-filter_map, filter_map-has, has-any, any-has, place-get, number-get, at_most_once, all_pass, has_flat_map}
 use Rattle.kc_tree_model.proofs.Consistency.Places.{IsWord, is_read, value_of_group}
 use Rattle.kc_tree_model.proofs.Consistency.Definitions.{IsSound, choice_places, choices_of, member_kind, no_first, nothing_at, sound_contents, symbols_of, unit_at, units_of}
 use Rattle.kc_tree_model.proofs.Consistency.Units.{at_number, choice_around, choice_at, choice_of_member, choice_of_name, choice_place, choice_there_at, choice_unit, choice_unit_at, first_defined, is_member, member_is, number_at, place_is, symbol_at, symbol_there, symbol_unit, symbol_unit_at, unique_in, unit_listed, unit_place, and_then_some, has_mapped}
+use Rattle.kc_tree_model.proofs.Consistency.Numbers.{entry_choices, entry_symbols, impliers_there, selectors_there, units_of_choices}
+use Rattle.kc_tree_model.proofs.Consistency.Entries.{symbols_have_entries}
+use Rattle.kc_tree_model.proofs.Consistency.EntryTitles.{entry_titles_plain}
+use Rattle.kc_tree_model.proofs.Consistency.NameLimits.{few_symbols, short_names}
+use Rattle.kc_tree_model.proofs.Consistency.PlainTexts.{IsPlainText}
+use Rattle.std.specs.Str.{is_utf8}
+use Rattle.std.proofs.lemmas.Str.{is_utf8-from_IsUtf8}
 
 -- the members of a choice
 member_number : (c : Contents) (n s : ℕ) → Has s (filter_map (λ x. place_of x c.names) (member_names c n)) → (q : Placed) × (x : List ℕ) × Has q c.places × (name_of q.group ≡ Some x) × (q.around.choice ≡ Some n) × (place_of x c.names ≡ Some s)
@@ -97,19 +104,6 @@ module _ (c : Contents) (s : IsSound c) (none : (p : Placed) → Has p c.places 
       let p = number_at c s k m.1 (number-get m.1 c.choices k m.5) in
       (choice_of c p.0, choice_there_at c k p.0 p.1, any-has i (filter_map (λ x. place_of x c.names) (member_names c p.0.group.number)) (number_of_member c p.0.group.number i m.0 r.0 m.2 m.3 (m.4 ∙ ap Some (sym p.2)) (place_is c s r.0 i r.1)))
 
--- a test that each element passes
-all_pass : {A : Type 0} (test : A → Bool) (xs : List A) → ((x : A) → Has x xs → test x ≡ true) → list_all test xs ≡ true
-all_pass test [] h = refl
-all_pass test (x ∷ xs) h = pass_both (test x) (list_all test xs) (h x (inl refl)) (all_pass test xs (λ y k. h y (inr k)))
-  where
-    pass_both : (a b : Bool) → a ≡ true → b ≡ true → (a && b) ≡ true
-    pass_both true b e k = k
-    pass_both false b e k = cc
-
-has_flat_map : {A B : Type 0} (f : A → List B) (xs : List A) (y : B) → Has y (flat_map f xs) → (x : A) × Has x xs × Has y (f x)
-has_flat_map f [] y h = absurd h
-has_flat_map f (x ∷ xs) y h = elim (has-append y (f x) (flat_map f xs) h) [ inl a ↦ (x, inl refl, a) | inr b ↦ let r = has_flat_map f xs y b in (r.0, inr r.1, r.2) ]
-
 -- a default of a choice is of a member
 mapped_from : {A B : Type 0} (f : A → B) (o : Option A) (y : B) → option_map f o ≡ Some y → (x : A) × (o ≡ Some x) × (f x ≡ y)
 mapped_from f None y h = cc
@@ -136,20 +130,19 @@ default_members c k x h =
     (all_pass (λ (d : MemberDefault). list_any (λ m. m == d.member) (choice_of c p.0).members) (choice_of c p.0).defaults
     (λ d e. let r = has-filter_map (member_default c p.0) (said_in default_of p.0.group) d e in any-has d.member (choice_of c p.0).members (default_of_member c p.0 r.0 d r.2)))
 
--- the values of defaults have one line
-default_is_one : (c : Contents) (s : IsSound c) (p : Placed) (d : Default) → Has p c.places → Has d (defaults_at p) → not (has_newline (own_text d.value)) ≡ true
-default_is_one c s p d h k =
+-- the own texts of defaults are one line of UTF-8
+default_is_plain : (c : Contents) (s : IsSound c) (p : Placed) (d : Default) → Has p c.places → Has d (defaults_at p) → IsPlainText (own_text d.value)
+default_is_plain c s p d h k =
     let a = has_mapped (λ (v : Valued). record { value = v.value; condition = attribute_condition p.around p.group v.condition }) (said_in default_of p.group) d k in
     let b = has-filter_map (λ (l : Line). default_of l.attribute) p.group.attributes a.0 a.1 in
-    let one : has_newline (own_text a.0.value) ≡ false = value_of_group p.group.attributes b.0 a.0 (s.values p h) b.1 b.2 in
-    ap (λ (y : Default). not (has_newline (own_text y.value))) (sym a.2) ∙ ap not one
+    subst (λ (y : Default). IsPlainText (own_text y.value)) a.2 (value_of_group p.group.attributes b.0 a.0 (s.values p h) b.1 b.2)
 
-one_line : (c : Contents) (s : IsSound c) (i : ℕ) (symbol : Symbol) → slice_get (symbols_of c) i ≡ Some symbol → list_all (λ (d : Default). not (has_newline (own_text d.value))) symbol.defaults ≡ true
-one_line c s i symbol h =
+defaults_pass : (test : Default → Bool) → ((d : Default) → IsPlainText (own_text d.value) → test d ≡ true) → (c : Contents) (s : IsSound c) (i : ℕ) (symbol : Symbol) → slice_get (symbols_of c) i ≡ Some symbol → list_all test symbol.defaults ≡ true
+defaults_pass test holds c s i symbol h =
     let r = symbol_at c i symbol h in
-    subst (λ (y : Symbol). list_all (λ (d : Default). not (has_newline (own_text d.value))) y.defaults ≡ true) r.2
-    (all_pass (λ (d : Default). not (has_newline (own_text d.value))) (symbol_of c r.0).defaults
-    (λ d e. let a = has_flat_map defaults_at (definitions_of c r.0) d e in default_is_one c s a.0 d (has-filter (defines r.0) c.places a.0 a.1).0 a.2))
+    subst (λ (y : Symbol). list_all test y.defaults ≡ true) r.2
+    (all_pass test (symbol_of c r.0).defaults
+    (λ d e. let a = has_flat_map defaults_at (definitions_of c r.0) d e in holds d (default_is_plain c s a.0 d (has-filter (defines r.0) c.places a.0 a.1).0 a.2)))
 
 -- what is told of a tree without a fault
 no_reading_fault : (o : Option TreeFault) (t : Option TreeFault) → elim o as (λ _. Option TreeFault) [ None ↦ t | Some f ↦ Some f ] ≡ None → t ≡ None
@@ -180,5 +173,16 @@ tree_is_consistent files root h =
       members = members c s none;
       listed = listed c s none;
       default_members = default_members c;
-      one_line = one_line c s;
+      one_line = defaults_pass (λ (d : Default). not (has_newline (own_text d.value))) (λ d plain. ap not plain.0) c s;
+      own_utf8 = defaults_pass (λ (d : Default). is_utf8 (own_text d.value)) (λ d plain. is_utf8-from_IsUtf8 (own_text d.value) plain.1) c s;
+      selectors_there = selectors_there c s;
+      impliers_there = impliers_there c s;
+      units_of_choices = units_of_choices c s;
+      few_symbols = few_symbols files root;
+      short_names = short_names files root;
+      defined = symbols_have_entries files root;
+      entry_symbols = entry_symbols c s;
+      entry_choices = entry_choices c s;
+      titles_one_line = λ k entry title at told. (entry_titles_plain files root k entry title at told).0;
+      titles_utf8 = λ k entry title at told. is_utf8-from_IsUtf8 title (entry_titles_plain files root k entry title at told).1;
     }

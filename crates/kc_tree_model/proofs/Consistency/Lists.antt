@@ -1,7 +1,7 @@
 -- Elements of lists, by their places and through what lists are made of.
-use Rattle.std.proofs.Common.{◌≡◌, inl, inr, ◌⊎◌, ℕ, zero, suc, Bool, true, false, cond, List, [], ◌∷◌, ◌++◌, Option, Some, None, refl, ap, sym, ◌∙◌, subst, map, filter, arith}
-use Rattle.std.specs.Prelude.{slice_get, filter_map, option_map, bytes_eq, ◌==◌, ◌||◌}
-use Rattle.std.specs.List.{list_any, cons_option}
+use Rattle.std.proofs.Common.{◌≡◌, inl, inr, ◌⊎◌, ℕ, zero, suc, Bool, true, false, cond, List, [], ◌∷◌, ◌++◌, Option, Some, None, refl, ap, sym, ◌∙◌, subst, map, filter, length, ◌<◌, arith}
+use Rattle.std.specs.Prelude.{slice_get, filter_map, flat_map, option_map, bytes_eq, ◌==◌, ◌||◌, ◌&&◌}
+use Rattle.std.specs.List.{list_any, list_all, cons_option}
 use Rattle.std.proofs.lemmas.Slice.Eq.{bytes_eq-Decides}
 use Rattle.std.proofs.lemmas.Bool.{eqb-true, eq-eqb}
 use Rattle.kc_expr.specs.Lookup.{place_of}
@@ -93,6 +93,26 @@ first_of_filter_map f xs y h = has-filter_map f xs y (has-at y (filter_map f xs)
 pub first_of_some : {A : Type 0} (xs : List A) (x : A) → Has x xs → (y : A) × (slice_get xs 0 ≡ Some y)
 first_of_some [] x h = absurd h
 first_of_some (y ∷ ys) x h = (y, refl)
+
+-- a test that each element passes
+pub all_pass : {A : Type 0} (test : A → Bool) (xs : List A) → ((x : A) → Has x xs → test x ≡ true) → list_all test xs ≡ true
+all_pass test [] h = refl
+all_pass test (x ∷ xs) h = pass_both (test x) (list_all test xs) (h x (inl refl)) (all_pass test xs (λ y k. h y (inr k)))
+  where
+    pass_both : (a b : Bool) → a ≡ true → b ≡ true → (a && b) ≡ true
+    pass_both true b e k = k
+    pass_both false b e k = cc
+
+-- what an element of joined lists comes from
+pub has_flat_map : {A B : Type 0} (f : A → List B) (xs : List A) (y : B) → Has y (flat_map f xs) → (x : A) × Has x xs × Has y (f x)
+has_flat_map f [] y h = absurd h
+has_flat_map f (x ∷ xs) y h = elim (has-append y (f x) (flat_map f xs) h) [ inl a ↦ (x, inl refl, a) | inr b ↦ let r = has_flat_map f xs y b in (r.0, inr r.1, r.2) ]
+
+-- a place within a list
+pub get_below : {A : Type 0} (xs : List A) (i : ℕ) (x : A) → slice_get xs i ≡ Some x → i < length xs
+get_below [] i x h = cc
+get_below (y ∷ ys) zero x h = omega arith
+get_below (y ∷ ys) (suc i) x h = let k : i < length ys = get_below ys i x h in omega arith
 
 -- numbers among numbers
 pub has-any : (n : ℕ) (ks : List ℕ) → list_any (λ k. k == n) ks ≡ true → Has n ks

@@ -1,20 +1,11 @@
--- A logical line has no newline, nor has what is read of its tokens.
-use Rattle.std.proofs.Common.{◌≡◌, ℕ, zero, suc, ◌+◌, ◌-◌, Bool, true, false, cond, ◌||◌, ◌&&◌, ◌==◌, List, [], ◌∷◌, ◌++◌, Option, Some, None, Result, Ok, Err, refl, ap, ◌∙◌, subst, length, map, take, drop}
+-- A logical line has no newline, nor have its tokens.
+use Rattle.std.proofs.Common.{◌≡◌, ℕ, zero, suc, ◌+◌, ◌-◌, Bool, true, false, cond, ◌||◌, ◌==◌, List, [], ◌∷◌, ◌++◌, Ok, refl, length, map, take, drop}
 use Rattle.kc_value.specs.Quoted.{unescaped}
-use Rattle.kc_value.specs.declared.tri.Tri.{Tri}
-use Rattle.kc_expr.specs.Expr.{Expr, Operand, named, quoted, alone}
 use Rattle.kc_expr.specs.Token.{Piece, lexed}
-use Rattle.kc_expr.specs.Grammar.{Level, IsExpr, one_and, more_ors, one_factor, more_ands, operand, relation, negation, parentheses, between_quotes, quoted_text, letter_value, constant_else, operand_of_kind, is_operand_kind, is_close, extent, read_expr}
-use Rattle.kc_expr.specs.declared.fault.ExprKind.{ExprKind}
-use Rattle.kc_expr.specs.declared.token.TokenKind.{TokenKind}
-use Rattle.kc_expr.specs.declared.token.TokenKind.TheVariants.{Word, Quoted, Relation, Not, And, Or, Open, Close}
-use Rattle.kc_expr.proofs.GrammarLaws.{expr_sound}
+use Rattle.kc_expr.specs.Grammar.{between_quotes, quoted_text}
 use Rattle.kc_expr.proofs.TokenTexts.{AllTexts, texts_of_line}
-use Rattle.kc_tree_model.specs.declared.fault.TreeKind.{TreeKind}
-use Rattle.kc_tree_model.specs.TreeLookup.{own_text, has_newline}
+use Rattle.kc_tree_model.specs.TreeLookup.{has_newline}
 use Rattle.kc_tree_model.specs.Lines.{Physical, Logical, byte_before, cut, without_last, without_return, physical_lines, goes_on, joined, lines_joined, logical, lines_of}
-use Rattle.kc_tree_model.specs.Forms.{Taken, kind_of_fault}
-use Rattle.kc_tree_model.proofs.NestedTrees.LineFits.{IsValueOf}
 
 neither : (a b : Bool) → (a || b) ≡ false → (a ≡ false) × (b ≡ false)
 neither true b h = cc
@@ -103,69 +94,15 @@ unfolding lines_of
 lines_are_one bytes = one_logical 0 0 1 (physical_lines bytes) (one_physical (cut bytes) (one_cut bytes))
 
 -- nor have tokens
-abbrev OneText : List ℕ → Type 0
+abbrev pub OneText : List ℕ → Type 0
 OneText text = has_newline text ≡ false
 
 abbrev ArePieces : List Piece → Type 0
 ArePieces ts = AllTexts OneText ts
 
-one_lexed : (bytes : List ℕ) (ts : List Piece) → has_newline bytes ≡ false → lexed 0 0 bytes ≡ Ok ts → ArePieces ts
+pub one_lexed : (bytes : List ℕ) (ts : List Piece) → has_newline bytes ≡ false → lexed 0 0 bytes ≡ Ok ts → ArePieces ts
 one_lexed bytes ts one h = texts_of_line OneText one_take (λ x xs k. (neither (x == 10) (has_newline xs) k).1) 0 0 bytes ts one h
 
--- nor has an operand, and so the value of a default
-one_quoted : (text : List ℕ) → has_newline text ≡ false → has_newline (quoted_text text) ≡ false
+-- nor has the text for which a quoted token stands
+pub one_quoted : (text : List ℕ) → has_newline text ≡ false → has_newline (quoted_text text) ≡ false
 one_quoted text h = one_unescaped false (between_quotes text) (one_if _ (take (length text - 2) (drop 1 text)) text (one_take _ (drop 1 text) (one_drop 1 text h)) h)
-
-one_named : (o : Option Tri) (text : List ℕ) → has_newline text ≡ false → has_newline (own_text (alone (constant_else o (named text)))) ≡ false
-one_named None text h = h
-one_named (Some t) text h = refl
-
-one_text : (o : Option Tri) (text : List ℕ) → has_newline text ≡ false → has_newline (own_text (alone (constant_else o (quoted text)))) ≡ false
-one_text None text h = h
-one_text (Some t) text h = refl
-
-one_operand : (k : TokenKind) (text : List ℕ) (a : Operand) → has_newline text ≡ false → operand_of_kind k text ≡ Some a → has_newline (own_text (alone a)) ≡ false
-one_operand Word text a h e = let same : constant_else (letter_value text) (named text) ≡ a = cc in subst (λ x. has_newline (own_text (alone x)) ≡ false) same (one_named (letter_value text) text h)
-one_operand Quoted text a h e = let same : constant_else (letter_value (quoted_text text)) (quoted (quoted_text text)) ≡ a = cc in subst (λ x. has_newline (own_text (alone x)) ≡ false) same (one_text (letter_value (quoted_text text)) (quoted_text text) (one_quoted text h))
-one_operand (Relation op) text a h e = cc
-one_operand Not text a h e = cc
-one_operand And text a h e = cc
-one_operand Or text a h e = cc
-one_operand Open text a h e = cc
-one_operand Close text a h e = cc
-
-pieces_front : (ts us : List Piece) → ArePieces (ts ++ us) → ArePieces ts
-pieces_front [] us h = tt
-pieces_front (t ∷ ts) us h = (h.0, pieces_front ts us h.1)
-
-one_expr : {l : Level} {d : ℕ} {ts : List Piece} {e : Expr} → IsExpr l d ts e → ArePieces ts → has_newline (own_text e) ≡ false
-one_expr (one_and h) a = one_expr h a
-one_expr (more_ors o h k g q) a = refl
-one_expr (one_factor h) a = one_expr h a
-one_expr (more_ands o h k g q) a = refl
-one_expr (operand t {a = x} e q) a = one_operand t.kind t.text x (subst ArePieces q a).0 e
-one_expr (relation t r u op e k f q) a = refl
-one_expr (negation t k h q) a = refl
-one_expr (parentheses {ts = ts} o c k h m q) a = one_expr h (pieces_front ts (c ∷ []) (subst ArePieces q a).1)
-
-extent_by : (b : Bool) (t : Piece) (us ts : List Piece) → has_newline t.text ≡ false → ArePieces us → ArePieces (cond b (t ∷ []) (t ∷ us))
-extent_by true t us ts h k = (h, tt)
-extent_by false t us ts h k = (h, k)
-
-one_extent : (ts : List Piece) → ArePieces ts → ArePieces (extent ts)
-one_extent [] a = tt
-one_extent (t ∷ []) a = a
-one_extent (t ∷ u ∷ ts) a = extent_by ((is_operand_kind t.kind || is_close t.kind) && is_operand_kind u.kind) t (extent (u ∷ ts)) ts a.0 (one_extent (u ∷ ts) a.1)
-
-taken_same : (y z : Taken) (r : Result Taken TreeKind) → r ≡ Ok y → r ≡ Ok z → y ≡ z
-taken_same y z r h k = cc
-
-taken_by : (ts : List Piece) (r : Result Expr (ExprKind × List Piece)) (x : Taken) → read_expr (extent ts) ≡ r → elim r as (λ _. Result Taken TreeKind) [ Ok e ↦ Ok (record { expr = e; single = length (extent ts) == 1; rest = drop (length (extent ts)) ts }) | Err f ↦ Err (kind_of_fault f.0) ] ≡ Ok x → read_expr (extent ts) ≡ Ok x.expr
-taken_by ts (Ok e) x h k = let same : record { expr = e; single = length (extent ts) == 1; rest = drop (length (extent ts)) ts } ≡ x = taken_same (record { expr = e; single = length (extent ts) == 1; rest = drop (length (extent ts)) ts }) x (Ok (record { expr = e; single = length (extent ts) == 1; rest = drop (length (extent ts)) ts })) refl k in h ∙ ap (λ (y : Taken). Ok y.expr) same
-taken_by ts (Err f) x h k = cc
-
-pub value_is_one : (text : List ℕ) (value : Expr) → has_newline text ≡ false → IsValueOf (lexed 0 0 text) value → has_newline (own_text value) ≡ false
-value_is_one text value one v =
-    let pieces : ArePieces v.rest = (one_lexed text (v.first ∷ v.rest) one v.stand).1 in
-    let reads : read_expr (extent v.rest) ≡ Ok v.taken.expr = taken_by v.rest (read_expr (extent v.rest)) v.taken refl v.read_as in
-    subst (λ e. has_newline (own_text e) ≡ false) v.is (one_expr (expr_sound (extent v.rest) v.taken.expr reads) (one_extent v.rest pieces))

@@ -11,9 +11,9 @@ use Rattle.kc_tree_model.specs.Keywords.{is_name}
 use Rattle.kc_tree_model.specs.Blocks.{Group, Line, Position, What, said, file_end, Side, side_of, opening, closing, inside, head_gives, open_blocks, opens_choice, is_some_block}
 use Rattle.kc_tree_model.specs.Reading.{line_says, after_line, with_attribute, reading}
 use Rattle.kc_tree_model.specs.Conditions.{Context, context, within_what, Placed, place, placed}
-use Rattle.kc_tree_model.proofs.NestedTrees.LineFits.{line_names, line_values}
+use Rattle.kc_tree_model.proofs.NestedTrees.LineFits.{line_names, line_values, line_utf8}
 use Rattle.kc_tree_model.proofs.Consistency.Lists.{Has, has-append, append-has_left, append-has_right}
-use Rattle.kc_tree_model.proofs.Consistency.OneLine.{value_is_one}
+use Rattle.kc_tree_model.proofs.Consistency.PlainTexts.{IsPlainText, value_is_plain}
 use Rattle.kc_tree_model.proofs.Consistency.Kept.{reading_keeps}
 
 -- one or more bytes of names
@@ -24,10 +24,10 @@ abbrev pub NamesWord : What → Type 0
 NamesWord (said (config name)) = IsWord name
 NamesWord w = Unit {0}
 
--- the values of defaults have no newline in a text of their own
+-- the own texts of defaults are one line of UTF-8
 abbrev pub AreValues : List Line → Type 0
 AreValues [] = Unit {0}
-AreValues (l ∷ ls) = ((d : Valued) → default_of l.attribute ≡ Some d → has_newline (own_text d.value) ≡ false) × AreValues ls
+AreValues (l ∷ ls) = ((d : Valued) → default_of l.attribute ≡ Some d → IsPlainText (own_text d.value)) × AreValues ls
 
 -- each group has its number among all, defines a word if it defines something, and has such values
 abbrev pub IsRead : List Group → Type 0
@@ -58,18 +58,18 @@ word_said read l (source path) e = tt
 word_said read l mainmenu e = tt
 word_said read l (ends b) e = tt
 
-values_said : (read : List Group) (l : Logical) (a : Attribute) → has_newline l.text ≡ false → line_says read l ≡ Ok (Some (attribute a)) → (d : Valued) → default_of a ≡ Some d → has_newline (own_text d.value) ≡ false
-values_said read l a one e d m = value_is_one l.text d.value one (line_values read l a d m e)
+values_said : (read : List Group) (l : Logical) (a : Attribute) → has_newline l.text ≡ false → line_says read l ≡ Ok (Some (attribute a)) → (d : Valued) → default_of a ≡ Some d → IsPlainText (own_text d.value)
+values_said read l a one e d m = value_is_plain l.text d.value (one, line_utf8 read l (Some (attribute a)) e) (line_values read l a d m e)
 
-AreValues-append : (ls : List Line) (l : Line) → AreValues ls → ((d : Valued) → default_of l.attribute ≡ Some d → has_newline (own_text d.value) ≡ false) → AreValues (ls ++ l ∷ [])
+AreValues-append : (ls : List Line) (l : Line) → AreValues ls → ((d : Valued) → default_of l.attribute ≡ Some d → IsPlainText (own_text d.value)) → AreValues (ls ++ l ∷ [])
 AreValues-append [] l h k = (k, tt)
 AreValues-append (x ∷ xs) l h k = (h.0, AreValues-append xs l h.1 k)
 
-attribute_read : (read : List Group) (line : ℕ) (a : Attribute) → ((d : Valued) → default_of a ≡ Some d → has_newline (own_text d.value) ≡ false) → IsRead read → IsRead (with_attribute line a read)
+attribute_read : (read : List Group) (line : ℕ) (a : Attribute) → ((d : Valued) → default_of a ≡ Some d → IsPlainText (own_text d.value)) → IsRead read → IsRead (with_attribute line a read)
 attribute_read [] line a v h = tt
 attribute_read (g ∷ before) line a v h = (h.0, h.1, AreValues-append g.attributes (record { number = line; attribute = a }) h.2 v, h.3)
 
-pub value_of_group : (ls : List Line) (l : Line) (d : Valued) → AreValues ls → Has l ls → default_of l.attribute ≡ Some d → has_newline (own_text d.value) ≡ false
+pub value_of_group : (ls : List Line) (l : Line) (d : Valued) → AreValues ls → Has l ls → default_of l.attribute ≡ Some d → IsPlainText (own_text d.value)
 value_of_group [] l d v h e = absurd h
 value_of_group (x ∷ xs) l d v (inl k) e = v.0 d (ap (λ (y : Line). default_of y.attribute) k ∙ e)
 value_of_group (x ∷ xs) l d v (inr k) e = value_of_group xs l d v.1 k e
@@ -139,7 +139,7 @@ open_by opening g x (suc m) gs ih h = inr (ih m h)
 open_by closing g x n gs ih h = inr (ih (suc n) h)
 open_by inside g x n gs ih h = inr (ih n h)
 
-has-open_blocks : (x : Group) (n : ℕ) (gs : List Group) → Has x (open_blocks n gs) → Has x gs
+pub has-open_blocks : (x : Group) (n : ℕ) (gs : List Group) → Has x (open_blocks n gs) → Has x gs
 has-open_blocks x n [] h = h
 has-open_blocks x n (g ∷ gs) h = open_by (side_of g.what) g x n gs (λ m k. has-open_blocks x m gs k) h
 

@@ -1,7 +1,8 @@
 -- What a line says fits what was read: an end matches the innermost block, and an attribute has an open entry.
-use Rattle.std.proofs.Common.{ap, ◌∙◌, ◌≡◌, ℕ, Bool, true, false, not, cond, List, [], ◌∷◌, Option, Some, None, Result, Ok, Err, refl, sym, subst, length}
+use Rattle.std.proofs.Common.{ap, ◌∙◌, ◌≡◌, ℕ, Bool, true, false, not, cond, List, [], ◌∷◌, Option, Some, None, Result, Ok, Err, IsUtf8, refl, sym, subst, length}
 use Rattle.std.specs.Prelude.{nat_lt}
 use Rattle.std.specs.Str.{is_utf8}
+use Rattle.std.proofs.lemmas.Str.{IsUtf8-from_is_utf8}
 use Rattle.kc_value.specs.declared.value.Kind.{Kind}
 use Rattle.kc_expr.specs.Expr.{Expr, Operand}
 use Rattle.kc_expr.specs.Token.{Piece, lexed}
@@ -26,7 +27,7 @@ pub data Sort : Type 0 where
   attribute_sort : Sort
   other_sort : Sort
 
-abbrev sort_of_head : Head → Sort
+abbrev pub sort_of_head : Head → Sort
 sort_of_head (config name) = config_sort
 sort_of_head (ends b) = end_sort b
 sort_of_head h = other_sort
@@ -40,7 +41,7 @@ abbrev sort_of : Statement → Sort
 sort_of (head h) = sort_of_head h
 sort_of (attribute a) = sort_of_attribute a
 
-abbrev sort_of_word : Keyword → Sort
+abbrev pub sort_of_word : Keyword → Sort
 sort_of_word config_word = config_sort
 sort_of_word choice_word = other_sort
 sort_of_word menu_word = other_sort
@@ -196,15 +197,15 @@ fits_statement read k (head (ends b)) e h g = stray_of_word read k b (sym e) g
 fits_statement read k (head x) e h g = tt
 
 -- a reading that goes on: what was tested and read on the way
-unless_ok : {B : Type 0} (b : Bool) (k : TreeKind) (f : Unit {0} → Result B TreeKind) (y : B) → unless b k >>= f ≡ Ok y → (b ≡ false) × (f tt ≡ Ok y)
+pub unless_ok : {B : Type 0} (b : Bool) (k : TreeKind) (f : Unit {0} → Result B TreeKind) (y : B) → unless b k >>= f ≡ Ok y → (b ≡ false) × (f tt ≡ Ok y)
 unless_ok true k f y h = cc
 unless_ok false k f y h = (refl, h)
 
-bind_ok : {A B : Type 0} (r : Result A TreeKind) (f : A → Result B TreeKind) (y : B) → r >>= f ≡ Ok y → (x : A) × (r ≡ Ok x) × (f x ≡ Ok y)
+pub bind_ok : {A B : Type 0} (r : Result A TreeKind) (f : A → Result B TreeKind) (y : B) → r >>= f ≡ Ok y → (x : A) × (r ≡ Ok x) × (f x ≡ Ok y)
 bind_ok (Ok x) f y h = (x, refl, h)
 bind_ok (Err e) f y h = cc
 
-not_false : (b : Bool) → not b ≡ false → b ≡ true
+pub not_false : (b : Bool) → not b ≡ false → b ≡ true
 not_false true h = refl
 not_false false h = cc
 
@@ -261,7 +262,7 @@ said_or_help read true r None h = tt
 said_or_help read true r (Some s) h = cc
 said_or_help read false r o h = said_lexed read r o h
 
-past_test : (b : Bool) (e : TreeKind) (r : Result (Option Statement) TreeKind) (o : Option Statement) → cond b (Err e) r ≡ Ok o → r ≡ Ok o
+pub past_test : (b : Bool) (e : TreeKind) (r : Result (Option Statement) TreeKind) (o : Option Statement) → cond b (Err e) r ≡ Ok o → r ≡ Ok o
 past_test true e r o h = cc
 past_test false e r o h = h
 
@@ -331,3 +332,12 @@ line_values read l a d m h =
     let s = line_said read l (Some (attribute a)) h in
     let x = default_said s.keyword s.rest a d (sym (sorted_default a d m) ∙ s.sort) m s.form in
     record { first = s.first; rest = s.rest; stand = s.stand; taken = x.0; read_as = x.1; is = x.2 }
+
+-- a line that says something is UTF-8
+test_passed : (b : Bool) (e : TreeKind) (r : Result (Option Statement) TreeKind) (o : Option Statement) → cond b (Err e) r ≡ Ok o → b ≡ false
+test_passed true e r o h = cc
+test_passed false e r o h = refl
+
+pub line_utf8 : (read : List Group) (l : Logical) (o : Option Statement) → line_says read l ≡ Ok o → IsUtf8 l.text
+unfolding line_says
+line_utf8 read l o h = IsUtf8-from_is_utf8 l.text (not_false (is_utf8 l.text) (test_passed (not (is_utf8 l.text)) NotUtf8 _ o (past_test (nat_lt most_line_bytes (length l.text)) LineTooLong _ o h)))
