@@ -1,0 +1,29 @@
+use Rattle.std.proofs.Common.{refl, arith}
+use Rattle.std.proofs.lemmas.Option.{slice_get_read}
+use Rattle.std.specs.Prelude.{◌<◌, length}
+use Rattle.kc_tree.specs.Told.{MemberDefaultFits}
+use Rattle.kc_tree.specs.checker.PartsView.{choice_seen}
+use Rattle.kc_tree.proofs.Seen.{seen_get, all_at}
+use Rattle.kc_tree.proofs.parts.Parts.choice.Goals as goal
+
+pub returns-clause-choice : goal.returns-clause-choice
+returns-clause-choice c =
+    let p = c.args.self.now in
+    rw (c.get.ensures, c.get-2.ensures)
+    (seen_get (choice_seen p) 0 p.choices.items c.args.c c.args.c c.index-row.result.now (omega arith) (slice_get_read p.choices.items _ c.args.c c.index-row.result.now refl c.requires.there c.index-row.ensures))
+
+pub returns-clause-fits : goal.returns-clause-fits
+returns-clause-fits c =
+    let p = c.args.self.now in
+    let f = c.requires.kept.fits in
+    record {
+      members = rw c.get.ensures (all_at (λ s. s < length p.symbols.items) p.members.starts.items p.members.items.items c.args.c f.members);
+      prompt = λ i. f.choice_prompts c.args.c i c.index-row.result.now (slice_get_read p.choices.items _ c.args.c c.index-row.result.now refl c.requires.there c.index-row.ensures);
+      defaults = rw c.get-2.ensures (all_at (MemberDefaultFits (length p.arena.nodes) (length p.symbols.items)) p.member_defaults.starts.items p.member_defaults.items.items c.args.c f.member_defaults);
+    }
+
+pub returns-clause-unit : goal.returns-clause-unit
+returns-clause-unit c = (c.requires.kept.choice_units c.args.c c.index-row.result.now (slice_get_read c.args.self.now.choices.items _ c.args.c c.index-row.result.now refl c.requires.there c.index-row.ensures)).0
+
+pub returns-clause-within : goal.returns-clause-within
+returns-clause-within c = (c.requires.kept.choice_units c.args.c c.index-row.result.now (slice_get_read c.args.self.now.choices.items _ c.args.c c.index-row.result.now refl c.requires.there c.index-row.ensures)).1

@@ -1,0 +1,5 @@
+use Rattle.kc_tree.proofs.Seen.{symbols_length, choices_length}
+use Rattle.kc_tree.proofs.tree.Tree.entry.Goals as goal
+
+pub returns-clause-fits : goal.returns-clause-fits
+returns-clause-fits c = rw (← c.self.view_is, symbols_length c.self.inside.parts, choices_length c.self.inside.parts) c.entry.ensures.fits

@@ -1,0 +1,14 @@
+use Rattle.std.proofs.Common.{length, arith, ap}
+use Rattle.kc_tree.specs.Held.{Held}
+use Rattle.kc_tree.proofs.Seen.{symbols_length}
+use Rattle.kc_tree.proofs.tree.Tree.symbol.Goals as goal
+
+pub symbol-requires-clause-there : goal.symbol-requires-clause-there
+symbol-requires-clause-there c =
+    let v = ap (λ (h : Held). length h.whole.symbols) c.self.view_is in
+    let l = symbols_length c.self.inside.parts in
+    let e = c.number.ensures in
+    omega arith
+
+pub returns-clause-fits : goal.returns-clause-fits
+returns-clause-fits c = rw (← c.self.view_is, symbols_length c.self.inside.parts) c.symbol.ensures.fits

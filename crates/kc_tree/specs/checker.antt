@@ -1,0 +1,4 @@
+pub mod GroupedItems
+pub mod Kept
+pub mod PartsView
+pub mod TreeView

@@ -1,0 +1,198 @@
+//! How a tree is kept: flat lists, in which what belongs to one symbol or choice stands together.
+ghost use Rattle.std.specs.Prelude.{◌≡◌, ◌<◌, ℕ, [], length, Some, slice_get, slice_index_or, option_map};
+ghost use Rattle.kc_tree_model.specs.TreeLookup.{unit_of, place_of_unit};
+ghost use Rattle.kc_tree_model.specs.Trees.{of_choice};
+ghost use Rattle.kc_tree_model.specs.declared.ids.Unit.TheVariants.{Symbol as SymbolUnit, Choice as ChoiceUnit};
+
+use super::entry::Entry;
+use super::grouped::Grouped;
+use super::symbol::{Choice, Default, Force, MemberDefault, Range, Symbol};
+use kc_expr::{Arena, ExprId, NameId};
+use kc_tree_model::{Sym, Unit};
+use kc_value::{Kind, Text};
+
+/// A symbol's name, type, first place, choice and unit.
+#[derive(Clone, Copy)]
+pub(crate) struct SymbolRow {
+    pub name: NameId,
+    pub kind: Kind,
+    pub file: u32,
+    pub line: u32,
+    pub choice: Option<u32>,
+    pub unit: u32,
+}
+
+/// A choice's place, unit and the condition of its prompt.
+#[derive(Clone, Copy)]
+pub(crate) struct ChoiceRow {
+    pub file: u32,
+    pub line: u32,
+    pub unit: u32,
+    pub prompt: Option<ExprId>,
+}
+
+/// An entry; its title is a number among the titles.
+#[derive(Clone, Copy)]
+pub(crate) enum EntryRow {
+    Definition(Sym),
+    ChoiceBegins(u32),
+    MenuBegins {
+        title: u32,
+        dependency: ExprId,
+        visible: ExprId,
+    },
+    MenuEnds {
+        title: u32,
+        dependency: ExprId,
+        visible: ExprId,
+    },
+    Comment {
+        title: u32,
+        dependency: ExprId,
+    },
+}
+
+/// All that a tree has, and for each name of the arena the symbol of that name.
+#[derive(Drop)]
+pub(crate) struct Parts {
+    pub arena: Arena,
+    pub symbols: Vec<SymbolRow>,
+    pub prompts: Grouped<ExprId>,
+    pub defaults: Grouped<Default>,
+    pub ranges: Grouped<Range>,
+    pub selectors: Grouped<Force>,
+    pub impliers: Grouped<Force>,
+    pub direct: Grouped<ExprId>,
+    pub choices: Vec<ChoiceRow>,
+    pub members: Grouped<Sym>,
+    pub member_defaults: Grouped<MemberDefault>,
+    pub entries: Vec<EntryRow>,
+    pub titles: Vec<Text>,
+    pub units: Vec<Unit>,
+    pub symbol_of_name: Vec<Option<Sym>>,
+}
+
+impl Parts {
+    ghost use Rattle.kc_tree.specs.Told.{symbol_of, choice_of, entry_of, unit_told, SymbolFits, ChoiceFits, EntryFits};
+    ghost use Rattle.kc_tree.specs.checker.PartsView.{whole_from};
+    ghost use Rattle.kc_tree.specs.checker.Kept.{IsKept};
+
+    /// A symbol by its number.
+    pub(crate) fn symbol(&self, s: usize) -> Symbol<'_>
+        requires kept { IsKept self.now }
+        requires there { s < length self.now.symbols.items }
+        ensures symbol { slice_get (whole_from self.now).symbols s ≡ Some (symbol_of self.now.arena result) }
+        ensures fits { SymbolFits self.now.arena (length self.now.symbols.items) result }
+        ensures unit { result.unit ≡ unit_of (whole_from self.now) s }
+        ensures within { result.unit < length self.now.units.items }
+    {
+        let row = self.symbols[s];
+        Symbol {
+            name: row.name,
+            kind: row.kind,
+            file: row.file,
+            line: row.line,
+            choice: row.choice,
+            unit: row.unit,
+            prompts: self.prompts.get(s),
+            defaults: self.defaults.get(s),
+            ranges: self.ranges.get(s),
+            selectors: self.selectors.get(s),
+            impliers: self.impliers.get(s),
+            direct: self.direct.get(s),
+        }
+    }
+
+    /// A choice by its number.
+    pub(crate) fn choice(&self, c: usize) -> Choice<'_>
+        requires kept { IsKept self.now }
+        requires there { c < length self.now.choices.items }
+        ensures choice { slice_get (whole_from self.now).choices c ≡ Some (choice_of self.now.arena result) }
+        ensures fits { ChoiceFits self.now.arena (length self.now.symbols.items) result }
+        ensures unit { result.unit ≡ place_of_unit (whole_from self.now) (of_choice c) }
+        ensures within { result.unit < length self.now.units.items }
+    {
+        let row = self.choices[c];
+        Choice {
+            file: row.file,
+            line: row.line,
+            unit: row.unit,
+            members: self.members.get(c),
+            prompt: row.prompt,
+            defaults: self.member_defaults.get(c),
+        }
+    }
+
+    /// A unit by its number.
+    pub(crate) fn unit(&self, u: usize) -> Unit
+        requires kept { IsKept self.now }
+        requires there { u < length self.now.units.items }
+        ensures unit { slice_get (whole_from self.now).units u ≡ Some (unit_told result) }
+        ensures symbol { (s : ℕ) → result ≡ SymbolUnit s → s < length self.now.symbols.items }
+        ensures choice { (c : ℕ) → result ≡ ChoiceUnit c → c < length self.now.choices.items }
+    {
+        self.units[u]
+    }
+
+    /// The unit of a symbol.
+    pub(crate) fn unit_of(&self, s: usize) -> u32
+        requires kept { IsKept self.now }
+        requires there { s < length self.now.symbols.items }
+        ensures unit { result ≡ unit_of (whole_from self.now) s }
+        ensures within { result < length self.now.units.items }
+    {
+        self.symbols[s].unit
+    }
+
+    /// The name of a symbol.
+    pub(crate) fn name(&self, s: usize) -> &str
+        requires kept { IsKept self.now }
+        requires there { s < length self.now.symbols.items }
+        ensures { option_map (λ t. t.name) (slice_get (whole_from self.now).symbols s) ≡ Some result.now }
+    {
+        self.arena.name(self.symbols[s].name)
+    }
+
+    /// The title of a number.
+    fn title(&self, index: u32) -> &str
+        requires { index < length self.now.titles.items }
+        ensures { result.now ≡ slice_index_or self.now.titles.items index [] }
+    {
+        self.titles[index as usize].as_str()
+    }
+
+    /// An entry by its place.
+    pub(crate) fn entry(&self, i: usize) -> Entry<'_>
+        requires kept { IsKept self.now }
+        requires there { i < length self.now.entries.items }
+        ensures entry { slice_get (whole_from self.now).entries i ≡ Some (entry_of self.now.arena result) }
+        ensures fits { EntryFits (length self.now.arena.nodes) (length self.now.symbols.items) (length self.now.choices.items) result }
+    {
+        match &self.entries[i] {
+            EntryRow::Definition(s) => Entry::Definition(*s),
+            EntryRow::ChoiceBegins(c) => Entry::ChoiceBegins(*c),
+            EntryRow::MenuBegins {
+                title,
+                dependency,
+                visible,
+            } => Entry::MenuBegins {
+                title: self.title(*title),
+                dependency: *dependency,
+                visible: *visible,
+            },
+            EntryRow::MenuEnds {
+                title,
+                dependency,
+                visible,
+            } => Entry::MenuEnds {
+                title: self.title(*title),
+                dependency: *dependency,
+                visible: *visible,
+            },
+            EntryRow::Comment { title, dependency } => Entry::Comment {
+                title: self.title(*title),
+                dependency: *dependency,
+            },
+        }
+    }
+}

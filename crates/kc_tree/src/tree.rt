@@ -1,0 +1,164 @@
+//! The tree of files.
+ghost use Rattle.std.specs.Prelude.{◌≡◌, ◌<◌, ◌↔◌, IsTrue, ℕ, List, length, Some, None, IfSome, slice_get, option_map};
+ghost use Rattle.kc_expr.specs.Lookup.{place_of};
+ghost use Rattle.kc_tree_model.specs.TreeLookup.{IsConsistent, unit_of, place_of_unit, symbol_named};
+ghost use Rattle.kc_tree_model.specs.Trees.{of_choice};
+ghost use Rattle.kc_tree_model.specs.declared.ids.Unit.TheVariants.{Symbol as SymbolUnit, Choice as ChoiceUnit};
+ghost use Rattle.kc_tree.specs.Told.{symbol_of, choice_of, entry_of, unit_told, name_told, SymbolFits, ChoiceFits, EntryFits};
+
+use super::entry::Entry;
+use super::parts::Parts;
+use super::symbol::{Choice, Symbol};
+use kc_expr::{Arena, NameId};
+use kc_tree_model::{Sym, Unit};
+use std::marker::Model;
+
+/// What the files of a tree hold. Contracts see the names and expressions of its arena, and the tree of the definition.
+///
+/// Everything is told in constant time.
+#[derive(Drop)]
+pub struct Tree {
+    parts: Parts,
+}
+
+impl Model for Tree {
+    ghost use Rattle.kc_tree.specs.Held.{Held};
+    ghost use Rattle.kc_expr.specs.ExprCode.{expr_code};
+    ghost use Rattle.std.specs.Coded.{codes};
+
+    ghost Value = { Held };
+
+    ghost coded = { Prim.hlevel (codes, expr_code) };
+
+    ghost use Rattle.kc_tree.specs.checker.TreeView.{held_in, IsKeptInside};
+
+    ghost view = { held_in };
+
+    ghost invariant = { IsKeptInside };
+}
+
+impl Tree {
+    /// The arena of all names and expressions of the tree. A name that it doesn't hold is no symbol's.
+    pub fn arena(&self) -> &Arena
+        ensures arena { result.now ≡ self.now.exprs }
+        ensures held { (x : List ℕ) → place_of x self.now.exprs.names ≡ None → symbol_named self.now.whole x ≡ None }
+        ensures consistent { IsConsistent self.now.whole }
+    {
+        &self.parts.arena
+    }
+
+    /// The number of units: symbols outside choices, and choices.
+    pub fn len(&self) -> u32
+        ensures { result ≡ length self.now.whole.units }
+    {
+        self.parts.units.len() as u32
+    }
+
+    /// Whether there are no units.
+    pub fn is_empty(&self) -> bool
+        ensures { IsTrue result ↔ (length self.now.whole.units ≡ 0) }
+    {
+        self.len() == 0
+    }
+
+    /// The number of symbols.
+    pub fn symbol_count(&self) -> u32
+        ensures { result ≡ length self.now.whole.symbols }
+    {
+        self.parts.symbols.len() as u32
+    }
+
+    /// The number of choices.
+    pub fn choice_count(&self) -> u32
+        ensures { result ≡ length self.now.whole.choices }
+    {
+        self.parts.choices.len() as u32
+    }
+
+    /// The number of entries.
+    pub fn entry_count(&self) -> usize
+        ensures { result ≡ length self.now.whole.entries }
+    {
+        self.parts.entries.len()
+    }
+
+    /// A unit, in the order of their numbers.
+    pub fn unit(&self, u: u32) -> Unit
+        requires { u < length self.now.whole.units }
+        ensures unit { slice_get self.now.whole.units u ≡ Some (unit_told result) }
+        ensures symbol { (s : ℕ) → result ≡ SymbolUnit s → s < length self.now.whole.symbols }
+        ensures choice { (c : ℕ) → result ≡ ChoiceUnit c → c < length self.now.whole.choices }
+    {
+        self.parts.unit(u as usize)
+    }
+
+    /// A symbol, in order of first definition.
+    pub fn symbol(&self, s: Sym) -> Symbol<'_>
+        requires { s < length self.now.whole.symbols }
+        ensures symbol { slice_get self.now.whole.symbols s ≡ Some (symbol_of self.now.exprs result) }
+        ensures fits { SymbolFits self.now.exprs (length self.now.whole.symbols) result }
+        ensures unit { result.unit ≡ unit_of self.now.whole s }
+        ensures within { result.unit < length self.now.whole.units }
+    {
+        self.parts.symbol(s.number() as usize)
+    }
+
+    /// A choice, in order of their first lines.
+    pub fn choice(&self, c: u32) -> Choice<'_>
+        requires { c < length self.now.whole.choices }
+        ensures choice { slice_get self.now.whole.choices c ≡ Some (choice_of self.now.exprs result) }
+        ensures fits { ChoiceFits self.now.exprs (length self.now.whole.symbols) result }
+        ensures unit { result.unit ≡ place_of_unit self.now.whole (of_choice c) }
+        ensures within { result.unit < length self.now.whole.units }
+    {
+        self.parts.choice(c as usize)
+    }
+
+    /// An entry, in reading order.
+    pub fn entry(&self, i: usize) -> Entry<'_>
+        requires { i < length self.now.whole.entries }
+        ensures entry { slice_get self.now.whole.entries i ≡ Some (entry_of self.now.exprs result) }
+        ensures fits { EntryFits (length self.now.exprs.nodes) (length self.now.whole.symbols) (length self.now.whole.choices) result }
+    {
+        self.parts.entry(i)
+    }
+
+    /// The symbol of a name of the arena, if an entry defines it.
+    pub fn symbol_at(&self, name: NameId) -> Option<Sym>
+        ensures symbol { result ≡ name_told self.now.whole self.now.exprs.names name }
+        ensures there { IfSome result (λ s. s < length self.now.whole.symbols) }
+    {
+        let index = name.index();
+        if index < self.parts.symbol_of_name.len() {
+            self.parts.symbol_of_name[index]
+        } else {
+            None
+        }
+    }
+
+    /// The symbol of a name, if an entry defines it.
+    pub fn find(&self, name: &str) -> Option<Sym>
+        ensures symbol { result ≡ symbol_named self.now.whole name.now }
+        ensures there { IfSome result (λ s. s < length self.now.whole.symbols) }
+    {
+        let id = self.parts.arena.find(name)?;
+        self.symbol_at(id)
+    }
+
+    /// The name of a symbol.
+    pub fn name(&self, s: Sym) -> &str
+        requires { s < length self.now.whole.symbols }
+        ensures { option_map (λ t. t.name) (slice_get self.now.whole.symbols s) ≡ Some result.now }
+    {
+        self.parts.name(s.number() as usize)
+    }
+
+    /// The number of a symbol's unit: a member's is its choice.
+    pub fn unit_of(&self, s: Sym) -> u32
+        requires { s < length self.now.whole.symbols }
+        ensures unit { result ≡ unit_of self.now.whole s }
+        ensures within { result < length self.now.whole.units }
+    {
+        self.parts.unit_of(s.number() as usize)
+    }
+}
