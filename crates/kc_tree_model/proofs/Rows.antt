@@ -7,3 +7,6 @@ mod Cuts
 mod Contents
 mod Limits
 mod SourcedFiles
+mod Tables
+mod More
+mod Bounds

@@ -46,7 +46,8 @@ abbrev pub side_of : What → Side
 side_of (said h) = side_of_head h
 side_of file_end = closing
 
--- the blocks that stand open, the innermost first: an opening is open where as many ends as openings came behind it
+-- The blocks that stand open, the innermost first: an opening is open where as many ends as openings came behind it.
+-- Ends of all sorts are counted, since none is kept that doesn't match the innermost block: it is a StrayEnd before.
 abbrev pub open_blocks : ℕ → List Group → List Group
 open_blocks n [] = []
 open_blocks n (g ∷ before) = elim (side_of g.what) [

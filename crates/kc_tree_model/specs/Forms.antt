@@ -55,10 +55,9 @@ abbrev pub config_line : List Piece → Result Statement TreeKind
 config_line [] = Err Malformed
 config_line (t ∷ ts) = if is_name t then no_more (head (config t.text)) ts else Err Malformed
 
--- a choice with a name is left out
+-- nothing
 abbrev pub choice_line : List Piece → Result Statement TreeKind
-choice_line [] = Ok (head choice)
-choice_line (t ∷ ts) = if is_word_kind t.kind then Err LeftOut else Err Malformed
+choice_line ts = no_more (head choice) ts
 
 -- `Q`
 abbrev pub titled_line : (List ℕ → Head) → List Piece → Result Statement TreeKind
@@ -69,7 +68,7 @@ titled_line f (t ∷ ts) = if is_quoted_kind t.kind then no_more (head (f (quote
 abbrev pub path_of : Piece → Option (List ℕ)
 path_of t = if is_quoted_kind t.kind then Some (quoted_text t.text) else if is_word_kind t.kind then Some t.text else None
 
--- a path with one of `*`, `?` and `[` is left out
+-- a path with one of `*`, `?` and `[`
 abbrev pub is_glob : List ℕ → Bool
 is_glob path = list_any (λ c. c == 42 || (c == 63) || (c == 91)) path
 
@@ -115,7 +114,7 @@ abbrev pub worded_line : List ℕ → (Expr → Attribute) → List Piece → Re
 worded_line word f [] = Err Malformed
 worded_line word f (t ∷ ts) = if is_the_word word t then (last_condition ts >>= λ e. Ok (attribute (f e))) else Err Malformed
 
--- options that are left out
+-- the options of other tools
 abbrev pub is_left_out_option : Piece → Bool
 is_left_out_option t = is_the_word (codes "env") t || is_the_word (codes "defconfig_list") t || is_the_word (codes "allnoconfig_y") t
 
@@ -124,7 +123,7 @@ abbrev pub option_line : List Piece → Result Statement TreeKind
 option_line [] = Err Malformed
 option_line (t ∷ ts) = if is_the_word (codes "modules") t then no_more (attribute modules) ts else Err Malformed
 
--- what a line with this keyword says, by the tokens behind it
+-- what a line with this keyword says, by the tokens behind it; what is left out was told before, and has no form here
 abbrev pub statement_of : Keyword → List Piece → Result Statement TreeKind
 statement_of config_word ts = config_line ts
 statement_of choice_word ts = choice_line ts
@@ -146,4 +145,4 @@ statement_of visible_word ts = worded_line (codes "if") visible ts
 statement_of help_word ts = no_more (attribute help) ts
 statement_of modules_word ts = no_more (attribute modules) ts
 statement_of option_word ts = option_line ts
-statement_of left_out_word ts = Err LeftOut
+statement_of left_out_word ts = Err Malformed

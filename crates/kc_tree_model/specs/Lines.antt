@@ -1,7 +1,8 @@
 -- From the bytes of a file to its logical lines: a backslash joins lines, and a help text is left out by indentation.
-use Rattle.std.specs.Prelude.{ℕ, zero, suc, ◌+◌, ◌-◌, ◌*◌, ◌/◌, Bool, true, false, ◌&&◌, ◌||◌, ◌==◌, nat_le, List, [], ◌∷◌, ◌++◌, length, map, take, drop, take_while, slice_index, bytes_eq, codes, Option, Some, None, Ok, Err, if◌then◌else◌}
+use Rattle.std.specs.Prelude.{ℕ, zero, suc, ◌+◌, ◌-◌, ◌*◌, ◌/◌, Bool, true, false, ◌&&◌, ◌||◌, ◌==◌, nat_le, List, [], ◌∷◌, ◌++◌, length, map, take, drop, take_while, slice_index, Option, Some, None, Ok, Err, if◌then◌else◌}
 use Rattle.std.specs.List.{list_all}
 use Rattle.kc_expr.specs.Token.{is_white_byte, lexed, Piece}
+use Rattle.kc_tree_model.specs.Keywords.{Keyword, help_word, keyword_of}
 
 -- a physical line without its newline, and whether a newline ends it
 pub record Physical : Type 0 where
@@ -81,17 +82,18 @@ pub record Logical : Type 0 where
   pub text : List ℕ
   pub help : Bool
 
--- the two words that begin a help text
-abbrev pub is_help_word : List ℕ → Bool
-is_help_word text = bytes_eq text (codes "help") || bytes_eq text (codes "---help---")
+-- whether a keyword begins a help text
+abbrev pub is_help_word : Option Keyword → Bool
+is_help_word (Some help_word) = true
+is_help_word k = false
 
--- a line whose one token is such a word
+-- whether one token stands alone, and its keyword begins a help text
 abbrev pub is_help : List Piece → Bool
 is_help [] = false
-is_help (p ∷ []) = is_help_word p.text
+is_help (p ∷ []) = is_help_word (keyword_of p)
 is_help (p ∷ q ∷ rest) = false
 
--- a line whose one token is the word begins a help text
+-- a line whose one token is such a word begins a help text ("Menu attributes", help text)
 abbrev pub begins_help : List ℕ → Bool
 begins_help text = elim (lexed 0 0 text) [ Err e ↦ false | Ok ps ↦ is_help ps ]
 

@@ -117,7 +117,8 @@ abbrev pub read_lines : (sub : List ℕ → List Group → Outcome) → Origin �
 read_lines sub r file [] read = ended file read (innermost read)
 read_lines sub r file (l ∷ ls) read = behind_line sub (read_lines sub r file ls) r (record { file = file; line = l.number }) read (line_says read l)
 
--- a file behind what was read, where so many may stand open within each other
+-- A file behind what was read, where so many may stand open within each other. None is read at zero: behind as many
+-- open files as may be, a `source` is TooDeep, and its file isn't read.
 abbrev pub read_file : ℕ → Origin → List ℕ → List Group → Outcome
 read_file zero r path read = record { read = read; fault = None }
 read_file (suc n) r path read = read_lines (read_file n r) r (r.number path) (lines_of (bytes_in r path)) read
@@ -142,3 +143,13 @@ full_reading files root = read_root (record { bytes = λ path. Some (bytes_or_no
 -- the absent paths that this reading meets, the first too, once each, in order of first sight
 unfoldable pub wanted_by : Files → List ℕ → List (List ℕ)
 wanted_by files root = filter (λ path. not (is_some (file_at files path))) (once (filter_map source_of (full_reading files root).read ++ root ∷ []))
+
+-- the list, and where it is empty the fault, if there is one
+abbrev pub paths_or_fault : List (List ℕ) → Option TreeFault → Result (List (List ℕ)) TreeFault
+paths_or_fault [] (Some f) = Err f
+paths_or_fault [] None = Ok []
+paths_or_fault (path ∷ paths) f = Ok (path ∷ paths)
+
+-- what is told of the files that a tree lacks: the absent paths, and where there are none the fault of reading
+unfoldable pub files_wanted : Files → List ℕ → Result (List (List ℕ)) TreeFault
+files_wanted files root = paths_or_fault (wanted_by files root) (full_reading files root).fault

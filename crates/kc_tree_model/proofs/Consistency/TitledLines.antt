@@ -3,10 +3,10 @@ use Rattle.std.proofs.Common.{ap, ◌∙◌, ◌≡◌, Bool, true, false, cond,
 use Rattle.kc_expr.specs.Token.{Piece, lexed}
 use Rattle.kc_expr.specs.Grammar.{quoted_text}
 use Rattle.kc_tree_model.specs.declared.fault.TreeKind.{TreeKind}
-use Rattle.kc_tree_model.specs.declared.fault.TreeKind.TheVariants.{Malformed, LeftOut}
+use Rattle.kc_tree_model.specs.declared.fault.TreeKind.TheVariants.{Malformed}
 use Rattle.kc_tree_model.specs.Lines.{Logical}
 use Rattle.kc_tree_model.specs.Statements.{Head, choice, menu, condition, comment, source, mainmenu, Statement, head}
-use Rattle.kc_tree_model.specs.Keywords.{Keyword, choice_word, menu_word, if_word, comment_word, source_word, mainmenu_word, is_word_kind, is_quoted_kind}
+use Rattle.kc_tree_model.specs.Keywords.{Keyword, choice_word, menu_word, if_word, comment_word, source_word, mainmenu_word, is_quoted_kind}
 use Rattle.kc_tree_model.specs.Forms.{statement_of, titled_line, path_of, no_more, last_condition}
 use Rattle.kc_tree_model.specs.Blocks.{Group}
 use Rattle.kc_tree_model.specs.Reading.{line_says}
@@ -42,10 +42,6 @@ no_main t [] h title e true k = not_titled mainmenu h title refl e (Ok (head mai
 no_main t (u ∷ us) h title e true k = cc
 no_main t us h title e false k = cc
 
-no_choice : (h : Head) → (b : Bool) → cond b (Err LeftOut) (Err Malformed) ≡ Ok (head h) → ⊥
-no_choice h true k = cc
-no_choice h false k = cc
-
 no_source : (ts : List Piece) (h : Head) (title : List ℕ) → title_in h ≡ Some title → (o : Option (List ℕ)) → elim o as (λ _. Result Statement TreeKind) [ None ↦ Err Malformed | Some path ↦ no_more (head (source path)) ts ] ≡ Ok (head h) → ⊥
 no_source ts h title e None k = cc
 no_source [] h title e (Some path) k = not_titled (source path) h title refl e (Ok (head (source path))) refl k
@@ -57,7 +53,7 @@ title_said comment_word ts h title e s k = titled comment (λ x. refl) ts h titl
 title_said mainmenu_word [] h title e s k = cc
 title_said mainmenu_word (t ∷ ts) h title e s k = absurd (no_main t ts h title e (is_quoted_kind t.kind) k)
 title_said choice_word [] h title e s k = absurd (not_titled choice h title refl e (Ok (head choice)) refl k)
-title_said choice_word (t ∷ ts) h title e s k = absurd (no_choice h (is_word_kind t.kind) k)
+title_said choice_word (t ∷ ts) h title e s k = cc
 title_said if_word ts h title e s k = let x = bind_ok (last_condition ts) (λ c. Ok (head (condition c))) (head h) k in absurd (not_titled (condition x.0) h title refl e (Ok (head (condition x.0))) refl x.2)
 title_said source_word [] h title e s k = cc
 title_said source_word (t ∷ ts) h title e s k = absurd (no_source ts h title e (path_of t) k)

@@ -11,8 +11,8 @@ use Rattle.kc_expr.specs.declared.fault.ExprFault.{ExprFault}
 use Rattle.kc_tree_model.specs.declared.fault.TreeKind.{TreeKind}
 use Rattle.kc_tree_model.specs.declared.fault.TreeKind.TheVariants.{Malformed, LeftOut, Misplaced, StrayEnd, TooDeep, TooMany, LineTooLong, NotUtf8}
 use Rattle.kc_tree_model.specs.Lines.{Logical}
-use Rattle.kc_tree_model.specs.Statements.{Block, Head, config, menu, condition, comment, source, mainmenu, ends, Valued, Aimed, Attribute, typed_prompt, typed_default, prompt, default, depends, select, imply, range, visible, help, modules, default_of, Statement, head, attribute}
-use Rattle.kc_tree_model.specs.Keywords.{Keyword, config_word, choice_word, menu_word, if_word, comment_word, source_word, mainmenu_word, end_word, type_word, default_type_word, prompt_word, default_word, depends_word, select_word, imply_word, range_word, visible_word, help_word, modules_word, option_word, left_out_word, keyword_of, is_name, is_word_kind, is_quoted_kind, is_the_word}
+use Rattle.kc_tree_model.specs.Statements.{Block, Head, config, choice, menu, condition, comment, source, mainmenu, ends, Valued, Aimed, Attribute, typed_prompt, typed_default, prompt, default, depends, select, imply, range, visible, help, modules, default_of, Statement, head, attribute}
+use Rattle.kc_tree_model.specs.Keywords.{Keyword, config_word, choice_word, menu_word, if_word, comment_word, source_word, mainmenu_word, end_word, type_word, default_type_word, prompt_word, default_word, depends_word, select_word, imply_word, range_word, visible_word, help_word, modules_word, option_word, left_out_word, keyword_of, is_name, is_quoted_kind, is_the_word}
 use Rattle.kc_tree_model.specs.Forms.{Taken, expr_at, ◌>>=◌, statement_of, config_line, choice_line, titled_line, source_line, path_of, prompt_line, type_line, default_line, aimed_line, range_of_operands, range_line, worded_line, option_line, no_more, last_condition, optional_if}
 use Rattle.kc_tree_model.specs.Blocks.{Group, is_stray}
 use Rattle.kc_tree_model.specs.Placement.{Open, open_entry, takes, entry_takes, is_allowed, is_left_out, is_stray_end}
@@ -75,13 +75,8 @@ gives_config : (ts : List Piece) → Gives config_sort (config_line ts)
 gives_config [] = tt
 gives_config (p ∷ ts) = gives_if (is_name p) config_sort (no_more (head (config p.text)) ts) Malformed (gives_last (head (config p.text)) ts config_sort refl)
 
-gives_choice_by : (b : Bool) → Gives other_sort (cond b (Err LeftOut) (Err Malformed))
-gives_choice_by true = tt
-gives_choice_by false = tt
-
 gives_choice : (ts : List Piece) → Gives other_sort (choice_line ts)
-gives_choice [] = refl
-gives_choice (p ∷ ts) = gives_choice_by (is_word_kind p.kind)
+gives_choice ts = gives_last (head choice) ts other_sort refl
 
 gives_title : (f : List ℕ → Head) → ((x : List ℕ) → sort_of_head (f x) ≡ other_sort) → (ts : List Piece) → Gives other_sort (titled_line f ts)
 gives_title f h [] = tt

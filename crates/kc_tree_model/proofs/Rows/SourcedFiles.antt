@@ -1,13 +1,15 @@
 -- Rows on sourced files.
-use Rattle.std.proofs.Common.{◌≡◌, [], ◌∷◌, Some, None, refl, map}
+use Rattle.std.proofs.Common.{◌≡◌, ℕ, List, [], ◌∷◌, Some, None, Result, Ok, Err, refl, map}
 use Rattle.std.specs.Prelude.{codes}
 use Rattle.std.specs.Str.{is_utf8, chars}
 use Rattle.kc_expr.specs.Token.{lead_of}
 use Rattle.kc_expr.specs.Grammar.{read_expr}
 use Rattle.kc_tree_model.specs.declared.fault.TreeKind.TheVariants.{UnknownStatement, Unclosed, StrayEnd, MissingFile, SourceLoop}
+use Rattle.kc_tree_model.specs.declared.fault.TreeFault.{TreeFault}
+use Rattle.kc_tree_model.specs.Files.{Files}
 use Rattle.kc_tree_model.specs.Lines.{lines_of}
 use Rattle.kc_tree_model.specs.Limits.{source_fault}
-use Rattle.kc_tree_model.specs.Reading.{line_says, reading, full_reading, wanted_by}
+use Rattle.kc_tree_model.specs.Reading.{line_says, reading, full_reading, wanted_by, files_wanted}
 use Rattle.kc_tree_model.specs.TreeFaults.{tree_faults, fault_told}
 use Rattle.kc_tree_model.specs.Trees.{Symbol}
 use Rattle.kc_tree_model.specs.Contents.{whole_of}
@@ -49,14 +51,22 @@ open_file_sourced_again : fault_told ((codes "Kconfig", codes "source \"a\"\n") 
 unfolding lead_of is_utf8 chars read_expr lines_of source_fault line_says reading tree_faults fault_told lib.Utf8.encode
 open_file_sourced_again = refl
 
-missing_root_is_wanted : wanted_by [] (codes "Kconfig") ≡ codes "Kconfig" ∷ []
-unfolding lead_of is_utf8 chars read_expr lines_of source_fault line_says full_reading wanted_by tree_faults fault_told lib.Utf8.encode
+-- what is told of missing files
+abbrev told : Files → Result (List (List ℕ)) TreeFault
+told files = files_wanted files (codes "Kconfig")
+
+missing_root_is_wanted : told [] ≡ Ok (codes "Kconfig" ∷ [])
+unfolding lead_of is_utf8 chars read_expr lines_of source_fault line_says full_reading wanted_by files_wanted lib.Utf8.encode
 missing_root_is_wanted = refl
 
-wanted_before_the_first_fault : wanted_by ((codes "Kconfig", codes "source \"x\"\nsource y/z\nsource \"x\"\nfoo\nsource w\n") ∷ []) (codes "Kconfig") ≡ codes "x" ∷ codes "y/z" ∷ []
-unfolding lead_of is_utf8 chars read_expr lines_of source_fault line_says full_reading wanted_by tree_faults fault_told lib.Utf8.encode
+wanted_before_the_first_fault : told ((codes "Kconfig", codes "source \"x\"\nsource y/z\nsource \"x\"\nfoo\nsource w\n") ∷ []) ≡ Ok (codes "x" ∷ codes "y/z" ∷ [])
+unfolding lead_of is_utf8 chars read_expr lines_of source_fault line_says full_reading wanted_by files_wanted lib.Utf8.encode
 wanted_before_the_first_fault = refl
 
-nothing_wanted : wanted_by ((codes "Kconfig", codes "config A\n\tbool\n") ∷ []) (codes "Kconfig") ≡ []
-unfolding lead_of is_utf8 chars read_expr lines_of source_fault line_says full_reading wanted_by tree_faults fault_told lib.Utf8.encode
+fault_where_nothing_is_wanted : told ((codes "Kconfig", codes "source \"x\"\nfoo\n") ∷ (codes "x", []) ∷ []) ≡ Err (record { file = Some 0; line = 2; kind = UnknownStatement })
+unfolding lead_of is_utf8 chars read_expr lines_of source_fault line_says full_reading wanted_by files_wanted lib.Utf8.encode
+fault_where_nothing_is_wanted = refl
+
+nothing_wanted : told ((codes "Kconfig", codes "config A\n\tbool\n") ∷ []) ≡ Ok []
+unfolding lead_of is_utf8 chars read_expr lines_of source_fault line_says full_reading wanted_by files_wanted lib.Utf8.encode
 nothing_wanted = refl
