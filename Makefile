@@ -14,8 +14,8 @@ build/kmin: $(SOURCES)
 
 test:
 	rt ci
-	tests/refused_allocations
-	tests/refused_test_allocations
+	tests/run_rows
+	tests/refuse_allocations
 
 clean:
 	rm -rf build crates/*/out

@@ -1,8 +1,9 @@
 -- What a bundle asks for.
-use Rattle.std.specs.Prelude.{◌≡◌, ℕ, List}
+use Rattle.std.specs.Prelude.{◌≡◌, ℕ, List, Option, take}
+use Rattle.std.specs.Io.KnownBytes.{Appends}
 use Rattle.kc_value.specs.declared.tri.Tri.{Tri}
 use Rattle.kmin.specs.Lines.{lines}
-use Rattle.kmin.specs.Bundles.{IsBundle}
+use Rattle.kmin.specs.Bundles.{IsBundle, ReadsWhole}
 use Rattle.kmin.specs.Grammar.{Entry, IsTree, AreOrdered, names_of}
 use Rattle.kmin.specs.Symbols.{symbols_of}
 use Rattle.kmin.specs.Values.{Solves}
@@ -40,3 +41,12 @@ pub record RefusesConfiguration (bundle : List ℕ) : Type 0 where
   pub configuration : List ℕ
   pub parts : IsBundle bundle tree configuration
   pub none : (settings : List Setting) → HasSettings (lines configuration) settings → ⊥
+
+-- a bundle was read whole, and the writer took the first bytes of its full file
+pub record WritesPart (left_before left_after taken_before taken_after : Option (List ℕ)) : Type 0 where
+  pub bundle : List ℕ
+  pub whole : ReadsWhole left_before left_after bundle
+  pub text : List ℕ
+  pub answers : AnswersBundle bundle text
+  pub written : ℕ
+  pub taken : Appends taken_before taken_after (take written text)

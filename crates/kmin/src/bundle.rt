@@ -1,5 +1,5 @@
 //! Bundles: a tree, a line of just `%%` and a configuration.
-ghost use Rattle.std.specs.Prelude.{◌≡◌, ◌<◌, ◌-◌, ◌^◌, ◌⊎◌, IfOk, IfErr, ℕ, List, length};
+ghost use Rattle.std.specs.Prelude.{◌≡◌, ◌<◌, ◌≤◌, ◌-◌, ◌^◌, ◌⊎◌, IfOk, IfErr, OnOk, ℕ, List, length};
 ghost use Rattle.std.specs.Io.KnownBytes.{Consumes};
 ghost use Rattle.kmin.specs.Bundles.{IsBundle, ReadsWhole};
 
@@ -22,6 +22,8 @@ const MARKER: &[u8] = b"%%";
 /// `TooLarge` comes where that is more than `MAX_BUNDLE` bytes, and `Read` where a read failed.
 pub fn read_whole<S: Source>(alloc: Global, source: &mut S) -> Result<Vec<u8>, Fault>
     ensures ok { IfOk result (λ text. ReadsWhole (S.left source.old) (S.left source.new) text.items) }
+    ensures within { IfOk result (λ text. length text.items ≤ MAX_BUNDLE) }
+    ensures unfailed { OnOk result (S.failures source.new ≡ S.failures source.old) }
     ensures large { result ≡ Err Fault.TooLarge → (bytes : List ℕ) × Consumes (S.left source.old) (S.left source.new) bytes × (MAX_BUNDLE < length bytes) }
     ensures failed { result ≡ Err Fault.Read → S.failures source.old < 2 ^ 64 - 1 → S.failures source.old < S.failures source.new }
     ensures others { IfErr result (λ fault. (fault ≡ Fault.TooLarge) ⊎ (fault ≡ Fault.Read) ⊎ (fault ≡ Fault.OutOfMemory)) }

@@ -9,6 +9,7 @@ use std::fmt;
 /// Writes a text whole, or ends at the first write that fails or takes nothing.
 pub fn write_out<W: Sink>(sink: &mut W, text: &[u8]) -> Result<(), Fault>
     ensures ok { OnOk result (Appends (W.taken sink.old) (W.taken sink.new) text.now) }
+    ensures unfailed { OnOk result (W.failures sink.new ≡ W.failures sink.old) }
     ensures err { OnErr result ((written : ℕ) × Appends (W.taken sink.old) (W.taken sink.new) (take written text.now)) }
     ensures fault { IfErr result (λ fault. fault ≡ Fault.Write) }
     ensures failed { OnErr result (W.failures sink.old < 2 ^ 64 - 1 → W.failures sink.old < W.failures sink.new) }

@@ -2,7 +2,7 @@
 ghost use Rattle.std.specs.Prelude.{◌≡◌, ◌≢◌, ◌<◌, ◌≤◌, ◌⊎◌, [], List, ℕ, length, OnOk, IfErr};
 ghost use Rattle.std.specs.Io.KnownBytes.{Appends, Consumes};
 ghost use Rattle.kmin.specs.Bundles.{ReadsWhole};
-ghost use Rattle.kmin.specs.Jobs.{AnswersBundle, RefusesConfiguration, RefusesTree};
+ghost use Rattle.kmin.specs.Jobs.{AnswersBundle, RefusesConfiguration, RefusesTree, WritesPart};
 ghost use Rattle.kmin.specs.Refusals.{RefusesRun, Rises};
 
 use crate::answer::answer_bundle;
@@ -35,12 +35,15 @@ pub fn run<F: Files, I: Source, O: Sink, E: Sink>(
     ensures words { words.now ≢ [] → result ≡ 2 }
     ensures others { words.now ≡ [] → (result ≢ 1) × (result ≢ 2) }
 
-    // Without words, status 0: it read the bundle to its end, and wrote its full file and nothing else.
-    ensures done { words.now ≡ [] → result ≡ 0 → (bundle text : List ℕ) × ReadsWhole (I.left input.old) (I.left input.new) bundle × AnswersBundle bundle text × Appends (O.taken out.old) (O.taken out.new) text }
+    // Without words, status 0: it read a bundle of the size that is allowed to its end, wrote its full file and nothing else, and no read or write failed.
+    ensures done { words.now ≡ [] → result ≡ 0 → (bundle text : List ℕ) × ReadsWhole (I.left input.old) (I.left input.new) bundle × (length bundle ≤ 67108864) × AnswersBundle bundle text × Appends (O.taken out.old) (O.taken out.new) text }
+    ensures unfailed { words.now ≡ [] → result ≡ 0 → (I.failures input.new ≡ I.failures input.old) × (O.failures out.new ≡ O.failures out.old) }
 
     ensures tree { result ≡ 3 → (bundle : List ℕ) × ReadsWhole (I.left input.old) (I.left input.new) bundle × RefusesTree bundle }
     ensures large_or_configuration { result ≡ 4 → (bundle : List ℕ) × ((Consumes (I.left input.old) (I.left input.new) bundle × (67108864 < length bundle)) ⊎ (ReadsWhole (I.left input.old) (I.left input.new) bundle × RefusesConfiguration bundle)) }
     ensures failed { result ≡ 5 → Rises (I.failures input.old) (I.failures input.new) ⊎ Rises (O.failures out.old) (O.failures out.new) }
+    // On status 5 the writer took the first bytes of the full file, or nothing.
+    ensures part { words.now ≡ [] → result ≡ 5 → (O.taken out.new ≡ O.taken out.old) ⊎ WritesPart (I.left input.old) (I.left input.new) (O.taken out.old) (O.taken out.new) }
     ensures unwritten { result ≢ 0 → result ≢ 5 → O.taken out.new ≡ O.taken out.old }
 {
     if !words.is_empty() {
@@ -63,7 +66,9 @@ fn run_bundle<I: Source, O: Sink, E: Sink>(
     out: &mut O,
     err: &mut E,
 ) -> Result<(), Fault>
-    ensures ok { OnOk result ((bundle text : List ℕ) × ReadsWhole (I.left input.old) (I.left input.new) bundle × AnswersBundle bundle text × Appends (O.taken out.old) (O.taken out.new) text) }
+    ensures ok { OnOk result ((bundle text : List ℕ) × ReadsWhole (I.left input.old) (I.left input.new) bundle × (length bundle ≤ 67108864) × AnswersBundle bundle text × Appends (O.taken out.old) (O.taken out.new) text) }
+    ensures unfailed { OnOk result ((I.failures input.new ≡ I.failures input.old) × (O.failures out.new ≡ O.failures out.old)) }
+    ensures part { IfErr result (λ fault. fault ≡ Fault.Write → WritesPart (I.left input.old) (I.left input.new) (O.taken out.old) (O.taken out.new)) }
     ensures err { IfErr result (RefusesRun (I.left input.old) (I.left input.new) (I.failures input.old) (I.failures input.new) (O.failures out.old) (O.failures out.new)) }
     ensures unwritten { IfErr result (λ fault. (fault ≡ Fault.Write) ⊎ (O.taken out.new ≡ O.taken out.old)) }
 {

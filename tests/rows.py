@@ -1,0 +1,107 @@
+"""Rows: runs of the program with the bytes that go in and come out, in the files of tests/rows.
+
+A line '== NAME' begins a row; lines '# ..' behind it say what it shows. A line '$ kmin WORD ..' has the words, quoted as in a
+shell. A line '-- NAME' begins a part: what follows up to the next such line are its bytes, as they stand. Parts are 'stdin', 'stdout',
+'stderr', and any other name is a file that lies where the program runs. Behind the name a part may have one word:
+
+    escaped    the lines are joined, and \\n, \\r, \\t, \\\\, \\" and \\xNN stand for bytes
+    repeated   each line is COUNT TEXT: TEXT, read as escaped, so many times, '{}' being its number from 0
+    full       of stdout and stderr: a device on which no byte finds room, /dev/full
+    closed     of stdout and stderr: it isn't open
+
+'-- status N' has the status, 0 without it. '-- large' says that the row is too large for its allocations to be refused in turn.
+"""
+import os
+import re
+import shlex
+import subprocess
+import tempfile
+
+TOP = os.path.dirname(os.path.dirname(os.path.realpath(__file__)))
+PROGRAM = f"{TOP}/crates/kmin/out/kmin"
+SECONDS = 120
+
+
+def unescaped(text):
+    """The bytes for which an escaped text stands."""
+    return text.encode().decode("unicode_escape").encode("latin-1")
+
+
+def repeated(lines):
+    """The bytes of lines COUNT TEXT."""
+    made = []
+    for line in lines:
+        count, text = line.split(" ", 1)
+        text = unescaped(text)
+        made += [text.replace(b"{}", b"%d" % i) for i in range(int(count))] if b"{}" in text else [text * int(count)]
+    return b"".join(made)
+
+
+class Row:
+    def __init__(self, text):
+        self.words, self.status, self.is_large = [], 0, False
+        self.parts, self.special = {"stdin": b"", "stdout": b"", "stderr": b""}, {}
+        head, *parts = re.split(r"^-- ", text, flags=re.M)
+        self.name, *lines = head.splitlines()
+        for line in lines:
+            if line.startswith("$ kmin"):
+                self.words = shlex.split(line)[2:]
+            elif line and not line.startswith("#"):
+                raise ValueError(f"{self.name}: neither a remark nor words: {line}")
+        for part in parts:
+            title, text = part.split("\n", 1)
+            self.take(title.split(), text)
+
+    def take(self, title, text):
+        name, how = title[0], title[1] if len(title) > 1 else ""
+        if name == "status":
+            self.status = int(how)
+        elif name == "large":
+            self.is_large = True
+        elif how in ("full", "closed"):
+            self.special[name] = how
+        elif how == "escaped":
+            self.parts[name] = unescaped("".join(text.splitlines()))
+        elif how == "repeated":
+            self.parts[name] = repeated(text.splitlines())
+        elif not how:
+            self.parts[name] = text.encode()
+        else:
+            raise ValueError(f"{self.name}: {name} has no form {how}")
+
+    def run(self, wrapped=lambda words: words):
+        """Runs the program in a new folder, by the words that `wrapped` makes of its own, and answers its status and what it wrote."""
+        with tempfile.TemporaryDirectory(prefix="kmin-row-") as folder:
+            for name, data in self.parts.items():
+                if name not in ("stdin", "stdout", "stderr"):
+                    os.makedirs(os.path.dirname(f"{folder}/{name}"), exist_ok=True)
+                    with open(f"{folder}/{name}", "wb") as it:
+                        it.write(data)
+            words, streams = wrapped([PROGRAM, *self.words]), {}
+            for name in ("stdout", "stderr"):
+                how = self.special.get(name)
+                streams[name] = open("/dev/full", "wb") if how == "full" else subprocess.PIPE
+                if how == "closed":
+                    number = 1 if name == "stdout" else 2
+                    words = ["sh", "-c", f'exec "$@" {number}>&-', "", *words]
+            ran = subprocess.run(words, input=self.parts["stdin"], cwd=folder, timeout=SECONDS, **streams)
+            return ran.returncode, ran.stdout or b"", ran.stderr or b""
+
+    def wanted(self):
+        return self.status, self.parts["stdout"], self.parts["stderr"]
+
+
+def all_rows(words):
+    """The rows whose names have one of the words, or all."""
+    folder, found = f"{TOP}/tests/rows", []
+    for name in sorted(os.listdir(folder)):
+        with open(f"{folder}/{name}", encoding="utf-8", newline="") as it:
+            found += [Row(text) for text in re.split(r"^== ", it.read(), flags=re.M)[1:]]
+    if len({row.name for row in found}) < len(found):
+        raise ValueError("two rows have one name")
+    return [row for row in found if not words or any(word in row.name for word in words)]
+
+
+def shown(data):
+    text = repr(data)[2:-1]
+    return text if len(text) < 400 else f"{text[:400]}.. ({len(data)} bytes)"
