@@ -2,3 +2,4 @@ pub mod TextsLemmas
 mod Rows
 pub mod NestedTrees
 pub mod Consistency
+pub mod LineLaws

@@ -5,7 +5,7 @@ use Rattle.std.specs.Prelude.{slice_get, String, Vec, string_bytes, string_eq, b
 use Rattle.std.specs.declared.alloc.Global.{Global}
 use Rattle.indexmap.specs.IndexMap.{insert_entry}
 use Rattle.std.specs.Map.{lookup, keys_of}
-use Rattle.kc_tree_model.specs.TextsView.{file_of}
+use Rattle.kc_tree_model.specs.checker.TextsView.{file_of}
 use Rattle.kc_tree_model.specs.Files.{with_file, file_at, path_at, HasDistinctPaths}
 
 insert_by : (b : Bool) (e : String Global × Vec ℕ Global) (es fs : List (String Global × Vec ℕ Global)) (v : Vec ℕ Global) → map file_of (cond b ((e.0, v) ∷ es) (e ∷ fs)) ≡ cond b ((string_bytes e.0, v.items) ∷ map file_of es) (file_of e ∷ map file_of fs)

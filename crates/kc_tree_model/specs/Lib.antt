@@ -1,6 +1,7 @@
 pub mod Trees
 pub mod Files
 pub mod Lines
+pub mod LineGrammar
 pub mod Statements
 pub mod Keywords
 pub mod Forms
@@ -12,5 +13,5 @@ pub mod Conditions
 pub mod Contents
 pub mod TreeFaults
 pub mod NestedTrees
-pub mod TextsView
+pub mod checker
 pub mod TreeLookup

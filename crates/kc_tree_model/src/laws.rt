@@ -1,10 +1,18 @@
 //! Laws of the definitions.
-ghost use Rattle.std.specs.Prelude.{◌≡◌, ℕ, List, None};
+ghost use Rattle.std.specs.Prelude.{◌≡◌, ◌↔◌, ℕ, List, None};
 ghost use Rattle.kc_tree_model.specs.Files.{Files};
+ghost use Rattle.kc_tree_model.specs.Lines.{Logical, lines_of};
+ghost use Rattle.kc_tree_model.specs.LineGrammar.{IsInLines};
 ghost use Rattle.kc_tree_model.specs.Contents.{tree_of_files};
 ghost use Rattle.kc_tree_model.specs.TreeFaults.{fault_told};
 ghost use Rattle.kc_tree_model.specs.TreeLookup.{IsConsistent};
 ghost use Rattle.kc_tree_model.specs.NestedTrees.{IsReadAsOneTree};
+
+/// The logical lines that are read of a file's bytes are exactly those that the grammar of lines has for them: physical
+/// lines joined where they go on, and behind a line that begins one a help text up to its end by indentation.
+pub fn lines_are_of_the_grammar()
+    ensures { (bytes : List ℕ) (lines : List Logical) → (lines_of bytes ≡ lines) ↔ IsInLines bytes lines }
+{}
 
 /// What is read without a fault is the listing of exactly one nested tree of menus, ifs, choices, sourced files and
 /// entries, and the walk down that tree gives each place the conditions that stand round it.

@@ -19,7 +19,7 @@ impl Model for Texts {
 
     ghost Value = { Files };
 
-    ghost use Rattle.kc_tree_model.specs.TextsView.{file_of};
+    ghost use Rattle.kc_tree_model.specs.checker.TextsView.{file_of};
 
     ghost view = { λ a. map file_of a.files.entries };
 }

@@ -1,5 +1,5 @@
 use Rattle.std.proofs.Common.{ap, ◌∙◌, map}
-use Rattle.kc_tree_model.specs.TextsView.{file_of}
+use Rattle.kc_tree_model.specs.checker.TextsView.{file_of}
 use Rattle.kc_tree_model.specs.Files.{with_file}
 use Rattle.kc_tree_model.proofs.TextsLemmas.{insert_files}
 use Rattle.kc_tree_model.proofs.texts.Texts.insert.Goals as goal

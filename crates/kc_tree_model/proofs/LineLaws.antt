@@ -1,0 +1,5 @@
+-- The lines that are read are those of the grammar of lines.
+pub mod CutLines
+pub mod JoinedLines
+pub mod HelpTexts
+pub mod LogicalLines
