@@ -1,4 +1,5 @@
 pub mod GroupedItems
 pub mod Kept
 pub mod PartsView
+pub mod Places
 pub mod TreeView
