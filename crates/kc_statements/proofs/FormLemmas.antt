@@ -1,0 +1,51 @@
+-- Steps of the forms.
+use Rattle.std.proofs.Common.{◌≡◌, ◌⊎◌, inl, inr, ℕ, suc, zero, ◌+◌, ◌≤◌, ◌<◌, Bool, true, false, List, [], ◌∷◌, length, drop, refl, ap, sym, ◌∙◌, arith, Option, Some, None, Result, Ok, Err, length-drop, map, cond, ◌==◌}
+use Rattle.std.proofs.lemmas.List.{drop-map, drop_more}
+use Rattle.std.specs.Prelude.{codes, slice_index_or}
+use Rattle.kc_expr.specs.Token.{Piece, piece_of, pieces_of}
+use Rattle.kc_expr.specs.declared.token.Token.{Token as CodeToken}
+use Rattle.kc_expr.specs.declared.token.TokenKind.TheVariants.{Word}
+use Rattle.kc_expr.specs.Expr.{Expr, conditional}
+use Rattle.kc_expr.specs.Grammar.{extent, read_expr}
+use Rattle.kc_expr.specs.declared.fault.ExprKind.{ExprKind}
+use Rattle.kc_tree_model.specs.declared.fault.TreeKind.{TreeKind}
+use Rattle.kc_tree_model.specs.declared.fault.TreeKind.TheVariants.{Malformed}
+use Rattle.kc_tree_model.specs.Forms.{last_condition, optional_if, no_more, kind_of_fault, Taken, ◌>>=◌}
+use Rattle.kc_tree_model.specs.Keywords.{is_the_word}
+
+more : {A : Type 0} (x : A) (ts : List Piece) → 0 < length ts → no_more x ts ≡ Err Malformed
+more x [] h = absurd (omega arith)
+more x (t ∷ ts) h = refl
+
+-- what is left of a condition once its expression is read
+behind : List Piece → Result Expr (ExprKind × List Piece) → Result Expr TreeKind
+behind ts (Ok e) = no_more (conditional e) (drop (length (extent ts)) ts)
+behind ts (Err f) = Err (kind_of_fault f.0)
+
+by_reading : (ts : List Piece) (r : Result Expr (ExprKind × List Piece))
+    → (elim r [ Ok e ↦ Ok (record { expr = e; single = length (extent ts) == 1; rest = drop (length (extent ts)) ts }) | Err f ↦ Err (kind_of_fault f.0) ] >>= λ (t : Taken). no_more (conditional t.expr) t.rest) ≡ behind ts r
+unfolding behind
+by_reading ts (Ok e) = refl
+by_reading ts (Err f) = refl
+
+-- tokens behind a condition
+pub condition_behind : (ts : List Piece) (e : Expr) → read_expr (extent ts) ≡ Ok e → length (extent ts) < length ts → last_condition ts ≡ Err Malformed
+unfolding behind
+condition_behind ts e reads h = by_reading ts (read_expr (extent ts)) ∙ ap (behind ts) reads ∙ more (conditional e) (drop (length (extent ts)) ts) (omega (arith, length-drop (length (extent ts)) ts))
+
+-- the token at a place, and those behind it
+pub front_piece : (ts : List CodeToken) (at : ℕ) (d : CodeToken) → at < length ts → drop at (pieces_of ts) ≡ piece_of (slice_index_or ts at d) ∷ drop (at + 1) (pieces_of ts)
+front_piece ts at d h = drop-map piece_of at ts ∙ ap (map piece_of) (drop_more ts at d h) ∙ ap (λ r. piece_of (slice_index_or ts at d) ∷ r) (sym (drop-map piece_of (at + 1) ts))
+
+pub no_if : (t : Piece) (ts : List Piece) → is_the_word (codes "if") t ≡ false → optional_if (t ∷ ts) ≡ Err Malformed
+no_if t ts e = rw e refl
+
+pub if_given : (t : Piece) (ts : List Piece) (e : Expr) → is_the_word (codes "if") t ≡ true → last_condition ts ≡ Ok e → optional_if (t ∷ ts) ≡ Ok (Some e)
+if_given t ts e w c = rw w (rw c refl)
+
+pub if_refused : (t : Piece) (ts : List Piece) (k : TreeKind) → is_the_word (codes "if") t ≡ true → last_condition ts ≡ Err k → optional_if (t ∷ ts) ≡ Err k
+if_refused t ts k w c = rw w (rw c refl)
+
+-- the token that stands past the end in a clause
+abbrev pub some_token : CodeToken
+some_token = record { kind = Word; start = 0; end = 0; text = record { ref_ptr = (0, 0); now = [] } }

@@ -1,0 +1,7 @@
+-- The keywords of a length.
+use Rattle.std.specs.Prelude.{ℕ, List, ◌==◌, length, filter}
+use Rattle.kc_tree_model.specs.Keywords.{Keyword, keywords}
+
+-- the entries whose words have so many letters
+abbrev pub of_length : ℕ → List (List ℕ × Keyword)
+of_length n = filter (λ e. length e.0 == n) keywords

@@ -1,0 +1,55 @@
+//! Conditions at the ends of lines.
+ghost use Rattle.std.specs.Prelude.{◌≡◌, ◌≤◌, length, drop, IfOk};
+ghost use Rattle.kc_expr.specs.Arena.{Grows, stands_for};
+ghost use Rattle.kc_expr.specs.Token.{pieces_of};
+ghost use Rattle.kc_tree_model.specs.Forms.{last_condition, optional_if};
+ghost use Rattle.kc_statements.specs.Said.{Gives, NodeHeld, IfHeld, if_in};
+
+use super::fault::kind_of;
+use super::token::is_the_word;
+use kc_expr::{Arena, ExprId, Token};
+use kc_tree_model::TreeKind;
+
+/// A condition at the end of a line.
+pub(crate) fn last_condition(
+    arena: &mut Arena,
+    tokens: &[Token<'_>],
+    at: usize,
+) -> Result<ExprId, TreeKind>
+    requires { at ≤ length tokens.now }
+    ensures grows { Grows arena.old arena.new }
+    ensures gives { Gives (stands_for arena.new) result (last_condition (drop at (pieces_of tokens.now))) }
+    ensures held { IfOk result (NodeHeld arena.new) }
+{
+    let (id, next) = match arena.parse_expr(tokens, at, true) {
+        Ok(read) => read,
+        Err(fault) => return Err(kind_of(fault.kind)),
+    };
+    if next < tokens.len() {
+        return Err(TreeKind::Malformed);
+    }
+    Ok(id)
+}
+
+/// `[if E]`.
+pub(crate) fn optional_if(
+    arena: &mut Arena,
+    tokens: &[Token<'_>],
+    at: usize,
+) -> Result<Option<ExprId>, TreeKind>
+    requires { at ≤ length tokens.now }
+    ensures grows { Grows arena.old arena.new }
+    ensures gives { Gives (if_in arena.new) result (optional_if (drop at (pieces_of tokens.now))) }
+    ensures held { IfOk result (IfHeld arena.new) }
+{
+    if at == tokens.len() {
+        return Ok(None);
+    }
+    if !is_the_word("if", &tokens[at]) {
+        return Err(TreeKind::Malformed);
+    }
+    match last_condition(arena, tokens, at + 1) {
+        Ok(id) => Ok(Some(id)),
+        Err(kind) => Err(kind),
+    }
+}

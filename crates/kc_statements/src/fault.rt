@@ -1,0 +1,20 @@
+//! Faults of expressions as faults of the tree.
+ghost use Rattle.std.specs.Prelude.{◌≡◌};
+ghost use Rattle.kc_tree_model.specs.Forms.{kind_of_fault};
+
+use kc_expr::ExprKind;
+use kc_tree_model::TreeKind;
+
+/// A fault of an expression as one of the tree.
+pub fn kind_of(kind: ExprKind) -> TreeKind
+    ensures { result ≡ kind_of_fault kind }
+{
+    match kind {
+        ExprKind::BadToken => TreeKind::BadToken,
+        ExprKind::UnclosedQuote => TreeKind::UnclosedQuote,
+        ExprKind::Malformed => TreeKind::Malformed,
+        ExprKind::TooDeep => TreeKind::TooDeep,
+        ExprKind::LeftOut => TreeKind::LeftOut,
+        ExprKind::OutOfMemory => TreeKind::OutOfMemory,
+    }
+}

@@ -1,0 +1,75 @@
+//! What the lines of a tree say.
+use kc_expr::{ExprId, NameId};
+use kc_value::{Kind, Text};
+
+/// The blocks that a statement opens and an end closes ("Menu structure").
+#[derive(Clone, Copy, Debug, PartialEq, Eq)]
+pub enum Block {
+    Menu,
+    If,
+    Choice,
+}
+
+/// A statement that closes the open entry ("Kconfig syntax").
+#[derive(Drop)]
+pub enum Head<'a> {
+    /// The name that is defined.
+    Config(&'a str),
+    Choice,
+    /// A menu's title.
+    Menu(Text),
+    Condition(ExprId),
+    /// A comment's title.
+    Comment(Text),
+    /// The path that is sourced.
+    Source(Text),
+    Mainmenu,
+    Ends(Block),
+}
+
+/// The value of a default, whether it is one operand (in parentheses it isn't), and its `if`.
+#[derive(Clone, Copy)]
+pub struct Valued {
+    pub value: ExprId,
+    pub single: bool,
+    pub condition: Option<ExprId>,
+}
+
+/// The name in a `select` or an `imply`, and its `if`.
+#[derive(Clone, Copy)]
+pub struct Aimed {
+    pub name: NameId,
+    pub condition: Option<ExprId>,
+}
+
+/// The bounds of a `range`, which are operands, and its `if`.
+#[derive(Clone, Copy)]
+pub struct Bounded {
+    pub low: ExprId,
+    pub high: ExprId,
+    pub condition: Option<ExprId>,
+}
+
+/// An attribute of the open entry ("Menu attributes"); of a prompt only its `if` is kept.
+#[derive(Clone, Copy)]
+pub enum Attribute {
+    Typed(Kind),
+    TypedPrompt(Kind, Option<ExprId>),
+    TypedDefault(Kind, Valued),
+    Prompt(Option<ExprId>),
+    Default(Valued),
+    Depends(ExprId),
+    Select(Aimed),
+    Imply(Aimed),
+    Range(Bounded),
+    Visible(ExprId),
+    Help,
+    Modules,
+}
+
+/// What a line says.
+#[derive(Drop)]
+pub enum Statement<'a> {
+    Head(Head<'a>),
+    Attribute(Attribute),
+}

@@ -1,0 +1,74 @@
+//! Tests of one token.
+ghost use Rattle.std.specs.Prelude.{◌≡◌, ◌||◌, ◌&&◌, codes, bytes_eq, nat_lt, length};
+ghost use Rattle.std.specs.List.{list_all};
+ghost use Rattle.kc_expr.specs.Token.{piece_of};
+ghost use Rattle.kc_tree_model.specs.Forms.{is_left_out_option};
+ghost use Rattle.kc_tree_model.specs.Keywords.{is_word_kind, is_quoted_kind, is_the_word, is_name};
+ghost use Rattle.kc_tree_model.specs.TreeLookup.{is_name_byte};
+
+use kc_expr::{Token, TokenKind};
+
+/// Whether a token is a bare word.
+pub(crate) fn is_word(token: &Token<'_>) -> bool
+    ensures { result ≡ is_word_kind token.now.kind }
+{
+    matches!(token.kind, TokenKind::Word)
+}
+
+/// Whether a token is a quoted text.
+pub(crate) fn is_quoted(token: &Token<'_>) -> bool
+    ensures { result ≡ is_quoted_kind token.now.kind }
+{
+    matches!(token.kind, TokenKind::Quoted)
+}
+
+/// Whether a token is a bare word of these letters.
+pub(crate) fn is_the_word(word: &str, token: &Token<'_>) -> bool
+    ensures { result ≡ is_the_word word.now (piece_of token.now) }
+{
+    is_word(token) && token.text == word
+}
+
+/// Whether a byte is a letter, a digit or `_`.
+fn is_name_byte(byte: u8) -> bool
+    ensures { result ≡ is_name_byte byte }
+{
+    matches!(byte, b'A'..=b'Z' | b'a'..=b'z' | b'0'..=b'9' | b'_')
+}
+
+/// Whether a token is the name of a symbol: letters, digits and `_`, and none of the three constants.
+pub(crate) fn is_name(token: &Token<'_>) -> bool
+    ensures { result ≡ is_name (piece_of token.now) }
+{
+    is_word(token) && has_name_bytes(token.text) && !is_constant(token.text)
+}
+
+/// Whether a word has one or more letters, digits and `_`, and nothing else.
+fn has_name_bytes(word: &str) -> bool
+    ensures { result ≡ (nat_lt 0 (length word.now) && list_all is_name_byte word.now) }
+{
+    !word.is_empty() && are_name_bytes(word.as_bytes())
+}
+
+/// Whether each byte is a letter, a digit or `_`.
+fn are_name_bytes(bytes: &[u8]) -> bool
+    ensures { result ≡ list_all is_name_byte bytes.now }
+{
+    bytes.iter().all(|byte| is_name_byte(*byte))
+}
+
+/// Whether a word is one of the three constants.
+fn is_constant(word: &str) -> bool
+    ensures { result ≡ (bytes_eq word.now (codes "n") || bytes_eq word.now (codes "m") || bytes_eq word.now (codes "y")) }
+{
+    word == "n" || word == "m" || word == "y"
+}
+
+/// Whether a token is an option that is left out.
+pub(crate) fn is_left_out_option(token: &Token<'_>) -> bool
+    ensures { result ≡ is_left_out_option (piece_of token.now) }
+{
+    is_the_word("env", token)
+        || is_the_word("defconfig_list", token)
+        || is_the_word("allnoconfig_y", token)
+}
