@@ -5,3 +5,4 @@ pub mod OneListing
 pub mod Building
 pub mod LineFits
 pub mod ReadingNests
+pub mod EachFileRead

@@ -1,8 +1,10 @@
 //! Laws of the definitions.
-ghost use Rattle.std.specs.Prelude.{◌≡◌, ◌↔◌, ℕ, List, None};
+ghost use Rattle.std.specs.Prelude.{◌≡◌, ◌↔◌, ℕ, ◌+◌, List, [], None};
 ghost use Rattle.kc_tree_model.specs.Files.{Files};
 ghost use Rattle.kc_tree_model.specs.Lines.{Logical, lines_of};
 ghost use Rattle.kc_tree_model.specs.LineGrammar.{IsInLines};
+ghost use Rattle.kc_tree_model.specs.Limits.{Origin, most_open_files};
+ghost use Rattle.kc_tree_model.specs.Reading.{read_file};
 ghost use Rattle.kc_tree_model.specs.Contents.{tree_of_files};
 ghost use Rattle.kc_tree_model.specs.TreeFaults.{fault_told};
 ghost use Rattle.kc_tree_model.specs.TreeLookup.{IsConsistent};
@@ -18,6 +20,12 @@ pub fn lines_are_of_the_grammar()
 /// entries, and the walk down that tree gives each place the conditions that stand round it.
 pub fn reading_is_a_nested_tree()
     ensures { (files : Files) (root : List ℕ) → IsReadAsOneTree files root }
+{}
+
+/// No file is left unread for the bound of files within each other: where more of them might stand open, the reading is
+/// the same, since a `source` past the limit is a fault before its file would be read.
+pub fn each_file_is_read()
+    ensures { (origin : Origin) (more : ℕ) → read_file (most_open_files + more) origin origin.root [] ≡ read_file most_open_files origin origin.root [] }
 {}
 
 /// What is read without a fault is a consistent tree: its names are words and differ, each choice and each symbol

@@ -19,21 +19,21 @@ use Rattle.kc_tree_model.proofs.NestedTrees.Building.{EndsMatch, ends_first, nes
 use Rattle.kc_tree_model.proofs.NestedTrees.LineFits.{Fits, line_fits}
 
 -- groups that open blocks
-abbrev AllBlocks : List Group → Type 0
+abbrev pub AllBlocks : List Group → Type 0
 AllBlocks [] = Unit {0}
 AllBlocks (g ∷ gs) = ((b : Block) × (block_of g ≡ Some b)) × AllBlocks gs
 
 -- since a file began, just these blocks of it were opened and not closed
-record Since (start read : List Group) : Type 0 where
-  blocks : List Group
-  own : AllBlocks blocks
-  opened : open_blocks 0 read ≡ blocks ++ open_blocks 0 start
-  matched : EndsMatch read
+pub record Since (start read : List Group) : Type 0 where
+  pub blocks : List Group
+  pub own : AllBlocks blocks
+  pub opened : open_blocks 0 read ≡ blocks ++ open_blocks 0 start
+  pub matched : EndsMatch read
 
 -- a file that is read whole leaves the open blocks as they were
-record Closes (start read : List Group) : Type 0 where
-  opened : open_blocks 0 read ≡ open_blocks 0 start
-  matched : EndsMatch read
+pub record Closes (start read : List Group) : Type 0 where
+  pub opened : open_blocks 0 read ≡ open_blocks 0 start
+  pub matched : EndsMatch read
 
 -- an end of the innermost block, or where that isn't the file's own a stray end
 ended_by_end : (w : What) (b : Block) → is_some_block b (head_gives block_of_head w) ≡ true → is_ended_by w (said (ends b)) ≡ true
@@ -118,7 +118,7 @@ after_attribute start [] line a o k i s = cc
 after_attribute start (g ∷ before) line a o k i s = attribute_by start before g g.what line a o refl k i s
 
 -- a line that sources no file
-after_said : (start read : List Group) (at : Position) (s : Option Statement) → innermost start ≡ None → Since start read → path_said s ≡ None → Fits read s → Since start (after_line at s read)
+pub after_said : (start read : List Group) (at : Position) (s : Option Statement) → innermost start ≡ None → Since start read → path_said s ≡ None → Fits read s → Since start (after_line at s read)
 after_said start read at None i k p f = k
 after_said start read at (Some (head h)) i k p f = after_head start read at h i k p f
 after_said start read at (Some (attribute a)) i k p f = after_attribute start read at.line a f.0 f.1 i k
@@ -133,10 +133,10 @@ after_file start read file None e s h = after_last start read s.blocks s.own s.o
 after_file start read file (Some o) e s h = cc
 
 -- the group of a `source`
-source_group : List Group → Position → List ℕ → Group
+unfoldable pub source_group : List Group → Position → List ℕ → Group
 source_group read at path = record { number = length read; at = at; what = said (source path); attributes = [] }
 
-Reads : (List ℕ → List Group → Outcome) → Type 0
+unfoldable pub Reads : (List ℕ → List Group → Outcome) → Type 0
 Reads sub = (path : List ℕ) (start : List Group) → innermost start ≡ None → EndsMatch start → (sub path start).fault ≡ None → Closes start (sub path start).read
 
 -- the lines behind have what they need
@@ -186,7 +186,7 @@ unfolding GoesOn
 lines_close sub r file [] start i subs = λ read s h. after_file start read file (innermost read) refl s h
 lines_close sub r file (l ∷ ls) start i subs = λ read s h. after_result start read (record { file = file; line = l.number }) (line_says read l) sub (read_lines sub r file ls) r i subs s (line_fits read l) (lines_close sub r file ls start i subs) h
 
-file_closes : (n : ℕ) (r : Origin) → Reads (read_file n r)
+pub file_closes : (n : ℕ) (r : Origin) → Reads (read_file n r)
 unfolding Reads GoesOn
 file_closes zero r path start i m h = record { opened = refl; matched = m }
 file_closes (suc n) r path start i m h = lines_close (read_file n r) r (r.number path) (lines_of (bytes_in r path)) start i (file_closes n r) start (record { blocks = []; own = tt; opened = refl; matched = m }) h
