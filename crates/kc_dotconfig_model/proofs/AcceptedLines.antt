@@ -1,10 +1,10 @@
 -- A file whose lines are short, few, UTF-8 and not malformed is accepted.
-use Rattle.std.proofs.Common.{◌≡◌, ◌⊎◌, inl, inr, ℕ, zero, suc, ◌+◌, ◌<◌, ◌≤◌, true, false, not, ◌==◌, cond, List, [], ◌∷◌, ◌++◌, take, Option, Some, None, length, refl, sym, ◌∙◌, ap, arith}
+use Rattle.std.proofs.Common.{◌≡◌, ◌⊎◌, inl, inr, ℕ, zero, suc, ◌+◌, ◌<◌, ◌≤◌, Bool, true, false, not, ◌==◌, cond, List, [], ◌∷◌, ◌++◌, take, Option, Some, None, length, refl, sym, ◌∙◌, ap, arith}
 use Rattle.std.specs.Prelude.{slice_get}
-use Rattle.std.specs.Str.{IsUtf8, is_utf8}
+use Rattle.std.specs.Str.{is_utf8}
 use Rattle.std.proofs.lemmas.Str.{IsUtf8-from_is_utf8, is_utf8-from_IsUtf8}
-use Rattle.std.specs.List.{onto_first}
-use Rattle.std.proofs.lemmas.Bool.{and_parts, not-true, cases_Bool, cases_lt, eq-eqb, false≢true}
+use Rattle.std.specs.List.{list_all, onto_first}
+use Rattle.std.proofs.lemmas.Bool.{and_parts, and_from, not-true, cases_Bool, cases_lt, eq-eqb, false≢true}
 use Rattle.std.proofs.lemmas.List.Sums.{sum_by-cons, sum_by-append}
 use Rattle.std.proofs.lemmas.Option.{slice_get_within}
 use Rattle.kc_tree_model.specs.Trees.{Whole}
@@ -12,8 +12,8 @@ use Rattle.kc_dotconfig_model.specs.declared.fault.LoadKind.TheVariants.{Malform
 use Rattle.kc_system.proofs.Lists.{get-some}
 use Rattle.kc_dotconfig_model.specs.Names.{lacks, is_prefix}
 use Rattle.kc_dotconfig_model.specs.Lines.{Saying, Says, IsMalformed, without_white_end}
-use Rattle.kc_dotconfig_model.specs.Files.{file_lines}
-use Rattle.kc_dotconfig_model.specs.Laws.{IsGoodLine, IsOfGoodLines, AcceptedFilesHaveGoodLines}
+use Rattle.kc_dotconfig_model.specs.Files.{file_lines, has_utf8_lines}
+use Rattle.kc_dotconfig_model.specs.Laws.{IsGoodLine, AcceptedFilesHaveGoodLines}
 use Rattle.kc_dotconfig_model.specs.Reading.{line_saying}
 use Rattle.kc_dotconfig_model.proofs.LineLaws.{line_read}
 use Rattle.kc_dotconfig_model.proofs.AcceptedFiles.{placed}
@@ -149,3 +149,12 @@ accepted_exactly prefix tree bytes valid = (
   λ accepted. record { small = accepted_size prefix tree bytes accepted; few = accepted_count prefix tree bytes accepted; good = accepted_line prefix tree bytes valid accepted },
   λ lines. accepted_of_lines prefix tree bytes lines.small lines.few lines.good,
 )
+
+-- the lines of a file, where each of them passes a test
+each_passes : (p : List ℕ → Bool) (lines : List (List ℕ)) → ((i : ℕ) (line : List ℕ) → slice_get lines i ≡ Some line → p line ≡ true) → list_all p lines ≡ true
+each_passes p [] each = refl
+each_passes p (line ∷ lines) each = and_from (p line) (list_all p lines) (each 0 line refl) (each_passes p lines (λ i l at. each (suc i) l at))
+
+-- an accepted file is UTF-8
+pub accepted_utf8 : (prefix : List ℕ) (tree : Whole) (bytes : List ℕ) → is_prefix prefix ≡ true → IsAccepted prefix tree bytes → has_utf8_lines bytes ≡ true
+accepted_utf8 prefix tree bytes valid accepted = each_passes is_utf8 (file_lines bytes) (λ i line at. is_utf8-from_IsUtf8 line (accepted_line prefix tree bytes valid accepted i line at).utf8)

@@ -1,6 +1,5 @@
 -- A file has one first fault.
-use Rattle.std.proofs.Common.{◌≡◌, ◌⊎◌, inl, inr, ℕ, zero, suc, ◌+◌, ◌<◌, ◌≤◌, Bool, true, false, not, ◌==◌, cond, List, [], ◌∷◌, ◌++◌, length, take, refl, sym, ◌∙◌, ap, arith}
-use Rattle.std.specs.List.{count_by}
+use Rattle.std.proofs.Common.{◌≡◌, inl, inr, ℕ, zero, suc, ◌+◌, ◌≤◌, true, not, ◌==◌, cond, List, [], ◌∷◌, ◌++◌, length, take, refl, sym, ◌∙◌, ap, arith}
 use Rattle.std.proofs.lemmas.Bool.{and_parts, not-true, cases_lt}
 use Rattle.std.proofs.Math.Seq.{take-length}
 use Rattle.std.proofs.lemmas.List.Sums.{sum_by-cons}
@@ -8,7 +7,7 @@ use Rattle.kc_tree_model.specs.Trees.{Whole}
 use Rattle.kc_dotconfig_model.specs.declared.fault.LoadKind.{LoadKind}
 use Rattle.kc_dotconfig_model.specs.declared.fault.LoadKind.TheVariants.{Malformed, NotUtf8, LineTooLong, TooManyLines, Read, OutOfMemory, TooLarge}
 use Rattle.kc_dotconfig_model.specs.Names.{lacks}
-use Rattle.kc_dotconfig_model.specs.LoadFaults.{Extent, complete, cut_short, IsLineAt, ComesAt, CountsAt, rank_of, newlines, MOST_BYTES, MOST_LINE_BYTES}
+use Rattle.kc_dotconfig_model.specs.LoadFaults.{Extent, complete, cut_short, IsLineAt, ComesAt, CountsAt, rank_of, newlines, MOST_LINE_BYTES}
 use Rattle.kc_dotconfig_model.specs.Laws.{OneFaultIsFirst, FaultyFilesAreRefused, FailedReadsAreTold}
 
 count_more : (b : ℕ) (bytes : List ℕ) → newlines (b ∷ bytes) ≡ cond (b == 10) 1 0 + newlines bytes

@@ -1,7 +1,12 @@
--- What a file assigns fits its units.
-use Rattle.std.proofs.Common.{◌≡◌, ◌≢◌, inl, inr, ℕ, zero, suc, Bool, true, false, not, ◌||◌, ◌==◌, cond, IsTrue, IfSome, List, [], ◌∷◌, ◌++◌, Option, Some, None, length, take, get_or, refl, sym, ◌∙◌, ap, subst, arith}
+-- What a file of UTF-8 assigns fits its units.
+use Rattle.std.proofs.Common.{◌≡◌, ◌≢◌, inl, inr, ℕ, zero, suc, ◌+◌, ◌<◌, Bool, true, false, not, ◌||◌, ◌==◌, cond, IsTrue, IfSome, List, [], ◌∷◌, ◌++◌, Option, Some, None, length, take, drop, get_or, append_assoc, length-append, drop_at, refl, sym, ◌∙◌, ap, subst, arith}
 use Rattle.std.specs.Prelude.{slice_get, slice_set, is_some, replicate, codes, bytes_eq}
-use Rattle.std.specs.List.{AllZip, AllByRecursion, onto_first}
+use Rattle.std.specs.List.{AllZip, AllByRecursion, list_all, onto_first}
+use Rattle.std.specs.Str.{IsUtf8, is_utf8}
+use Rattle.std.proofs.Math.Seq.{get_or-append_seam}
+use Rattle.std.proofs.lemmas.Str.{IsUtf8-drop, IsCharBoundary-after_ascii, IsUtf8-from_is_utf8, is_utf8-from_IsUtf8}
+use Rattle.kc_value.proofs.UnquotedUtf8.{unquoted_utf8}
+use Rattle.kc_dotconfig_model.proofs.TrimmedLines.{trimmed_utf8}
 use Rattle.std.proofs.lemmas.Bool.{cases_eq, false≢true, and_parts, and_from, not-true}
 use Rattle.std.proofs.lemmas.List.{get_or-set_same, get_or-set_other, length-set}
 use Rattle.std.proofs.lemmas.List.Folds.{list_all-append}
@@ -15,9 +20,9 @@ use Rattle.kc_tree_model.specs.TreeLookup.{has_newline, IsConsistent, unit_of}
 use Rattle.kc_system.specs.Solutions.{user_of, FitsUsers}
 use Rattle.kc_rules_model.specs.declared.values.UserValue.{UserValue}
 use Rattle.kc_rules_model.specs.declared.values.UserValue.TheVariants.{Tri as TriUser, Text as TextUser, Member as MemberUser}
-use Rattle.kc_rules_model.specs.Kinds.{is_tri_kind}
+use Rattle.kc_rules_model.specs.Kinds.{is_m, is_tri_kind}
 use Rattle.kc_value.specs.Number.{number_of_text}
-use Rattle.kc_rules_model.specs.Shapes.{user_fits, unit_user_fits, symbol_user_fits, is_member, tri_fits, user_text_fits, is_m}
+use Rattle.kc_rules_model.specs.Shapes.{user_fits, unit_user_fits, symbol_user_fits, is_member, tri_fits, user_text_fits}
 use Rattle.kc_rules_model.proofs.Lookups.{unit_is}
 use Rattle.kc_dotconfig_model.specs.Names.{lacks}
 use Rattle.kc_dotconfig_model.specs.Lines.{Saying, assigns, notice, silent, tri_meant, ValueSays, tri, chosen, not_chosen, quoted, number, no_int, no_hex, no_tri, no_text, no_number, unset_saying, Says, value, unset, unknown_value, unknown_unset, empty, comment, without_white_end}
@@ -74,6 +79,16 @@ first_lacks xs ys one = (and_parts (lacks 10 xs) (lacks 10 ys) (sym (list_all-ap
 quoted_one_line : (text means : List ℕ) → IsQuoted text means → lacks 10 text ≡ true → has_newline means ≡ false
 quoted_one_line text means q one = body_one_line q.0 means q.2 (first_lacks q.0 (34 ∷ []) (second_lacks (34 ∷ []) (q.0 ++ 34 ∷ []) (ap (lacks 10) (sym q.1) ∙ one)))
 
+-- what stands behind a byte below 128 is UTF-8
+utf8_behind : (bytes front back : List ℕ) (b : ℕ) → b < 128 → IsUtf8 bytes → bytes ≡ front ++ b ∷ back → IsUtf8 back
+utf8_behind bytes front back b low u is =
+    let v = subst IsUtf8 is u in
+    let seam = get_or-append_seam front b back 0 in
+    let long = length-append front (b ∷ back) in
+    let cut = IsCharBoundary-after_ascii (front ++ b ∷ back) (length front) v (omega (arith, long)) (omega (arith, seam, low)) in
+    let whole : (front ++ b ∷ []) ++ back ≡ front ++ b ∷ back = append_assoc front (b ∷ []) back in
+    subst IsUtf8 (ap (drop (length front + 1)) (sym whole) ∙ drop_at (front ++ b ∷ []) back (length front + 1) (length-append front (b ∷ []))) (IsUtf8-drop (front ++ b ∷ back) (length front + 1) v cut)
+
 module _ (tree : Whole) (sound : IsConsistent tree) (s : ℕ) (symbol : Symbol) (at : slice_get tree.symbols s ≡ Some symbol) where
   outside_fits : (x : UserValue) → symbol.choice ≡ None → symbol_user_fits (Some symbol) x ≡ true → user_fits tree (unit_of tree s) x ≡ true
   unfolding user_fits
@@ -93,19 +108,19 @@ module _ (tree : Whole) (sound : IsConsistent tree) (s : ℕ) (symbol : Symbol) 
   outside None e other = e
   outside (Some c) e other = absurd (other (sound.bool_members s c symbol at e))
 
-  value_fits_unit : (text : List ℕ) (saying : Saying) → lacks 10 text ≡ true → ValueSays tree s symbol text saying → SayingFits tree saying
-  value_fits_unit text saying one (tri _ t out meant) = outside_fits (TriUser t) out (tri_meant_fits symbol.kind text t meant)
-  value_fits_unit text saying one (chosen c _ within meant) = member_fits c within
-  value_fits_unit text saying one (not_chosen c _ t within meant other) = tt
-  value_fits_unit text saying one (quoted _ means is stands) =
-      outside_fits (TextUser means) (outside symbol.choice refl (λ same. cc (is, same))) (ap (λ k. user_text_fits k means) is ∙ ap not (quoted_one_line text means stands one))
-  value_fits_unit text saying one (number _ some) =
+  value_fits_unit : (text : List ℕ) (saying : Saying) → lacks 10 text ≡ true → IsUtf8 text → ValueSays tree s symbol text saying → SayingFits tree saying
+  value_fits_unit text saying one utf8 (tri _ t out meant) = outside_fits (TriUser t) out (tri_meant_fits symbol.kind text t meant)
+  value_fits_unit text saying one utf8 (chosen c _ within meant) = member_fits c within
+  value_fits_unit text saying one utf8 (not_chosen c _ t within meant other) = tt
+  value_fits_unit text saying one utf8 (quoted _ means is stands) =
+      outside_fits (TextUser means) (outside symbol.choice refl (λ same. cc (is, same))) (ap (λ k. user_text_fits k means) is ∙ and_from (not (has_newline means)) (is_utf8 means) (ap not (quoted_one_line text means stands one)) (is_utf8-from_IsUtf8 means (unquoted_utf8 text means stands utf8)))
+  value_fits_unit text saying one utf8 (number _ some) =
       let fits = number_fits symbol.kind text some in outside_fits (TextUser text) (outside symbol.choice refl fits.1) fits.0
-  value_fits_unit text saying one (no_int is) = tt
-  value_fits_unit text saying one (no_hex is) = tt
-  value_fits_unit text saying one (no_tri _ small meant) = tt
-  value_fits_unit text saying one (no_text _ is without) = tt
-  value_fits_unit text saying one (no_number b rest large other without) = tt
+  value_fits_unit text saying one utf8 (no_int is) = tt
+  value_fits_unit text saying one utf8 (no_hex is) = tt
+  value_fits_unit text saying one utf8 (no_tri _ small meant) = tt
+  value_fits_unit text saying one utf8 (no_text _ is without) = tt
+  value_fits_unit text saying one utf8 (no_number b rest large other without) = tt
 
   unset_fits : (o : Option ℕ) → symbol.choice ≡ o → (t : Bool) → is_tri_kind symbol.kind ≡ t → SayingFits tree (unset_saying tree s symbol o)
   unset_fits (Some c) e t small = tt
@@ -113,15 +128,16 @@ module _ (tree : Whole) (sound : IsConsistent tree) (s : ℕ) (symbol : Symbol) 
   unset_fits None e false small = subst (λ b. SayingFits tree (cond b (assigns (unit_of tree s) (TriUser N)) silent)) (sym small) tt
 
 module _ (prefix : List ℕ) (tree : Whole) (sound : IsConsistent tree) where
-  line_fits : (line : List ℕ) (saying : Saying) → lacks 10 line ≡ true → Says prefix tree line saying → SayingFits tree saying
-  line_fits line saying one (value _ name text s symbol _ is named at says) =
+  line_fits : (line : List ℕ) (saying : Saying) → lacks 10 line ≡ true → IsUtf8 line → Says prefix tree line saying → SayingFits tree saying
+  line_fits line saying one utf8 (value _ name text s symbol _ is named at says) =
       let behind_name = second_lacks name (61 ∷ text) (second_lacks prefix (name ++ (61 ∷ text)) (ap (lacks 10) (sym is.2) ∙ one)) in
-      value_fits_unit tree sound s symbol at text saying (second_lacks (61 ∷ []) text behind_name) says
-  line_fits line saying one (unset _ name s symbol is named at) = unset_fits tree sound s symbol at symbol.choice refl (is_tri_kind symbol.kind) refl
-  line_fits line saying one (unknown_value _ name text is named) = tt
-  line_fits line saying one (unknown_unset _ name is named) = tt
-  line_fits line saying one empty = tt
-  line_fits line saying one (comment _ hash without) = tt
+      let parted : line ≡ (prefix ++ name) ++ 61 ∷ text = is.2 ∙ sym (append_assoc prefix name (61 ∷ text)) in
+      value_fits_unit tree sound s symbol at text saying (second_lacks (61 ∷ []) text behind_name) (utf8_behind line (prefix ++ name) text 61 (omega arith) utf8 parted) says
+  line_fits line saying one utf8 (unset _ name s symbol is named at) = unset_fits tree sound s symbol at symbol.choice refl (is_tri_kind symbol.kind) refl
+  line_fits line saying one utf8 (unknown_value _ name text is named) = tt
+  line_fits line saying one utf8 (unknown_unset _ name is named) = tt
+  line_fits line saying one utf8 empty = tt
+  line_fits line saying one utf8 (comment _ hash without) = tt
 
   front_lacks : (n : ℕ) (line : List ℕ) → lacks 10 line ≡ true → lacks 10 (take n line) ≡ true
   front_lacks zero line one = refl
@@ -140,11 +156,13 @@ module _ (prefix : List ℕ) (tree : Whole) (sound : IsConsistent tree) where
     go true e all = (refl, all)
     go false e all = onto_lacks b (file_lines bytes) e all
 
-  sayings_fit : (lines : List (List ℕ)) (sayings : List Saying) → AllByRecursion (λ line. lacks 10 line ≡ true) lines → AllZip (λ line saying. Says prefix tree (without_white_end line) saying) lines sayings → AllByRecursion (SayingFits tree) sayings
-  sayings_fit [] [] one all = tt
-  sayings_fit [] (saying ∷ sayings) one all = absurd all
-  sayings_fit (line ∷ lines) [] one all = absurd all
-  sayings_fit (line ∷ lines) (saying ∷ sayings) one all = (line_fits (without_white_end line) saying (front_lacks _ line one.0) all.0, sayings_fit lines sayings one.1 all.1)
+  sayings_fit : (lines : List (List ℕ)) (sayings : List Saying) → AllByRecursion (λ line. lacks 10 line ≡ true) lines → list_all is_utf8 lines ≡ true → AllZip (λ line saying. Says prefix tree (without_white_end line) saying) lines sayings → AllByRecursion (SayingFits tree) sayings
+  sayings_fit [] [] one utf8 all = tt
+  sayings_fit [] (saying ∷ sayings) one utf8 all = absurd all
+  sayings_fit (line ∷ lines) [] one utf8 all = absurd all
+  sayings_fit (line ∷ lines) (saying ∷ sayings) one utf8 all =
+      let parts = and_parts (is_utf8 line) (list_all is_utf8 lines) utf8 in
+      (line_fits (without_white_end line) saying (front_lacks _ line one.0) (trimmed_utf8 line (IsUtf8-from_is_utf8 line parts.0)) all.0, sayings_fit lines sayings one.1 parts.1 all.1)
 
   set_fits : (users : List (Option UserValue)) (u : ℕ) (x : UserValue) → FitsUsers (length tree.units) (λ w y. IsTrue (user_fits tree w y)) users → user_fits tree u x ≡ true → FitsUsers (length tree.units) (λ w y. IsTrue (user_fits tree w y)) (slice_set users u (Some x))
   set_fits users u x fitting fits = (
@@ -174,7 +192,7 @@ none_length zero = refl
 none_length (suc n) = let rest = none_length n in omega arith
 
 pub file_fits : FilesFit
-file_fits prefix tree bytes sayings sound says =
+file_fits prefix tree bytes sayings sound utf8 says =
     over_fits prefix tree sound sayings (no_users tree)
     (none_length (length tree.units), λ u h. subst (λ o. IfSome o (λ y. IsTrue (user_fits tree u y))) (sym (none_held (length tree.units) u)) tt)
-    (sayings_fit prefix tree sound (file_lines bytes) sayings (lines_lack prefix tree sound bytes) says)
+    (sayings_fit prefix tree sound (file_lines bytes) sayings (lines_lack prefix tree sound bytes) utf8 says)

@@ -1,6 +1,7 @@
 -- What a configuration file says and assigns.
-use Rattle.std.specs.Prelude.{ℕ, ◌+◌, List, [], ◌∷◌, Option, Some, None, length, ◌==◌, slice_set, replicate, if◌then◌else◌}
-use Rattle.std.specs.List.{AllZip, onto_first}
+use Rattle.std.specs.Prelude.{ℕ, Bool, ◌+◌, List, [], ◌∷◌, Option, Some, None, length, ◌==◌, slice_set, replicate, if◌then◌else◌}
+use Rattle.std.specs.List.{AllZip, list_all, onto_first}
+use Rattle.std.specs.Str.{is_utf8}
 use Rattle.kc_tree_model.specs.Trees.{Whole}
 use Rattle.kc_rules_model.specs.declared.values.UserValue.{UserValue}
 use Rattle.kc_dotconfig_model.specs.declared.notice.NoticeKind.{NoticeKind}
@@ -10,6 +11,10 @@ use Rattle.kc_dotconfig_model.specs.Lines.{Saying, assigns, notice, silent, Says
 abbrev pub file_lines : List ℕ → List (List ℕ)
 file_lines [] = []
 file_lines (b ∷ bytes) = if b == 10 then [] ∷ file_lines bytes else onto_first b (file_lines bytes)
+
+-- whether each line of a file is UTF-8
+abbrev pub has_utf8_lines : List ℕ → Bool
+has_utf8_lines bytes = list_all is_utf8 (file_lines bytes)
 
 -- what the lines of a file say, one after another
 abbrev pub FileSays : List ℕ → Whole → List ℕ → List Saying → Type 0

@@ -10,7 +10,7 @@ use Rattle.kc_dotconfig_model.specs.declared.fault.LoadKind.{LoadKind}
 use Rattle.kc_dotconfig_model.specs.declared.fault.LoadKind.TheVariants.{Read}
 use Rattle.kc_dotconfig_model.specs.Names.{is_prefix}
 use Rattle.kc_dotconfig_model.specs.Lines.{Saying, Says, without_white_end}
-use Rattle.kc_dotconfig_model.specs.Files.{file_lines, FileSays, assigned_over, file_users, laid_over}
+use Rattle.kc_dotconfig_model.specs.Files.{file_lines, has_utf8_lines, FileSays, assigned_over, file_users, laid_over}
 use Rattle.kc_dotconfig_model.specs.LoadFaults.{MOST_BYTES, MOST_LINES, MOST_LINE_BYTES, Extent, complete, cut_short, ComesAt, IsFirstFault, IsAccepted, newlines}
 use Rattle.kc_dotconfig_model.specs.Reading.{line_saying, file_sayings}
 
@@ -28,10 +28,10 @@ abbrev pub FilesLieOverAssignments : Type 0
 FilesLieOverAssignments = (tree : Whole) (sayings : List Saying) (users : List (Option UserValue))
     → length users ≡ length tree.units → assigned_over sayings users ≡ laid_over (file_users tree sayings) users
 
--- what a file assigns fits its units
+-- what a file of UTF-8 assigns fits its units
 abbrev pub FilesFit : Type 0
 FilesFit = (prefix : List ℕ) (tree : Whole) (bytes : List ℕ) (sayings : List Saying) → IsConsistent tree
-    → FileSays prefix tree bytes sayings
+    → has_utf8_lines bytes ≡ true → FileSays prefix tree bytes sayings
     → FitsUsers (length tree.units) (λ u x. IsTrue (user_fits tree u x)) (file_users tree sayings)
 
 -- an accepted file says something

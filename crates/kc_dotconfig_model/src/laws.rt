@@ -16,7 +16,7 @@ pub fn files_lie_over_assignments()
     ensures { FilesLieOverAssignments }
 {}
 
-/// What a file assigns fits its units, over a consistent tree.
+/// What a file of UTF-8 assigns fits its units, over a consistent tree.
 pub fn files_fit()
     ensures { FilesFit }
 {}

@@ -1,5 +1,5 @@
 -- Minimal files are canonical: what the law of the least assignment gives over all files.
-use Rattle.std.proofs.Common.{◌≡◌, ◌≢◌, ◌⊎◌, ◌↔◌, inl, inr, ℕ, ◌<◌, Bool, true, false, ◌||◌, ◌==◌, cond, IsTrue, List, [], ◌∷◌, None, length, map, filter, refl, sym, ◌∙◌, ap, subst, arith}
+use Rattle.std.proofs.Common.{◌≡◌, ◌≢◌, ◌⊎◌, ◌↔◌, inl, inr, ℕ, ◌<◌, Bool, true, false, ◌||◌, ◌==◌, cond, IsTrue, List, [], ◌∷◌, Option, None, length, map, filter, refl, sym, ◌∙◌, ap, subst, arith}
 use Rattle.std.specs.Prelude.{slice_get}
 use Rattle.std.specs.List.{list_any, list_all}
 use Rattle.std.proofs.lemmas.Bool.{cases_Bool, false≢true, and_from, and_parts, eqb-true, or_cases, or_left, or_right}
@@ -11,6 +11,7 @@ use Rattle.kc_system.proofs.Least.{least_gives}
 use Rattle.kc_system.proofs.OneSolution as solving
 use Rattle.kc_rules_model.specs.declared.profile.Profile.{Profile}
 use Rattle.kc_rules_model.specs.declared.values.UnitValue.{UnitValue}
+use Rattle.kc_rules_model.specs.declared.values.UserValue.{UserValue}
 use Rattle.kc_rules_model.specs.Equality.{same_value}
 use Rattle.kc_rules_model.specs.EqualityLaws.{values_decided}
 use Rattle.kc_rules_model.specs.Rule.{rule, as_user}
@@ -22,12 +23,14 @@ use Rattle.kc_dotconfig_model.specs.Names.{is_prefix}
 use Rattle.kc_dotconfig_model.specs.Lines.{Saying}
 use Rattle.kc_rules_model.specs.SymbolValues.{symbol_seen}
 use Rattle.kc_rules_model.specs.Reports.{symbol_numbers}
-use Rattle.kc_dotconfig_model.specs.Files.{FileSays, file_users, no_users}
+use Rattle.kc_dotconfig_model.specs.Files.{FileSays, file_users, no_users, has_utf8_lines}
 use Rattle.kc_dotconfig_model.proofs.FittingFiles.{file_fits}
 use Rattle.kc_dotconfig_model.proofs.LineLaws.{file_read}
 use Rattle.kc_minimal_model.specs.MinimalFile.{is_kept, has_line, may_have_line, minimal_symbols, minimal_file}
-use Rattle.kc_minimal_model.specs.Laws.{IsReadAsLeast}
-use Rattle.kc_minimal_model.specs.Headline.{IsSettled, ReadsTo, with_lines, MinimalFilesAreCanonical}
+use Rattle.kc_minimal_model.proofs.OrderedTrees.{IsOrderedTree}
+use Rattle.kc_minimal_model.specs.Loading.{ReadsTo}
+use Rattle.kc_minimal_model.specs.MinimalText.{with_lines}
+use Rattle.kc_minimal_model.proofs.MinimalLineList.{lines_are_utf8}
 use Rattle.kc_minimal_model.proofs.KeptUnits.{others_fail}
 use Rattle.kc_minimal_model.proofs.KeptLines.{meant, user_meant, unit_inside}
 use Rattle.kc_minimal_model.proofs.LineUnits.{different_units}
@@ -36,45 +39,51 @@ use Rattle.kc_minimal_model.proofs.LeastFile.{passes_filter, none_held, none_len
 pub decides : (a b : UnitValue) → (a ≡ b) ⊎ (a ≢ b)
 decides a b = elim (cases_Bool (same_value a b)) [ inl same ↦ inl ((values_decided a b).0 same) | inr other ↦ inr (λ e. false≢true (sym other ∙ (values_decided a b).1 e)) ]
 
-module _ (prefix : List ℕ) (valid : is_prefix prefix ≡ true) (profile : Profile) (tree : Whole) (settled : IsSettled tree) where
-  fits_of : (bytes : List ℕ) (sayings : List Saying) → FileSays prefix tree bytes sayings → FitsUsers (length tree.units) (λ u x. IsTrue (user_fits tree u x)) (file_users tree sayings)
-  fits_of bytes sayings says = file_fits prefix tree bytes sayings settled.consistent says
+abbrev pub Fitting : Whole → List (Option UserValue) → Type 0
+Fitting tree users = FitsUsers (length tree.units) (λ u x. IsTrue (user_fits tree u x)) users
 
-  each : (bytes : List ℕ) (sayings : List Saying) → FileSays prefix tree bytes sayings → (values : List UnitValue) × ReadsTo prefix profile tree bytes values
-  each bytes sayings says =
-      let fitting = fits_of bytes sayings says in
+module _ (prefix : List ℕ) (valid : is_prefix prefix ≡ true) (profile : Profile) (tree : Whole) (settled : IsOrderedTree tree) where
+  pub fits_of : (bytes : List ℕ) (sayings : List Saying) → has_utf8_lines bytes ≡ true → FileSays prefix tree bytes sayings → Fitting tree (file_users tree sayings)
+  fits_of bytes sayings utf8 says = file_fits prefix tree bytes sayings settled.consistent utf8 says
+
+  -- what a file that can be read gives
+  pub each : (bytes : List ℕ) (sayings : List Saying) → has_utf8_lines bytes ≡ true → FileSays prefix tree bytes sayings → (values : List UnitValue) × ReadsTo prefix profile tree bytes values
+  each bytes sayings utf8 says =
+      let fitting = fits_of bytes sayings utf8 says in
       let found = solving.solution (length tree.units) (dependencies tree) (rule profile tree) (λ u x. IsTrue (user_fits tree u x)) settled.order settled.ordered (rules_frame profile tree) (file_users tree sayings) fitting.1 in
-      (found.0, record { sayings = sayings; says = says; gives = solving.gives (length tree.units) (dependencies tree) (rule profile tree) (λ u x. IsTrue (user_fits tree u x)) settled.order settled.ordered (rules_frame profile tree) (file_users tree sayings) fitting.1 found.0 found.1 })
+      (found.0, record { utf8 = utf8; sayings = sayings; says = says; gives = solving.gives (length tree.units) (dependencies tree) (rule profile tree) (λ u x. IsTrue (user_fits tree u x)) settled.order settled.ordered (rules_frame profile tree) (file_users tree sayings) fitting.1 found.0 found.1 })
 
   -- a file says one thing
   same_sayings : (bytes : List ℕ) (a b : List Saying) → FileSays prefix tree bytes a → FileSays prefix tree bytes b → a ≡ b
   same_sayings bytes a b first second = let e = (file_read prefix tree bytes a valid).1 first in let f = (file_read prefix tree bytes b valid).1 second in cc (e, f)
 
-  one : (bytes : List ℕ) (v w : List UnitValue) → ReadsTo prefix profile tree bytes v → ReadsTo prefix profile tree bytes w → v ≡ w
+  pub one : (bytes : List ℕ) (v w : List UnitValue) → ReadsTo prefix profile tree bytes v → ReadsTo prefix profile tree bytes w → v ≡ w
   one bytes v w a b =
       let same = same_sayings bytes a.sayings b.sayings a.says b.says in
       b.gives.only v (subst (λ s. Solves (length tree.units) (rule profile tree) (file_users tree s) v) same a.gives.solves)
 
-  least : (bytes : List ℕ) (values : List UnitValue) → ReadsTo prefix profile tree bytes values → IsReadAsLeast prefix profile tree values
-  least bytes values a = reads_as_least prefix valid profile tree settled.consistent (file_users tree a.sayings) values (fits_of bytes a.sayings a.says) a.gives.solves
-
-  back : (bytes : List ℕ) (values : List UnitValue) → ReadsTo prefix profile tree bytes values → ReadsTo prefix profile tree (minimal_file prefix profile tree values) values
-  back bytes values a =
-      let l = least bytes values a in
+  -- the minimal file of the values of any fitting assignment gives them back
+  pub reads_back : (users : List (Option UserValue)) (values : List UnitValue) → Fitting tree users → Solves (length tree.units) (rule profile tree) users values → ReadsTo prefix profile tree (minimal_file prefix profile tree values) values
+  reads_back users values fitting solved =
+      let l = reads_as_least prefix valid profile tree settled.consistent users values fitting solved in
       let given = least_gives (length tree.units) (dependencies tree) (rule profile tree) (λ u x. IsTrue (user_fits tree u x)) settled.order settled.ordered (rules_frame profile tree) decides as_user (rules_restore profile tree)
-      (file_users tree a.sayings) (file_users tree l.sayings) values (fits_of bytes a.sayings a.says) a.gives.solves l.least in
-      record { sayings = l.sayings; says = l.says; gives = given.2 }
+      users (file_users tree l.sayings) values fitting solved l.least in
+      record {
+        utf8 = lines_are_utf8 prefix valid profile tree settled.consistent users values fitting solved (minimal_symbols profile tree values) (passes_filter (has_line profile tree values) (symbol_numbers tree));
+        sayings = l.sayings;
+        says = l.says;
+        gives = given.2;
+      }
 
-  same : (a b : List ℕ) (v w : List UnitValue) → ReadsTo prefix profile tree a v → ReadsTo prefix profile tree b w → (v ≡ w) ↔ (minimal_file prefix profile tree v ≡ minimal_file prefix profile tree w)
-  same a b v w first second = (
+  -- the values of two fitting assignments are the same exactly if their minimal files are
+  pub same_files : (a b : List (Option UserValue)) (v w : List UnitValue) → Fitting tree a → Fitting tree b → Solves (length tree.units) (rule profile tree) a v → Solves (length tree.units) (rule profile tree) b w
+      → (v ≡ w) ↔ (minimal_file prefix profile tree v ≡ minimal_file prefix profile tree w)
+  same_files a b v w fits_a fits_b first second = (
     λ e. ap (minimal_file prefix profile tree) e,
-    λ e. one (minimal_file prefix profile tree w) v w (subst (λ t. ReadsTo prefix profile tree t v) e (back a v first)) (back b w second),
+    λ e. one (minimal_file prefix profile tree w) v w (subst (λ t. ReadsTo prefix profile tree t v) e (reads_back a v fits_a first)) (reads_back b w fits_b second),
   )
 
-  once : (bytes : List ℕ) (v w : List UnitValue) → ReadsTo prefix profile tree bytes v → ReadsTo prefix profile tree (minimal_file prefix profile tree v) w → minimal_file prefix profile tree w ≡ minimal_file prefix profile tree v
-  once bytes v w a b = ap (minimal_file prefix profile tree) (one (minimal_file prefix profile tree v) w v b (back bytes v a))
-
-all_of_filter : (p q : ℕ → Bool) (xs : List ℕ) → list_all p xs ≡ true → list_all p (filter q xs) ≡ true
+pub all_of_filter : (p q : ℕ → Bool) (xs : List ℕ) → list_all p xs ≡ true → list_all p (filter q xs) ≡ true
 all_of_filter p q [] all = refl
 all_of_filter p q (x ∷ xs) all = let parts = and_parts (p x) (list_all p xs) all in go (q x) parts.0 (all_of_filter p q xs parts.1) where
   go : (t : Bool) → p x ≡ true → list_all p (filter q xs) ≡ true → list_all p (cond t (x ∷ filter q xs) (filter q xs)) ≡ true
@@ -98,13 +107,17 @@ none_of_two p q r (x ∷ xs) fails = go (r x) (q x) refl refl (none_of_two p q r
     at_head true f = ap (λ b. list_any p (cond b (x ∷ filter q (filter r xs)) (filter q (filter r xs)))) f ∙ ap (λ b. b || list_any p (filter q (filter r xs))) (fails x f e) ∙ rest
     at_head false f = ap (λ b. list_any p (cond b (x ∷ filter q (filter r xs)) (filter q (filter r xs)))) f ∙ rest
 
-module _ (prefix : List ℕ) (valid : is_prefix prefix ≡ true) (profile : Profile) (tree : Whole) (settled : IsSettled tree) (bytes : List ℕ) (values : List UnitValue) (reads : ReadsTo prefix profile tree bytes values) (keeps : ℕ → Bool) where
-  fitting : FitsUsers (length tree.units) (λ u x. IsTrue (user_fits tree u x)) (file_users tree reads.sayings)
-  fitting = fits_of prefix valid profile tree settled bytes reads.sayings reads.says
+module _ (prefix : List ℕ) (valid : is_prefix prefix ≡ true) (profile : Profile) (tree : Whole) (settled : IsOrderedTree tree) (users : List (Option UserValue)) (values : List UnitValue)
+    (fitting : FitsUsers (length tree.units) (λ u x. IsTrue (user_fits tree u x)) users) (solved : Solves (length tree.units) (rule profile tree) users values) (keeps : ℕ → Bool) where
+  pub some_have_lines : list_all (has_line profile tree values) (filter keeps (minimal_symbols profile tree values)) ≡ true
+  some_have_lines = all_of_filter (has_line profile tree values) keeps (minimal_symbols profile tree values) (passes_filter (has_line profile tree values) (symbol_numbers tree))
+
+  utf8_some : has_utf8_lines (with_lines keeps prefix profile tree values) ≡ true
+  utf8_some = lines_are_utf8 prefix valid profile tree settled.consistent users values fitting solved (filter keeps (minimal_symbols profile tree values)) some_have_lines
 
   says_some : FileSays prefix tree (with_lines keeps prefix profile tree values) (map (λ s. meant values (unit_of tree s)) (filter keeps (minimal_symbols profile tree values)))
-  says_some = lines_say prefix valid profile tree settled.consistent (file_users tree reads.sayings) values fitting reads.gives.solves (filter keeps (minimal_symbols profile tree values))
-      (all_of_filter (has_line profile tree values) keeps (minimal_symbols profile tree values) (passes_filter (has_line profile tree values) (symbol_numbers tree)))
+  says_some = lines_say prefix valid profile tree settled.consistent users values fitting solved (filter keeps (minimal_symbols profile tree values))
+      some_have_lines
 
   user_after : (xs : List ℕ) (u : ℕ) → u < length tree.units → user_of (file_users tree (map (λ s. meant values (unit_of tree s)) xs)) u ≡ cond (list_any (λ s. unit_of tree s == u) xs) (user_meant values u) None
   user_after xs u h = after_lines tree values u xs (no_users tree) false (let len = none_length (length tree.units) in omega (arith, len)) (none_held (length tree.units) u)
@@ -123,31 +136,21 @@ module _ (prefix : List ℕ) (valid : is_prefix prefix ≡ true) (profile : Prof
     ];
   }
 
-  needed : (s : ℕ) → has_line profile tree values s ≡ true → keeps s ≡ false → (others : List UnitValue) × ReadsTo prefix profile tree (with_lines keeps prefix profile tree values) others × (others ≢ values)
+  -- without a line, and others or not, it gives other values
+  pub needed : (s : ℕ) → has_line profile tree values s ≡ true → keeps s ≡ false → (others : List UnitValue) × ReadsTo prefix profile tree (with_lines keeps prefix profile tree values) others × (others ≢ values)
   needed s has dropped =
       let parts = and_parts (is_kept profile tree values (unit_of tree s)) (may_have_line (slice_get tree.symbols s) (symbol_seen tree values s)) has in
-      let solved = reads.gives.solves in
-      let inside = unit_inside prefix valid profile tree settled.consistent (file_users tree reads.sayings) values fitting solved s (slice_get tree.symbols s) refl parts.1 in
-      let kept : IsKept (rule profile tree) values (unit_of tree s) = λ same. false≢true (sym (others_fail profile tree (file_users tree reads.sayings) values fitting solved (unit_of tree s) same) ∙ parts.0) in
+      let inside = unit_inside prefix valid profile tree settled.consistent users values fitting solved s (slice_get tree.symbols s) refl parts.1 in
+      let kept : IsKept (rule profile tree) values (unit_of tree s) = λ same. false≢true (sym (others_fail profile tree users values fitting solved (unit_of tree s) same) ∙ parts.0) in
       let fails : (t : ℕ) → keeps t ≡ true → has_line profile tree values t ≡ true → (unit_of tree t == unit_of tree s) ≡ false = λ t kept_line line. elim (cases_Bool (unit_of tree t == unit_of tree s)) [
         | inl equal ↦
-            let same = different_units profile tree settled.consistent (file_users tree reads.sayings) values fitting solved t s line has (eqb-true (unit_of tree t) (unit_of tree s) equal) in
+            let same = different_units profile tree settled.consistent users values fitting solved t s line has (eqb-true (unit_of tree t) (unit_of tree s) equal) in
             absurd (false≢true (sym dropped ∙ ap keeps (sym same) ∙ kept_line))
         | inr other ↦ other
       ] in
       let lost = none_of_two (λ t. unit_of tree t == unit_of tree s) keeps (has_line profile tree values) (symbol_numbers tree) fails in
       let given = least_gives (length tree.units) (dependencies tree) (rule profile tree) (λ u x. IsTrue (user_fits tree u x)) settled.order settled.ordered (rules_frame profile tree) decides as_user (rules_restore profile tree)
-      (file_users tree reads.sayings) (file_users tree (map (λ t. meant values (unit_of tree t)) (minimal_symbols profile tree values))) values fitting solved
-      (least_of_lines prefix valid profile tree settled.consistent (file_users tree reads.sayings) values fitting solved) in
+      users (file_users tree (map (λ t. meant values (unit_of tree t)) (minimal_symbols profile tree values))) values fitting solved
+      (least_of_lines prefix valid profile tree settled.consistent users values fitting solved) in
       let found = given.3 (λ u. list_any (λ t. unit_of tree t == u) (filter keeps (minimal_symbols profile tree values))) (file_users tree (map (λ t. meant values (unit_of tree t)) (filter keeps (minimal_symbols profile tree values)))) (unit_of tree s) cut inside kept lost in
-      (found.0, record { sayings = map (λ t. meant values (unit_of tree t)) (filter keeps (minimal_symbols profile tree values)); says = says_some; gives = found.1 }, found.2)
-
-pub canonical : MinimalFilesAreCanonical
-canonical prefix profile tree valid settled = record {
-  each = each prefix valid profile tree settled;
-  one = one prefix valid profile tree settled;
-  back = back prefix valid profile tree settled;
-  same = same prefix valid profile tree settled;
-  once = once prefix valid profile tree settled;
-  needed = λ bytes values keeps s reads. needed prefix valid profile tree settled bytes values reads keeps s;
-}
+      (found.0, record { utf8 = utf8_some; sayings = map (λ t. meant values (unit_of tree t)) (filter keeps (minimal_symbols profile tree values)); says = says_some; gives = found.1 }, found.2)

@@ -35,7 +35,7 @@ same_by_get (x ∷ v) (y ∷ w) len same =
     let head : x ≡ y = cc in
     ap (λ z. z ∷ v) head ∙ ap (λ l. y ∷ l) (same_by_get v w (omega arith) (λ u h. same (suc u) (omega arith)))
 
-none_left : {X Z : Type 0} (f : X → Option Z) (xs : List X) → ((x : X) → f x ≡ None) → filter_map f xs ≡ []
+pub none_left : {X Z : Type 0} (f : X → Option Z) (xs : List X) → ((x : X) → f x ≡ None) → filter_map f xs ≡ []
 none_left f [] none = refl
 none_left f (x ∷ xs) none = ap (λ o. cons_option o (filter_map f xs)) (none x) ∙ none_left f xs none
 
@@ -52,7 +52,7 @@ tri_same N = refl
 tri_same M = refl
 tri_same Y = refl
 
-same_as_itself : (s : ℕ) (o : Option Seen) → difference_at s o o ≡ None
+pub same_as_itself : (s : ℕ) (o : Option Seen) → difference_at s o o ≡ None
 same_as_itself s None = refl
 same_as_itself s (Some a) = ap (λ t. cond {A = Option Difference} t None (Some (record { symbol = s; left = a; right = a }))) (and_from (same_tri a.tri a.tri) (bytes_eq a.text a.text) (tri_same a.tri) ((bytes_eq-Decides a.text a.text).1 refl))
 

@@ -23,7 +23,7 @@ use Rattle.kc_rules_model.specs.Shapes.{user_fits, unit_user_fits, symbol_user_f
 use Rattle.kc_dotconfig_model.specs.Names.{is_prefix}
 use Rattle.kc_dotconfig_model.specs.Lines.{Saying, assigns, silent, Says}
 use Rattle.kc_minimal_model.specs.Spelling.{symbol_line, line_if_seen, line_with}
-use Rattle.kc_minimal_model.specs.MinimalFile.{is_kept, has_line, may_have_line, is_no_other_member}
+use Rattle.kc_minimal_model.specs.MinimalFile.{is_kept, has_line, may_have_line, stands_for_its_unit}
 use Rattle.kc_minimal_model.specs.Laws.{IsReadAsItsAssignment}
 use Rattle.kc_rules_model.proofs.Lookups.{inside, place_is, unit_is}
 use Rattle.kc_minimal_model.proofs.LineReads.{IsLine, tri_line, text_line, member_line}
@@ -133,7 +133,7 @@ module _ (prefix : List ℕ) (valid : is_prefix prefix ≡ true) (profile : Prof
       subst (IsLine prefix tree (line_with prefix symbol.name (seen_in tree values s symbol (Some c)))) (said (unit_of tree s) k)
       (member_by_user s c symbol at within (place_is tree sound (unit_of tree s) (of_choice c) here) chosen k.held k.has k.again k.assigned fits)
 
-  at_choice : (s : ℕ) (symbol : Symbol) → slice_get tree.symbols s ≡ Some symbol → (c : Option ℕ) → symbol.choice ≡ c → is_kept profile tree values (unit_of tree s) ≡ true → is_no_other_member c (seen_in tree values s symbol c) ≡ true
+  at_choice : (s : ℕ) (symbol : Symbol) → slice_get tree.symbols s ≡ Some symbol → (c : Option ℕ) → symbol.choice ≡ c → is_kept profile tree values (unit_of tree s) ≡ true → stands_for_its_unit c (seen_in tree values s symbol c) ≡ true
       → IsLine prefix tree (line_with prefix symbol.name (seen_in tree values s symbol c)) (meant values (unit_of tree s))
   at_choice s symbol at None out kept may = outside s symbol at out kept
   at_choice s symbol at (Some c) within kept may = within_choice s c symbol at within kept may

@@ -24,7 +24,7 @@ use Rattle.kc_dotconfig_model.specs.Names.{is_prefix}
 use Rattle.kc_dotconfig_model.specs.Lines.{Saying, Says, without_white_end}
 use Rattle.kc_dotconfig_model.specs.Files.{file_lines, assigned, assigned_over, file_users, no_users}
 use Rattle.kc_minimal_model.specs.Spelling.{symbol_line, ended_line}
-use Rattle.kc_minimal_model.specs.MinimalFile.{is_kept, has_line, may_have_line, is_no_other_member, minimal_symbols}
+use Rattle.kc_minimal_model.specs.MinimalFile.{is_kept, has_line, may_have_line, stands_for_its_unit, minimal_symbols}
 use Rattle.kc_minimal_model.specs.Laws.{IsReadAsLeast}
 use Rattle.kc_minimal_model.proofs.Bytes.{first_line}
 use Rattle.kc_rules_model.proofs.Lookups.{inside, place_is, unit_is}
@@ -145,7 +145,7 @@ module _ (prefix : List ℕ) (valid : is_prefix prefix ≡ true) (profile : Prof
       let found = sound.symbol_units u s at in
       let number : unit_of tree s ≡ u = unit_is tree sound s u found.0 None found.1 found.2 at in
       let may : may_have_line (slice_get tree.symbols s) (option_map (λ (symbol : Symbol). seen_in tree values s symbol symbol.choice) (slice_get tree.symbols s)) ≡ true =
-      ap (λ o. may_have_line o (option_map (λ (symbol : Symbol). seen_in tree values s symbol symbol.choice) o)) found.1 ∙ ap (λ c. is_no_other_member c (seen_in tree values s found.0 found.0.choice)) found.2 in
+      ap (λ o. may_have_line o (option_map (λ (symbol : Symbol). seen_in tree values s symbol symbol.choice) o)) found.1 ∙ ap (λ c. stands_for_its_unit c (seen_in tree values s found.0 found.0.choice)) found.2 in
       let below : s < length tree.symbols = inside tree.symbols s found.0 found.1 in
       one_of_filter (λ t. unit_of tree t == u) (has_line profile tree values) (length tree.symbols) 0 s (omega arith) (omega arith)
       (and_from (is_kept profile tree values (unit_of tree s)) _ (ap (is_kept profile tree values) number ∙ kept) may) (eq-eqb (unit_of tree s) u number)
@@ -161,7 +161,7 @@ module _ (prefix : List ℕ) (valid : is_prefix prefix ≡ true) (profile : Prof
         ap (λ o. tri_if_chosen m (member_of o)) (ap (slice_get values) (place_is tree sound u (of_choice c) at) ∙ k.has ∙ ap Some (value_of_member k.held m gives)) ∙ ap (λ b. cond b Y N) (eq-eqb m m refl) in
         let may : may_have_line (slice_get tree.symbols m) (option_map (λ (symbol : Symbol). seen_in tree values m symbol symbol.choice) (slice_get tree.symbols m)) ≡ true =
         ap (λ o. may_have_line o (option_map (λ (symbol : Symbol). seen_in tree values m symbol symbol.choice) o)) found.1
-        ∙ ap (λ c. is_no_other_member c (seen_in tree values m found.0 c)) found.2 ∙ ap (λ t. not (is_n t)) tri in
+        ∙ ap (λ c. stands_for_its_unit c (seen_in tree values m found.0 c)) found.2 ∙ ap (λ t. not (is_n t)) tri in
         let below : m < length tree.symbols = inside tree.symbols m found.0 found.1 in
         one_of_filter (λ t. unit_of tree t == u) (has_line profile tree values) (length tree.symbols) 0 m (omega arith) (omega arith)
         (and_from (is_kept profile tree values (unit_of tree m)) _ (ap (is_kept profile tree values) number ∙ kept) may) (eq-eqb (unit_of tree m) u number)

@@ -4,9 +4,24 @@ pub mod KeptUnits
 pub mod KeptLines
 pub mod LeastFile
 pub mod LineUnits
+pub mod OrderedTrees
+pub mod MinimalLineList
+pub mod Canonical
+pub mod NeededUnits
+pub mod DifferenceLaws
+pub mod Accepting
+pub mod FittingLines
+pub mod MinimalAccepted
+pub mod OwnValues
+pub mod SolutionsFit
+pub mod HeadingLines
+pub mod OwnLines
+pub mod FullLines
+pub mod FullBack
+pub mod FilesAssign
+pub mod MinimalTexts
+pub mod Headlines
+mod Witness
 mod MinimalRows
 mod FullRows
 mod DifferenceRows
-pub mod DifferenceLaws
-pub mod Canonical
-pub mod NeededUnits

@@ -19,6 +19,11 @@ use Rattle.kc_dotconfig_model.specs.Names.{is_prefix, lacks}
 use Rattle.kc_dotconfig_model.specs.Lines.{Saying, assigns, silent, Says, value, unset, unset_saying, ValueSays, tri as says_tri, chosen, quoted as says_quoted, number, tri_meant, without_white_end}
 use Rattle.kc_minimal_model.specs.Spelling.{line_with, value_line, unset_line}
 use Rattle.kc_minimal_model.proofs.Bytes.{name_lacks, all_of_both, keeps_text, ends_in_ink}
+use Rattle.std.specs.Str.{IsUtf8, is_utf8}
+use Rattle.std.proofs.lemmas.Str.{IsUtf8-append, IsUtf8-from_is_utf8}
+use Rattle.kc_value.proofs.UnquotedUtf8.{ascii_then}
+use Rattle.kc_value.proofs.QuotedUtf8.{quoted_utf8}
+use Rattle.kc_dotconfig_model.proofs.TrimmedLines.{low_utf8, name_utf8}
 use Rattle.kc_rules_model.proofs.Ink.{is_ink, all_weaker}
 use Rattle.kc_rules_model.proofs.Numbers.{IsInk, number_ink}
 use Rattle.kc_rules_model.proofs.Lookups.{found_by_name}
@@ -49,6 +54,7 @@ pub record IsLine (prefix : List ℕ) (tree : Whole) (line : List ℕ) (saying :
   pub says : Says prefix tree line saying
   pub whole : without_white_end line ≡ line
   pub one : lacks 10 line ≡ true
+  pub utf8 : IsUtf8 line
 
 prefix_bytes : (prefix : List ℕ) → is_prefix prefix ≡ true → list_all is_name_byte prefix ≡ true
 prefix_bytes prefix e = (and_parts _ (list_all is_name_byte prefix) e).1
@@ -58,6 +64,11 @@ module _ (prefix : List ℕ) (valid : is_prefix prefix ≡ true) (tree : Whole) 
   one_value_line text one =
       all_of_both (λ c. not (c == 10)) prefix (symbol.name ++ (61 ∷ text)) (name_lacks 10 refl prefix (prefix_bytes prefix valid))
       (all_of_both (λ c. not (c == 10)) symbol.name (61 ∷ text) (name_lacks 10 refl symbol.name (sound.words s symbol at).1) one)
+
+  pub utf8_value_line : (text : List ℕ) → IsUtf8 text → IsUtf8 (value_line prefix symbol.name text)
+  utf8_value_line text utf8 =
+      IsUtf8-append prefix (symbol.name ++ (61 ∷ text)) (name_utf8 prefix (prefix_bytes prefix valid))
+      (IsUtf8-append symbol.name (61 ∷ text) (name_utf8 symbol.name (sound.words s symbol at).1) (ascii_then 61 text (omega arith) utf8))
 
   split_value_line : (text : List ℕ) → value_line prefix symbol.name text ≡ (prefix ++ (symbol.name ++ 61 ∷ [])) ++ text
   split_value_line text = simp append_assoc
@@ -73,19 +84,21 @@ module _ (prefix : List ℕ) (valid : is_prefix prefix ≡ true) (tree : Whole) 
     says = says_value text saying says;
     whole = ap without_white_end (split_value_line text) ∙ keeps_text (prefix ++ (symbol.name ++ 61 ∷ [])) text ink.some ink.ink ∙ sym (split_value_line text);
     one = one_value_line text (all_weaker is_ink (λ c. not (c == 10)) ink_newline text ink.ink);
+    utf8 = utf8_value_line text (low_utf8 text ink.low);
   } where
     ink_newline : (b : ℕ) → is_ink b ≡ true → not (b == 10) ≡ true
     ink_newline b e = ap not (or_parts _ (b == 10) (not-true _ e)).1
 
   -- the line of a string
-  pub string_line : (text : List ℕ) (saying : Saying) → has_newline text ≡ false → ValueSays tree s symbol (quoted text) saying → IsLine prefix tree (value_line prefix symbol.name (quoted text)) saying
-  string_line text saying one says =
+  pub string_line : (text : List ℕ) (saying : Saying) → has_newline text ≡ false → IsUtf8 text → ValueSays tree s symbol (quoted text) saying → IsLine prefix tree (value_line prefix symbol.name (quoted text)) saying
+  string_line text saying one utf8 says =
       let front = prefix ++ (symbol.name ++ (61 ∷ 34 ∷ flat_map escaped_byte text)) in
       let same : value_line prefix symbol.name (quoted text) ≡ front ++ 34 ∷ [] = simp append_assoc in
       record {
         says = says_value (quoted text) saying says;
         whole = ap without_white_end same ∙ ends_in_ink front 34 refl ∙ sym same;
         one = one_value_line (quoted text) (all_of_both (λ c. not (c == 10)) (flat_map escaped_byte text) (34 ∷ []) (escaped_lacks text one) refl);
+        utf8 = utf8_value_line (quoted text) (quoted_utf8 text utf8);
       }
 
   -- an unset line
@@ -99,6 +112,9 @@ module _ (prefix : List ℕ) (valid : is_prefix prefix ≡ true) (tree : Whole) 
         one = all_of_both (λ c. not (c == 10)) (codes "# ") (prefix ++ (symbol.name ++ codes " is not set")) refl
             (all_of_both (λ c. not (c == 10)) prefix (symbol.name ++ codes " is not set") (name_lacks 10 refl prefix (prefix_bytes prefix valid))
             (all_of_both (λ c. not (c == 10)) symbol.name (codes " is not set") (name_lacks 10 refl symbol.name (sound.words s symbol at).1) refl));
+        utf8 = IsUtf8-append (codes "# ") (prefix ++ (symbol.name ++ codes " is not set")) (low_utf8 (codes "# ") refl)
+            (IsUtf8-append prefix (symbol.name ++ codes " is not set") (name_utf8 prefix (prefix_bytes prefix valid))
+            (IsUtf8-append symbol.name (codes " is not set") (name_utf8 symbol.name (sound.words s symbol at).1) (low_utf8 (codes " is not set") refl)));
       }
 
   abbrev of_tri : Kind → Tri → Seen
@@ -114,10 +130,10 @@ module _ (prefix : List ℕ) (valid : is_prefix prefix ≡ true) (tree : Whole) 
   pub tri_line : (kind : Kind) (t : Tri) → symbol.kind ≡ kind → symbol.choice ≡ None → tri_fits kind t ≡ true → IsLine prefix tree (line_with prefix symbol.name (of_tri kind t)) (assigns (unit_of tree s) (TriUser t))
   tri_line Boolean N is out fits = subst (IsLine prefix tree (unset_line prefix symbol.name)) (ap (unset_saying tree s symbol) out ∙ ap (λ k. cond (is_tri_kind k) (assigns (unit_of tree s) (TriUser N)) silent) is) not_set_line
   tri_line Boolean M is out fits = absurd (false≢true fits)
-  tri_line Boolean Y is out fits = letter_line Y out (ap (λ k. tri_meant k (letter Y)) is) (record { some = omega arith; ink = refl })
+  tri_line Boolean Y is out fits = letter_line Y out (ap (λ k. tri_meant k (letter Y)) is) (record { some = omega arith; ink = refl; low = refl })
   tri_line Tristate N is out fits = subst (IsLine prefix tree (unset_line prefix symbol.name)) (ap (unset_saying tree s symbol) out ∙ ap (λ k. cond (is_tri_kind k) (assigns (unit_of tree s) (TriUser N)) silent) is) not_set_line
-  tri_line Tristate M is out fits = letter_line M out (ap (λ k. tri_meant k (letter M)) is) (record { some = omega arith; ink = refl })
-  tri_line Tristate Y is out fits = letter_line Y out (ap (λ k. tri_meant k (letter Y)) is) (record { some = omega arith; ink = refl })
+  tri_line Tristate M is out fits = letter_line M out (ap (λ k. tri_meant k (letter M)) is) (record { some = omega arith; ink = refl; low = refl })
+  tri_line Tristate Y is out fits = letter_line Y out (ap (λ k. tri_meant k (letter Y)) is) (record { some = omega arith; ink = refl; low = refl })
   tri_line Text t is out fits = absurd (false≢true fits)
   tri_line Int t is out fits = absurd (false≢true fits)
   tri_line Hex t is out fits = absurd (false≢true fits)
@@ -126,10 +142,12 @@ module _ (prefix : List ℕ) (valid : is_prefix prefix ≡ true) (tree : Whole) 
   pub text_line : (kind : Kind) (text : List ℕ) → symbol.kind ≡ kind → user_text_fits kind text ≡ true → IsLine prefix tree (line_with prefix symbol.name (of_text kind text)) (assigns (unit_of tree s) (TextUser text))
   text_line Boolean text is fits = absurd (false≢true fits)
   text_line Tristate text is fits = absurd (false≢true fits)
-  text_line Text text is fits = string_line text (assigns (unit_of tree s) (TextUser text)) (not-true (has_newline text) fits) (says_quoted (quoted text) text is (quoted_means text))
+  text_line Text text is fits =
+      let parts = and_parts (not (has_newline text)) (is_utf8 text) fits in
+      string_line text (assigns (unit_of tree s) (TextUser text)) (not-true (has_newline text) parts.0) (IsUtf8-from_is_utf8 text parts.1) (says_quoted (quoted text) text is (quoted_means text))
   text_line Int text is fits = ink_line text (assigns (unit_of tree s) (TextUser text)) (number_ink Int text fits) (number text (ap (λ k. is_some (number_of_text k text)) is ∙ fits))
   text_line Hex text is fits = ink_line text (assigns (unit_of tree s) (TextUser text)) (number_ink Hex text fits) (number text (ap (λ k. is_some (number_of_text k text)) is ∙ fits))
 
   -- the line of a selected member
   pub member_line : (c : ℕ) → symbol.choice ≡ Some c → symbol.kind ≡ Boolean → IsLine prefix tree (line_with prefix symbol.name (of_tri Boolean Y)) (assigns (unit_of tree s) (MemberUser s))
-  member_line c within is = ink_line (letter Y) (assigns (unit_of tree s) (MemberUser s)) (record { some = omega arith; ink = refl }) (chosen c (letter Y) within (ap (λ k. tri_meant k (letter Y)) is))
+  member_line c within is = ink_line (letter Y) (assigns (unit_of tree s) (MemberUser s)) (record { some = omega arith; ink = refl; low = refl }) (chosen c (letter Y) within (ap (λ k. tri_meant k (letter Y)) is))

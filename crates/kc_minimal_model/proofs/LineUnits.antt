@@ -15,7 +15,7 @@ use Rattle.kc_rules_model.specs.Kinds.{is_n}
 use Rattle.kc_rules_model.specs.SymbolValues.{symbol_seen, seen_in, member_of, tri_if_chosen}
 use Rattle.kc_rules_model.specs.Rule.{rule, as_user}
 use Rattle.kc_rules_model.specs.Shapes.{user_fits, unit_user_fits, choice_user_fits}
-use Rattle.kc_minimal_model.specs.MinimalFile.{is_kept, has_line, may_have_line, is_no_other_member}
+use Rattle.kc_minimal_model.specs.MinimalFile.{is_kept, has_line, may_have_line, stands_for_its_unit}
 use Rattle.kc_rules_model.proofs.Lookups.{inside, place_is, unit_is}
 use Rattle.kc_minimal_model.proofs.KeptUnits.{kept_unit}
 use Rattle.kc_minimal_model.proofs.KeptLines.{user_meant, value_of_member}
@@ -50,7 +50,7 @@ module _ (profile : Profile) (tree : Whole) (sound : IsConsistent tree) (users :
   speaks_of s has =
       let parts = and_parts (is_kept profile tree values (unit_of tree s)) (may_have_line (slice_get tree.symbols s) (symbol_seen tree values s)) has in
       at_symbol (slice_get tree.symbols s) refl parts.0 parts.1 where
-        at_choice : (symbol : Symbol) → slice_get tree.symbols s ≡ Some symbol → (c : Option ℕ) → symbol.choice ≡ c → is_kept profile tree values (unit_of tree s) ≡ true → is_no_other_member c (seen_in tree values s symbol c) ≡ true → SpeaksOf s
+        at_choice : (symbol : Symbol) → slice_get tree.symbols s ≡ Some symbol → (c : Option ℕ) → symbol.choice ≡ c → is_kept profile tree values (unit_of tree s) ≡ true → stands_for_its_unit c (seen_in tree values s symbol c) ≡ true → SpeaksOf s
         at_choice symbol at None out kept may = let own = sound.own_units s symbol at out in inl (ap (slice_get tree.units) (unit_is tree sound s own.0 symbol None at out own.1) ∙ own.1)
         at_choice symbol at (Some c) within kept may = inr (of_member s c symbol at within kept may)
 

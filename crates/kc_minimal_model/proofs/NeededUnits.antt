@@ -21,7 +21,8 @@ use Rattle.kc_rules_model.specs.FrameLaw.{rules_frame}
 use Rattle.kc_rules_model.proofs.AssignedTexts.{texts_assigned}
 use Rattle.kc_dotconfig_model.specs.Names.{is_prefix}
 use Rattle.kc_minimal_model.specs.MinimalFile.{is_kept, has_line, may_have_line}
-use Rattle.kc_minimal_model.specs.Headline.{IsSettled, NeedsTheLines, MinimalFilesAreLeast}
+use Rattle.kc_minimal_model.proofs.OrderedTrees.{IsOrderedTree, ordered_tree}
+use Rattle.kc_minimal_model.specs.MinimalText.{NeedsTheLines, MinimalLinesAreNeeded}
 use Rattle.kc_minimal_model.proofs.KeptUnits.{kept_unit, kept_passes, others_fail}
 use Rattle.kc_minimal_model.proofs.KeptLines.{unit_inside}
 use Rattle.kc_minimal_model.proofs.LeastFile.{speaks_at, unit_there}
@@ -42,7 +43,7 @@ valid : is_prefix plain ≡ true
 unfolding plain
 valid = refl
 
-module _ (profile : Profile) (tree : Whole) (users : List (Option UserValue)) (values : List UnitValue) (settled : IsSettled tree)
+module _ (profile : Profile) (tree : Whole) (users : List (Option UserValue)) (values : List UnitValue) (settled : IsOrderedTree tree)
     (fitting : FitsUsers (length tree.units) (λ u x. IsTrue (user_fits tree u x)) users) (solved : Solves (length tree.units) (rule profile tree) users values) where
   -- a symbol with a line has a kept unit
   line_kept : (s : ℕ) → has_line profile tree values s ≡ true → (unit_of tree s < length tree.units) × IsKept (rule profile tree) values (unit_of tree s)
@@ -61,7 +62,7 @@ module _ (profile : Profile) (tree : Whole) (users : List (Option UserValue)) (v
       let found = any_found (λ s. unit_of tree s == u) (has_line profile tree values) (symbol_numbers tree) (speaks_at plain valid profile tree settled.consistent users values fitting solved u test k unit.0 unit.1) in
       (found.0, found.1, eqb-true (unit_of tree found.0) u found.2)
 
-  needs : NeedsTheLines profile tree values users
+  pub needs : NeedsTheLines profile tree values users
   needs = record {
     cut = λ keeps fewer is_cut.
         let by_units = cut_gives (length tree.units) (dependencies tree) (rule profile tree) (λ u x. IsTrue (user_fits tree u x)) settled.order settled.ordered (rules_frame profile tree) decides users fewer values keeps fitting solved is_cut in (
@@ -76,5 +77,5 @@ module _ (profile : Profile) (tree : Whole) (users : List (Option UserValue)) (v
         texts_assigned profile tree u (user_of users u) values (λ e. kept.1 (solved.holds u kept.0 ∙ ap Some e)) (ap is_tri_value (sym value_is) ∙ text) ∙ ap as_user (sym value_is);
   }
 
-pub least : MinimalFilesAreLeast
-least profile tree users values settled fitting solved = needs profile tree users values settled fitting solved
+pub least : MinimalLinesAreNeeded
+least profile tree users values settled fitting solved = needs profile tree users values (ordered_tree tree settled) fitting solved

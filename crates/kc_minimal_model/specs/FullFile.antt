@@ -20,9 +20,9 @@ heading prefix title = codes "\n#\n# " ++ (heading_title prefix title ++ codes "
 abbrev pub end_line : List ℕ → List ℕ
 end_line title = codes "# end of " ++ (title ++ 10 ∷ [])
 
--- a condition holds where it isn't `n`
-abbrev pub holds : Whole → List UnitValue → Expr → Bool
-holds tree values e = not (is_n (condition tree values e))
+-- a condition applies where it isn't `n`
+abbrev pub applies : Whole → List UnitValue → Expr → Bool
+applies tree values e = not (is_n (condition tree values e))
 
 -- What the entries write, where `seen` are the symbols that were defined before, and `gap` tells that an end line
 -- came last and no heading or symbol since. A symbol is written at its first definition.
@@ -35,15 +35,15 @@ pieces prefix tree values seen gap (definition s ∷ entries) =
     else pieces prefix tree values (s ∷ seen) gap entries
 pieces prefix tree values seen gap (choice_begins c ∷ entries) = pieces prefix tree values seen gap entries
 pieces prefix tree values seen gap (menu_begins title dependency visible ∷ entries) =
-    if holds tree values dependency && holds tree values visible
+    if applies tree values dependency && applies tree values visible
     then heading prefix title ++ pieces prefix tree values seen false entries
     else pieces prefix tree values seen gap entries
 pieces prefix tree values seen gap (menu_ends title dependency visible ∷ entries) =
-    if holds tree values dependency && holds tree values visible
+    if applies tree values dependency && applies tree values visible
     then end_line title ++ pieces prefix tree values seen true entries
     else pieces prefix tree values seen gap entries
 pieces prefix tree values seen gap (comment title dependency ∷ entries) =
-    if holds tree values dependency
+    if applies tree values dependency
     then heading prefix title ++ pieces prefix tree values seen false entries
     else pieces prefix tree values seen gap entries
 

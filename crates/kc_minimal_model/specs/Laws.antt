@@ -49,8 +49,8 @@ MinimalLinesDiffer =
     ForSolutions (λ profile tree values. (s t : ℕ) → has_line profile tree values s ≡ true
     → has_line profile tree values t ≡ true → unit_of tree s ≡ unit_of tree t → s ≡ t)
 
-abbrev pub MinimalFileIsLeast : Type 0
-MinimalFileIsLeast = (prefix : List ℕ) → is_prefix prefix ≡ true
+abbrev pub MinimalFilesAssignLeast : Type 0
+MinimalFilesAssignLeast = (prefix : List ℕ) → is_prefix prefix ≡ true
     → ForSolutions (λ profile tree values. IsReadAsLeast prefix profile tree values)
 
 -- nothing differs between two valuations exactly if they are the same

@@ -2,5 +2,10 @@ pub mod Spelling
 pub mod MinimalFile
 pub mod FullFile
 pub mod Differences
+pub mod Loading
 pub mod Laws
+pub mod FileLimits
+pub mod MinimalText
+pub mod FilesAssign
+pub mod FullFilesBack
 pub mod Headline

@@ -18,13 +18,13 @@ abbrev pub is_kept : Profile → Whole → List UnitValue → ℕ → Bool
 is_kept profile tree values u = not (value_is (slice_get values u) (rule profile tree u None values))
 
 -- of a choice the selected member alone may have a line
-abbrev pub is_no_other_member : Option ℕ → Seen → Bool
-is_no_other_member None seen = true
-is_no_other_member (Some c) seen = not (is_n seen.tri)
+abbrev pub stands_for_its_unit : Option ℕ → Seen → Bool
+stands_for_its_unit None seen = true
+stands_for_its_unit (Some c) seen = not (is_n seen.tri)
 
 -- whether a symbol is there and isn't a member that isn't selected
 abbrev pub may_have_line : Option Symbol → Option Seen → Bool
-may_have_line (Some symbol) (Some seen) = is_no_other_member symbol.choice seen
+may_have_line (Some symbol) (Some seen) = stands_for_its_unit symbol.choice seen
 may_have_line _ _ = false
 
 -- a symbol has a line if its unit is kept, and of a choice the selected member alone

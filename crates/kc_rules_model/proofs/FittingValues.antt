@@ -1,9 +1,12 @@
 -- What a rule gives fits its unit, over a consistent tree.
 use Rattle.std.proofs.Common.{◌≡◌, inl, inr, ℕ, zero, suc, ◌<◌, ◌^◌, Bool, true, false, not, ◌&&◌, ◌||◌, ◌==◌, cond, IsTrue, IfSome, List, [], ◌∷◌, Option, Some, None, ℤ, pos, find, length, unwrap_or, int_lt, refl, sym, ◌∙◌, ap, subst, arith}
-use Rattle.std.specs.Prelude.{slice_get, is_some, unsigned_abs, neg_ℤ, ◌≤ℤ◌, ◌<ℤ◌}
+use Rattle.std.specs.Prelude.{slice_get, is_some, unsigned_abs, neg_ℤ, nat_lt, ◌≤ℤ◌, ◌<ℤ◌}
 use Rattle.std.specs.Option.{option_map, option_and_then}
 use Rattle.std.specs.List.{list_any, list_all}
-use Rattle.std.proofs.lemmas.Bool.{eq-eqb, false≢true, and_parts, or_cases, or_left, or_right, not-true, eqb-true}
+use Rattle.std.proofs.lemmas.Bool.{eq-eqb, false≢true, and_parts, and_from, or_cases, or_left, or_right, eqb-true, ltb-true}
+use Rattle.std.proofs.lemmas.Str.{IsUtf8-nil, is_utf8-from_IsUtf8}
+use Rattle.std.specs.Str.{IsUtf8, is_utf8}
+use Rattle.kc_value.proofs.UnquotedUtf8.{ascii_then}
 use Rattle.std.proofs.lemmas.Option.{slice_get-get_or}
 use Rattle.std.proofs.lemmas.Int.{ints}
 use Rattle.kc_value.specs.declared.tri.Tri.{Tri}
@@ -27,17 +30,28 @@ use Rattle.kc_rules_model.specs.declared.values.UserValue.TheVariants.{Tri as Tr
 use Rattle.kc_rules_model.specs.Kinds.{is_n, is_tri_kind, is_tristate}
 use Rattle.kc_rules_model.specs.SymbolValues.{seen_in, seen_as_tri, symbol_seen, names_under, condition, tri_of, text_of}
 use Rattle.kc_rules_model.specs.Rule.{rule, rule_of_unit, rule_of_symbol, rule_of_choice, symbol_rule, string_rule, number_rule, choice_rule, expression_text, default_text, number_default, limited, bound, active_range, active_default, is_within, is_visible, is_visible_member, is_shown, assigned_text, assigned_member, or_else, modules_value, leaves_no_m}
-use Rattle.kc_rules_model.specs.Shapes.{user_fits, value_fits, unit_user_fits, unit_value_fits, symbol_user_fits, symbol_value_fits, choice_user_fits, choice_value_fits, user_text_fits, text_fits}
+use Rattle.kc_rules_model.specs.Shapes.{user_fits, value_fits, unit_user_fits, unit_value_fits, symbol_user_fits, symbol_value_fits, choice_user_fits, choice_value_fits, user_text_fits, text_fits, is_line}
 use Rattle.kc_rules_model.specs.RestoreLaw.{fits_promoted}
 use Rattle.kc_rules_model.specs.Laws.{RulesFit}
 use Rattle.kc_rules_model.proofs.Lookups.{inside, unit_is}
 use Rattle.kc_rules_model.proofs.Ink.{is_ink, isn't}
 use Rattle.kc_rules_model.proofs.Numbers.{number_ink}
 
-letter_one_line : (t : Tri) → has_newline (letter t) ≡ false
-letter_one_line N = refl
-letter_one_line M = refl
-letter_one_line Y = refl
+-- bytes below 128 are UTF-8
+low_utf8 : (text : List ℕ) → list_all (λ b. nat_lt b 128) text ≡ true → IsUtf8 text
+low_utf8 [] all = IsUtf8-nil
+low_utf8 (b ∷ text) all = let parts = and_parts (nat_lt b 128) (list_all (λ c. nat_lt c 128) text) all in ascii_then b text (ltb-true b 128 parts.0) (low_utf8 text parts.1)
+
+low_line : (text : List ℕ) → has_newline text ≡ false → list_all (λ b. nat_lt b 128) text ≡ true → is_line text ≡ true
+low_line text one low = and_from (not (has_newline text)) (is_utf8 text) (ap not one) (is_utf8-from_IsUtf8 text (low_utf8 text low))
+
+no_text : is_line [] ≡ true
+no_text = low_line [] refl refl
+
+letter_one_line : (t : Tri) → is_line (letter t) ≡ true
+letter_one_line N = low_line (letter N) refl refl
+letter_one_line M = low_line (letter M) refl refl
+letter_one_line Y = low_line (letter Y) refl refl
 
 ink_one_line : (text : List ℕ) → list_all is_ink text ≡ true → has_newline text ≡ false
 ink_one_line [] all = refl
@@ -45,17 +59,17 @@ ink_one_line (b ∷ text) all =
     let parts = and_parts (is_ink b) (list_all is_ink text) all in
     ap (λ t. t || has_newline text) (isn't is_ink 10 b refl parts.0) ∙ ink_one_line text parts.1
 
-number_one_line : (kind : Kind) (text : List ℕ) → (length text == 0 || is_some (number_of_text kind text)) ≡ true → has_newline text ≡ false
-number_one_line kind [] e = refl
+number_one_line : (kind : Kind) (text : List ℕ) → (length text == 0 || is_some (number_of_text kind text)) ≡ true → is_line text ≡ true
+number_one_line kind [] e = no_text
 number_one_line kind (b ∷ text) e = elim (or_cases (length (b ∷ text) == 0) (is_some (number_of_text kind (b ∷ text))) e) [
   | inl none ↦ (let zero_bytes = eqb-true (length (b ∷ text)) 0 none in absurd (omega arith))
-  | inr number ↦ ink_one_line (b ∷ text) (number_ink kind (b ∷ text) number).ink
+  | inr number ↦ (let ink = number_ink kind (b ∷ text) number in low_line (b ∷ text) (ink_one_line (b ∷ text) ink.ink) ink.low)
 ]
 
-text_one_line : (kind : Kind) (text : List ℕ) → text_fits kind text ≡ true → has_newline text ≡ false
+text_one_line : (kind : Kind) (text : List ℕ) → text_fits kind text ≡ true → is_line text ≡ true
 text_one_line Boolean text e = absurd (false≢true e)
 text_one_line Tristate text e = absurd (false≢true e)
-text_one_line Text text e = not-true (has_newline text) e
+text_one_line Text text e = e
 text_one_line Int text e = number_one_line Int text e
 text_one_line Hex text e = number_one_line Hex text e
 
@@ -88,60 +102,63 @@ bound_printable Hex text None large other e = (omega (arith, ints), omega (arith
 bound_printable Hex text (Some z) large other e = hex_printable text z (hex_sound text z e)
 
 module _ (tree : Whole) (sound : IsConsistent tree) (values : List UnitValue) (fitting : FitsValues (length tree.units) (λ u v. IsTrue (value_fits tree u v)) values) where
-  held_one_line : (s : ℕ) (symbol : Symbol) → slice_get tree.symbols s ≡ Some symbol → symbol.choice ≡ None → has_newline (text_of (slice_get values (unit_of tree s))) ≡ false
+  held_one_line : (s : ℕ) (symbol : Symbol) → slice_get tree.symbols s ≡ Some symbol → symbol.choice ≡ None → is_line (text_of (slice_get values (unit_of tree s))) ≡ true
   unfolding value_fits
   held_one_line s symbol at out =
       let own = sound.own_units s symbol at out in
       let here : slice_get tree.units (unit_of tree s) ≡ Some (of_symbol s) = ap (slice_get tree.units) (unit_is tree sound s own.0 symbol None at out own.1) ∙ own.1 in
       go (slice_get values (unit_of tree s)) (fitting.1 (unit_of tree s) (inside tree.units (unit_of tree s) (of_symbol s) here)) here where
-        go : (o : Option UnitValue) → IfSome o (λ v. IsTrue (unit_value_fits tree (slice_get tree.units (unit_of tree s)) v)) → slice_get tree.units (unit_of tree s) ≡ Some (of_symbol s) → has_newline (text_of o) ≡ false
-        go None fits here = refl
-        go (Some (TriValue t)) fits here = refl
-        go (Some (MemberValue m)) fits here = refl
+        go : (o : Option UnitValue) → IfSome o (λ v. IsTrue (unit_value_fits tree (slice_get tree.units (unit_of tree s)) v)) → slice_get tree.units (unit_of tree s) ≡ Some (of_symbol s) → is_line (text_of o) ≡ true
+        go None fits here = no_text
+        go (Some (TriValue t)) fits here = no_text
+        go (Some (MemberValue m)) fits here = no_text
         go (Some (TextValue text)) fits here = text_one_line symbol.kind text (sym (ap (λ o. unit_value_fits tree o (TextValue text)) here ∙ ap (λ o. symbol_value_fits o (TextValue text)) at) ∙ fits)
 
-  seen_one_line : (s : ℕ) (symbol : Symbol) → slice_get tree.symbols s ≡ Some symbol → (c : Option ℕ) → symbol.choice ≡ c → has_newline (seen_in tree values s symbol c).text ≡ false
+  seen_one_line : (s : ℕ) (symbol : Symbol) → slice_get tree.symbols s ≡ Some symbol → (c : Option ℕ) → symbol.choice ≡ c → is_line (seen_in tree values s symbol c).text ≡ true
   seen_one_line s symbol at (Some c) e = letter_one_line _
   seen_one_line s symbol at None e = go (is_tri_kind symbol.kind) where
-    go : (t : Bool) → has_newline (cond {A = Seen} t (seen_as_tri symbol.kind (tri_of (slice_get values (unit_of tree s)))) (record { kind = symbol.kind; tri = N; text = text_of (slice_get values (unit_of tree s)) })).text ≡ false
+    go : (t : Bool) → is_line (cond {A = Seen} t (seen_as_tri symbol.kind (tri_of (slice_get values (unit_of tree s)))) (record { kind = symbol.kind; tri = N; text = text_of (slice_get values (unit_of tree s)) })).text ≡ true
     go true = letter_one_line _
     go false = held_one_line s symbol at e
 
-  name_one_line : (name : List ℕ) (o : Option ℕ) → has_newline name ≡ false → has_newline (text_seen name (option_and_then (λ s. symbol_seen tree values s) o)) ≡ false
+  name_one_line : (name : List ℕ) (o : Option ℕ) → is_line name ≡ true → is_line (text_seen name (option_and_then (λ s. symbol_seen tree values s) o)) ≡ true
   name_one_line name None e = e
   name_one_line name (Some s) e = go (slice_get tree.symbols s) refl where
-    go : (o : Option Symbol) → slice_get tree.symbols s ≡ o → has_newline (text_seen name (option_map (λ (symbol : Symbol). seen_in tree values s symbol symbol.choice) o)) ≡ false
+    go : (o : Option Symbol) → slice_get tree.symbols s ≡ o → is_line (text_seen name (option_map (λ (symbol : Symbol). seen_in tree values s symbol symbol.choice) o)) ≡ true
     go None at = e
     go (Some symbol) at = seen_one_line s symbol at symbol.choice refl
 
-  expression_one_line : (e : Expr) → has_newline (own_text e) ≡ false → has_newline (expression_text tree values e) ≡ false
+  expression_one_line : (e : Expr) → is_line (own_text e) ≡ true → is_line (expression_text tree values e) ≡ true
   expression_one_line (alone (constant t)) e = letter_one_line t
   expression_one_line (alone (named x)) e = name_one_line x (symbol_named tree x) e
   expression_one_line (alone (quoted x)) e = e
-  expression_one_line (related op a b) e = refl
-  expression_one_line (negated a) e = refl
-  expression_one_line (both a b) e = refl
-  expression_one_line (either a b) e = refl
-  expression_one_line (shown a) e = refl
+  expression_one_line (related op a b) e = no_text
+  expression_one_line (negated a) e = no_text
+  expression_one_line (both a b) e = no_text
+  expression_one_line (either a b) e = no_text
+  expression_one_line (shown a) e = no_text
 
-  default_one_line : (s : ℕ) (symbol : Symbol) → slice_get tree.symbols s ≡ Some symbol → has_newline (default_text tree values symbol) ≡ false
+  default_one_line : (s : ℕ) (symbol : Symbol) → slice_get tree.symbols s ≡ Some symbol → is_line (default_text tree values symbol) ≡ true
   default_one_line s symbol at = go (active_default tree values symbol) refl where
-    go : (o : Option Default) → active_default tree values symbol ≡ o → has_newline (unwrap_or (option_map (λ (d : Default). expression_text tree values d.value) o) []) ≡ false
-    go None e = refl
-    go (Some d) e = expression_one_line d.value (not-true _ (found_passes (λ (d : Default). not (is_n (condition tree values d.condition))) (λ (d : Default). not (has_newline (own_text d.value))) symbol.defaults d (sound.one_line s symbol at) e))
+    go : (o : Option Default) → active_default tree values symbol ≡ o → is_line (unwrap_or (option_map (λ (d : Default). expression_text tree values d.value) o) []) ≡ true
+    go None e = no_text
+    go (Some d) e =
+        let one = found_passes (λ (d : Default). not (is_n (condition tree values d.condition))) (λ (d : Default). not (has_newline (own_text d.value))) symbol.defaults d (sound.one_line s symbol at) e in
+        let utf8 = found_passes (λ (d : Default). not (is_n (condition tree values d.condition))) (λ (d : Default). is_utf8 (own_text d.value)) symbol.defaults d (sound.own_utf8 s symbol at) e in
+        expression_one_line d.value (and_from (not (has_newline (own_text d.value))) (is_utf8 (own_text d.value)) one utf8)
 
-  string_fits : (s : ℕ) (symbol : Symbol) → slice_get tree.symbols s ≡ Some symbol → symbol.kind ≡ Text → (x : Option UserValue) → IfSome x (λ y. IsTrue (symbol_user_fits (Some symbol) y)) → has_newline (string_rule tree symbol x values) ≡ false
+  string_fits : (s : ℕ) (symbol : Symbol) → slice_get tree.symbols s ≡ Some symbol → symbol.kind ≡ Text → (x : Option UserValue) → IfSome x (λ y. IsTrue (symbol_user_fits (Some symbol) y)) → is_line (string_rule tree symbol x values) ≡ true
   string_fits s symbol at is x fits = go (is_visible tree values symbol) x fits where
-    none_line : (t : Bool) → has_newline (unwrap_or (cond t None None) (default_text tree values symbol)) ≡ false
+    none_line : (t : Bool) → is_line (unwrap_or (cond t None None) (default_text tree values symbol)) ≡ true
     none_line true = default_one_line s symbol at
     none_line false = default_one_line s symbol at
 
-    go : (t : Bool) (x : Option UserValue) → IfSome x (λ y. IsTrue (symbol_user_fits (Some symbol) y)) → has_newline (unwrap_or (cond t (assigned_text x) None) (default_text tree values symbol)) ≡ false
+    go : (t : Bool) (x : Option UserValue) → IfSome x (λ y. IsTrue (symbol_user_fits (Some symbol) y)) → is_line (unwrap_or (cond t (assigned_text x) None) (default_text tree values symbol)) ≡ true
     go t None fits = none_line t
     go t (Some (TriUser a)) fits = none_line t
     go t (Some (MemberUser m)) fits = none_line t
     go false (Some (TextUser text)) fits = default_one_line s symbol at
-    go true (Some (TextUser text)) fits = not-true (has_newline text) (sym (ap (λ k. user_text_fits k text) is) ∙ fits)
+    go true (Some (TextUser text)) fits = sym (ap (λ k. user_text_fits k text) is) ∙ fits
 
   spelled_fits : (kind : Kind) (z : ℤ) → IsPrintable kind z → (length (number_spelling kind z) == 0 || is_some (number_of_text kind (number_spelling kind z))) ≡ true
   spelled_fits kind z printable = or_right (length (number_spelling kind z) == 0) (is_some (number_of_text kind (number_spelling kind z))) (ap is_some (spelling_read_back kind z printable))
@@ -224,7 +241,7 @@ module _ (tree : Whole) (sound : IsConsistent tree) (values : List UnitValue) (f
       → symbol_value_fits (Some symbol) (symbol_rule kind profile tree symbol x values) ≡ true
   symbol_fits profile s symbol at Boolean is x fits = fits_promoted tree values symbol.kind (is_tristate symbol.kind && is_n (modules_value tree values)) (leaves_no_m profile tree values symbol) _ (ap is_tri_kind is)
   symbol_fits profile s symbol at Tristate is x fits = fits_promoted tree values symbol.kind (is_tristate symbol.kind && is_n (modules_value tree values)) (leaves_no_m profile tree values symbol) _ (ap is_tri_kind is)
-  symbol_fits profile s symbol at Text is x fits = ap (λ k. text_fits k (string_rule tree symbol x values)) is ∙ ap not (string_fits s symbol at is x fits)
+  symbol_fits profile s symbol at Text is x fits = ap (λ k. text_fits k (string_rule tree symbol x values)) is ∙ string_fits s symbol at is x fits
   symbol_fits profile s symbol at Int is x fits = ap (λ k. text_fits k (number_rule tree symbol x values)) is ∙ ap (λ k. length (number_rule tree symbol x values) == 0 || is_some (number_of_text k (number_rule tree symbol x values))) (sym is) ∙ number_fits symbol (ap is_tri_kind is) (λ e. cc) x fits
   symbol_fits profile s symbol at Hex is x fits = ap (λ k. text_fits k (number_rule tree symbol x values)) is ∙ ap (λ k. length (number_rule tree symbol x values) == 0 || is_some (number_of_text k (number_rule tree symbol x values))) (sym is) ∙ number_fits symbol (ap is_tri_kind is) (λ e. cc) x fits
 

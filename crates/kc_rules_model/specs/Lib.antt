@@ -3,6 +3,7 @@ pub mod SymbolValues
 pub mod Rule
 pub mod Dependencies
 pub mod Shapes
+pub mod SettledTrees
 pub mod Equality
 pub mod Reports
 pub mod Laws

@@ -1,22 +1,18 @@
 -- Which values and user values fit a unit.
-use Rattle.std.specs.Prelude.{ℕ, Bool, true, false, not, ◌||◌, List, Option, Some, None, is_some, length, ◌==◌, slice_get}
+use Rattle.std.specs.Prelude.{ℕ, Bool, true, false, not, ◌&&◌, ◌||◌, List, Option, Some, None, is_some, length, ◌==◌, slice_get}
 use Rattle.std.specs.List.{list_any}
+use Rattle.std.specs.Str.{is_utf8}
 use Rattle.kc_value.specs.declared.tri.Tri.{Tri}
-use Rattle.kc_value.specs.declared.tri.Tri.TheVariants.{N, M, Y}
 use Rattle.kc_value.specs.declared.value.Kind.{Kind}
 use Rattle.kc_value.specs.declared.value.Kind.TheVariants.{Bool as Boolean, Tristate, Text}
 use Rattle.kc_tree_model.specs.Trees.{Whole, Symbol, Choice, TreeUnit, of_symbol, of_choice}
 use Rattle.kc_tree_model.specs.TreeLookup.{has_newline}
+use Rattle.kc_rules_model.specs.Kinds.{is_m}
 use Rattle.kc_rules_model.specs.declared.values.UnitValue.{UnitValue}
 use Rattle.kc_rules_model.specs.declared.values.UnitValue.TheVariants.{Tri as TriValue, Text as TextValue, Member as MemberValue}
 use Rattle.kc_rules_model.specs.declared.values.UserValue.{UserValue}
 use Rattle.kc_rules_model.specs.declared.values.UserValue.TheVariants.{Tri as TriUser, Text as TextUser, Member as MemberUser}
 use Rattle.kc_value.specs.Number.{number_of_text}
-
-abbrev pub is_m : Tri → Bool
-is_m N = false
-is_m M = true
-is_m Y = false
 
 -- a bool isn't `m`
 abbrev pub tri_fits : Kind → Tri → Bool
@@ -24,9 +20,13 @@ tri_fits Boolean t = not (is_m t)
 tri_fits Tristate t = true
 tri_fits _ t = false
 
--- a string has no newline, and an int or hex is a number of its type
+-- one line of UTF-8
+abbrev pub is_line : List ℕ → Bool
+is_line text = not (has_newline text) && is_utf8 text
+
+-- a string is one line of UTF-8, and an int or hex is a number of its type
 abbrev pub user_text_fits : Kind → List ℕ → Bool
-user_text_fits Text text = not (has_newline text)
+user_text_fits Text text = is_line text
 user_text_fits kind text = is_some (number_of_text kind text)
 
 -- a tristate for a bool or tristate, a text for the other types
@@ -59,7 +59,7 @@ user_fits tree u x = unit_user_fits tree (slice_get tree.units u) x
 abbrev pub text_fits : Kind → List ℕ → Bool
 text_fits Boolean text = false
 text_fits Tristate text = false
-text_fits Text text = not (has_newline text)
+text_fits Text text = is_line text
 text_fits kind text = (length text == 0) || is_some (number_of_text kind text)
 
 -- a tristate for a bool or tristate, a text for the other types

@@ -1,0 +1,124 @@
+-- Every file that gives the values of a minimal file assigns each of its units, and has at least as many assigning lines.
+use Rattle.std.proofs.Common.{◌≡◌, ◌⊎◌, inl, inr, ℕ, zero, suc, ◌+◌, ◌<◌, ◌≤◌, Bool, true, false, cond, IsTrue, List, [], ◌∷◌, Option, Some, None, is_some, length, map, filter, slice_set, refl, sym, ◌∙◌, ap, arith}
+use Rattle.std.specs.Prelude.{eqb}
+use Rattle.std.specs.List.{list_any, IsDistinct, range_with_len, AllByRecursion}
+use Rattle.std.proofs.lemmas.Bool.{cases_Bool, cases_eq, false≢true, eqb-true, eq-eqb, or_left, or_right, or_cases}
+use Rattle.kc_tree_model.specs.Trees.{Whole}
+use Rattle.kc_tree_model.specs.TreeLookup.{unit_of}
+use Rattle.kc_system.specs.Solutions.{user_of, FitsUsers}
+use Rattle.kc_system.specs.LeastAssignments.{IsCutTo}
+use Rattle.kc_rules_model.specs.declared.profile.Profile.{Profile}
+use Rattle.kc_rules_model.specs.declared.values.UnitValue.{UnitValue}
+use Rattle.kc_rules_model.specs.declared.values.UserValue.{UserValue}
+use Rattle.kc_rules_model.specs.Shapes.{user_fits}
+use Rattle.kc_dotconfig_model.specs.Lines.{Saying, assigns, notice, silent}
+use Rattle.kc_dotconfig_model.specs.Files.{file_users, assigned_over, no_users}
+use Rattle.kc_dotconfig_model.proofs.FittingFiles.{file_fits}
+use Rattle.kc_minimal_model.specs.MinimalFile.{has_line, minimal_symbols}
+use Rattle.kc_minimal_model.proofs.OrderedTrees.{IsOrderedTree, ordered_tree}
+use Rattle.kc_minimal_model.specs.MinimalText.{NeedsTheLines}
+use Rattle.kc_minimal_model.specs.FilesAssign.{assigned_units, HasAtLeastTheLines, FilesAssignTheLines}
+use Rattle.kc_minimal_model.specs.Loading.{ReadsTo}
+use Rattle.std.specs.Cmp.{IsEquivalence}
+use Rattle.std.proofs.lemmas.Map.Made.{length-le_from_is_member}
+use Rattle.std.proofs.lemmas.List.{length-map, get_or-set_other}
+use Rattle.kc_rules_model.specs.Reports.{symbol_numbers}
+use Rattle.kc_minimal_model.proofs.LineUnits.{different_units}
+use Rattle.kc_minimal_model.proofs.NeededUnits.{needs}
+use Rattle.kc_minimal_model.proofs.LeastFile.{none_held}
+
+kept_if_some : (x : Option UserValue) → x ≡ cond (is_some x) x None
+kept_if_some None = refl
+kept_if_some (Some x) = refl
+
+eqb_laws : IsEquivalence eqb
+eqb_laws = record {
+  refl = λ x. eq-eqb x x refl;
+  symm = λ x y. elim (cases_Bool (eqb x y)) [
+    | inl equal ↦ let e = eqb-true x y equal in equal ∙ sym (eq-eqb y x (sym e))
+    | inr differ ↦ elim (cases_Bool (eqb y x)) [ inl equal ↦ let e = eqb-true y x equal in absurd (false≢true (sym differ ∙ eq-eqb x y (sym e))) | inr other ↦ differ ∙ sym other ]
+  ];
+  congr = λ x y z equal. let e = eqb-true x y equal in ap (λ w. eqb w z) e;
+}
+
+-- what is assigned after some lines was assigned before, or by one of them
+by_a_line : (sayings : List Saying) (held : List (Option UserValue)) (u : ℕ) → is_some (user_of (assigned_over sayings held) u) ≡ true
+    → (is_some (user_of held u) ≡ true) ⊎ (list_any (eqb u) (assigned_units sayings) ≡ true)
+by_a_line [] held u some = inl some
+by_a_line (notice kind ∷ sayings) held u some = by_a_line sayings held u some
+by_a_line (silent ∷ sayings) held u some = by_a_line sayings held u some
+by_a_line (assigns w x ∷ sayings) held u some = elim (by_a_line sayings (slice_set held w (Some x)) u some) [
+  | inl before ↦ elim (cases_eq u w) [
+    | inl same ↦ inr (or_left (eqb u w) (list_any (eqb u) (assigned_units sayings)) (eq-eqb u w same))
+    | inr other ↦ inl (ap is_some (sym (get_or-set_other held w u (Some x) None other)) ∙ before)
+  ]
+  | inr later ↦ inr (or_right (eqb u w) (list_any (eqb u) (assigned_units sayings)) later)
+]
+
+-- numbers that a list has, by a function that tells those of a test apart
+apart : (p : ℕ → Bool) (f : ℕ → ℕ) (a n x : ℕ) → x < a → p x ≡ true → ((s t : ℕ) → p s ≡ true → p t ≡ true → f s ≡ f t → s ≡ t)
+    → AllByRecursion (λ y. eqb (f x) y ≡ false) (map f (filter p (range_with_len a n)))
+apart p f a zero x below has one = tt
+apart p f a (suc n) x below has one = go (p a) refl (apart p f (a + 1) n x (omega arith) has one) where
+  go : (t : Bool) → p a ≡ t → AllByRecursion (λ y. eqb (f x) y ≡ false) (map f (filter p (range_with_len (a + 1) n)))
+      → AllByRecursion (λ y. eqb (f x) y ≡ false) (map f (cond t (a ∷ filter p (range_with_len (a + 1) n)) (filter p (range_with_len (a + 1) n))))
+  go false e rest = rest
+  go true e rest = (
+    elim (cases_Bool (eqb (f x) (f a))) [ inl equal ↦ (let same = one x a has e (eqb-true (f x) (f a) equal) in absurd (omega (arith, same, below))) | inr differ ↦ differ ],
+    rest,
+  )
+
+distinct : (p : ℕ → Bool) (f : ℕ → ℕ) (a n : ℕ) → ((s t : ℕ) → p s ≡ true → p t ≡ true → f s ≡ f t → s ≡ t) → IsDistinct eqb (map f (filter p (range_with_len a n)))
+unfolding IsDistinct
+distinct p f a zero one = tt
+distinct p f a (suc n) one = go (p a) refl (distinct p f (a + 1) n one) where
+  go : (t : Bool) → p a ≡ t → IsDistinct eqb (map f (filter p (range_with_len (a + 1) n)))
+      → IsDistinct eqb (map f (cond t (a ∷ filter p (range_with_len (a + 1) n)) (filter p (range_with_len (a + 1) n))))
+  go false e rest = rest
+  go true e rest = (apart p f (a + 1) n a (omega arith) e one, rest)
+
+-- an element of such a list comes from one that passes the test
+comes_from : (p : ℕ → Bool) (f : ℕ → ℕ) (q : ℕ) (xs : List ℕ) → list_any (eqb q) (map f (filter p xs)) ≡ true → (s : ℕ) × (p s ≡ true) × (q ≡ f s)
+comes_from p f q [] any = absurd (false≢true any)
+comes_from p f q (x ∷ xs) any = go (p x) refl any (comes_from p f q xs) where
+  go : (t : Bool) → p x ≡ t → list_any (eqb q) (map f (cond t (x ∷ filter p xs) (filter p xs))) ≡ true → (list_any (eqb q) (map f (filter p xs)) ≡ true → (s : ℕ) × (p s ≡ true) × (q ≡ f s)) → (s : ℕ) × (p s ≡ true) × (q ≡ f s)
+  go false e any next = next any
+  go true e any next = elim (or_cases (eqb q (f x)) (list_any (eqb q) (map f (filter p xs))) any) [ inl here ↦ (x, e, eqb-true q (f x) here) | inr later ↦ next later ]
+
+module _ (prefix : List ℕ) (profile : Profile) (tree : Whole) (settled : IsOrderedTree tree) (bytes : List ℕ) (values : List UnitValue) (reads : ReadsTo prefix profile tree bytes values) where
+  fitting : FitsUsers (length tree.units) (λ u x. IsTrue (user_fits tree u x)) (file_users tree reads.sayings)
+  fitting = file_fits prefix tree bytes reads.sayings settled.consistent reads.utf8 reads.says
+
+  needed : NeedsTheLines profile tree values (file_users tree reads.sayings)
+  needed = needs profile tree (file_users tree reads.sayings) values settled fitting reads.gives.solves
+
+  held_each : (s : ℕ) → has_line profile tree values s ≡ true → is_some (user_of (file_users tree reads.sayings) (unit_of tree s)) ≡ true
+  held_each s has =
+      let held = file_users tree reads.sayings in
+      let keeps : ℕ → Bool = λ u. is_some (user_of held u) in
+      let cut : IsCutTo (length tree.units) keeps held held = record { one_each = fitting.0; cut = λ u h. kept_if_some (user_of held u) } in
+      (needed.cut keeps held cut).0 reads.gives s has
+
+  assigns_each : (s : ℕ) → has_line profile tree values s ≡ true → list_any (eqb (unit_of tree s)) (assigned_units reads.sayings) ≡ true
+  assigns_each s has = elim (by_a_line reads.sayings (no_users tree) (unit_of tree s) (held_each s has)) [
+    | inl before ↦ absurd (false≢true (sym (ap is_some (none_held (length tree.units) (unit_of tree s))) ∙ before))
+    | inr line ↦ line
+  ]
+
+  -- at least as many lines that assign as the minimal file has lines
+  assigns_as_many : length (minimal_symbols profile tree values) ≤ length (assigned_units reads.sayings)
+  assigns_as_many =
+      let p = has_line profile tree values in
+      let f = unit_of tree in
+      let one = different_units profile tree settled.consistent (file_users tree reads.sayings) values fitting reads.gives.solves in
+      let listed : (q : ℕ) → list_any (eqb q) (map f (filter p (symbol_numbers tree))) ≡ true → list_any (eqb q) (assigned_units reads.sayings) ≡ true =
+      λ q any. let s = comes_from p f q (symbol_numbers tree) any in ap (λ u. list_any (eqb u) (assigned_units reads.sayings)) s.2 ∙ assigns_each s.0 s.1 in
+      let long = length-le_from_is_member eqb_laws (map f (filter p (symbol_numbers tree))) (assigned_units reads.sayings) (distinct p f 0 (length tree.symbols) one) listed in
+      let same = length-map (filter p (symbol_numbers tree)) f in
+      omega (arith, long, same)
+
+  pub at_least : HasAtLeastTheLines profile tree values reads.sayings
+  at_least = record { each = assigns_each; same = needed.same; as_many = assigns_as_many }
+
+pub files_assign : FilesAssignTheLines
+files_assign prefix profile tree bytes values settled reads = at_least prefix profile tree (ordered_tree tree settled) bytes values reads

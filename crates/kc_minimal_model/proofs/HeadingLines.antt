@@ -1,0 +1,125 @@
+-- No line of a heading and no end line is an assignment or malformed, for every prefix.
+use Rattle.std.proofs.Common.{◌≡◌, Some, inl, inr, ℕ, zero, suc, ◌-◌, ◌<◌, Bool, true, false, not, ◌==◌, cond, List, [], ◌∷◌, ◌++◌, length, get_or, take, drop, refl, sym, ap, ◌∙◌, arith, append_assoc}
+use Rattle.std.specs.Prelude.{codes, nat_eq}
+use Rattle.std.specs.List.{find, list_all, starts_with, suffix_len}
+use Rattle.std.proofs.lemmas.Bool.{and_parts, and_from, cases_lt, false≢true, eq-eqb}
+use Rattle.std.proofs.lemmas.List.{take-append-drop}
+use Rattle.kc_expr.specs.Token.{is_white_byte}
+use Rattle.kc_tree_model.specs.Trees.{Whole}
+use Rattle.kc_tree_model.specs.TreeLookup.{is_name_byte}
+use Rattle.kc_dotconfig_model.specs.Names.{is_prefix, lacks}
+use Rattle.kc_dotconfig_model.proofs.LineLaws.{line_read}
+use Rattle.kc_dotconfig_model.specs.Lines.{Saying, silent, Says, empty, comment, IsUnsetLine, without_white_end}
+use Rattle.kc_minimal_model.specs.FullFile.{heading_title}
+use Rattle.kc_minimal_model.proofs.Bytes.{name_lacks, all_of_both}
+use Rattle.kc_dotconfig_model.proofs.TrimmedLines.{white_behind}
+
+prefix_bytes : (prefix : List ℕ) → is_prefix prefix ≡ true → list_all is_name_byte prefix ≡ true
+prefix_bytes prefix e = (and_parts _ (list_all is_name_byte prefix) e).1
+
+-- a line that begins with `#` still does without the white bytes at its end
+hash_stays : (line : List ℕ) → (rest : List ℕ) × (without_white_end (35 ∷ line) ≡ 35 ∷ rest)
+hash_stays line = elim (cases_lt 0 k) [
+  | inl some ↦ taken k some
+  | inr none ↦
+      let white = white_behind (35 ∷ line) (omega arith) in
+      let first : k ≡ 0 = omega arith in
+      absurd (false≢true (ap (λ n. is_white_byte (get_or (35 ∷ line) n 0)) (sym first) ∙ white))
+] where
+  k : ℕ
+  k = length (35 ∷ line) - suffix_len is_white_byte (35 ∷ line)
+
+  taken : (n : ℕ) → 0 < n → (rest : List ℕ) × (take n (35 ∷ line) ≡ 35 ∷ rest)
+  taken zero h = absurd (omega arith)
+  taken (suc n) h = (take n line, refl)
+
+-- what a line is a front of
+front_of : (line : List ℕ) → (rest : List ℕ) × (line ≡ without_white_end line ++ rest)
+front_of line = (drop (length line - suffix_len is_white_byte line) line, sym (take-append-drop (length line - suffix_len is_white_byte line) line))
+
+-- a line that begins with `#` is a comment if it is no unset line
+pub says_comment : (prefix : List ℕ) (tree : Whole) (line : List ℕ) → ((name : List ℕ) → IsUnsetLine prefix (without_white_end (35 ∷ line)) name → ⊥) → Says prefix tree (without_white_end (35 ∷ line)) silent
+says_comment prefix tree line none =
+    let h = hash_stays line in
+    comment (without_white_end (35 ∷ line)) (ap (find (λ b. not (is_white_byte b))) h.1) none
+
+-- an empty line
+pub blank_says : (prefix : List ℕ) (tree : Whole) → Says prefix tree (without_white_end []) silent
+blank_says prefix tree = empty
+
+-- a `#` alone
+pub hash_says : (prefix : List ℕ) (tree : Whole) → Says prefix tree (without_white_end (35 ∷ [])) silent
+hash_says prefix tree = says_comment prefix tree [] (λ name unset. let front = front_of (35 ∷ []) in let e = unset.2 in two (without_white_end (35 ∷ [])) (prefix ++ (name ++ codes " is not set")) front.0 front.1 e) where
+  two : (w x rest : List ℕ) → 35 ∷ [] ≡ w ++ rest → w ≡ 35 ∷ 32 ∷ x → ⊥
+  two w x rest whole e = let both : 35 ∷ [] ≡ 35 ∷ 32 ∷ (x ++ rest) = whole ∙ ap (λ l. l ++ rest) e in cc
+
+-- a text begins with its front
+starts_own : (front rest : List ℕ) → starts_with nat_eq (front ++ rest) front ≡ true
+starts_own [] rest = refl
+starts_own (x ∷ front) rest = and_from (nat_eq x x) _ (eq-eqb x x refl) (starts_own front rest)
+
+-- the title of a heading doesn't begin with the prefix
+heading_begins : (prefix title rest : List ℕ) → is_prefix prefix ≡ true → heading_title prefix title ≡ prefix ++ rest → ⊥
+heading_begins prefix title rest valid e = go (starts_with nat_eq title prefix) refl e where
+  first : (p : List ℕ) → 0 < length p → list_all is_name_byte p ≡ true → 32 ∷ title ≡ p ++ rest → ⊥
+  first [] some all e = absurd (omega arith)
+  first (x ∷ p) some all e = let same : x ≡ 32 = cc in false≢true (ap is_name_byte (sym same) ∙ (and_parts (is_name_byte x) (list_all is_name_byte p) all).0)
+
+  some_byte : (p : List ℕ) → is_prefix p ≡ true → 0 < length p
+  some_byte [] e = absurd (false≢true e)
+  some_byte (x ∷ p) e = omega arith
+
+  go : (t : Bool) → starts_with nat_eq title prefix ≡ t → cond t (32 ∷ title) title ≡ prefix ++ rest → ⊥
+  go true starts e = first prefix (some_byte prefix valid) (prefix_bytes prefix valid) e
+  go false starts e = false≢true (sym starts ∙ ap (λ t. starts_with nat_eq t prefix) e ∙ starts_own prefix rest)
+
+-- the line of a heading's title is a comment
+pub heading_says : (prefix : List ℕ) (tree : Whole) (title : List ℕ) → is_prefix prefix ≡ true → Says prefix tree (without_white_end (35 ∷ 32 ∷ heading_title prefix title)) silent
+heading_says prefix tree title valid = says_comment prefix tree (32 ∷ heading_title prefix title) (λ name unset.
+    let front = front_of (35 ∷ 32 ∷ heading_title prefix title) in
+    let e = unset.2 in
+    no_title (heading_title prefix title) (without_white_end (35 ∷ 32 ∷ heading_title prefix title)) (name ++ codes " is not set") front.0 front.1 e (λ rest same. heading_begins prefix title rest valid same)) where
+      no_title : (t w x rest : List ℕ) → 35 ∷ 32 ∷ t ≡ w ++ rest → w ≡ 35 ∷ 32 ∷ (prefix ++ x) → ((more : List ℕ) → t ≡ prefix ++ more → ⊥) → ⊥
+      no_title t w x rest whole e begins =
+          let both : 35 ∷ 32 ∷ t ≡ 35 ∷ 32 ∷ ((prefix ++ x) ++ rest) = whole ∙ ap (λ l. l ++ rest) e in
+          let tail : t ≡ (prefix ++ x) ++ rest = cc in
+          begins (x ++ rest) (tail ∙ append_assoc prefix x rest)
+
+-- what stands behind the first space
+behind_space : (a b x y : List ℕ) → lacks 32 a ≡ true → lacks 32 b ≡ true → a ++ 32 ∷ x ≡ b ++ 32 ∷ y → x ≡ y
+behind_space [] [] x y p q e = cc
+behind_space [] (b ∷ bs) x y p q e = let same : b ≡ 32 = cc in absurd (false≢true (ap (λ c. not (c == 32)) (sym same) ∙ (and_parts (not (b == 32)) (lacks 32 bs) q).0))
+behind_space (a ∷ aa) [] x y p q e = let same : a ≡ 32 = cc in absurd (false≢true (ap (λ c. not (c == 32)) (sym same) ∙ (and_parts (not (a == 32)) (lacks 32 aa) p).0))
+behind_space (a ∷ aa) (b ∷ bs) x y p q e =
+    let tail : aa ++ 32 ∷ x ≡ bs ++ 32 ∷ y = cc in
+    behind_space aa bs x y (and_parts (not (a == 32)) (lacks 32 aa) p).1 (and_parts (not (b == 32)) (lacks 32 bs) q).1 tail
+
+first_same : (a b : ℕ) (x y : List ℕ) → a ∷ x ≡ b ∷ y → a ≡ b
+first_same a b x y e = cc
+
+o_is_i : (x y : List ℕ) → 111 ∷ x ≡ 105 ∷ y → ⊥
+o_is_i x y e = omega (arith, first_same 111 105 x y e)
+
+-- an end line is a comment
+pub end_says : (prefix : List ℕ) (tree : Whole) (title : List ℕ) → is_prefix prefix ≡ true → Says prefix tree (without_white_end (codes "# end of " ++ title)) silent
+end_says prefix tree title valid = says_comment prefix tree (32 ∷ 101 ∷ 110 ∷ 100 ∷ 32 ∷ 111 ∷ 102 ∷ 32 ∷ title) (λ name unset.
+    let line = 35 ∷ 32 ∷ 101 ∷ 110 ∷ 100 ∷ 32 ∷ 111 ∷ 102 ∷ 32 ∷ title in
+    let front = front_of line in
+    let e = unset.2 in
+    no_end name (without_white_end line) front.0 unset.1 front.1 e) where
+      no_end : (name w rest : List ℕ) → lacks 32 name ≡ true → 35 ∷ 32 ∷ 101 ∷ 110 ∷ 100 ∷ 32 ∷ 111 ∷ 102 ∷ 32 ∷ title ≡ w ++ rest → w ≡ 35 ∷ 32 ∷ (prefix ++ (name ++ codes " is not set")) → ⊥
+      no_end name w rest one whole e =
+          let set = 105 ∷ 115 ∷ 32 ∷ 110 ∷ 111 ∷ 116 ∷ 32 ∷ 115 ∷ 101 ∷ 116 ∷ [] in
+          let both : 35 ∷ 32 ∷ 101 ∷ 110 ∷ 100 ∷ 32 ∷ 111 ∷ 102 ∷ 32 ∷ title ≡ 35 ∷ 32 ∷ ((prefix ++ (name ++ 32 ∷ set)) ++ rest) = whole ∙ ap (λ l. l ++ rest) e in
+          let tail : 101 ∷ 110 ∷ 100 ∷ 32 ∷ 111 ∷ 102 ∷ 32 ∷ title ≡ (prefix ++ (name ++ 32 ∷ set)) ++ rest = cc in
+          let split : (prefix ++ (name ++ 32 ∷ set)) ++ rest ≡ (prefix ++ name) ++ 32 ∷ (set ++ rest) = simp append_assoc in
+          let after : 111 ∷ 102 ∷ 32 ∷ title ≡ set ++ rest =
+          behind_space (101 ∷ 110 ∷ 100 ∷ []) (prefix ++ name) (111 ∷ 102 ∷ 32 ∷ title) (set ++ rest) refl (all_of_both (λ c. not (c == 32)) prefix name (name_lacks 32 refl prefix (prefix_bytes prefix valid)) one) (tail ∙ split) in
+          o_is_i (102 ∷ 32 ∷ title) (115 ∷ 32 ∷ 110 ∷ 111 ∷ 116 ∷ 32 ∷ 115 ∷ 101 ∷ 116 ∷ rest) after
+
+some_same : (a b : Saying) → Some a ≡ Some b → a ≡ b
+some_same a b e = cc
+
+-- a line that says nothing says nothing else: it is no assignment
+pub says_nothing_else : (prefix : List ℕ) (tree : Whole) (line : List ℕ) (saying : Saying) → is_prefix prefix ≡ true → Says prefix tree line silent → Says prefix tree line saying → saying ≡ silent
+says_nothing_else prefix tree line saying valid first second = some_same saying silent (sym ((line_read prefix tree line saying valid).1 second) ∙ (line_read prefix tree line silent valid).1 first)

@@ -1,0 +1,190 @@
+-- The headline, over the bytes of two files.
+use Rattle.std.proofs.Common.{◌≡◌, ◌≢◌, inl, inr, ℕ, zero, suc, ◌+◌, ◌<◌, ◌≤◌, Bool, true, false, not, ◌==◌, cond, IsTrue, List, [], ◌∷◌, ◌++◌, Option, Some, None, length, map, filter, take, drop, refl, sym, ap, ◌∙◌, subst, arith}
+use Rattle.std.specs.Prelude.{slice_get}
+use Rattle.std.specs.List.{flat_map, filter_map, cons_option, range_with_len}
+use Rattle.std.proofs.lemmas.Bool.{cases_Bool, eqb-true, eq-eqb}
+use Rattle.std.proofs.lemmas.List.{length-map}
+use Rattle.kc_tree_model.specs.Trees.{Whole}
+use Rattle.kc_tree_model.specs.TreeLookup.{IsConsistent}
+use Rattle.kc_system.specs.Solutions.{FitsUsers, FitsValues}
+use Rattle.kc_system.proofs.Lists.{get-some}
+use Rattle.kc_rules_model.specs.declared.profile.Profile.{Profile}
+use Rattle.kc_rules_model.specs.declared.values.UnitValue.{UnitValue}
+use Rattle.kc_rules_model.specs.SymbolValues.{symbol_seen}
+use Rattle.kc_rules_model.specs.Shapes.{user_fits, value_fits}
+use Rattle.kc_rules_model.specs.SettledTrees.{IsSettledTree}
+use Rattle.kc_rules_model.specs.Reports.{symbol_numbers}
+use Rattle.kc_dotconfig_model.specs.Names.{is_prefix}
+use Rattle.kc_dotconfig_model.specs.Files.{file_lines, file_users}
+use Rattle.kc_dotconfig_model.specs.LoadFaults.{MOST_BYTES, IsAccepted}
+use Rattle.kc_dotconfig_model.proofs.AcceptedFiles.{accepted_read}
+use Rattle.kc_dotconfig_model.proofs.AcceptedLines.{accepted_utf8}
+use Rattle.kc_minimal_model.specs.Spelling.{symbol_line, ended_line}
+use Rattle.kc_minimal_model.specs.Differences.{Difference, difference_at, differences}
+use Rattle.kc_minimal_model.specs.MinimalFile.{has_line, minimal_symbols, minimal_file}
+use Rattle.kc_minimal_model.specs.Loading.{ReadsTo, Loads, HaveSameValues, DifferAtASymbol, without_line}
+use Rattle.kc_minimal_model.specs.MinimalText.{with_lines}
+use Rattle.kc_minimal_model.specs.Headline.{MinimalFilesAreCanonical}
+use Rattle.kc_minimal_model.proofs.OrderedTrees.{IsOrderedTree, ordered_tree}
+use Rattle.kc_minimal_model.proofs.LeastFile.{passes_filter}
+use Rattle.kc_minimal_model.proofs.MinimalLineList.{minimal_file_lines}
+use Rattle.kc_minimal_model.proofs.DifferenceLaws.{differences_tell, none_left, same_as_itself}
+use Rattle.kc_minimal_model.proofs.SolutionsFit.{solutions_fit}
+use Rattle.kc_minimal_model.proofs.Canonical.{fits_of, each, one, reads_back, same_files, needed}
+use Rattle.kc_minimal_model.proofs.Accepting.{passes_at}
+use Rattle.kc_minimal_model.proofs.MinimalAccepted.{lines_are_short, minimal_files_accepted}
+use Rattle.kc_minimal_model.proofs.MinimalTexts.{part_accepted}
+
+-- a list without one of its elements
+cut_map : {X Y : Type 0} (f : X → Y) (k : ℕ) (xs : List X) → take k (map f xs) ++ drop (suc k) (map f xs) ≡ map f (take k xs ++ drop (suc k) xs)
+cut_map f zero [] = refl
+cut_map f (suc k) [] = refl
+cut_map f zero (x ∷ xs) = refl
+cut_map f (suc k) (x ∷ xs) = ap (λ l. f x ∷ l) (cut_map f k xs)
+
+flat_of_map : (g : List ℕ → List ℕ) (f : ℕ → List ℕ) (xs : List ℕ) → flat_map g (map f xs) ≡ flat_map (λ x. g (f x)) xs
+flat_of_map g f [] = refl
+flat_of_map g f (x ∷ xs) = ap (λ l. g (f x) ++ l) (flat_of_map g f xs)
+
+apart : (a b : ℕ) → b < a → (a == b) ≡ false
+apart a b h = elim (cases_Bool (a == b)) [ inl same ↦ (let e = eqb-true a b same in absurd (omega (arith, e, h))) | inr other ↦ other ]
+
+-- the numbers of a range that pass a test are no less than its first
+above : (p : ℕ → Bool) (a n j x : ℕ) → slice_get (filter p (range_with_len a n)) j ≡ Some x → a ≤ x
+above p a zero j x at = cc
+above p a (suc n) j x at = go (p a) j at (above p (a + 1) n) where
+  go : (t : Bool) (j : ℕ) → slice_get (cond t (a ∷ filter p (range_with_len (a + 1) n)) (filter p (range_with_len (a + 1) n))) j ≡ Some x → ((k y : ℕ) → slice_get (filter p (range_with_len (a + 1) n)) k ≡ Some y → a + 1 ≤ y) → a ≤ x
+  go true zero at next = let same : a ≡ x = cc in omega (arith, same)
+  go true (suc j) at next = let later = next j x at in omega (arith, later)
+  go false j at next = let later = next j x at in omega (arith, later)
+
+-- one that is less than all is not among them
+all_kept : (p : ℕ → Bool) (a n y : ℕ) → y < a → filter (λ t. not (t == y)) (filter p (range_with_len a n)) ≡ filter p (range_with_len a n)
+all_kept p a zero y less = refl
+all_kept p a (suc n) y less = go (p a) (all_kept p (a + 1) n y (omega arith)) where
+  go : (t : Bool) → filter (λ t. not (t == y)) (filter p (range_with_len (a + 1) n)) ≡ filter p (range_with_len (a + 1) n)
+      → filter (λ t. not (t == y)) (cond t (a ∷ filter p (range_with_len (a + 1) n)) (filter p (range_with_len (a + 1) n))) ≡ cond t (a ∷ filter p (range_with_len (a + 1) n)) (filter p (range_with_len (a + 1) n))
+  go true rest = ap (λ b. cond (not b) (a ∷ filter (λ t. not (t == y)) (filter p (range_with_len (a + 1) n))) (filter (λ t. not (t == y)) (filter p (range_with_len (a + 1) n)))) (apart a y less) ∙ ap (λ l. a ∷ l) rest
+  go false rest = rest
+
+-- taking one out by its number
+one_out : (p : ℕ → Bool) (a n k x : ℕ) → slice_get (filter p (range_with_len a n)) k ≡ Some x
+    → filter (λ t. not (t == x)) (filter p (range_with_len a n)) ≡ take k (filter p (range_with_len a n)) ++ drop (suc k) (filter p (range_with_len a n))
+one_out p a zero k x at = cc
+one_out p a (suc n) k x at = go (p a) k at (one_out p (a + 1) n) where
+  go : (t : Bool) (k : ℕ) → slice_get (cond t (a ∷ filter p (range_with_len (a + 1) n)) (filter p (range_with_len (a + 1) n))) k ≡ Some x
+      → ((j y : ℕ) → slice_get (filter p (range_with_len (a + 1) n)) j ≡ Some y → filter (λ t. not (t == y)) (filter p (range_with_len (a + 1) n)) ≡ take j (filter p (range_with_len (a + 1) n)) ++ drop (suc j) (filter p (range_with_len (a + 1) n)))
+      → filter (λ t. not (t == x)) (cond t (a ∷ filter p (range_with_len (a + 1) n)) (filter p (range_with_len (a + 1) n)))
+      ≡ take k (cond t (a ∷ filter p (range_with_len (a + 1) n)) (filter p (range_with_len (a + 1) n))) ++ drop (suc k) (cond t (a ∷ filter p (range_with_len (a + 1) n)) (filter p (range_with_len (a + 1) n)))
+  go true zero at next =
+      let same : a ≡ x = cc in
+      ap (λ b. cond (not b) (a ∷ filter (λ t. not (t == x)) (filter p (range_with_len (a + 1) n))) (filter (λ t. not (t == x)) (filter p (range_with_len (a + 1) n)))) (eq-eqb a x same) ∙ all_kept p (a + 1) n x (omega (arith, same))
+  go true (suc k) at next =
+      let later = above p (a + 1) n k x at in
+      let other : (a == x) ≡ false = elim (cases_Bool (a == x)) [ inl same ↦ (let e = eqb-true a x same in absurd (omega (arith, e, later))) | inr differs ↦ differs ] in
+      ap (λ b. cond (not b) (a ∷ filter (λ t. not (t == x)) (filter p (range_with_len (a + 1) n))) (filter (λ t. not (t == x)) (filter p (range_with_len (a + 1) n)))) other ∙ ap (λ l. a ∷ l) (next k x at)
+  go false k at next = next k x at
+
+-- a list of what some elements give, that isn't empty, has one of them
+found_some : {X Z : Type 0} (f : X → Option Z) (xs : List X) (z : Z) (zs : List Z) → filter_map f xs ≡ z ∷ zs → (x : X) × (y : Z) × (f x ≡ Some y)
+found_some f [] z zs e = cc
+found_some {X = X} {Z = Z} f (x ∷ xs) z zs e = go (f x) refl e (found_some f xs z zs) where
+  go : (o : Option Z) → f x ≡ o → cons_option o (filter_map f xs) ≡ z ∷ zs → (filter_map f xs ≡ z ∷ zs → (w : X) × (y : Z) × (f w ≡ Some y)) → (w : X) × (y : Z) × (f w ≡ Some y)
+  go (Some y) here e next = (x, y, here)
+  go None here e next = next e
+
+abbrev Fits : Whole → List UnitValue → Type 0
+Fits tree values = FitsValues (length tree.units) (λ u x. IsTrue (value_fits tree u x)) values
+
+-- the same value at a symbol is no difference
+no_difference : (tree : Whole) (v w : List UnitValue) (s : ℕ) → symbol_seen tree v s ≡ symbol_seen tree w s → difference_at s (symbol_seen tree v s) (symbol_seen tree w s) ≡ None
+no_difference tree v w s same = ap (difference_at s (symbol_seen tree v s)) (sym same) ∙ same_as_itself s (symbol_seen tree v s)
+
+-- values are the same where every symbol has the same
+same_values : (tree : Whole) (v w : List UnitValue) → IsConsistent tree → Fits tree v → Fits tree w → HaveSameValues tree v w → v ≡ w
+same_values tree v w sound fits_v fits_w same = (differences_tell tree v w sound fits_v fits_w).0 (none_left (λ s. difference_at s (symbol_seen tree v s) (symbol_seen tree w s)) (symbol_numbers tree) (λ s. no_difference tree v w s (same s)))
+
+-- and differ at a symbol where they aren't the same
+differ_somewhere : (tree : Whole) (v w : List UnitValue) → IsConsistent tree → Fits tree v → Fits tree w → v ≢ w → DifferAtASymbol tree v w
+differ_somewhere tree v w sound fits_v fits_w differ = go (differences tree v w) refl where
+  go : (ds : List Difference) → differences tree v w ≡ ds → (s : ℕ) × (symbol_seen tree v s ≢ symbol_seen tree w s)
+  go [] e = absurd (differ ((differences_tell tree v w sound fits_v fits_w).0 e))
+  go (d ∷ ds) e =
+      let found = found_some (λ s. difference_at s (symbol_seen tree v s) (symbol_seen tree w s)) (symbol_numbers tree) d ds e in
+      (found.0, λ same. (let none = no_difference tree v w found.0 same in let some = found.2 in cc (none, some)))
+
+module _ (prefix : List ℕ) (valid : is_prefix prefix ≡ true) (profile : Profile) (tree : Whole) (settled : IsSettledTree tree) where
+  ordered : IsOrderedTree tree
+  ordered = ordered_tree tree settled
+
+  reads_fit : (bytes : List ℕ) (values : List UnitValue) → (reads : ReadsTo prefix profile tree bytes values) → FitsUsers (length tree.units) (λ u x. IsTrue (user_fits tree u x)) (file_users tree reads.sayings)
+  reads_fit bytes values reads = fits_of prefix valid profile tree ordered bytes reads.sayings reads.utf8 reads.says
+
+  values_fit : (bytes : List ℕ) (values : List UnitValue) → ReadsTo prefix profile tree bytes values → FitsValues (length tree.units) (λ u x. IsTrue (value_fits tree u x)) values
+  values_fit bytes values reads = solutions_fit profile tree ordered (file_users tree reads.sayings) (reads_fit bytes values reads) values reads.gives.solves
+
+  -- an accepted file gives values
+  loads : (bytes : List ℕ) → IsAccepted prefix tree bytes → (values : List UnitValue) × Loads prefix profile tree bytes values
+  loads bytes accepted =
+      let said = accepted_read prefix tree bytes valid accepted in
+      let found = each prefix valid profile tree ordered bytes said.0 (accepted_utf8 prefix tree bytes valid accepted) said.1 in
+      (found.0, record { accepted = accepted; reads = found.1 })
+
+  back_reads : (bytes : List ℕ) (values : List UnitValue) → ReadsTo prefix profile tree bytes values → ReadsTo prefix profile tree (minimal_file prefix profile tree values) values
+  back_reads bytes values reads = reads_back prefix valid profile tree ordered (file_users tree reads.sayings) values (reads_fit bytes values reads) reads.gives.solves
+
+  -- the minimal file without a line is that of the symbols but one
+  cut_line : (bytes : List ℕ) (values : List UnitValue) → ReadsTo prefix profile tree bytes values → (k s : ℕ) → slice_get (minimal_symbols profile tree values) k ≡ Some s
+      → without_line k (minimal_file prefix profile tree values) ≡ with_lines (λ t. not (t == s)) prefix profile tree values
+  cut_line bytes values reads k s at =
+      let xs = minimal_symbols profile tree values in
+      let f = symbol_line prefix tree values in
+      let ended : List ℕ → List ℕ = λ line. line ++ 10 ∷ [] in
+      let lines = minimal_file_lines prefix valid profile tree settled.consistent (file_users tree reads.sayings) values (reads_fit bytes values reads) reads.gives.solves in
+      let next : k + 1 ≡ suc k = omega arith in
+      ap (λ ls. flat_map ended (take k ls ++ drop (k + 1) ls)) lines ∙ ap (λ n. flat_map ended (take k (map f xs) ++ drop n (map f xs))) next
+      ∙ ap (flat_map ended) (cut_map f k xs) ∙ flat_of_map ended f (take k xs ++ drop (suc k) xs)
+      ∙ ap (flat_map (ended_line prefix tree values)) (sym (one_out (has_line profile tree values) 0 (length tree.symbols) k s at))
+
+  -- without one of its lines
+  without_one : (bytes : List ℕ) (values : List UnitValue) → Loads prefix profile tree bytes values → length (minimal_file prefix profile tree values) ≤ MOST_BYTES → (k : ℕ) → k < length (file_lines (minimal_file prefix profile tree values))
+      → (others : List UnitValue) × Loads prefix profile tree (without_line k (minimal_file prefix profile tree values)) others × DifferAtASymbol tree others values
+  without_one bytes values loads small k below =
+      let users = file_users tree loads.reads.sayings in
+      let fitting = reads_fit bytes values loads.reads in
+      let solved = loads.reads.gives.solves in
+      let lines = ap length (minimal_file_lines prefix valid profile tree settled.consistent users values fitting solved) in
+      let count = length-map (minimal_symbols profile tree values) (symbol_line prefix tree values) in
+      let found = get-some (minimal_symbols profile tree values) k (omega (arith, lines, count, below)) in
+      let s = found.0 in
+      let keeps : ℕ → Bool = λ t. not (t == s) in
+      let has = passes_at (has_line profile tree values) (minimal_symbols profile tree values) k s (passes_filter (has_line profile tree values) (symbol_numbers tree)) found.1 in
+      let lost = needed prefix valid profile tree ordered users values fitting solved keeps s has (ap not (eq-eqb s s refl)) in
+      let short = lines_are_short prefix profile tree bytes values valid ordered loads.accepted loads.reads in
+      let accepted = part_accepted prefix valid profile tree ordered users values fitting solved keeps small short in
+      let same = sym (cut_line bytes values loads.reads k s found.1) in (
+        lost.0,
+        subst (λ t. Loads prefix profile tree t lost.0) same (record { accepted = accepted; reads = lost.1 }),
+        differ_somewhere tree lost.0 values settled.consistent (values_fit (with_lines keeps prefix profile tree values) lost.0 lost.1) (values_fit bytes values loads.reads) lost.2,
+      )
+
+pub canonical : MinimalFilesAreCanonical
+canonical prefix profile tree a b valid settled accepted_a accepted_b =
+    let first = loads prefix valid profile tree settled a accepted_a in
+    let second = loads prefix valid profile tree settled b accepted_b in
+    let left = first.1.reads in
+    let right = second.1.reads in
+    let equal = same_files prefix valid profile tree (ordered_tree tree settled) (file_users tree left.sayings) (file_users tree right.sayings) first.0 second.0 (reads_fit prefix valid profile tree settled a first.0 left) (reads_fit prefix valid profile tree settled b second.0 right) left.gives.solves right.gives.solves in
+    record {
+      left = first.0;
+      right = second.0;
+      loads_left = first.1;
+      loads_right = second.1;
+      same = (
+        λ same. equal.0 (same_values tree first.0 second.0 settled.consistent (values_fit prefix valid profile tree settled a first.0 left) (values_fit prefix valid profile tree settled b second.0 right) same),
+        λ files. (let e = equal.1 files in λ s. ap (λ values. symbol_seen tree values s) e),
+      );
+      back = λ small. minimal_files_accepted prefix profile tree a first.0 valid settled first.1 small;
+      once = λ again loaded. ap (minimal_file prefix profile tree) (one prefix valid profile tree (ordered_tree tree settled) (minimal_file prefix profile tree first.0) again first.0 loaded.reads (back_reads prefix valid profile tree settled a first.0 left));
+      needed = λ small k below. without_one prefix valid profile tree settled a first.0 first.1 small k below;
+    }

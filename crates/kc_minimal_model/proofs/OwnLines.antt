@@ -1,0 +1,172 @@
+-- The line of each symbol says nothing, or assigns its unit the value that it has.
+use Rattle.std.proofs.Common.{◌≡◌, inl, inr, ℕ, Bool, true, false, not, ◌||◌, ◌==◌, cond, IsTrue, IfSome, List, [], ◌∷◌, ◌++◌, Option, Some, None, length, refl, sym, ap, ◌∙◌, subst, arith, append_assoc}
+use Rattle.std.specs.Prelude.{slice_get, is_some}
+use Rattle.std.specs.Option.{option_map, option_and_then}
+use Rattle.std.specs.List.{list_all}
+use Rattle.std.proofs.lemmas.Str.{IsUtf8-nil}
+use Rattle.std.proofs.lemmas.Bool.{cases_Bool, false≢true, and_parts, or_cases, eqb-true}
+use Rattle.kc_value.specs.declared.tri.Tri.{Tri}
+use Rattle.kc_value.specs.declared.tri.Tri.TheVariants.{N, Y}
+use Rattle.kc_value.specs.declared.value.Kind.{Kind}
+use Rattle.kc_value.specs.declared.value.Kind.TheVariants.{Bool as Boolean, Tristate, Text, Int, Hex}
+use Rattle.kc_value.specs.Number.{number_of_text}
+use Rattle.kc_expr.specs.Expr.{Seen}
+use Rattle.kc_tree_model.specs.Trees.{Whole, Symbol, of_symbol, of_choice}
+use Rattle.kc_tree_model.specs.TreeLookup.{IsConsistent, is_name_byte, unit_of, place_of_unit}
+use Rattle.kc_system.specs.Solutions.{FitsValues}
+use Rattle.kc_system.proofs.Lists.{get-some}
+use Rattle.kc_rules_model.specs.declared.values.UnitValue.{UnitValue}
+use Rattle.kc_rules_model.specs.declared.values.UnitValue.TheVariants.{Tri as TriValue, Text as TextValue, Member as MemberValue}
+use Rattle.kc_rules_model.specs.declared.values.UserValue.TheVariants.{Tri as TriUser, Text as TextUser, Member as MemberUser}
+use Rattle.kc_rules_model.specs.Kinds.{is_tri_kind}
+use Rattle.kc_rules_model.specs.SymbolValues.{seen_in, seen_as_tri, tri_of, text_of, member_of, tri_if_chosen}
+use Rattle.kc_rules_model.specs.Rule.{as_user}
+use Rattle.kc_rules_model.specs.Shapes.{value_fits, unit_value_fits, symbol_value_fits, tri_fits, text_fits, user_text_fits}
+use Rattle.kc_rules_model.proofs.Lookups.{inside, found_by_name, place_is, unit_is}
+use Rattle.kc_dotconfig_model.specs.Names.{is_prefix}
+use Rattle.kc_dotconfig_model.specs.Lines.{Saying, assigns, notice, silent, value, unset_saying, ValueSays, no_int, no_hex, without_white_end}
+use Rattle.kc_minimal_model.specs.Spelling.{symbol_line, line_if_seen, line_with, value_line, unset_line}
+use Rattle.kc_minimal_model.proofs.Bytes.{name_lacks, all_of_both, ends_in_ink}
+use Rattle.kc_minimal_model.proofs.KeptLines.{user_meant}
+use Rattle.kc_minimal_model.proofs.LineReads.{IsLine, utf8_value_line, tri_line, text_line, member_line, not_set_line}
+
+-- nothing is assigned but the value that is held
+abbrev pub IsOwn : List UnitValue → Saying → Type 0
+IsOwn values (assigns u x) = user_meant values u ≡ Some x
+IsOwn values (notice kind) = ⊥
+IsOwn values silent = Unit {0}
+
+-- a written line that says so
+pub record IsOwnLine (prefix : List ℕ) (tree : Whole) (values : List UnitValue) (line : List ℕ) : Type 0 where
+  pub saying : Saying
+  pub reads : IsLine prefix tree line saying
+  pub own : IsOwn values saying
+
+tri_kind : (kind : Kind) (t : Tri) → tri_fits kind t ≡ true → is_tri_kind kind ≡ true
+tri_kind Boolean t e = refl
+tri_kind Tristate t e = refl
+tri_kind Text t e = absurd (false≢true e)
+tri_kind Int t e = absurd (false≢true e)
+tri_kind Hex t e = absurd (false≢true e)
+
+text_kind : (kind : Kind) (text : List ℕ) → text_fits kind text ≡ true → is_tri_kind kind ≡ false
+text_kind Boolean t e = absurd (false≢true e)
+text_kind Tristate t e = absurd (false≢true e)
+text_kind Text t e = refl
+text_kind Int t e = refl
+text_kind Hex t e = refl
+
+no_bytes : (text : List ℕ) → (length text == 0) ≡ true → text ≡ []
+no_bytes [] e = refl
+no_bytes (b ∷ text) e = let zero_long = eqb-true (length (b ∷ text)) 0 e in absurd (omega (arith, zero_long))
+
+module _ (prefix : List ℕ) (valid : is_prefix prefix ≡ true) (tree : Whole) (sound : IsConsistent tree) (values : List UnitValue) (fits : FitsValues (length tree.units) (λ u v. IsTrue (value_fits tree u v)) values) where
+  -- the line of an int or hex without a number
+  empty_line : (s : ℕ) (symbol : Symbol) → slice_get tree.symbols s ≡ Some symbol → ValueSays tree s symbol [] silent → IsLine prefix tree (value_line prefix symbol.name []) silent
+  empty_line s symbol at says =
+      let words = sound.words s symbol at in
+      let bytes = (and_parts _ (list_all is_name_byte prefix) valid).1 in
+      let same : value_line prefix symbol.name [] ≡ (prefix ++ symbol.name) ++ 61 ∷ [] = sym (append_assoc prefix symbol.name (61 ∷ [])) in
+      record {
+        says = value (value_line prefix symbol.name []) symbol.name [] s symbol silent (words.0, name_lacks 61 refl symbol.name words.1, refl) (found_by_name tree sound s symbol at) at says;
+        whole = ap without_white_end same ∙ ends_in_ink (prefix ++ symbol.name) 61 refl ∙ sym same;
+        one = all_of_both (λ c. not (c == 10)) prefix (symbol.name ++ (61 ∷ [])) (name_lacks 10 refl prefix bytes) (all_of_both (λ c. not (c == 10)) symbol.name (61 ∷ []) (name_lacks 10 refl symbol.name words.1) refl);
+        utf8 = utf8_value_line prefix valid tree sound s symbol at [] IsUtf8-nil;
+      }
+
+  abbrev of_text : Kind → List ℕ → Seen
+  of_text kind text = record { kind = kind; tri = N; text = text }
+
+  text_says : (s : ℕ) (symbol : Symbol) → slice_get tree.symbols s ≡ Some symbol → (text : List ℕ) → user_meant values (unit_of tree s) ≡ Some (TextUser text) → user_text_fits symbol.kind text ≡ true
+      → IsOwnLine prefix tree values (line_with prefix symbol.name (of_text symbol.kind text))
+  text_says s symbol at text held good = record { saying = assigns (unit_of tree s) (TextUser text); reads = text_line prefix valid tree sound s symbol at symbol.kind text refl good; own = held }
+
+  number_says : (s : ℕ) (symbol : Symbol) → slice_get tree.symbols s ≡ Some symbol → (text : List ℕ) → user_meant values (unit_of tree s) ≡ Some (TextUser text) → (kind : Kind) → symbol.kind ≡ kind
+      → ((length text == 0) || is_some (number_of_text kind text)) ≡ true → (is_some (number_of_text kind text) ≡ true → user_text_fits kind text ≡ true) → (value_line prefix symbol.name [] ≡ line_with prefix symbol.name (of_text kind [])) → ValueSays tree s symbol [] silent
+      → IsOwnLine prefix tree values (line_with prefix symbol.name (of_text symbol.kind text))
+  number_says s symbol at text held kind is good number form says = elim (or_cases (length text == 0) (is_some (number_of_text kind text)) good) [
+    | inl none ↦
+        let line : IsLine prefix tree (line_with prefix symbol.name (of_text kind [])) silent = subst (λ l. IsLine prefix tree l silent) form (empty_line s symbol at says) in
+        let at_kind : IsLine prefix tree (line_with prefix symbol.name (of_text symbol.kind [])) silent = subst (λ k. IsLine prefix tree (line_with prefix symbol.name (of_text k [])) silent) (sym is) line in
+        record { saying = silent; reads = subst (λ t. IsLine prefix tree (line_with prefix symbol.name (of_text symbol.kind t)) silent) (sym (no_bytes text none)) at_kind; own = tt }
+    | inr some ↦ text_says s symbol at text held (ap (λ k. user_text_fits k text) is ∙ number some)
+  ]
+
+  text_of_kind : (s : ℕ) (symbol : Symbol) → slice_get tree.symbols s ≡ Some symbol → (text : List ℕ) → user_meant values (unit_of tree s) ≡ Some (TextUser text) → (kind : Kind) → symbol.kind ≡ kind → text_fits kind text ≡ true
+      → IsOwnLine prefix tree values (line_with prefix symbol.name (of_text symbol.kind text))
+  text_of_kind s symbol at text held Boolean is good = absurd (false≢true good)
+  text_of_kind s symbol at text held Tristate is good = absurd (false≢true good)
+  text_of_kind s symbol at text held Text is good = text_says s symbol at text held (ap (λ k. user_text_fits k text) is ∙ good)
+  text_of_kind s symbol at text held Int is good = number_says s symbol at text held Int is good (λ e. e) refl (no_int is)
+  text_of_kind s symbol at text held Hex is good = number_says s symbol at text held Hex is good (λ e. e) refl (no_hex is)
+
+  by_held : (s : ℕ) (symbol : Symbol) → slice_get tree.symbols s ≡ Some symbol → symbol.choice ≡ None → (held : UnitValue) → slice_get values (unit_of tree s) ≡ Some held → symbol_value_fits (Some symbol) held ≡ true
+      → IsOwnLine prefix tree values (line_with prefix symbol.name (seen_in tree values s symbol None))
+  by_held s symbol at out (TriValue t) has good =
+      let F : Option UnitValue → Bool → Seen = λ h b. cond b (seen_as_tri symbol.kind (tri_of h)) (record { kind = symbol.kind; tri = N; text = text_of h }) in
+      let seen : seen_in tree values s symbol None ≡ seen_as_tri symbol.kind t = ap (λ h. F h (is_tri_kind symbol.kind)) has ∙ ap (F (Some (TriValue t))) (tri_kind symbol.kind t good) in
+      subst (λ e. IsOwnLine prefix tree values (line_with prefix symbol.name e)) (sym seen)
+      (record { saying = assigns (unit_of tree s) (TriUser t); reads = tri_line prefix valid tree sound s symbol at symbol.kind t refl out good; own = ap (option_and_then as_user) has })
+  by_held s symbol at out (TextValue text) has good =
+      let F : Option UnitValue → Bool → Seen = λ h b. cond b (seen_as_tri symbol.kind (tri_of h)) (record { kind = symbol.kind; tri = N; text = text_of h }) in
+      let seen : seen_in tree values s symbol None ≡ record { kind = symbol.kind; tri = N; text = text } = ap (λ h. F h (is_tri_kind symbol.kind)) has ∙ ap (F (Some (TextValue text))) (text_kind symbol.kind text good) in
+      subst (λ e. IsOwnLine prefix tree values (line_with prefix symbol.name e)) (sym seen) (text_of_kind s symbol at text (ap (option_and_then as_user) has) symbol.kind refl good)
+  by_held s symbol at out (MemberValue m) has good = absurd (false≢true good)
+
+  outside : (s : ℕ) (symbol : Symbol) → slice_get tree.symbols s ≡ Some symbol → symbol.choice ≡ None → IsOwnLine prefix tree values (line_with prefix symbol.name (seen_in tree values s symbol None))
+  unfolding value_fits
+  outside s symbol at out =
+      let own = sound.own_units s symbol at out in
+      let here : slice_get tree.units (unit_of tree s) ≡ Some (of_symbol s) = ap (slice_get tree.units) (unit_is tree sound s own.0 symbol None at out own.1) ∙ own.1 in
+      let below = inside tree.units (unit_of tree s) (of_symbol s) here in
+      let len = fits.0 in
+      let held = get-some values (unit_of tree s) (omega (arith, below, len)) in
+      let good : value_fits tree (unit_of tree s) held.0 ≡ true = subst (λ o. IfSome o (λ v. IsTrue (value_fits tree (unit_of tree s) v))) held.1 (fits.1 (unit_of tree s) below) in
+      by_held s symbol at out held.0 held.1 (sym (ap (λ o. unit_value_fits tree o held.0) here ∙ ap (λ o. symbol_value_fits o held.0) at) ∙ good)
+
+  -- a member that isn't selected
+  n_line : (s c : ℕ) (symbol : Symbol) → slice_get tree.symbols s ≡ Some symbol → symbol.choice ≡ Some c → (t : Tri) → t ≡ N → IsOwnLine prefix tree values (line_with prefix symbol.name (seen_as_tri symbol.kind t))
+  n_line s c symbol at within t is =
+      let kind = sound.bool_members s c symbol at within in
+      let line : IsLine prefix tree (line_with prefix symbol.name (seen_as_tri Boolean N)) silent = subst (IsLine prefix tree (unset_line prefix symbol.name)) (ap (unset_saying tree s symbol) within) (not_set_line prefix valid tree sound s symbol at) in
+      record { saying = silent; own = tt; reads = subst (λ k. IsLine prefix tree (line_with prefix symbol.name (seen_as_tri k t)) silent) (sym kind) (subst (λ x. IsLine prefix tree (line_with prefix symbol.name (seen_as_tri Boolean x)) silent) (sym is) line) }
+
+  member_by_held : (s c : ℕ) (symbol : Symbol) → slice_get tree.symbols s ≡ Some symbol → symbol.choice ≡ Some c → (o : Option UnitValue) → slice_get values (unit_of tree s) ≡ o
+      → IsOwnLine prefix tree values (line_with prefix symbol.name (seen_as_tri symbol.kind (tri_if_chosen s (member_of o))))
+  member_by_held s c symbol at within None has = n_line s c symbol at within N refl
+  member_by_held s c symbol at within (Some (TriValue t)) has = n_line s c symbol at within N refl
+  member_by_held s c symbol at within (Some (TextValue t)) has = n_line s c symbol at within N refl
+  member_by_held s c symbol at within (Some (MemberValue None)) has = n_line s c symbol at within N refl
+  member_by_held s c symbol at within (Some (MemberValue (Some m))) has = elim (cases_Bool (m == s)) [
+    | inl same ↦
+        let kind = sound.bool_members s c symbol at within in
+        let line = member_line prefix valid tree sound s symbol at c within kind in
+        let tri : cond (m == s) Y N ≡ Y = ap (λ b. cond b Y N) same in
+        record {
+          saying = assigns (unit_of tree s) (MemberUser s);
+          reads = subst (λ k. IsLine prefix tree (line_with prefix symbol.name (seen_as_tri k (cond (m == s) Y N))) (assigns (unit_of tree s) (MemberUser s))) (sym kind)
+              (subst (λ t. IsLine prefix tree (line_with prefix symbol.name (seen_as_tri Boolean t)) (assigns (unit_of tree s) (MemberUser s))) (sym tri) line);
+          own = ap (option_and_then as_user) has ∙ ap (λ n. Some (MemberUser n)) (eqb-true m s same);
+        }
+    | inr other ↦ n_line s c symbol at within (cond (m == s) Y N) (ap (λ b. cond b Y N) other)
+  ]
+
+  within_choice : (s c : ℕ) (symbol : Symbol) → slice_get tree.symbols s ≡ Some symbol → symbol.choice ≡ Some c → IsOwnLine prefix tree values (line_with prefix symbol.name (seen_in tree values s symbol (Some c)))
+  within_choice s c symbol at within =
+      let own = sound.units_of_members s c symbol at within in
+      let here : slice_get tree.units (unit_of tree s) ≡ Some (of_choice c) = ap (slice_get tree.units) (unit_is tree sound s own.0 symbol (Some c) at within own.1) ∙ own.1 in
+      let place = place_is tree sound (unit_of tree s) (of_choice c) here in
+      member_by_held s c symbol at within (slice_get values (place_of_unit tree (of_choice c))) (ap (slice_get values) (sym place))
+
+  at_choice : (s : ℕ) (symbol : Symbol) → slice_get tree.symbols s ≡ Some symbol → (c : Option ℕ) → symbol.choice ≡ c → IsOwnLine prefix tree values (line_with prefix symbol.name (seen_in tree values s symbol c))
+  at_choice s symbol at None out = outside s symbol at out
+  at_choice s symbol at (Some c) within = within_choice s c symbol at within
+
+  at_symbol : (s : ℕ) (symbol : Symbol) (o : Option Symbol) → slice_get tree.symbols s ≡ o → o ≡ Some symbol → IsOwnLine prefix tree values (line_if_seen prefix o (option_map (λ (x : Symbol). seen_in tree values s x x.choice) o))
+  at_symbol s symbol None at is = cc
+  at_symbol s symbol (Some x) at is = at_choice s x at x.choice refl
+
+  -- the line of each symbol
+  pub own_line : (s : ℕ) (symbol : Symbol) → slice_get tree.symbols s ≡ Some symbol → IsOwnLine prefix tree values (symbol_line prefix tree values s)
+  unfolding symbol_line
+  own_line s symbol at = at_symbol s symbol (slice_get tree.symbols s) refl at

@@ -1,0 +1,274 @@
+-- A value that isn't lifted, as its own user value, gives itself again: the values' half of the way back of full files.
+use Rattle.std.proofs.Common.{◌≡◌, ◌⊎◌, inl, inr, ℕ, ◌<◌, Bool, true, false, not, ◌&&◌, ◌||◌, cond, IsTrue, List, [], Option, Some, None, length, slice_get, refl, sym, ◌∙◌, ap, subst, unwrap_or, pos}
+use Rattle.std.specs.Option.{option_and_then}
+use Rattle.std.proofs.lemmas.Bool.{cases_Bool, false≢true}
+use Rattle.kc_value.specs.declared.tri.Tri.{Tri}
+use Rattle.kc_value.specs.declared.tri.Tri.TheVariants.{N, M, Y}
+use Rattle.kc_value.specs.declared.value.Kind.{Kind}
+use Rattle.kc_value.specs.declared.value.Kind.TheVariants.{Bool as Boolean, Tristate, Text, Int, Hex}
+use Rattle.kc_value.specs.Tri.{tri_and, tri_or}
+use Rattle.kc_value.specs.Number.{number_of_text, int_text, hex_text}
+use Rattle.kc_tree_model.specs.Trees.{Whole, Symbol, Choice, TreeUnit, of_symbol, of_choice}
+use Rattle.kc_system.specs.Solutions.{user_of, Solves, FitsUsers}
+use Rattle.kc_rules_model.specs.declared.profile.Profile.{Profile}
+use Rattle.kc_rules_model.specs.declared.values.UnitValue.{UnitValue}
+use Rattle.kc_rules_model.specs.declared.values.UnitValue.TheVariants.{Tri as TriValue, Text as TextValue, Member as MemberValue}
+use Rattle.kc_rules_model.specs.declared.values.UserValue.{UserValue}
+use Rattle.kc_rules_model.specs.declared.values.UserValue.TheVariants.{Tri as TriUser, Text as TextUser, Member as MemberUser}
+use Rattle.kc_rules_model.specs.Kinds.{is_n, y_for_m, is_bool, is_tristate, largest}
+use Rattle.kc_rules_model.specs.Rule.{rule, rule_of_unit, rule_of_symbol, rule_of_choice, symbol_rule, tri_rule, string_rule, number_rule, choice_rule, as_user, is_visible, visibility, conditions, modules_value, unassigned, selected, leaves_no_m, default_text, number_default, is_within, active_range, or_else, is_shown, is_visible_member, assigned_text}
+use Rattle.kc_rules_model.specs.Reports.{IsLifted}
+use Rattle.kc_rules_model.specs.RestoreLaw.{rules_restore, promoted_if}
+use Rattle.kc_rules_model.specs.Shapes.{user_fits, unit_user_fits, symbol_user_fits, user_text_fits}
+use Rattle.kc_minimal_model.proofs.Canonical.{decides}
+
+-- a bool: l and p as in `tri_rule`, t what is promoted to the visibility
+bool_table : (l : Bool) (t un s : Tri) → promoted_if l (y_for_m (tri_or (cond (not (is_n (y_for_m t))) (tri_and (promoted_if l (y_for_m (tri_or un s))) (y_for_m t)) un) s)) ≡ promoted_if l (y_for_m (tri_or un s))
+bool_table true N N N = refl
+bool_table true N N M = refl
+bool_table true N N Y = refl
+bool_table true N M N = refl
+bool_table true N M M = refl
+bool_table true N M Y = refl
+bool_table true N Y N = refl
+bool_table true N Y M = refl
+bool_table true N Y Y = refl
+bool_table true M N N = refl
+bool_table true M N M = refl
+bool_table true M N Y = refl
+bool_table true M M N = refl
+bool_table true M M M = refl
+bool_table true M M Y = refl
+bool_table true M Y N = refl
+bool_table true M Y M = refl
+bool_table true M Y Y = refl
+bool_table true Y N N = refl
+bool_table true Y N M = refl
+bool_table true Y N Y = refl
+bool_table true Y M N = refl
+bool_table true Y M M = refl
+bool_table true Y M Y = refl
+bool_table true Y Y N = refl
+bool_table true Y Y M = refl
+bool_table true Y Y Y = refl
+bool_table false N N N = refl
+bool_table false N N M = refl
+bool_table false N N Y = refl
+bool_table false N M N = refl
+bool_table false N M M = refl
+bool_table false N M Y = refl
+bool_table false N Y N = refl
+bool_table false N Y M = refl
+bool_table false N Y Y = refl
+bool_table false M N N = refl
+bool_table false M N M = refl
+bool_table false M N Y = refl
+bool_table false M M N = refl
+bool_table false M M M = refl
+bool_table false M M Y = refl
+bool_table false M Y N = refl
+bool_table false M Y M = refl
+bool_table false M Y Y = refl
+bool_table false Y N N = refl
+bool_table false Y N M = refl
+bool_table false Y N Y = refl
+bool_table false Y M N = refl
+bool_table false Y M M = refl
+bool_table false Y M Y = refl
+bool_table false Y Y N = refl
+bool_table false Y Y M = refl
+bool_table false Y Y Y = refl
+
+unseen : (top un a : Tri) → is_n top ≡ true → cond (not (is_n top)) (tri_and a top) un ≡ un
+unseen N un a h = refl
+unseen M un a h = absurd (false≢true h)
+unseen Y un a h = absurd (false≢true h)
+
+text_own : (seen : Bool) (t d : List ℕ) → d ≡ t → unwrap_or (cond seen (Some t) None) d ≡ t
+text_own true t d e = refl
+text_own false t d e = e
+
+number_own : (seen : Bool) (within : List ℕ → Bool) (t d : List ℕ) → d ≡ t → unwrap_or (option_and_then (λ x. cond (within x) (Some x) None) (cond seen (Some t) None)) d ≡ t
+number_own false within t d e = e
+number_own true within t d e = go (within t) where
+  go : (b : Bool) → unwrap_or (cond b (Some t) None) d ≡ t
+  go true = refl
+  go false = e
+
+member_own : (shown seen : Bool) (s : ℕ) (other : Option ℕ) → cond shown (or_else None other) None ≡ Some s → cond shown (or_else (cond seen (Some s) None) other) None ≡ Some s
+member_own true true s other e = refl
+member_own true false s other e = e
+member_own false seen s other e = e
+
+no_text : (seen : Bool) (d : List ℕ) → unwrap_or (cond {A = Option (List ℕ)} seen None None) d ≡ d
+no_text true d = refl
+no_text false d = refl
+
+no_number : (seen : Bool) (within : List ℕ → Bool) (d : List ℕ) → unwrap_or (option_and_then (λ (x : List ℕ). cond (within x) (Some x) None) (cond {A = Option (List ℕ)} seen None None)) d ≡ d
+no_number true within d = refl
+no_number false within d = refl
+
+-- the value without a user value, as its own user value
+abbrev Own : (Option UserValue → UnitValue) → Type 0
+Own f = (y : UserValue) → as_user (f None) ≡ Some y → f (Some y) ≡ f None
+
+module _ (profile : Profile) (tree : Whole) (values : List UnitValue) where
+  own_bool : (symbol : Symbol) → symbol.kind ≡ Boolean → Own (λ x. TriValue (tri_rule profile tree symbol x values))
+  own_bool symbol e y h =
+      let b = is_bool symbol.kind || (is_tristate symbol.kind && is_n (modules_value tree values)) in
+      let yes_bool : b ≡ true = ap (λ k. is_bool k || (is_tristate k && is_n (modules_value tree values))) e in
+      let l = leaves_no_m profile tree values symbol in
+      let t = largest (conditions tree values symbol.prompts) in
+      let un = unassigned profile tree values symbol in
+      let s = selected tree values symbol in
+      let mine : Some (TriUser (promoted_if l (promoted_if b (tri_or un s)))) ≡ Some y = h in
+      let again : TriUser (promoted_if l (promoted_if b (tri_or un s))) ≡ y = cc in
+      subst (λ z. TriValue (tri_rule profile tree symbol (Some z) values) ≡ TriValue (tri_rule profile tree symbol None values)) again
+      (ap TriValue (subst (λ p. promoted_if l (promoted_if p (tri_or (cond (not (is_n (promoted_if p t))) (tri_and (promoted_if l (promoted_if p (tri_or un s))) (promoted_if p t)) un) s)) ≡ promoted_if l (promoted_if p (tri_or un s))) (sym yes_bool) (bool_table l t un s)))
+
+  own_string : (symbol : Symbol) → Own (λ x. TextValue (string_rule tree symbol x values))
+  own_string symbol y h =
+      let d = default_text tree values symbol in
+      let seen = is_visible tree values symbol in
+      let none : string_rule tree symbol None values ≡ d = no_text seen d in
+      let again : TextUser (string_rule tree symbol None values) ≡ y = cc in
+      subst (λ z. TextValue (string_rule tree symbol (Some z) values) ≡ TextValue (string_rule tree symbol None values)) again
+      (ap TextValue (text_own seen (string_rule tree symbol None values) d (sym none)))
+
+  own_number : (symbol : Symbol) → Own (λ x. TextValue (number_rule tree symbol x values))
+  own_number symbol y h =
+      let d = number_default tree values symbol in
+      let seen = is_visible tree values symbol in
+      let within : List ℕ → Bool = λ text. is_within tree values symbol.kind (active_range tree values symbol) (unwrap_or (number_of_text symbol.kind text) (pos 0)) in
+      let none : number_rule tree symbol None values ≡ d = no_number seen within d in
+      let again : TextUser (number_rule tree symbol None values) ≡ y = cc in
+      subst (λ z. TextValue (number_rule tree symbol (Some z) values) ≡ TextValue (number_rule tree symbol None values)) again
+      (ap TextValue (number_own seen within (number_rule tree symbol None values) d (sym none)))
+
+  own_choice : (choice : Choice) → Own (λ x. MemberValue (choice_rule tree choice x values))
+  own_choice choice y h = go (choice_rule tree choice None values) refl h where
+    go : (o : Option ℕ) → choice_rule tree choice None values ≡ o → as_user (MemberValue o) ≡ Some y → MemberValue (choice_rule tree choice (Some y) values) ≡ MemberValue (choice_rule tree choice None values)
+    go None e h = cc
+    go (Some m) e h =
+        let again : MemberUser m ≡ y = cc in
+        subst (λ z. MemberValue (choice_rule tree choice (Some z) values) ≡ MemberValue (choice_rule tree choice None values)) again
+        (ap MemberValue (member_own (is_shown tree values choice) (is_visible_member tree values m) m _ e ∙ sym e))
+
+  -- a tristate that isn't visible
+  hidden_tri : (symbol : Symbol) → is_n (visibility tree values symbol) ≡ true → (x : Option UserValue) → TriValue (tri_rule profile tree symbol x values) ≡ TriValue (tri_rule profile tree symbol None values)
+  hidden_tri symbol e None = refl
+  hidden_tri symbol e (Some (TextUser t)) = refl
+  hidden_tri symbol e (Some (MemberUser m)) = refl
+  hidden_tri symbol e (Some (TriUser a)) =
+      let b = is_bool symbol.kind || (is_tristate symbol.kind && is_n (modules_value tree values)) in
+      let l = leaves_no_m profile tree values symbol in
+      ap (λ c. TriValue (promoted_if l (promoted_if b (tri_or c (selected tree values symbol))))) (unseen (visibility tree values symbol) (unassigned profile tree values symbol) a e)
+
+  own_symbol : (symbol : Symbol) (kind : Kind) → symbol.kind ≡ kind
+      → (kind ≡ Tristate → is_visible tree values symbol ≡ true → Own (λ x. symbol_rule kind profile tree symbol x values)) → Own (λ x. symbol_rule kind profile tree symbol x values)
+  own_symbol symbol Boolean e lifted = own_bool symbol e
+  own_symbol symbol Text e lifted = own_string symbol
+  own_symbol symbol Int e lifted = own_number symbol
+  own_symbol symbol Hex e lifted = own_number symbol
+  own_symbol symbol Tristate e lifted = elim (cases_Bool (is_n (visibility tree values symbol))) [
+    | inl hidden ↦ λ y h. hidden_tri symbol hidden (Some y)
+    | inr seen ↦ lifted refl (ap not seen)
+  ]
+
+  -- of a visible tristate alone it may be otherwise
+  abbrev NotLifted : Option TreeUnit → Type 0
+  NotLifted unit = (s : ℕ) (symbol : Symbol) → unit ≡ Some (of_symbol s) → slice_get tree.symbols s ≡ Some symbol → symbol.kind ≡ Tristate → is_visible tree values symbol ≡ true
+      → Own (λ x. rule_of_unit profile tree unit x values)
+
+  own_symbol_at : (s : ℕ) (o : Option Symbol) → slice_get tree.symbols s ≡ o → NotLifted (Some (of_symbol s)) → Own (λ x. rule_of_symbol profile tree o x values)
+  own_symbol_at s None e lifted = λ y h. refl
+  own_symbol_at s (Some symbol) e lifted = own_symbol symbol symbol.kind refl (λ kind seen y h.
+      let free = lifted s symbol refl e kind seen y (ap (λ o. as_user (rule_of_symbol profile tree o None values)) e ∙ h) in
+      ap (λ o. rule_of_symbol profile tree o (Some y) values) (sym e) ∙ free ∙ ap (λ o. rule_of_symbol profile tree o None values) e)
+
+  own_choice_at : (o : Option Choice) → Own (λ x. rule_of_choice tree o x values)
+  own_choice_at None = λ y h. refl
+  own_choice_at (Some choice) = own_choice choice
+
+  own_unit : (unit : Option TreeUnit) → NotLifted unit → Own (λ x. rule_of_unit profile tree unit x values)
+  own_unit None lifted = λ y h. refl
+  own_unit (Some (of_symbol s)) lifted = own_symbol_at s (slice_get tree.symbols s) refl lifted
+  own_unit (Some (of_choice c)) lifted = own_choice_at (slice_get tree.choices c)
+
+-- In a solution, a unit that isn't lifted has its value again by that value as its user value.
+pub own_values : (profile : Profile) (tree : Whole) (users : List (Option UserValue)) (values : List UnitValue)
+    → FitsUsers (length tree.units) (λ u x. IsTrue (user_fits tree u x)) users → Solves (length tree.units) (rule profile tree) users values
+    → (u : ℕ) (held : UnitValue) → u < length tree.units → slice_get values u ≡ Some held → (IsLifted profile tree values u → ⊥)
+    → rule profile tree u (as_user held) values ≡ held
+unfolding rule
+own_values profile tree users values fitting solved u held inside has not_lifted =
+    let x = user_of users u in
+    let is : held ≡ rule profile tree u x values = let e = solved.holds u inside in cc (e, has) in
+    elim (decides (rule profile tree u x values) (rule profile tree u None values)) [
+      | inr differs ↦
+          let again = (rules_restore profile tree).restored u x values inside solved.one_each (fitting.1 u inside) differs in
+          ap (λ h. rule profile tree u (as_user h) values) is ∙ ap (λ o. rule profile tree u o values) again.1 ∙ again.3 ∙ sym is
+      | inl same ↦ go (as_user held) refl (is ∙ same)
+    ] where
+      go : (o : Option UserValue) → as_user held ≡ o → held ≡ rule profile tree u None values → rule profile tree u (as_user held) values ≡ held
+      go None e default = ap (λ p. rule profile tree u p values) e ∙ sym default
+      go (Some y) e default =
+          let free : NotLifted profile tree values (slice_get tree.units u) =
+          λ s symbol unit there kind seen z h.
+          let mine : as_user held ≡ Some z = ap as_user default ∙ h in
+          elim (decides (rule profile tree u (as_user held) values) held) [
+            | inl same ↦ ap (λ p. rule profile tree u p values) (sym mine) ∙ same ∙ default
+            | inr differs ↦ absurd (not_lifted (record { s = s; symbol = symbol; value = held; of_unit = unit; is_symbol = there; tristate = ap is_tristate kind; visible = seen; has = has; differs = differs }))
+          ] in
+          ap (λ p. rule profile tree u p values) e ∙ own_unit profile tree values (slice_get tree.units u) free y (ap as_user (sym default) ∙ e) ∙ sym default
+
+hidden_number : (tree : Whole) (values : List UnitValue) (symbol : Symbol) (x : Option UserValue) → is_visible tree values symbol ≡ false → TextValue (number_rule tree symbol x values) ≡ TextValue (number_rule tree symbol None values)
+hidden_number tree values symbol x e =
+    let d = number_default tree values symbol in
+    let within : List ℕ → Bool = λ text. is_within tree values symbol.kind (active_range tree values symbol) (unwrap_or (number_of_text symbol.kind text) (pos 0)) in
+    ap (λ b. TextValue (unwrap_or (option_and_then (λ t. cond (within t) (Some t) None) (cond b (assigned_text x) None)) d)) e
+    ∙ sym (ap (λ b. TextValue (unwrap_or (option_and_then (λ t. cond (within t) (Some t) None) (cond b (assigned_text None) None)) d)) e)
+
+-- A user value of a symbol that isn't visible counts for nothing.
+hidden_symbol : (profile : Profile) (tree : Whole) (values : List UnitValue) (symbol : Symbol) (kind : Kind) (x : Option UserValue) → is_visible tree values symbol ≡ false
+    → symbol_rule kind profile tree symbol x values ≡ symbol_rule kind profile tree symbol None values
+hidden_symbol profile tree values symbol Boolean x e = hidden_tri profile tree values symbol (hidden_is (is_n (visibility tree values symbol)) e) x where
+  hidden_is : (b : Bool) → not b ≡ false → b ≡ true
+  hidden_is true e = refl
+  hidden_is false e = absurd (false≢true (sym e))
+hidden_symbol profile tree values symbol Tristate x e = hidden_tri profile tree values symbol (hidden_is (is_n (visibility tree values symbol)) e) x where
+  hidden_is : (b : Bool) → not b ≡ false → b ≡ true
+  hidden_is true e = refl
+  hidden_is false e = absurd (false≢true (sym e))
+hidden_symbol profile tree values symbol Text x e =
+    let d = default_text tree values symbol in
+    ap (λ b. TextValue (unwrap_or (cond b (assigned_text x) None) d)) e ∙ sym (ap (λ b. TextValue (unwrap_or (cond b (assigned_text None) None) d)) e)
+hidden_symbol profile tree values symbol Int x e = hidden_number tree values symbol x e
+hidden_symbol profile tree values symbol Hex x e = hidden_number tree values symbol x e
+
+pub hidden_values : (profile : Profile) (tree : Whole) (values : List UnitValue) (u s : ℕ) (symbol : Symbol) (x : Option UserValue)
+    → slice_get tree.units u ≡ Some (of_symbol s) → slice_get tree.symbols s ≡ Some symbol → is_visible tree values symbol ≡ false
+    → rule profile tree u x values ≡ rule profile tree u None values
+unfolding rule
+hidden_values profile tree values u s symbol x unit there hidden =
+    ap (λ o. rule_of_unit profile tree o x values) unit ∙ ap (λ o. rule_of_symbol profile tree o x values) there ∙ hidden_symbol profile tree values symbol symbol.kind x hidden
+    ∙ sym (ap (λ o. rule_of_unit profile tree o None values) unit ∙ ap (λ o. rule_of_symbol profile tree o None values) there)
+
+-- A number's empty value is what it has without a user value.
+pub empty_numbers : (profile : Profile) (tree : Whole) (users : List (Option UserValue)) (values : List UnitValue)
+    → FitsUsers (length tree.units) (λ u x. IsTrue (user_fits tree u x)) users → Solves (length tree.units) (rule profile tree) users values
+    → (u s : ℕ) (symbol : Symbol) → u < length tree.units → slice_get tree.units u ≡ Some (of_symbol s) → slice_get tree.symbols s ≡ Some symbol → (symbol.kind ≡ Int) ⊎ (symbol.kind ≡ Hex)
+    → slice_get values u ≡ Some (TextValue []) → rule profile tree u None values ≡ TextValue []
+unfolding user_fits int_text hex_text
+empty_numbers profile tree users values fitting solved u s symbol inside unit there number has =
+    let x = user_of users u in
+    let is : TextValue [] ≡ rule profile tree u x values = let e = solved.holds u inside in cc (e, has) in
+    elim (decides (rule profile tree u x values) (rule profile tree u None values)) [
+      | inl same ↦ sym (is ∙ same)
+      | inr differs ↦
+          let again = (rules_restore profile tree).restored u x values inside solved.one_each (fitting.1 u inside) differs in
+          let mine : TextUser [] ≡ again.0 = let e = ap as_user is ∙ again.1 in cc in
+          let fits : unit_user_fits tree (Some (of_symbol s)) (TextUser []) ≡ true = ap (λ o. unit_user_fits tree o (TextUser [])) (sym unit) ∙ ap (λ y. user_fits tree u y) mine ∙ again.2 in
+          let wrong : user_text_fits symbol.kind [] ≡ true = ap (λ o. symbol_user_fits o (TextUser [])) (sym there) ∙ fits in
+          elim number [ inl k ↦ absurd (false≢true (sym (ap (λ c. user_text_fits c []) k) ∙ wrong)) | inr k ↦ absurd (false≢true (sym (ap (λ c. user_text_fits c []) k) ∙ wrong)) ]
+    ]

@@ -1,0 +1,32 @@
+-- The limits that written files keep.
+use Rattle.std.specs.Prelude.{◌≡◌, ◌≤◌, ℕ, true, List, length, map}
+use Rattle.kc_tree_model.specs.Trees.{Whole}
+use Rattle.kc_rules_model.specs.declared.profile.Profile.{Profile}
+use Rattle.kc_rules_model.specs.declared.values.UnitValue.{UnitValue}
+use Rattle.kc_rules_model.specs.SettledTrees.{IsSettledTree}
+use Rattle.kc_dotconfig_model.specs.Names.{is_prefix}
+use Rattle.kc_dotconfig_model.specs.LoadFaults.{MOST_BYTES, MOST_LINES, IsAccepted}
+use Rattle.kc_dotconfig_model.specs.Files.{file_lines}
+use Rattle.kc_minimal_model.specs.Spelling.{symbol_line}
+use Rattle.kc_minimal_model.specs.Laws.{ForSolutions}
+use Rattle.kc_minimal_model.specs.MinimalFile.{minimal_file, minimal_symbols}
+use Rattle.kc_minimal_model.specs.Loading.{ReadsTo, Loads, has_short_lines}
+
+-- the lines of a minimal file are its symbols' lines, in order
+abbrev pub MinimalFileLines : Type 0
+MinimalFileLines = (prefix : List ℕ) → is_prefix prefix ≡ true
+    → ForSolutions (λ profile tree values. file_lines (minimal_file prefix profile tree values)
+    ≡ map (symbol_line prefix tree values) (minimal_symbols profile tree values))
+
+-- a file that can be read is accepted if it is within the limits
+abbrev pub ReadFilesAreAccepted : Type 0
+ReadFilesAreAccepted = (prefix : List ℕ) (profile : Profile) (tree : Whole) (bytes : List ℕ) (values : List UnitValue)
+    → ReadsTo prefix profile tree bytes values → length bytes ≤ MOST_BYTES → length (file_lines bytes) ≤ MOST_LINES
+    → has_short_lines bytes ≡ true → IsAccepted prefix tree bytes
+
+-- a minimal file of an accepted file passes no limit but the size
+abbrev pub MinimalFilesAreAccepted : Type 0
+MinimalFilesAreAccepted = (prefix : List ℕ) (profile : Profile) (tree : Whole) (bytes : List ℕ) (values : List UnitValue)
+    → is_prefix prefix ≡ true → IsSettledTree tree → Loads prefix profile tree bytes values
+    → length (minimal_file prefix profile tree values) ≤ MOST_BYTES
+    → Loads prefix profile tree (minimal_file prefix profile tree values) values
