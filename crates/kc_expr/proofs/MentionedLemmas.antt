@@ -15,9 +15,9 @@ use Rattle.kc_expr.specs.declared.store.Store.{Store}
 use Rattle.kc_expr.specs.Arena.{Exprs, stands_for}
 use Rattle.kc_expr.specs.Expr.{Expr, alone, related, negated, both, either, shown}
 use Rattle.kc_expr.specs.Mentioned.{names_in}
-use Rattle.kc_expr.specs.Nodes.{operand_of, expr_of, some_node}
+use Rattle.kc_expr.specs.checker.Nodes.{operand_of, expr_of, some_node}
 use Rattle.kc_expr.specs.Operand.{operand_alone}
-use Rattle.kc_expr.specs.Store.{names_held, exprs_in, IsSound}
+use Rattle.kc_expr.specs.checker.Store.{names_held, exprs_in, IsSound}
 use Rattle.kc_expr.specs.Words.{words}
 use Rattle.kc_expr.specs.Lookup.{AreDistinct}
 use Rattle.kc_expr.proofs.StoreLemmas.{within_nodes, node_of}

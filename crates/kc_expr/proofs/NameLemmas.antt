@@ -2,7 +2,7 @@
 use Rattle.std.proofs.Common.{◌≡◌, length, take, ap, sym, ◌∙◌}
 use Rattle.std.proofs.Math.Seq.{take-length}
 use Rattle.kc_expr.specs.declared.store.Store.{Store}
-use Rattle.kc_expr.specs.Store.{exprs_in, IsSound, Extends}
+use Rattle.kc_expr.specs.checker.Store.{exprs_in, IsSound, Extends}
 use Rattle.kc_expr.proofs.StoreLemmas.{grows, length-nodes}
 
 -- no node more, so the same expressions

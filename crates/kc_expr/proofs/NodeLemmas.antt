@@ -12,7 +12,7 @@ use Rattle.kc_expr.specs.declared.node.Node.{Node}
 use Rattle.kc_expr.specs.declared.node.Node.TheVariants.{Alone, Related, Negated, Both, Either, Shown}
 use Rattle.kc_expr.specs.Arena.{Grows, Stands}
 use Rattle.std.proofs.lemmas.Bool.{cases_lt}
-use Rattle.kc_expr.specs.Nodes.{expr_of, exprs_after, exprs_of, at, NodeFits, AreNodes, some_node}
+use Rattle.kc_expr.specs.checker.Nodes.{expr_of, exprs_after, exprs_of, at, NodeFits, AreNodes, some_node}
 
 pub tri_and_comm : (a b : Tri) → tri_and a b ≡ tri_and b a
 tri_and_comm N N = refl

@@ -7,7 +7,7 @@ use Rattle.kc_expr.specs.declared.token.TokenKind.{TokenKind}
 use Rattle.kc_expr.specs.declared.token.TokenKind.TheVariants.{Word, Quoted, Relation, Not, And, Or, Open, Close}
 use Rattle.kc_expr.specs.Expr.{Expr, Operand, named, quoted, alone, related, negated, both, either}
 use Rattle.kc_expr.specs.Grammar.{Read, on_read, beyond, chain, is_and, is_or, is_close, closed, behind_operand, right_operand, constant_or, quoted_text, operand_of_kind, read_factor, read_ands, read_ors, whole, read_expr}
-use Rattle.kc_expr.specs.Parsing.{first_kind, first_operand, first_relation, relation_of, operand_else, operand_read, factor_read, ands_read, ors_read, whole_read}
+use Rattle.kc_expr.specs.checker.Parsing.{first_kind, first_operand, first_relation, relation_of, operand_else, operand_read, factor_read, ands_read, ors_read, whole_read}
 use Rattle.kc_expr.specs.Token.{Piece}
 use Rattle.kc_expr.proofs.GrammarComplete.{Stops, chain_same, chain_stops, factor_short, ands_short}
 

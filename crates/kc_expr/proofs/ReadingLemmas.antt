@@ -9,9 +9,9 @@ use Rattle.kc_expr.specs.declared.store.Store.{Store}
 use Rattle.kc_expr.specs.declared.token.Token.{Token as CodeToken}
 use Rattle.kc_expr.specs.Expr.{Expr}
 use Rattle.kc_expr.specs.Grammar.{extent, is_operand_kind, is_close, read_expr, IsExpr, ors, fault_of}
-use Rattle.kc_expr.specs.Parsing.{whole_read, IsParsedWhole, IsRefusedWhole}
+use Rattle.kc_expr.specs.checker.Parsing.{whole_read, IsParsedWhole, IsRefusedWhole}
 use Rattle.kc_expr.specs.Reading.{expr_at, expr_end, IsRead, IsNotRead}
-use Rattle.kc_expr.specs.Store.{exprs_in}
+use Rattle.kc_expr.specs.checker.Store.{exprs_in}
 use Rattle.kc_expr.specs.Token.{Piece, pieces_of, piece_of}
 use Rattle.kc_expr.proofs.GrammarComplete.{expr_complete}
 use Rattle.kc_expr.proofs.GrammarLaws.{expr_sound}

@@ -1,5 +1,5 @@
 -- What the lists of a store stand for, as they grow.
-use Rattle.std.proofs.Common.{◌≡◌, ℕ, suc, ◌+◌, ◌<◌, ◌≤◌, List, [], ◌∷◌, ◌++◌, length, get_or, take, drop, map, Bool, true, false, cond, refl, ap, sym, ◌∙◌, subst, arith, length-append, append_assoc, append-nil}
+use Rattle.std.proofs.Common.{◌≡◌, ℕ, suc, ◌+◌, ◌^◌, ◌<◌, ◌≤◌, List, [], ◌∷◌, ◌++◌, length, get_or, take, drop, map, Bool, true, false, cond, refl, ap, sym, ◌∙◌, subst, arith, length-append, append_assoc, append-nil}
 use Rattle.std.specs.Prelude.{string_bytes}
 use Rattle.std.proofs.lemmas.List.{take-append-drop, length-take, get_or_append_left, map-append}
 use Rattle.std.proofs.Math.Seq.{take-append_seam, take-length}
@@ -12,8 +12,8 @@ use Rattle.kc_expr.specs.declared.store.Store.{Store}
 use Rattle.kc_expr.specs.Arena.{Exprs, stands_for, Stands, Grows}
 use Rattle.kc_expr.specs.Expr.{Expr, alone, related, constant, named, quoted}
 use Rattle.kc_expr.specs.Lookup.{AreDistinct}
-use Rattle.kc_expr.specs.Nodes.{operand_of, expr_of, exprs_after, exprs_of, LeafFits, NodeFits, some_node}
-use Rattle.kc_expr.specs.Store.{names_held, exprs_in, IsSound, Extends}
+use Rattle.kc_expr.specs.checker.Nodes.{operand_of, expr_of, exprs_after, exprs_of, LeafFits, NodeFits, some_node}
+use Rattle.kc_expr.specs.checker.Store.{names_held, exprs_in, IsSound, Extends}
 use Rattle.kc_expr.proofs.NodeLemmas.{at_node, nodes_push, stands_last, length-exprs}
 
 -- what a node stands for, by its form
@@ -136,10 +136,12 @@ module _ (old new : Store) (node : Node) (sound : IsSound old) (nodes : new.node
     nodes = rw nodes (take-append_seam old.nodes.items (node ∷ []));
   }
 
-  pub push_sound : NodeFits (length (names_held old)) (length old.texts.items) (length old.nodes.items) node → IsSound new
-  push_sound f = record {
+  pub push_sound : length old.nodes.items < 2 ^ 32 → NodeFits (length (names_held old)) (length old.texts.items) (length old.nodes.items) node → IsSound new
+  push_sound few f = record {
     nodes = rw (nodes, names, texts) (nodes_push (length (names_held old)) (length old.texts.items) old.nodes.items node sound.nodes f);
     distinct = rw names sound.distinct;
+    few_names = rw names sound.few_names;
+    few_nodes = rw nodes (omega (arith, few, length-append old.nodes.items (node ∷ [])));
   }
 
   pub push_stands : (id : ℕ) → id ≡ length old.nodes.items → Stands (exprs_in new) id (expr_of (names_held old) old.texts.items (exprs_in old).nodes node)
@@ -154,10 +156,12 @@ pub within_nodes : (a : Exprs) (s : Store) (i : ℕ) → exprs_in s ≡ a → i 
 within_nodes a s i e h = omega (arith, h, ap (λ (x : Exprs). length x.nodes) e, length-nodes s)
 
 -- names and texts that come behind keep a store sound
-pub sound_on : (old new : Store) → IsSound old → Extends old new → new.nodes.items ≡ old.nodes.items → AreDistinct (names_held new) → IsSound new
-sound_on old new sound e same d = record {
+pub sound_on : (old new : Store) → IsSound old → Extends old new → new.nodes.items ≡ old.nodes.items → AreDistinct (names_held new) → length new.names.keys ≤ 2 ^ 32 → IsSound new
+sound_on old new sound e same d few = record {
   nodes = rw same (λ k l. fits_kept (names_held old) old.texts.items (names_held new) new.texts.items (prefix_map string_bytes old.names.keys new.names.keys e.names) e.texts k (get_or old.nodes.items k some_node) (sound.nodes k l));
   distinct = d;
+  few_names = few;
+  few_nodes = rw same sound.few_nodes;
 }
 
 -- an operand stays what it was
@@ -178,3 +182,7 @@ stands_node s i e h = omega (arith, h.within, length-nodes s)
 pub put_prefix : {X : Type 0} (b : Bool) (xs : List X) (x : X) → take (length xs) (cond b xs (xs ++ x ∷ [])) ≡ xs
 put_prefix true xs x = take-length xs
 put_prefix false xs x = take-append_seam xs (x ∷ [])
+
+pub put_long : {X : Type 0} (b : Bool) (xs : List X) (x : X) → length (cond b xs (xs ++ x ∷ [])) ≤ length xs + 1
+put_long true xs x = omega arith
+put_long false xs x = omega (arith, length-append xs (x ∷ []))

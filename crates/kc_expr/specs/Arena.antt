@@ -3,7 +3,7 @@ use Rattle.std.specs.Prelude.{◌≡◌, ℕ, ◌<◌, List, length, take, slice
 use Rattle.std.specs.Coded.{Coded, code_by, coded×, coded_ℕ, coded_list}
 use Rattle.kc_value.specs.declared.tri.Tri.TheVariants.{N}
 use Rattle.kc_expr.specs.Expr.{Expr, alone, constant}
-use Rattle.kc_expr.specs.ExprCode.{expr_code}
+use Rattle.kc_expr.specs.checker.ExprCode.{expr_code}
 
 -- the names held, in order of first sight, and the expression for which each node stands
 pub record Exprs : Type 0 where

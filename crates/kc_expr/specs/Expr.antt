@@ -115,25 +115,25 @@ compared names a b =
     let texts = slice_cmp nat_cmp (operand_text names a) (operand_text names b) in
     if is_string names a && is_string names b then texts else compared_by (operand_number names a) (operand_number names b) texts
 
-abbrev pub holds : Relop → Ordering → Bool
-holds Equal less = false
-holds Equal equal = true
-holds Equal greater = false
-holds NotEqual less = true
-holds NotEqual equal = false
-holds NotEqual greater = true
-holds Less less = true
-holds Less equal = false
-holds Less greater = false
-holds Greater less = false
-holds Greater equal = false
-holds Greater greater = true
-holds LessEqual less = true
-holds LessEqual equal = true
-holds LessEqual greater = false
-holds GreaterEqual less = false
-holds GreaterEqual equal = true
-holds GreaterEqual greater = true
+abbrev pub relation_holds : Relop → Ordering → Bool
+relation_holds Equal less = false
+relation_holds Equal equal = true
+relation_holds Equal greater = false
+relation_holds NotEqual less = true
+relation_holds NotEqual equal = false
+relation_holds NotEqual greater = true
+relation_holds Less less = true
+relation_holds Less equal = false
+relation_holds Less greater = false
+relation_holds Greater less = false
+relation_holds Greater equal = false
+relation_holds Greater greater = true
+relation_holds LessEqual less = true
+relation_holds LessEqual equal = true
+relation_holds LessEqual greater = false
+relation_holds GreaterEqual less = false
+relation_holds GreaterEqual equal = true
+relation_holds GreaterEqual greater = true
 
 abbrev pub unless_n : Tri → Tri
 unless_n N = N
@@ -142,7 +142,7 @@ unless_n Y = Y
 
 abbrev pub value : Names → Expr → Tri
 value names (alone a) = operand_value names a
-value names (related op a b) = if holds op (compared names a b) then Y else N
+value names (related op a b) = if relation_holds op (compared names a b) then Y else N
 value names (negated e) = tri_not (value names e)
 value names (both a b) = tri_and (value names a) (value names b)
 value names (either a b) = tri_or (value names a) (value names b)

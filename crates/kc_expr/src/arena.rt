@@ -1,5 +1,5 @@
 //! Expressions that share their parts.
-ghost use Rattle.std.specs.Prelude.{◌≡◌, ◌<◌, ◌≤◌, ◌⊎◌, ◌↔◌, ◌++◌, ℕ, length, map, [], All, Contains, IfOk, IfErr, IfSome, OnOk, OnErr, Some, option_map, slice_index_or};
+ghost use Rattle.std.specs.Prelude.{◌≡◌, ◌<◌, ◌≤◌, ◌⊎◌, ◌↔◌, ◌++◌, ◌^◌, ℕ, length, map, [], All, Contains, IfOk, IfErr, IfSome, OnOk, OnErr, Some, option_map, slice_index_or};
 ghost use Rattle.std.specs.List.Sorted.{IsStrictlyIncreasing};
 ghost use Rattle.kc_expr.specs.declared.fault.ExprKind.TheVariants.{OutOfMemory};
 
@@ -13,7 +13,7 @@ use super::operand::Operand;
 use super::parse::extent_len;
 use super::store::Store;
 use super::token::Token;
-use kc_value::Tri;
+use kc_value::{Seed, Tri};
 use std::alloc::{AllocError, Global};
 use std::marker::Model;
 
@@ -33,7 +33,7 @@ impl Model for Arena {
 
     ghost coded = { exprs_code };
 
-    ghost use Rattle.kc_expr.specs.ArenaView.{shown_exprs, holds_sound};
+    ghost use Rattle.kc_expr.specs.checker.ArenaView.{shown_exprs, holds_sound};
 
     ghost view = { shown_exprs };
 
@@ -51,13 +51,21 @@ impl Arena {
     ghost use Rattle.kc_expr.specs.Token.{pieces_of};
     ghost use Rattle.kc_expr.specs.Words.{words};
 
-    /// No names and no nodes. Takes no memory.
+    /// No names and no nodes. Takes no memory. Names are hashed with the same seed in each run.
     pub fn new(alloc: Global) -> Arena
         ensures names { result.names ≡ [] }
         ensures nodes { result.nodes ≡ [] }
     {
+        Arena::with_seed(alloc, Seed::fixed())
+    }
+
+    /// No names and no nodes. Takes no memory. Names are hashed with a seed, on which no answer depends.
+    pub fn with_seed(alloc: Global, seed: Seed) -> Arena
+        ensures names { result.names ≡ [] }
+        ensures nodes { result.nodes ≡ [] }
+    {
         Arena {
-            store: Store::new(alloc),
+            store: Store::new(alloc, seed),
         }
     }
 
@@ -113,7 +121,7 @@ impl Arena {
         ensures memory { IfErr result (λ e. e.kind ≡ OutOfMemory) }
         ensures err { OnErr result (self.new ≡ self.old) }
     {
-        let id = self.store.push(Node::Both(a.index(), b.index()))?;
+        let id = self.store.push(Node::Both(a.number(), b.number()))?;
         Ok(ExprId::at(id))
     }
 
@@ -125,20 +133,22 @@ impl Arena {
         ensures memory { IfErr result (λ e. e.kind ≡ OutOfMemory) }
         ensures err { OnErr result (self.new ≡ self.old) }
     {
-        let id = self.store.push(Node::Shown(id.index()))?;
+        let id = self.store.push(Node::Shown(id.number()))?;
         Ok(ExprId::at(id))
     }
 
-    /// How many names there are.
+    /// How many names there are, 2^32 at most.
     pub fn name_count(&self) -> usize
-        ensures { result ≡ length self.now.names }
+        ensures count { result ≡ length self.now.names }
+        ensures most { length self.now.names ≤ 2 ^ 32 }
     {
         self.store.name_count()
     }
 
-    /// How many expressions there are: their numbers are those below.
+    /// How many expressions there are, 2^32 at most: their numbers are those below.
     pub fn node_count(&self) -> usize
-        ensures { result ≡ length self.now.nodes }
+        ensures count { result ≡ length self.now.nodes }
+        ensures most { length self.now.nodes ≤ 2 ^ 32 }
     {
         self.store.node_count()
     }
@@ -187,7 +197,7 @@ impl Arena {
         match leaf {
             Leaf::Constant(t) => Some(Operand::Tri(t)),
             Leaf::Name(i) => Some(Operand::Name(NameId::at(i))),
-            Leaf::Quoted(i) => Some(Operand::Quoted(self.store.text(i))),
+            Leaf::Quoted(i) => Some(Operand::Quoted(self.store.text(i as usize))),
         }
     }
 

@@ -5,10 +5,10 @@ ghost use Rattle.kc_value.specs.declared.tri.Tri.TheVariants.{N, Y};
 ghost use Rattle.std.specs.Prelude.{◌&&◌, if◌then◌else◌};
 ghost use Rattle.std.specs.Cmp.Lexicographic.{slice_cmp};
 ghost use Rattle.std.specs.Ordering.{nat_cmp};
-ghost use Rattle.kc_expr.specs.Expr.{compared_by, value, operand_value, operand_text, operand_number, is_string, compared, holds, letter, tri_of_kind, number_of_kind, is_text_kind, unless_n};
+ghost use Rattle.kc_expr.specs.Expr.{compared_by, value, operand_value, operand_text, operand_number, is_string, compared, relation_holds, letter, tri_of_kind, number_of_kind, is_text_kind, unless_n};
 ghost use Rattle.kc_expr.specs.Arena.{stands_for};
-ghost use Rattle.kc_expr.specs.Nodes.{LeafFits, operand_of};
-ghost use Rattle.kc_expr.specs.Store.{names_held, exprs_in, IsSound};
+ghost use Rattle.kc_expr.specs.checker.Nodes.{LeafFits, operand_of};
+ghost use Rattle.kc_expr.specs.checker.Store.{names_held, exprs_in, IsSound};
 ghost use Rattle.kc_expr.specs.Lookup.{names_seen, AreDistinct};
 
 use super::ids::NameId;
@@ -31,7 +31,7 @@ fn letter_of(value: Tri) -> &'static str
 
 /// Whether a relation holds between operands that compare so.
 fn relation_holds(op: Relop, order: Ordering) -> bool
-    ensures { result ≡ holds op order }
+    ensures { result ≡ relation_holds op order }
 {
     match op {
         Relop::Equal => order == Ordering::Equal,
@@ -99,7 +99,7 @@ fn side_of<'a, L: Lookup>(store: &'a Store, leaf: Leaf, lookup: &'a L) -> Side<'
             is_text: false,
         },
         Leaf::Quoted(i) => {
-            let text = store.text(i);
+            let text = store.text(i as usize);
             Side {
                 text,
                 number: loose_number_of(text.as_bytes()),
@@ -108,7 +108,7 @@ fn side_of<'a, L: Lookup>(store: &'a Store, leaf: Leaf, lookup: &'a L) -> Side<'
         }
         Leaf::Name(i) => match lookup.look(NameId::at(i)) {
             None => {
-                let text = store.name(i);
+                let text = store.name(i as usize);
                 Side {
                     text,
                     number: loose_number_of(text.as_bytes()),
@@ -170,7 +170,7 @@ fn related_value<L: Lookup>(store: &Store, op: Relop, a: Leaf, b: Leaf, lookup: 
     requires right { LeafFits (length (names_held store.now)) (length store.now.texts.items) b }
     requires distinct { AreDistinct (names_held store.now) }
     ensures { let seen = names_seen (names_held store.now) (L.sees lookup.now) in
-        result ≡ (if holds op (compared seen (operand_of (names_held store.now) store.now.texts.items a) (operand_of (names_held store.now) store.now.texts.items b)) then Y else N) }
+        result ≡ (if relation_holds op (compared seen (operand_of (names_held store.now) store.now.texts.items a) (operand_of (names_held store.now) store.now.texts.items b)) then Y else N) }
 {
     let left = side_of(store, a, lookup);
     let right = side_of(store, b, lookup);
@@ -190,23 +190,23 @@ pub(crate) fn value_at<L: Lookup>(store: &Store, index: usize, lookup: &L) -> Tr
     match store.node(index) {
         Node::Alone(leaf) => leaf_value(store, leaf, lookup),
         Node::Related(op, a, b) => related_value(store, op, a, b, lookup),
-        Node::Negated(e) => value_at(store, e, lookup).not(),
-        Node::Shown(e) => shown_value(value_at(store, e, lookup)),
+        Node::Negated(e) => value_at(store, e as usize, lookup).not(),
+        Node::Shown(e) => shown_value(value_at(store, e as usize, lookup)),
         Node::Both(left, right) => {
-            let mut least = value_at(store, right, lookup);
-            let mut at = left;
+            let mut least = value_at(store, right as usize, lookup);
+            let mut at = left as usize;
             'ands: while let Node::Both(left, right) = store.node(at) {
-                least = least.and(value_at(store, right, lookup));
-                at = left;
+                least = least.and(value_at(store, right as usize, lookup));
+                at = left as usize;
             }
             least.and(value_at(store, at, lookup))
         }
         Node::Either(left, right) => {
-            let mut greatest = value_at(store, right, lookup);
-            let mut next = left;
+            let mut greatest = value_at(store, right as usize, lookup);
+            let mut next = left as usize;
             'ors: while let Node::Either(left, right) = store.node(next) {
-                greatest = greatest.or(value_at(store, right, lookup));
-                next = left;
+                greatest = greatest.or(value_at(store, right as usize, lookup));
+                next = left as usize;
             }
             greatest.or(value_at(store, next, lookup))
         }

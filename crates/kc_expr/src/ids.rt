@@ -4,7 +4,7 @@ use std::marker::Model;
 /// The number of a name of an arena.
 #[derive(Clone, Copy, Debug, PartialEq, Eq, PartialOrd, Ord)]
 pub struct NameId {
-    index: usize,
+    index: u32,
 }
 
 impl Model for NameId {
@@ -20,24 +20,24 @@ impl Model for NameId {
 impl NameId {
     ghost use Rattle.std.specs.Prelude.{◌≡◌};
 
-    pub(crate) fn at(index: usize) -> NameId
+    pub(crate) fn at(index: u32) -> NameId
         ensures { result ≡ index }
     {
         NameId { index }
     }
 
-    /// The place in the list of names.
+    /// The place in the list of names. An arena holds at most 2^32.
     pub fn index(self) -> usize
         ensures { result ≡ self }
     {
-        self.index
+        self.index as usize
     }
 }
 
 /// The number of an expression of an arena.
 #[derive(Clone, Copy, Debug, PartialEq, Eq)]
 pub struct ExprId {
-    index: usize,
+    number: u32,
 }
 
 impl Model for ExprId {
@@ -45,24 +45,30 @@ impl Model for ExprId {
 
     ghost Value = { ℕ };
 
-    ghost view = { λ id. id.index };
+    ghost view = { λ id. id.number };
 
-    ghost inverse = { λ n. record { index = n } };
+    ghost inverse = { λ n. record { number = n } };
 }
 
 impl ExprId {
     ghost use Rattle.std.specs.Prelude.{◌≡◌};
 
-    pub(crate) fn at(index: usize) -> ExprId
-        ensures { result ≡ index }
+    pub(crate) fn at(number: u32) -> ExprId
+        ensures { result ≡ number }
     {
-        ExprId { index }
+        ExprId { number }
     }
 
-    /// The place in the list of expressions.
+    /// The place in the list of expressions. An arena holds at most 2^32.
     pub fn index(self) -> usize
         ensures { result ≡ self }
     {
-        self.index
+        self.number as usize
+    }
+
+    pub(crate) fn number(self) -> u32
+        ensures { result ≡ self }
+    {
+        self.number
     }
 }

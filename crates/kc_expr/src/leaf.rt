@@ -4,8 +4,8 @@ ghost use Rattle.kc_expr.specs.declared.fault.ExprKind.TheVariants.{OutOfMemory}
 ghost use Rattle.kc_expr.specs.Arena.{Stands};
 ghost use Rattle.kc_expr.specs.Expr.{alone, named, quoted};
 ghost use Rattle.kc_expr.specs.Grammar.{as_condition, constant_or, letter_value, quoted_text};
-ghost use Rattle.kc_expr.specs.Nodes.{LeafFits, operand_of};
-ghost use Rattle.kc_expr.specs.Parsing.{first_operand, is_m};
+ghost use Rattle.kc_expr.specs.checker.Nodes.{LeafFits, operand_of};
+ghost use Rattle.kc_expr.specs.checker.Parsing.{first_operand, is_m};
 ghost use Rattle.kc_expr.specs.Token.{pieces_of};
 
 use super::fault::ExprFault;
@@ -34,7 +34,7 @@ fn is_constant_m(leaf: Leaf) -> bool
 }
 
 impl Store {
-    ghost use Rattle.kc_expr.specs.Store.{names_held, exprs_in, IsSound, Extends};
+    ghost use Rattle.kc_expr.specs.checker.Store.{names_held, exprs_in, IsSound, Extends};
 
     /// The operand that a word is.
     fn word_leaf(&mut self, text: &str) -> Result<Leaf, ExprFault>
@@ -98,7 +98,7 @@ impl Store {
     }
 
     /// A node for an operand that stands alone. In a condition `m` means `m && MODULES`.
-    pub(crate) fn push_alone(&mut self, leaf: Leaf, condition: bool) -> Result<usize, ExprFault>
+    pub(crate) fn push_alone(&mut self, leaf: Leaf, condition: bool) -> Result<u32, ExprFault>
         requires sound { IsSound self.old }
         requires fits { LeafFits (length (names_held self.old)) (length self.old.texts.items) leaf }
         ensures sound { IsSound self.new }

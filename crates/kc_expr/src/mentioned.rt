@@ -2,8 +2,8 @@
 ghost use Rattle.std.specs.Prelude.{◌≡◌, ◌<◌, ◌++◌, [], All, length, map, OnOk, slice_index_or};
 ghost use Rattle.kc_expr.specs.Arena.{stands_for};
 ghost use Rattle.kc_expr.specs.Mentioned.{operand_names};
-ghost use Rattle.kc_expr.specs.Nodes.{LeafFits, operand_of};
-ghost use Rattle.kc_expr.specs.Store.{names_held, exprs_in, IsSound};
+ghost use Rattle.kc_expr.specs.checker.Nodes.{LeafFits, operand_of};
+ghost use Rattle.kc_expr.specs.checker.Store.{names_held, exprs_in, IsSound};
 ghost use Rattle.kc_expr.specs.Words.{words};
 
 use super::ids::NameId;
@@ -44,15 +44,15 @@ pub(crate) fn push_names(
                 push_name(store, left, found)?;
                 return push_name(store, right, found);
             }
-            Node::Negated(part) => at = part,
-            Node::Shown(part) => at = part,
+            Node::Negated(part) => at = part as usize,
+            Node::Shown(part) => at = part as usize,
             Node::Both(left, right) => {
-                push_names(store, right, found)?;
-                at = left;
+                push_names(store, right as usize, found)?;
+                at = left as usize;
             }
             Node::Either(left, right) => {
-                push_names(store, right, found)?;
-                at = left;
+                push_names(store, right as usize, found)?;
+                at = left as usize;
             }
         }
     }

@@ -2,7 +2,7 @@
 ghost use Rattle.std.specs.Prelude.{◌≡◌, ◌↔◌, ◌≤◌, Some, length, drop, ◌&&◌, ◌||◌, ◌⊎◌, IsTrue, IfOk, IfErr};
 ghost use Rattle.kc_expr.specs.declared.token.TokenKind.TheVariants.{Word, Quoted, Not, Open};
 ghost use Rattle.kc_expr.specs.Grammar.{beyond, extent, fault_of, is_close, is_operand_kind};
-ghost use Rattle.kc_expr.specs.Parsing.{first_kind, first_relation, operand_read, factor_read, ands_read, ors_read, whole_read, Parses, IsParsedWhole, IsRefusedWhole, MeetsFault};
+ghost use Rattle.kc_expr.specs.checker.Parsing.{first_kind, first_relation, operand_read, factor_read, ands_read, ors_read, whole_read, Parses, IsParsedWhole, IsRefusedWhole, MeetsFault};
 ghost use Rattle.kc_expr.specs.Token.{pieces_of};
 
 use super::fault::{ExprFault, ExprKind};
@@ -102,7 +102,7 @@ fn parts_at(left: TokenKind, right: TokenKind) -> bool
 }
 
 impl Store {
-    ghost use Rattle.kc_expr.specs.Store.{IsSound, Extends};
+    ghost use Rattle.kc_expr.specs.checker.Store.{IsSound, Extends};
 
     /// An operand, or a relation of two.
     fn parse_relation(
@@ -110,7 +110,7 @@ impl Store {
         tokens: &[Token<'_>],
         at: usize,
         condition: bool,
-    ) -> Result<(usize, usize), ExprFault>
+    ) -> Result<(u32, usize), ExprFault>
         requires within { at ≤ length tokens.now }
         requires sound { IsSound self.old }
         ensures sound { IsSound self.new }
@@ -137,7 +137,7 @@ impl Store {
         at: usize,
         depth: usize,
         condition: bool,
-    ) -> Result<(usize, usize), ExprFault>
+    ) -> Result<(u32, usize), ExprFault>
         requires within { at ≤ length tokens.now }
         requires sound { IsSound self.old }
         ensures sound { IsSound self.new }
@@ -171,7 +171,7 @@ impl Store {
         at: usize,
         depth: usize,
         condition: bool,
-    ) -> Result<(usize, usize), ExprFault>
+    ) -> Result<(u32, usize), ExprFault>
         requires within { at ≤ length tokens.now }
         requires sound { IsSound self.old }
         ensures sound { IsSound self.new }
@@ -195,7 +195,7 @@ impl Store {
         at: usize,
         depth: usize,
         condition: bool,
-    ) -> Result<(usize, usize), ExprFault>
+    ) -> Result<(u32, usize), ExprFault>
         requires within { at ≤ length tokens.now }
         requires sound { IsSound self.old }
         ensures sound { IsSound self.new }
@@ -218,7 +218,7 @@ impl Store {
         at: usize,
         depth: usize,
         condition: bool,
-    ) -> Result<usize, ExprFault>
+    ) -> Result<u32, ExprFault>
         requires within { at ≤ length tokens.now }
         requires sound { IsSound self.old }
         ensures sound { IsSound self.new }

@@ -1,22 +1,22 @@
 //! The lists that an arena holds.
-ghost use Rattle.std.specs.Prelude.{◌≡◌, ◌<◌, [], length, take, Some, IfOk, IfErr, OnErr, slice_index_or};
+ghost use Rattle.std.specs.Prelude.{◌≡◌, ◌<◌, ◌^◌, [], length, take, Some, IfOk, IfErr, OnOk, OnErr, slice_index_or};
 ghost use Rattle.kc_expr.specs.declared.fault.ExprKind.TheVariants.{OutOfMemory};
 ghost use Rattle.kc_expr.specs.Arena.{Stands};
 ghost use Rattle.kc_expr.specs.Lookup.{place_of};
 ghost use Rattle.kc_expr.specs.Names.{with_name};
-ghost use Rattle.kc_expr.specs.Nodes.{NodeFits, expr_of, some_node};
+ghost use Rattle.kc_expr.specs.checker.Nodes.{NodeFits, expr_of, some_node};
 
 use super::fault::ExprFault;
 use super::node::Node;
 use indexmap::IndexSet;
-use kc_value::Text;
-use std::alloc::Global;
+use kc_value::{Seed, Text};
+use std::alloc::{AllocError, Global};
 
 /// Names by order of first sight, other quoted texts, and nodes whose children have smaller numbers.
 #[derive(Drop)]
 pub(crate) struct Store {
     alloc: Global,
-    names: IndexSet<String>,
+    names: IndexSet<String, Seed>,
     texts: Vec<Text>,
     nodes: Vec<Node>,
 }
@@ -29,17 +29,30 @@ pub(crate) struct Mark {
     nodes: usize,
 }
 
-impl Store {
-    ghost use Rattle.kc_expr.specs.Store.{names_held, exprs_in, IsSound, Extends, IsMark};
+/// A place as a number of 32 bits. Want of memory where it is none.
+fn number_at(place: usize) -> Result<u32, ExprFault>
+    ensures number { IfOk result (λ n. n ≡ place) }
+    ensures below { OnOk result (place < 2 ^ 32) }
+    ensures memory { IfErr result (λ e. e.kind ≡ OutOfMemory) }
+{
+    if place > u32::MAX as usize {
+        return Err(AllocError.into());
+    }
+    Ok(place as u32)
+}
 
-    pub(crate) fn new(alloc: Global) -> Store
+impl Store {
+    ghost use Rattle.kc_expr.specs.checker.Store.{names_held, exprs_in, IsSound, Extends, IsMark};
+
+    /// No names, texts and nodes. Names are hashed by a seed.
+    pub(crate) fn new(alloc: Global, seed: Seed) -> Store
         ensures names { result.names.keys ≡ [] }
         ensures texts { result.texts.items ≡ [] }
         ensures nodes { result.nodes.items ≡ [] }
     {
         Store {
             alloc,
-            names: IndexSet::new(alloc),
+            names: IndexSet::with_hasher(alloc, seed),
             texts: Vec::new(alloc),
             nodes: Vec::new(alloc),
         }
@@ -86,14 +99,18 @@ impl Store {
     }
 
     /// The number of a name that is held.
-    pub(crate) fn find(&self, name: &str) -> Option<usize>
+    pub(crate) fn find(&self, name: &str) -> Option<u32>
+        requires { IsSound self.now }
         ensures { result ≡ place_of name.now (names_held self.now) }
     {
-        self.names.get_index_of(name)
+        match self.names.get_index_of(name) {
+            Some(index) => Some(index as u32),
+            None => None,
+        }
     }
 
-    /// Puts a node behind the others.
-    pub(crate) fn push(&mut self, node: Node) -> Result<usize, ExprFault>
+    /// Puts a node behind the others. 2^32 nodes are as many as there can be.
+    pub(crate) fn push(&mut self, node: Node) -> Result<u32, ExprFault>
         requires sound { IsSound self.old }
         requires fits { NodeFits (length (names_held self.old)) (length self.old.texts.items) (length self.old.nodes.items) node }
         ensures sound { IsSound self.new }
@@ -102,13 +119,13 @@ impl Store {
         ensures memory { IfErr result (λ e. e.kind ≡ OutOfMemory) }
         ensures err { OnErr result (exprs_in self.new ≡ exprs_in self.old) }
     {
-        let id = self.nodes.len();
+        let id = number_at(self.nodes.len())?;
         self.nodes.push(node)?;
         Ok(id)
     }
 
     /// The number of a name, which is put behind the others where it is new.
-    pub(crate) fn intern(&mut self, name: &str) -> Result<usize, ExprFault>
+    pub(crate) fn intern(&mut self, name: &str) -> Result<u32, ExprFault>
         requires { IsSound self.old }
         ensures sound { IsSound self.new }
         ensures extends { Extends self.old self.new }
@@ -127,8 +144,8 @@ impl Store {
         }
     }
 
-    /// Puts a name behind the others, unless it is there.
-    fn put_name(&mut self, name: &str) -> Result<usize, ExprFault>
+    /// Puts a name behind the others, unless it is there. 2^32 names are as many as there can be.
+    fn put_name(&mut self, name: &str) -> Result<u32, ExprFault>
         requires { IsSound self.old }
         ensures sound { IsSound self.new }
         ensures extends { Extends self.old self.new }
@@ -141,12 +158,13 @@ impl Store {
         ensures memory { IfErr result (λ e. e.kind ≡ OutOfMemory) }
         ensures err { OnErr result (exprs_in self.new ≡ exprs_in self.old) }
     {
+        let _ = number_at(self.names.len())?;
         let (index, _) = self.names.insert_full(String::from_str(self.alloc, name)?)?;
-        Ok(index)
+        Ok(index as u32)
     }
 
-    /// Puts a quoted text behind the others.
-    pub(crate) fn keep(&mut self, text: Text) -> Result<usize, ExprFault>
+    /// Puts a quoted text behind the others. 2^32 texts are as many as there can be.
+    pub(crate) fn keep(&mut self, text: Text) -> Result<u32, ExprFault>
         requires { IsSound self.old }
         ensures sound { IsSound self.new }
         ensures extends { Extends self.old self.new }
@@ -154,7 +172,7 @@ impl Store {
         ensures text { IfOk result (λ i. slice_index_or self.new.texts.items i [] ≡ text) }
         ensures memory { IfErr result (λ e. e.kind ≡ OutOfMemory) }
     {
-        let id = self.texts.len();
+        let id = number_at(self.texts.len())?;
         self.texts.push(text)?;
         Ok(id)
     }

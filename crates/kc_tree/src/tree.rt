@@ -23,7 +23,7 @@ pub struct Tree {
 
 impl Model for Tree {
     ghost use Rattle.kc_tree.specs.Held.{Held};
-    ghost use Rattle.kc_expr.specs.ExprCode.{expr_code};
+    ghost use Rattle.kc_expr.specs.checker.ExprCode.{expr_code};
     ghost use Rattle.std.specs.Coded.{codes};
 
     ghost Value = { Held };

@@ -6,7 +6,7 @@ use Rattle.std.specs.Prelude.{nat_lt, Some, None, if◌then◌else◌}
 use Rattle.std.specs.Char.{is_digit, digit_value}
 use Rattle.std.specs.Str.Parse.{digits_value_after}
 use Rattle.std.specs.List.{list_all}
-use Rattle.kc_value.specs.DigitStep.{with_digit}
+use Rattle.kc_value.specs.checker.DigitStep.{with_digit}
 
 -- digits that follow those of n
 abbrev pub magnitude_after : ℕ → ℕ → ℕ → List ℕ → Option ℕ

@@ -1,6 +1,6 @@
 //! Number texts.
 ghost use Rattle.std.specs.Prelude.{◌≡◌, ◌^◌, ◌<◌, ◌≤◌, ◌↔◌, ℕ, ℤ, List, Some, IfOk, string_bytes};
-ghost use Rattle.kc_value.specs.DigitStep.{with_digit};
+ghost use Rattle.kc_value.specs.checker.DigitStep.{with_digit};
 ghost use Rattle.kc_value.specs.Number.{magnitude, int_text, hex_text, loose_number, without_prefix, number_of_text, number_spelling, IsPrintable};
 ghost use Rattle.kc_value.specs.NumberGrammar.{IsInt, IsHex, IsLoose};
 

@@ -2,7 +2,7 @@ use Rattle.std.proofs.Common.{◌<◌, arith, length, ap, ◌∙◌}
 use Rattle.kc_value.specs.Tri.{tri_not}
 use Rattle.kc_expr.specs.Expr.{value, unless_n}
 use Rattle.kc_expr.specs.Lookup.{names_seen}
-use Rattle.kc_expr.specs.Store.{names_held}
+use Rattle.kc_expr.specs.checker.Store.{names_held}
 use Rattle.kc_expr.proofs.NodeLemmas.{chain_start, chain_more, ors_start, ors_more}
 use Rattle.kc_expr.proofs.StoreLemmas.{node_of, fits_at}
 use Rattle.kc_expr.proofs.evaluate.+value_at.Goals as goal

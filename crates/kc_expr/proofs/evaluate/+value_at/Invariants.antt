@@ -3,7 +3,7 @@ use Rattle.kc_value.specs.Tri.{tri_and, tri_or}
 use Rattle.kc_expr.specs.Arena.{stands_for}
 use Rattle.kc_expr.specs.Expr.{value}
 use Rattle.kc_expr.specs.Lookup.{names_seen}
-use Rattle.kc_expr.specs.Store.{names_held, exprs_in}
+use Rattle.kc_expr.specs.checker.Store.{names_held, exprs_in}
 use Rattle.kc_expr.proofs.evaluate.+value_at.Given as goal
 
 abbrev pub decreases-value_at : goal.decreases-value_at

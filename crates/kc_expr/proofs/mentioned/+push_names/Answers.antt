@@ -2,8 +2,8 @@ use Rattle.std.proofs.Common.{◌++◌, [], map, ap, sym, ◌∙◌, append_asso
 use Rattle.std.proofs.lemmas.Result.{on_ok_weaker}
 use Rattle.std.specs.Prelude.{slice_index_or}
 use Rattle.kc_expr.specs.Mentioned.{operand_names}
-use Rattle.kc_expr.specs.Nodes.{operand_of}
-use Rattle.kc_expr.specs.Store.{names_held}
+use Rattle.kc_expr.specs.checker.Nodes.{operand_of}
+use Rattle.kc_expr.specs.checker.Store.{names_held}
 use Rattle.kc_expr.specs.Words.{words}
 use Rattle.kc_expr.proofs.MentionedLemmas.{met_both}
 use Rattle.kc_expr.proofs.StoreLemmas.{node_of, fits_at}

@@ -1,7 +1,7 @@
 use Rattle.std.proofs.Common.{◌≡◌, ℕ, ◌<◌, ◌≤◌, ◌++◌, [], length, map}
 use Rattle.std.specs.Prelude.{All, slice_index_or}
 use Rattle.kc_expr.specs.Arena.{stands_for}
-use Rattle.kc_expr.specs.Store.{names_held, exprs_in}
+use Rattle.kc_expr.specs.checker.Store.{names_held, exprs_in}
 use Rattle.kc_expr.specs.Words.{words}
 use Rattle.kc_expr.proofs.mentioned.+push_names.Given as goal
 

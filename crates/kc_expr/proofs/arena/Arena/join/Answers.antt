@@ -3,12 +3,12 @@ use Rattle.kc_expr.proofs.arena.Arena.join.Goals as goal
 
 pub push-requires-clause-fits : goal.push-requires-clause-fits
 push-requires-clause-fits c = (
-  rw c.index.ensures (within_nodes c.args.self.now c.self.inside.store c.args.a c.self.view_is c.requires.left),
-  rw c.index-2.ensures (within_nodes c.args.self.now c.self.inside.store c.args.b c.self.view_is c.requires.right),
+  rw c.number.ensures (within_nodes c.args.self.now c.self.inside.store c.args.a c.self.view_is c.requires.left),
+  rw c.number-2.ensures (within_nodes c.args.self.now c.self.inside.store c.args.b c.self.view_is c.requires.right),
 )
 
 pub returns-clause-grows : goal.returns-clause-grows
 returns-clause-grows c = rw (← c.self.view_is) (grows c.self.inside.store c.push.new.self c.self.invariant c.push.ensures.extends)
 
 pub returns-clause-ok : goal.returns-clause-ok
-returns-clause-ok c = rw (← c.self.view_is, ← c.index.ensures, ← c.index-2.ensures, c.at.ensures) c.in_ok-id.ensures.stands
+returns-clause-ok c = rw (← c.self.view_is, ← c.number.ensures, ← c.number-2.ensures, c.at.ensures) c.in_ok-id.ensures.stands

@@ -1,8 +1,8 @@
 use Rattle.std.proofs.Common.{[], get_or, Some, ap, sym, ◌∙◌}
 use Rattle.kc_expr.specs.Arena.{Exprs}
 use Rattle.kc_expr.specs.Expr.{named, quoted}
-use Rattle.kc_expr.specs.Nodes.{operand_of}
-use Rattle.kc_expr.specs.Store.{names_held}
+use Rattle.kc_expr.specs.checker.Nodes.{operand_of}
+use Rattle.kc_expr.specs.checker.Store.{names_held}
 use Rattle.kc_expr.proofs.MentionedLemmas.{operand_is, operand_none}
 use Rattle.kc_expr.proofs.StoreLemmas.{within_nodes}
 use Rattle.kc_expr.proofs.arena.Arena.operand.Goals as goal

@@ -2,10 +2,10 @@ use Rattle.kc_expr.proofs.StoreLemmas.{within_nodes, grows}
 use Rattle.kc_expr.proofs.arena.Arena.shown.Goals as goal
 
 pub push-requires-clause-fits : goal.push-requires-clause-fits
-push-requires-clause-fits c = rw c.index.ensures (within_nodes c.args.self.now c.self.inside.store c.args.id c.self.view_is c.requires)
+push-requires-clause-fits c = rw c.number.ensures (within_nodes c.args.self.now c.self.inside.store c.args.id c.self.view_is c.requires)
 
 pub returns-clause-grows : goal.returns-clause-grows
 returns-clause-grows c = rw (← c.self.view_is) (grows c.self.inside.store c.push.new.self c.self.invariant c.push.ensures.extends)
 
 pub returns-clause-ok : goal.returns-clause-ok
-returns-clause-ok c = rw (← c.self.view_is, ← c.index.ensures, c.at.ensures) c.in_ok-id.ensures.stands
+returns-clause-ok c = rw (← c.self.view_is, ← c.number.ensures, c.at.ensures) c.in_ok-id.ensures.stands

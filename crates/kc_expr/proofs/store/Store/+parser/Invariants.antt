@@ -1,6 +1,6 @@
 use Rattle.std.proofs.Common.{◌+◌, ◌*◌, ◌-◌, length}
-use Rattle.kc_expr.specs.Parsing.{ands_read, ors_read}
-use Rattle.kc_expr.specs.Store.{IsSound, Extends}
+use Rattle.kc_expr.specs.checker.Parsing.{ands_read, ors_read}
+use Rattle.kc_expr.specs.checker.Store.{IsSound, Extends}
 use Rattle.kc_expr.specs.Token.{pieces_of}
 use Rattle.kc_expr.proofs.ParseSteps.{IsChained}
 use Rattle.kc_expr.proofs.ReaderSteps.{ands_on, ors_on}

@@ -1,6 +1,6 @@
 use Rattle.std.proofs.Common.{sym, ◌∙◌}
-use Rattle.kc_expr.specs.Nodes.{operand_of}
-use Rattle.kc_expr.specs.Store.{names_held}
+use Rattle.kc_expr.specs.checker.Nodes.{operand_of}
+use Rattle.kc_expr.specs.checker.Store.{names_held}
 use Rattle.kc_expr.specs.Token.{pieces_of}
 use Rattle.kc_expr.proofs.ParseSteps.{relation_missing, relation_alone, relation_unfinished, relation_whole}
 use Rattle.kc_expr.proofs.StoreLemmas.{operand_on}

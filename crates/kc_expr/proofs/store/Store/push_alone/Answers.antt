@@ -3,7 +3,7 @@ use Rattle.std.proofs.lemmas.Result.{IfOk-weaker}
 use Rattle.kc_value.specs.declared.tri.Tri.TheVariants.{M}
 use Rattle.kc_expr.specs.Arena.{Stands, stands_for}
 use Rattle.kc_expr.specs.Expr.{alone, both, constant, named, modules}
-use Rattle.kc_expr.specs.Store.{names_held, exprs_in}
+use Rattle.kc_expr.specs.checker.Store.{names_held, exprs_in}
 use Rattle.kc_expr.proofs.LeafLemmas.{m_condition, m_leaf}
 use Rattle.kc_expr.proofs.StoreLemmas.{stands_later, stands_node, extends_on}
 use Rattle.kc_expr.proofs.store.Store.push_alone.Goals as goal

@@ -1,13 +1,13 @@
-use Rattle.std.proofs.Common.{◌≡◌, ℕ, ap, sym, ◌∙◌, refl, Some, map, List, subst}
+use Rattle.std.proofs.Common.{◌≡◌, ℕ, ap, sym, ◌∙◌, refl, Some, map, List, subst, length, ◌≤◌, ◌^◌, arith}
 use Rattle.std.specs.Prelude.{String, string_bytes, bytes_eq}
 use Rattle.std.proofs.Math.Seq.{take-length}
 use Rattle.std.specs.List.{list_any}
 use Rattle.std.specs.declared.alloc.Global.{Global}
 use Rattle.kc_expr.specs.Lookup.{place_of, AreDistinct}
 use Rattle.kc_expr.specs.Names.{with_name}
-use Rattle.kc_expr.specs.Store.{Extends}
+use Rattle.kc_expr.specs.checker.Store.{Extends}
 use Rattle.kc_expr.proofs.Places.{place_put, distinct_put, names_put, place_there}
-use Rattle.kc_expr.proofs.StoreLemmas.{sound_on, put_prefix}
+use Rattle.kc_expr.proofs.StoreLemmas.{sound_on, put_prefix, put_long}
 use Rattle.kc_expr.proofs.store.Store.put_name.Goals as goal
 
 placed : (c : goal.In_ok-index) → place_of c.args.name.now (map string_bytes c.insert_full.new.self.keys) ≡ Some c.in_ok-index.index
@@ -25,7 +25,9 @@ returns-clause-sound c =
     subst (λ (ks : List (String Global)). AreDistinct (map string_bytes ks)) (sym c.in_ok-index.ensures.keys) (distinct_put string_bytes (string_bytes v) v refl c.args.self.now.names.keys c.requires.distinct) in
     let extends : Extends c.args.self.now (record c.args.self.now { names = c.insert_full.new.self }) =
     record { names = rw c.in_ok-index.ensures.keys (put_prefix (list_any (λ k. bytes_eq (string_bytes v) (string_bytes k)) c.args.self.now.names.keys) c.args.self.now.names.keys v); texts = take-length c.args.self.now.texts.items; nodes = take-length c.args.self.now.nodes.items } in
-    sound_on c.args.self.now (record c.args.self.now { names = c.insert_full.new.self }) c.requires extends refl distinct
+    let few : length c.insert_full.new.self.keys ≤ 2 ^ 32 =
+    omega (arith, ap length c.in_ok-index.ensures.keys, put_long (list_any (λ k. bytes_eq (string_bytes v) (string_bytes k)) c.args.self.now.names.keys) c.args.self.now.names.keys v, c.in_ok-number_at.ensures.below, c.len.ensures) in
+    sound_on c.args.self.now (record c.args.self.now { names = c.insert_full.new.self }) c.requires extends refl distinct few
 
 pub returns-clause-place : goal.returns-clause-place
 returns-clause-place c = placed c

@@ -1,10 +1,10 @@
 -- What the lists of a store stand for.
-use Rattle.std.specs.Prelude.{◌≡◌, ℕ, List, length, take, map, string_bytes}
+use Rattle.std.specs.Prelude.{◌≡◌, ℕ, ◌≤◌, ◌^◌, List, length, take, map, string_bytes}
 use Rattle.kc_expr.specs.declared.store.Store.{Store}
 use Rattle.kc_expr.specs.declared.store.Mark.{Mark}
 use Rattle.kc_expr.specs.Arena.{Exprs}
 use Rattle.kc_expr.specs.Lookup.{AreDistinct}
-use Rattle.kc_expr.specs.Nodes.{exprs_of, AreNodes}
+use Rattle.kc_expr.specs.checker.Nodes.{exprs_of, AreNodes}
 
 abbrev pub names_held : Store → List (List ℕ)
 names_held s = map string_bytes s.names.keys
@@ -13,10 +13,12 @@ names_held s = map string_bytes s.names.keys
 abbrev pub exprs_in : Store → Exprs
 exprs_in s = record { names = names_held s; nodes = exprs_of (names_held s) s.texts.items s.nodes.items }
 
--- each node's children have smaller numbers, its names and texts are there, and no name is held twice
+-- each node's children have smaller numbers, its names and texts are there, no name is held twice, and names and nodes have numbers of 32 bits
 pub record IsSound (s : Store) : Type 0 where
   pub nodes : AreNodes (length (names_held s)) (length s.texts.items) s.nodes.items
   pub distinct : AreDistinct (names_held s)
+  pub few_names : length s.names.keys ≤ 2 ^ 32
+  pub few_nodes : length s.nodes.items ≤ 2 ^ 32
 
 -- the lists are kept, and others may have come behind them
 pub record Extends (old new : Store) : Type 0 where

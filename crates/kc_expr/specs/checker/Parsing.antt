@@ -13,7 +13,7 @@ use Rattle.kc_expr.specs.declared.token.TokenKind.TheVariants.{Word, Quoted, Rel
 use Rattle.kc_expr.specs.Arena.{Stands}
 use Rattle.kc_expr.specs.Expr.{Expr, Operand}
 use Rattle.kc_expr.specs.Grammar.{Read, behind_operand, operand_of_piece, read_factor, read_ands, read_ors, whole, fault_of, as_condition}
-use Rattle.kc_expr.specs.Store.{exprs_in}
+use Rattle.kc_expr.specs.checker.Store.{exprs_in}
 use Rattle.kc_expr.specs.Token.{Piece}
 
 -- the kind of the first token

@@ -1,0 +1,7 @@
+use Rattle.std.proofs.Common.{ap, arith, length}
+use Rattle.kc_expr.specs.Arena.{Exprs}
+use Rattle.kc_expr.proofs.StoreLemmas.{length-nodes}
+use Rattle.kc_expr.proofs.arena.Arena.node_count.Goals as goal
+
+pub returns-clause-most : goal.returns-clause-most
+returns-clause-most c = omega (arith, length-nodes c.self.inside.store, ap (λ (x : Exprs). length x.nodes) c.self.view_is, c.self.invariant.few_nodes)

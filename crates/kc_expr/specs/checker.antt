@@ -1,0 +1,5 @@
+pub mod ArenaView
+pub mod ExprCode
+pub mod Nodes
+pub mod Parsing
+pub mod Store
