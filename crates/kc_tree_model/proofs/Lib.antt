@@ -3,3 +3,4 @@ mod Rows
 pub mod NestedTrees
 pub mod Consistency
 pub mod LineLaws
+pub mod NothingWanted

@@ -1,10 +1,11 @@
 //! Laws of the definitions.
-ghost use Rattle.std.specs.Prelude.{◌≡◌, ◌↔◌, ℕ, ◌+◌, List, [], None};
+ghost use Rattle.std.specs.Prelude.{◌≡◌, ◌↔◌, ℕ, ◌+◌, List, [], None, Some, Ok, Err};
 ghost use Rattle.kc_tree_model.specs.Files.{Files};
 ghost use Rattle.kc_tree_model.specs.Lines.{Logical, lines_of};
 ghost use Rattle.kc_tree_model.specs.LineGrammar.{IsInLines};
 ghost use Rattle.kc_tree_model.specs.Limits.{Origin, most_open_files};
-ghost use Rattle.kc_tree_model.specs.Reading.{read_file};
+ghost use Rattle.kc_tree_model.specs.Reading.{read_file, reading, files_wanted};
+ghost use Rattle.kc_tree_model.specs.declared.fault.TreeFault.{TreeFault};
 ghost use Rattle.kc_tree_model.specs.Contents.{tree_of_files};
 ghost use Rattle.kc_tree_model.specs.TreeFaults.{fault_told};
 ghost use Rattle.kc_tree_model.specs.TreeLookup.{IsConsistent};
@@ -26,6 +27,13 @@ pub fn reading_is_a_nested_tree()
 /// the same, since a `source` past the limit is a fault before its file would be read.
 pub fn each_file_is_read()
     ensures { (origin : Origin) (more : ℕ) → read_file (most_open_files + more) origin origin.root [] ≡ read_file most_open_files origin origin.root [] }
+{}
+
+/// Where no path is wanted, reading the files meets the fault that is told for `wanted`, and none where none is told: so
+/// the paths that a tree lacks are known before it is read.
+pub fn nothing_is_missing_behind_wanted()
+    ensures none { (files : Files) (root : List ℕ) → files_wanted files root ≡ Ok [] → (reading files root).fault ≡ None }
+    ensures fault { (files : Files) (root : List ℕ) (fault : TreeFault) → files_wanted files root ≡ Err fault → (reading files root).fault ≡ Some fault }
 {}
 
 /// What is read without a fault is a consistent tree: its names are words and differ, each choice and each symbol

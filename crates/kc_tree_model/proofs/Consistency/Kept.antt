@@ -12,14 +12,13 @@ use Rattle.kc_tree_model.specs.TreeLookup.{has_newline}
 use Rattle.kc_tree_model.proofs.Consistency.OneLine.{AreOneLine, lines_are_one}
 use Rattle.kc_tree_model.specs.Reading.{line_says, after_line, with_group, path_said, Outcome, ended, behind_file, behind_source, behind_statement, behind_line, read_lines, read_file, read_root, reading}
 
--- a property of what was read that holds of nothing, and that lines and ends of files keep
+-- a property of what was read that lines and ends of files keep
 pub record IsKept (P : List Group → Type 0) : Type 0 where
-  pub at_first : P []
   pub by_line : (read : List Group) (at : Position) (l : Logical) (s : Option Statement) → P read → has_newline l.text ≡ false → line_says read l ≡ Ok s → P (after_line at s read)
   pub by_end : (read : List Group) (at : Position) → P read → P (with_group at file_end read)
 
 module _ (P : List Group → Type 0) (kept : IsKept P) where
-  Keeps : (List Group → Outcome) → Type 0
+  unfoldable pub Keeps : (List Group → Outcome) → Type 0
   Keeps f = (read : List Group) → P read → P (f read).read
 
   file_kept : (rest : List Group → Outcome) (at : Position) (o : Outcome) (f : Option TreeFault) → Keeps rest → P o.read → P (behind_file rest at o f).read
@@ -46,12 +45,12 @@ module _ (P : List Group → Type 0) (kept : IsKept P) where
   ended_kept file read None h = h
   ended_kept file read (Some o) h = h
 
-  lines_kept : (sub : List ℕ → List Group → Outcome) (r : Origin) (file : ℕ) (ls : List Logical) → AreOneLine ls → ((p : List ℕ) → Keeps (sub p)) → Keeps (read_lines sub r file ls)
+  pub lines_kept : (sub : List ℕ → List Group → Outcome) (r : Origin) (file : ℕ) (ls : List Logical) → AreOneLine ls → ((p : List ℕ) → Keeps (sub p)) → Keeps (read_lines sub r file ls)
   unfolding Keeps
   lines_kept sub r file [] one subs = λ read h. ended_kept file read (innermost read) h
   lines_kept sub r file (l ∷ ls) one subs = λ read h. line_kept sub (read_lines sub r file ls) r (record { file = file; line = l.number }) read l (line_says read l) refl one.0 subs (lines_kept sub r file ls one.1 subs) h
 
-  whole_file_kept : (n : ℕ) (r : Origin) (path : List ℕ) → Keeps (read_file n r path)
+  pub whole_file_kept : (n : ℕ) (r : Origin) (path : List ℕ) → Keeps (read_file n r path)
   unfolding Keeps
   whole_file_kept zero r path = λ read h. h
   whole_file_kept (suc n) r path = lines_kept (read_file n r) r (r.number path) (lines_of (bytes_in r path)) (lines_are_one (bytes_in r path)) (whole_file_kept n r)
@@ -60,11 +59,11 @@ module _ (P : List Group → Type 0) (kept : IsKept P) where
   either_kept true x y h k = h
   either_kept false x y h k = k
 
-  root_kept : (r : Origin) (o : Option (List ℕ)) → P (read_root r o).read
+  root_kept : P [] → (r : Origin) (o : Option (List ℕ)) → P (read_root r o).read
   unfolding Keeps
-  root_kept r None = kept.at_first
-  root_kept r (Some bytes) = either_kept (nat_lt most_bytes (length bytes)) _ (read_file most_open_files r r.root []) kept.at_first (whole_file_kept most_open_files r r.root [] kept.at_first)
+  root_kept first r None = first
+  root_kept first r (Some bytes) = either_kept (nat_lt most_bytes (length bytes)) _ (read_file most_open_files r r.root []) first (whole_file_kept most_open_files r r.root [] first)
 
-  pub reading_keeps : (files : Files) (root : List ℕ) → P (reading files root).read
+  pub reading_keeps : P [] → (files : Files) (root : List ℕ) → P (reading files root).read
   unfolding reading
-  reading_keeps files root = root_kept (record { bytes = file_at files; number = number_of_file files; root = root }) (file_at files root)
+  reading_keeps first files root = root_kept first (record { bytes = file_at files; number = number_of_file files; root = root }) (file_at files root)

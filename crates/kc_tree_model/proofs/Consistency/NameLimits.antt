@@ -61,7 +61,7 @@ line_kept read at l (Some (head x)) k e = head_kept read at x (line_few read l (
 line_kept read at l (Some (attribute a)) k e = attribute_kept read at.line a k
 
 limits_kept : (files : Files) (root : List ℕ) → KeepsLimits (reading files root).read
-limits_kept files root = reading_keeps KeepsLimits (record { at_first = (omega arith, tt); by_line = λ read at l s k one e. line_kept read at l s k e; by_end = λ read at k. (k.0, ((λ name e. cc), k.1)) }) files root
+limits_kept files root = reading_keeps KeepsLimits (record { by_line = λ read at l s k one e. line_kept read at l s k e; by_end = λ read at k. (k.0, ((λ name e. cc), k.1)) }) (omega arith, tt) files root
 
 short_of_group : (g : Group) (read : List Group) → AreShort read → Has g read → IsShort g
 short_of_group g [] r h = absurd h

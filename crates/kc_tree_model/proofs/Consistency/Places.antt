@@ -80,7 +80,7 @@ line_read read at l (Some (head x)) h one e = (refl, word_said read l x e, tt, h
 line_read read at l (Some (attribute a)) h one e = attribute_read read at.line a (values_said read l a one e) h
 
 pub is_read : (files : Files) (root : List ℕ) → IsRead (reading files root).read
-is_read files root = reading_keeps IsRead (record { at_first = tt; by_line = line_read; by_end = λ read at h. (refl, tt, tt, h) }) files root
+is_read files root = reading_keeps IsRead (record { by_line = line_read; by_end = λ read at h. (refl, tt, tt, h) }) tt files root
 
 -- a place has its group, and a group its place
 pub group-placed : (p : Placed) (read : List Group) → Has p (placed read) → Has p.group read

@@ -37,7 +37,7 @@ end_plain title e = cc
 
 -- in all that is read
 pub titles_plain : (files : Files) (root : List ℕ) → ArePlain (reading files root).read
-titles_plain files root = reading_keeps ArePlain (record { at_first = tt; by_line = line_plain; by_end = λ read at h. (end_plain, h) }) files root
+titles_plain files root = reading_keeps ArePlain (record { by_line = line_plain; by_end = λ read at h. (end_plain, h) }) tt files root
 
 -- a group that was read has a plain title
 pub plain_of_group : (g : Group) (read : List Group) → ArePlain read → Has g read → IsPlain g.what
