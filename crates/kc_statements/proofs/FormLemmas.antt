@@ -1,7 +1,8 @@
 -- Steps of the forms.
-use Rattle.std.proofs.Common.{◌≡◌, ◌⊎◌, inl, inr, ℕ, suc, zero, ◌+◌, ◌≤◌, ◌<◌, Bool, true, false, List, [], ◌∷◌, length, drop, refl, ap, sym, ◌∙◌, arith, Option, Some, None, Result, Ok, Err, length-drop, map, cond, ◌==◌}
+use Rattle.std.proofs.Common.{◌≡◌, inl, inr, ℕ, suc, zero, ◌+◌, ◌<◌, Bool, true, false, List, [], ◌∷◌, length, drop, refl, ap, sym, ◌∙◌, arith, Some, Result, Ok, Err, length-drop, map, ◌==◌}
 use Rattle.std.proofs.lemmas.List.{drop-map, drop_more}
 use Rattle.std.specs.Prelude.{codes, slice_index_or}
+use Rattle.std.proofs.lemmas.Bool.{false≢true}
 use Rattle.kc_expr.specs.Token.{Piece, piece_of, pieces_of}
 use Rattle.kc_expr.specs.declared.token.Token.{Token as CodeToken}
 use Rattle.kc_expr.specs.declared.token.TokenKind.TheVariants.{Word}
@@ -12,6 +13,12 @@ use Rattle.kc_tree_model.specs.declared.fault.TreeKind.{TreeKind}
 use Rattle.kc_tree_model.specs.declared.fault.TreeKind.TheVariants.{Malformed}
 use Rattle.kc_tree_model.specs.Forms.{last_condition, optional_if, no_more, kind_of_fault, Taken, ◌>>=◌}
 use Rattle.kc_tree_model.specs.Keywords.{is_the_word}
+use Rattle.kc_expr.specs.Arena.{Exprs}
+use Rattle.kc_tree_model.specs.Forms.{statement_of}
+use Rattle.kc_statements.specs.declared.keyword.Keyword.{Keyword as CodeKeyword}
+use Rattle.kc_statements.specs.declared.statement.Statement.{Statement as CodeStatement}
+use Rattle.kc_statements.specs.Meanings.{meant}
+use Rattle.kc_statements.specs.Said.{Gives, statement_in}
 
 more : {A : Type 0} (x : A) (ts : List Piece) → 0 < length ts → no_more x ts ≡ Err Malformed
 more x [] h = absurd (omega arith)
@@ -49,3 +56,25 @@ if_refused t ts k w c = rw w (rw c refl)
 -- the token that stands past the end in a clause
 abbrev pub some_token : CodeToken
 some_token = record { kind = Word; start = 0; end = 0; text = record { ref_ptr = (0, 0); now = [] } }
+
+-- the answer along an equation of what is given
+pub along : {A B : Type 0} (view : A → B) (r : Result A TreeKind) (x y : Result B TreeKind) → x ≡ y → Gives view r y → Gives view r x
+along view (Ok a) x y q g = q ∙ g
+along view (Err k) x y q g = elim g [ inl m ↦ inl m | inr e ↦ inr (q ∙ e) ]
+
+-- one step behind what is given
+abbrev pub stepped : {B C : Type 0} → (B → C) → Result B TreeKind → Result C TreeKind
+stepped k r = r >>= λ b. Ok (k b)
+
+-- the first token
+abbrev pub first_of : List CodeToken → CodeToken
+first_of ts = slice_index_or ts 0 some_token
+
+-- there is a token where the test of none fails
+pub there : (n : ℕ) (b : Bool) → b ≡ (n == 0) → b ≡ false → 0 < n
+there zero b e f = absurd (false≢true (sym f ∙ e))
+there (suc n) b e f = omega arith
+
+-- the statement of a line, by its keyword
+pub by_keyword : (e : Exprs) (r : Result CodeStatement TreeKind) (ps : List Piece) {k l : CodeKeyword} → k ≡ l → Gives (statement_in e) r (statement_of (meant l) ps) → Gives (statement_in e) r (statement_of (meant k) ps)
+by_keyword e r ps {k} {l} q g = along (statement_in e) r (statement_of (meant k) ps) (statement_of (meant l) ps) (ap (λ w. statement_of (meant w) ps) q) g

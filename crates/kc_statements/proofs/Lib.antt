@@ -1,2 +1,7 @@
 pub mod WordLemmas
 pub mod FormLemmas
+pub mod TitleLemmas
+pub mod AttributeLemmas
+pub mod Later
+pub mod ValueLemmas
+pub mod GlobLemmas

@@ -1,5 +1,5 @@
 -- Words are looked up among those of their length.
-use Rattle.std.proofs.Common.{◌≡◌, ℕ, Bool, true, false, List, [], ◌∷◌, length, filter, cond, ◌==◌, refl, ap, sym, ◌∙◌, Option, Some, None, arith, rules}
+use Rattle.std.proofs.Common.{◌≡◌, ℕ, Bool, true, false, List, [], ◌∷◌, length, filter, cond, ◌==◌, refl, ap, sym, ◌∙◌, Option, Some, None, rules}
 use Rattle.std.specs.Str.{bytes_eq}
 use Rattle.std.specs.Bool.{if◌then◌else◌}
 use Rattle.std.proofs.lemmas.Slice.Eq.{bytes_eq-Decides}

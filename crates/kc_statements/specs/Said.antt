@@ -1,5 +1,5 @@
 -- The definitions' statements for which those of the code stand, under the expressions of an arena.
-use Rattle.std.specs.Prelude.{◌≡◌, ◌⊎◌, ℕ, ◌<◌, List, [], length, Option, Some, None, option_map, unwrap_or, slice_index_or, Result, Ok, Err}
+use Rattle.std.specs.Prelude.{◌≡◌, ◌⊎◌, ℕ, ◌<◌, [], length, Option, Some, None, option_map, unwrap_or, slice_index_or, Result, Ok, Err}
 use Rattle.kc_value.specs.declared.tri.Tri.TheVariants.{N}
 use Rattle.kc_expr.specs.Arena.{Exprs, Stands, stands_for}
 use Rattle.kc_expr.specs.Expr.{Expr, Operand, alone, constant}

@@ -1,1 +1,2 @@
 pub mod WordLengths
+pub mod Titles

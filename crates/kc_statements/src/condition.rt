@@ -1,5 +1,5 @@
 //! Conditions at the ends of lines.
-ghost use Rattle.std.specs.Prelude.{◌≡◌, ◌≤◌, length, drop, IfOk};
+ghost use Rattle.std.specs.Prelude.{◌≤◌, length, drop, IfOk};
 ghost use Rattle.kc_expr.specs.Arena.{Grows, stands_for};
 ghost use Rattle.kc_expr.specs.Token.{pieces_of};
 ghost use Rattle.kc_tree_model.specs.Forms.{last_condition, optional_if};

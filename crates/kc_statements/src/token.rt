@@ -1,6 +1,7 @@
 //! Tests of one token.
 ghost use Rattle.std.specs.Prelude.{◌≡◌, ◌||◌, ◌&&◌, codes, bytes_eq, nat_lt, length};
 ghost use Rattle.std.specs.List.{list_all};
+ghost use Rattle.kc_expr.specs.Grammar.{is_operand_kind};
 ghost use Rattle.kc_expr.specs.Token.{piece_of};
 ghost use Rattle.kc_tree_model.specs.Forms.{is_left_out_option};
 ghost use Rattle.kc_tree_model.specs.Keywords.{is_word_kind, is_quoted_kind, is_the_word, is_name};
@@ -71,4 +72,11 @@ pub(crate) fn is_left_out_option(token: &Token<'_>) -> bool
     is_the_word("env", token)
         || is_the_word("defconfig_list", token)
         || is_the_word("allnoconfig_y", token)
+}
+
+/// Whether a token can be an operand: a bare word or a quoted text.
+pub(crate) fn is_operand(token: &Token<'_>) -> bool
+    ensures { result ≡ is_operand_kind token.now.kind }
+{
+    matches!(token.kind, TokenKind::Word | TokenKind::Quoted)
 }

@@ -1,8 +1,6 @@
-use Rattle.std.proofs.Common.{arith, inr, length, drop, length-drop, ◌<◌, map}
-use Rattle.std.specs.Prelude.{◌≡◌}
+use Rattle.std.proofs.Common.{arith, inr, drop, length-drop}
 use Rattle.std.proofs.lemmas.List.{length-map}
 use Rattle.kc_expr.specs.Token.{pieces_of, piece_of}
-use Rattle.kc_expr.specs.Grammar.{extent}
 use Rattle.kc_statements.proofs.FormLemmas.{condition_behind}
 use Rattle.kc_statements.proofs.condition.last_condition.Goals as goal
 

@@ -1,4 +1,4 @@
-use Rattle.std.proofs.Common.{arith, inl, inr, sym, ◌∙◌, ◌≡◌, [], refl, drop, ◌+◌, true, false}
+use Rattle.std.proofs.Common.{arith, inl, inr, sym, ◌∙◌, drop, ◌+◌}
 use Rattle.kc_expr.specs.Token.{pieces_of, piece_of}
 use Rattle.std.specs.Prelude.{slice_index_or}
 use Rattle.kc_statements.proofs.FormLemmas.{front_piece, no_if, if_given, if_refused, some_token}

@@ -1,0 +1,68 @@
+-- Values of defaults, and operands.
+use Rattle.std.proofs.Common.{◌≡◌, ℕ, ◌+◌, true, ◌==◌, List, [], ◌∷◌, length, drop, refl, ap, sym, ◌∙◌, arith, Option, Some, Result, Ok, Err}
+use Rattle.std.proofs.lemmas.Bool.{false≢true}
+use Rattle.kc_expr.specs.Arena.{Exprs, Stands, stands_for, Grows}
+use Rattle.kc_expr.specs.Expr.{Expr, Operand, alone, named, quoted}
+use Rattle.kc_expr.specs.Grammar.{extent, read_expr, operand_of_piece, operand_of_kind, is_operand_kind, constant_or, quoted_text}
+use Rattle.kc_expr.specs.Token.{Piece}
+use Rattle.kc_expr.specs.declared.fault.ExprKind.{ExprKind}
+use Rattle.kc_expr.specs.declared.token.TokenKind.{TokenKind}
+use Rattle.kc_expr.specs.declared.token.TokenKind.TheVariants.{Word, Quoted, Relation, Not, And, Or, Open, Close}
+use Rattle.kc_tree_model.specs.declared.fault.TreeKind.{TreeKind}
+use Rattle.kc_tree_model.specs.Forms.{default_line, optional_if}
+use Rattle.kc_tree_model.specs.Statements.{Statement, Attribute, Valued, attribute}
+use Rattle.kc_statements.specs.Said.{if_in, operand_in, operand_of_expr, valued_in, OperandHeld}
+use Rattle.kc_statements.proofs.AttributeLemmas.{default_is}
+use Rattle.kc_statements.proofs.FormLemmas.{stepped}
+use Rattle.kc_statements.proofs.Later.{node_same}
+
+-- a word or a quoted text alone is read as its operand
+operand_by : (k : TokenKind) (s e : ℕ) (text : List ℕ) → is_operand_kind k ≡ true
+    → (a : Operand) × (operand_of_kind k text ≡ Some a) × (read_expr (record { kind = k; start = s; stop = e; text = text } ∷ []) ≡ Ok (alone a))
+unfolding read_expr
+operand_by Word s e text h = (constant_or named text, refl, refl)
+operand_by Quoted s e text h = (constant_or quoted (quoted_text text), refl, refl)
+operand_by (Relation op) s e text h = absurd (false≢true h)
+operand_by Not s e text h = absurd (false≢true h)
+operand_by And s e text h = absurd (false≢true h)
+operand_by Or s e text h = absurd (false≢true h)
+operand_by Open s e text h = absurd (false≢true h)
+operand_by Close s e text h = absurd (false≢true h)
+
+-- what is read
+abbrev read_as : Expr → Result Expr (ExprKind × List Piece)
+read_as e = Ok e
+
+read_same : (x y : Expr) → read_as x ≡ read_as y → x ≡ y
+read_same x y q = cc
+
+pub operand_told : (e : Exprs) (id : ℕ) (p : Piece) (x : Expr) → is_operand_kind p.kind ≡ true → read_expr (p ∷ []) ≡ Ok x → Stands e id x
+    → (operand_of_piece p ≡ Some (operand_in e id)) × OperandHeld e id
+operand_told e id p x h r s =
+    let o = operand_by p.kind p.start p.stop p.text h in
+    let is : stands_for e id ≡ alone o.0 = s.is ∙ read_same x (alone o.0) (sym r ∙ o.2) in
+    let found : operand_in e id ≡ o.0 = ap operand_of_expr is in
+    (o.1 ∙ ap Some (sym found), record { within = s.within; is = is ∙ ap alone (sym found) })
+
+-- a default by its parts
+valued_by : (Valued → Attribute) → Expr → ℕ → Option Expr → Result Statement TreeKind
+valued_by f v n c = Ok (attribute (f (record { value = v; single = n == 1; condition = c })))
+
+pub valued_told : (mid new : Exprs) (f : Valued → Attribute) (ps : List Piece) (id next : ℕ) (c : Option ℕ) (x : Expr) → Grows mid new → read_expr (extent ps) ≡ Ok x → Stands mid id x
+    → next ≡ 0 + length (extent ps) → optional_if (drop next ps) ≡ Ok (if_in new c)
+    → default_line f ps ≡ Ok (attribute (f (valued_in new (record { value = id; single = next == 1; condition = c }))))
+unfolding valued_by
+valued_told mid new f ps id next c x g reads s end given =
+    let n : next ≡ length (extent ps) = omega (arith, end) in
+    let k : Option Expr → Statement = λ d. attribute (f (record { value = x; single = length (extent ps) == 1; condition = d })) in
+    default_is f ps x reads
+    ∙ ap (stepped k) (ap (λ m. optional_if (drop m ps)) (sym n) ∙ given)
+    ∙ ap (λ m. valued_by f x m (if_in new c)) (sym n)
+    ∙ ap (λ v. valued_by f v next (if_in new c)) (sym (node_same mid new id g s.within ∙ s.is))
+
+pub valued_refused : (f : Valued → Attribute) (ps : List Piece) (next : ℕ) (x : Expr) (k : TreeKind) → read_expr (extent ps) ≡ Ok x → next ≡ 0 + length (extent ps) → optional_if (drop next ps) ≡ Err k
+    → default_line f ps ≡ Err k
+valued_refused f ps next x k reads end given =
+    let n : next ≡ length (extent ps) = omega (arith, end) in
+    let t : Option Expr → Statement = λ d. attribute (f (record { value = x; single = length (extent ps) == 1; condition = d })) in
+    default_is f ps x reads ∙ ap (stepped t) (ap (λ m. optional_if (drop m ps)) (sym n) ∙ given)

@@ -1,0 +1,24 @@
+use Rattle.std.proofs.Common.{arith, inl, inr}
+use Rattle.std.proofs.lemmas.List.{length-map}
+use Rattle.kc_expr.specs.Token.{pieces_of, piece_of}
+use Rattle.kc_statements.proofs.AttributeLemmas.{extent_within}
+use Rattle.kc_statements.proofs.ValueLemmas.{valued_told, valued_refused}
+use Rattle.kc_statements.proofs.attributes.valued.Goals as goal
+
+pub optional_if-requires : goal.optional_if-requires
+optional_if-requires c =
+    omega (arith, c.in-Ok.ensures.end, extent_within (pieces_of c.args.tokens.now), length-map c.args.tokens.now piece_of)
+
+pub returns-in-Ok-optional_if-clause-gives : goal.returns-in-Ok-optional_if-clause-gives
+returns-in-Ok-optional_if-clause-gives c = λ f.
+    let r = c.in-Ok.ensures.ok in
+    let s = c.in-Ok-optional_if.ensures in
+    valued_told c.parse_expr.new.self c.optional_if.new.arena f (pieces_of c.args.tokens.now) c.in-Ok.read.0 c.in-Ok.read.1 c.in-Ok-optional_if.condition r.expr s.grows r.reads r.stands c.in-Ok.ensures.end s.gives
+
+pub returns-in-Err-optional_if-clause-gives : goal.returns-in-Err-optional_if-clause-gives
+returns-in-Err-optional_if-clause-gives c = λ f.
+    let r = c.in-Ok.ensures.ok in
+    elim (c.in-Err-optional_if.ensures.gives) [
+      | inl m ↦ inl m
+      | inr e ↦ inr (valued_refused f (pieces_of c.args.tokens.now) c.in-Ok.read.1 r.expr c.in-Err-optional_if.kind r.reads c.in-Ok.ensures.end e)
+    ]

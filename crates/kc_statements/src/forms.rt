@@ -1,0 +1,62 @@
+//! What lines say, by their keywords and the tokens behind them.
+ghost use Rattle.std.specs.Prelude.{IfOk};
+ghost use Rattle.kc_expr.specs.Arena.{Grows};
+ghost use Rattle.kc_expr.specs.Token.{pieces_of};
+ghost use Rattle.kc_tree_model.specs.Forms.{statement_of as defined_statement};
+ghost use Rattle.kc_statements.specs.Meanings.{meant};
+ghost use Rattle.kc_statements.specs.Said.{Gives, StatementHeld, statement_in};
+
+use super::attributes::{
+    default_line, depends_line, help_line, imply_line, modules_line, option_line, prompt_line,
+    select_line, type_line, typed_default_line, visible_line,
+};
+use super::heads::{
+    choice_line, comment_line, config_line, end_line, if_line, mainmenu_line, menu_line,
+    source_line,
+};
+use super::keyword::Keyword;
+use super::range::range_line;
+use super::statement::Statement;
+use kc_expr::{Arena, Token};
+use kc_tree_model::TreeKind;
+use std::alloc::Global;
+
+/// What a line with this keyword says, by the tokens behind its first ("Kconfig syntax", "Menu attributes").
+///
+/// `Malformed` where they haven't the form of the keyword (a word that is left out has none: that is told before);
+/// `TooDeep` where an expression has a symbol under more than 64 `!` and parentheses; `OutOfMemory` is want of memory.
+/// Expressions that were read stay in the arena also where an `Err` is told.
+pub fn statement_of<'a>(
+    alloc: Global,
+    arena: &mut Arena,
+    keyword: Keyword,
+    tokens: &[Token<'a>],
+) -> Result<Statement<'a>, TreeKind>
+    ensures grows { Grows arena.old arena.new }
+    ensures gives { Gives (statement_in arena.new) result (defined_statement (meant keyword) (pieces_of tokens.now)) }
+    ensures held { IfOk result (StatementHeld arena.new) }
+{
+    match keyword {
+        Keyword::Config => config_line(tokens),
+        Keyword::Choice => choice_line(tokens),
+        Keyword::Menu => menu_line(alloc, tokens),
+        Keyword::If => if_line(arena, tokens),
+        Keyword::Comment => comment_line(alloc, tokens),
+        Keyword::Source => source_line(alloc, tokens),
+        Keyword::Mainmenu => mainmenu_line(tokens),
+        Keyword::End(block) => end_line(block, tokens),
+        Keyword::Type(kind) => type_line(arena, kind, tokens),
+        Keyword::DefaultType(kind) => typed_default_line(arena, kind, tokens),
+        Keyword::Prompt => prompt_line(arena, tokens),
+        Keyword::Default => default_line(arena, tokens),
+        Keyword::Depends => depends_line(arena, tokens),
+        Keyword::Select => select_line(arena, tokens),
+        Keyword::Imply => imply_line(arena, tokens),
+        Keyword::Range => range_line(arena, tokens),
+        Keyword::Visible => visible_line(arena, tokens),
+        Keyword::Help => help_line(tokens),
+        Keyword::Modules => modules_line(tokens),
+        Keyword::Option => option_line(tokens),
+        Keyword::LeftOut => Err(TreeKind::Malformed),
+    }
+}

@@ -1,0 +1,171 @@
+//! The forms of statements that close the open entry, by the tokens behind their first words ("Kconfig syntax").
+ghost use Rattle.std.specs.Prelude.{◌≡◌, ℕ, List, IfOk, IfErr};
+ghost use Rattle.kc_expr.specs.Arena.{Exprs, Grows};
+ghost use Rattle.kc_expr.specs.Grammar.{quoted_text as text_meant};
+ghost use Rattle.kc_expr.specs.Token.{pieces_of, piece_of};
+ghost use Rattle.kc_tree_model.specs.declared.fault.TreeKind.TheVariants.{OutOfMemory};
+ghost use Rattle.kc_tree_model.specs.Forms.{config_line, choice_line, titled_line, source_line, statement_of, no_more, path_of};
+ghost use Rattle.kc_tree_model.specs.Keywords.{if_word};
+ghost use Rattle.kc_tree_model.specs.Statements.{Head as DefinedHead, head, menu, comment, mainmenu, ends};
+ghost use Rattle.kc_statements.specs.Meanings.{block_meant};
+ghost use Rattle.kc_statements.specs.checker.Titles.{is_one_quoted};
+ghost use Rattle.kc_statements.specs.Said.{Gives, StatementHeld, statement_in};
+
+use super::condition::last_condition;
+use super::statement::{Block, Head, Statement};
+use super::token::{is_name, is_quoted, is_word};
+use kc_expr::{Arena, Token, quoted_text};
+use kc_tree_model::TreeKind;
+use kc_value::Text;
+use std::alloc::{AllocError, Global};
+
+/// `NAME`.
+pub(crate) fn config_line<'a>(tokens: &[Token<'a>]) -> Result<Statement<'a>, TreeKind>
+    ensures gives { (e : Exprs) → Gives (statement_in e) result (config_line (pieces_of tokens.now)) }
+    ensures held { (e : Exprs) → IfOk result (StatementHeld e) }
+{
+    if tokens.len() != 1 {
+        return Err(TreeKind::Malformed);
+    }
+    if !is_name(&tokens[0]) {
+        return Err(TreeKind::Malformed);
+    }
+    Ok(Statement::Head(Head::Config(tokens[0].text)))
+}
+
+/// Nothing may follow `choice`.
+pub(crate) fn choice_line<'a>(tokens: &[Token<'_>]) -> Result<Statement<'a>, TreeKind>
+    ensures gives { (e : Exprs) → Gives (statement_in e) result (choice_line (pieces_of tokens.now)) }
+    ensures held { (e : Exprs) → IfOk result (StatementHeld e) }
+{
+    if tokens.is_empty() {
+        Ok(Statement::Head(Head::Choice))
+    } else {
+        Err(TreeKind::Malformed)
+    }
+}
+
+/// Whether the tokens are one quoted text.
+fn is_title(tokens: &[Token<'_>]) -> bool
+    ensures { result ≡ is_one_quoted (pieces_of tokens.now) }
+{
+    tokens.len() == 1 && is_quoted(&tokens[0])
+}
+
+/// The text for which a quoted token of a text stands.
+fn unquoted(alloc: Global, text: &str) -> Result<Text, TreeKind>
+    ensures ok { IfOk result (λ t. t ≡ text_meant text.now) }
+    ensures memory { IfErr result (λ k. k ≡ OutOfMemory) }
+{
+    match quoted_text(alloc, text) {
+        Ok(text) => Ok(Text::from_string(text)),
+        Err(_) => Err(TreeKind::OutOfMemory),
+    }
+}
+
+/// `Q`.
+fn title(alloc: Global, tokens: &[Token<'_>]) -> Result<Text, TreeKind>
+    ensures { (f : List ℕ → DefinedHead) → Gives (λ t. head (f t)) result (titled_line f (pieces_of tokens.now)) }
+{
+    if !is_title(tokens) {
+        return Err(TreeKind::Malformed);
+    }
+    unquoted(alloc, tokens[0].text)
+}
+
+/// `Q`, a menu's title.
+pub(crate) fn menu_line<'a>(alloc: Global, tokens: &[Token<'_>]) -> Result<Statement<'a>, TreeKind>
+    ensures gives { (e : Exprs) → Gives (statement_in e) result (titled_line menu (pieces_of tokens.now)) }
+    ensures held { (e : Exprs) → IfOk result (StatementHeld e) }
+{
+    match title(alloc, tokens) {
+        Ok(title) => Ok(Statement::Head(Head::Menu(title))),
+        Err(kind) => Err(kind),
+    }
+}
+
+/// `Q`, a comment's title.
+pub(crate) fn comment_line<'a>(
+    alloc: Global,
+    tokens: &[Token<'_>],
+) -> Result<Statement<'a>, TreeKind>
+    ensures gives { (e : Exprs) → Gives (statement_in e) result (titled_line comment (pieces_of tokens.now)) }
+    ensures held { (e : Exprs) → IfOk result (StatementHeld e) }
+{
+    match title(alloc, tokens) {
+        Ok(title) => Ok(Statement::Head(Head::Comment(title))),
+        Err(kind) => Err(kind),
+    }
+}
+
+/// `Q`, which isn't kept.
+pub(crate) fn mainmenu_line<'a>(tokens: &[Token<'_>]) -> Result<Statement<'a>, TreeKind>
+    ensures gives { (e : Exprs) → Gives (statement_in e) result (titled_line (λ _. mainmenu) (pieces_of tokens.now)) }
+    ensures held { (e : Exprs) → IfOk result (StatementHeld e) }
+{
+    if is_title(tokens) {
+        Ok(Statement::Head(Head::Mainmenu))
+    } else {
+        Err(TreeKind::Malformed)
+    }
+}
+
+/// The path that a word or a quoted text is. An `Err` is want of memory.
+fn path_of(alloc: Global, token: &Token<'_>) -> Result<Option<Text>, AllocError>
+    ensures { IfOk result (λ path. path ≡ path_of (piece_of token.now)) }
+{
+    if is_quoted(token) {
+        let text = quoted_text(alloc, token.text)?;
+        return Ok(Some(Text::from_string(text)));
+    }
+    if is_word(token) {
+        let text = Text::copied(alloc, token.text)?;
+        return Ok(Some(text));
+    }
+    Ok(None)
+}
+
+/// `Q` or `W`.
+pub(crate) fn source_line<'a>(
+    alloc: Global,
+    tokens: &[Token<'_>],
+) -> Result<Statement<'a>, TreeKind>
+    ensures gives { (e : Exprs) → Gives (statement_in e) result (source_line (pieces_of tokens.now)) }
+    ensures held { (e : Exprs) → IfOk result (StatementHeld e) }
+{
+    if tokens.len() != 1 {
+        return Err(TreeKind::Malformed);
+    }
+    match path_of(alloc, &tokens[0]) {
+        Ok(Some(path)) => Ok(Statement::Head(Head::Source(path))),
+        Ok(None) => Err(TreeKind::Malformed),
+        Err(_) => Err(TreeKind::OutOfMemory),
+    }
+}
+
+/// `E`, of an `if` block.
+pub(crate) fn if_line<'a>(
+    arena: &mut Arena,
+    tokens: &[Token<'_>],
+) -> Result<Statement<'a>, TreeKind>
+    ensures grows { Grows arena.old arena.new }
+    ensures gives { Gives (statement_in arena.new) result (statement_of if_word (pieces_of tokens.now)) }
+    ensures held { IfOk result (StatementHeld arena.new) }
+{
+    match last_condition(arena, tokens, 0) {
+        Ok(id) => Ok(Statement::Head(Head::Condition(id))),
+        Err(kind) => Err(kind),
+    }
+}
+
+/// Nothing may follow `endmenu`, `endif` and `endchoice`.
+pub(crate) fn end_line<'a>(block: Block, tokens: &[Token<'_>]) -> Result<Statement<'a>, TreeKind>
+    ensures gives { (e : Exprs) → Gives (statement_in e) result (no_more (head (ends (block_meant block))) (pieces_of tokens.now)) }
+    ensures held { (e : Exprs) → IfOk result (StatementHeld e) }
+{
+    if tokens.is_empty() {
+        Ok(Statement::Head(Head::Ends(block)))
+    } else {
+        Err(TreeKind::Malformed)
+    }
+}

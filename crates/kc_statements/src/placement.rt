@@ -1,0 +1,105 @@
+//! What is looked at before a line's form: forms that are left out, and the attributes of each entry.
+ghost use Rattle.std.specs.Prelude.{◌≡◌, ◌||◌, ◌==◌, List};
+ghost use Rattle.std.specs.List.{list_any};
+ghost use Rattle.kc_expr.specs.Token.{pieces_of, piece_of};
+ghost use Rattle.kc_tree_model.specs.Blocks.{Group};
+ghost use Rattle.kc_tree_model.specs.Placement.{is_left_out, is_choice_open, open_entry, is_glob_path, takes, config_open, choice_open};
+ghost use Rattle.kc_statements.specs.Meanings.{meant, open_meant};
+
+use super::keyword::Keyword;
+use super::token::{is_left_out_option, is_operand, is_word};
+use kc_expr::Token;
+use kc_value::Kind;
+
+/// The entry that is open.
+#[derive(Clone, Copy, Debug, PartialEq, Eq)]
+pub enum Open {
+    Config,
+    Choice,
+    Menu,
+    Comment,
+}
+
+/// Whether an entry takes an attribute ("Kconfig syntax": config, choice, menu, comment).
+pub fn takes(entry: Open, keyword: Keyword) -> bool
+    ensures { result ≡ takes (open_meant entry) (meant keyword) }
+{
+    match entry {
+        Open::Config => config_takes(keyword),
+        Open::Choice => choice_takes(keyword),
+        Open::Menu => matches!(keyword, Keyword::Depends | Keyword::Visible),
+        Open::Comment => matches!(keyword, Keyword::Depends),
+    }
+}
+
+/// Whether a `config` takes an attribute.
+fn config_takes(keyword: Keyword) -> bool
+    ensures { result ≡ takes config_open (meant keyword) }
+{
+    matches!(
+        keyword,
+        Keyword::Type(_)
+            | Keyword::DefaultType(_)
+            | Keyword::Prompt
+            | Keyword::Default
+            | Keyword::Depends
+            | Keyword::Select
+            | Keyword::Imply
+            | Keyword::Range
+            | Keyword::Help
+            | Keyword::Modules
+            | Keyword::Option
+    )
+}
+
+/// Whether a `choice` takes an attribute.
+fn choice_takes(keyword: Keyword) -> bool
+    ensures { result ≡ takes choice_open (meant keyword) }
+{
+    matches!(
+        keyword,
+        Keyword::Type(Kind::Bool)
+            | Keyword::Prompt
+            | Keyword::Default
+            | Keyword::Depends
+            | Keyword::Help
+    )
+}
+
+/// Whether a byte makes a path a pattern.
+fn is_glob_byte(byte: u8) -> bool
+    ensures { result ≡ (byte == 42 || (byte == 63) || (byte == 91)) }
+{
+    matches!(byte, b'*' | b'?' | b'[')
+}
+
+/// Whether a text has such a byte.
+fn has_glob_byte(text: &[u8]) -> bool
+    ensures { result ≡ list_any (λ c. c == 42 || (c == 63) || (c == 91)) text.now }
+{
+    text.iter().any(|byte| is_glob_byte(*byte))
+}
+
+/// Whether a token is a path that is a pattern. Quotes and backslashes make none, so its text is looked at as it
+/// stands.
+fn is_glob_path(token: &Token<'_>) -> bool
+    ensures { result ≡ is_glob_path (piece_of token.now) }
+{
+    is_operand(token) && has_glob_byte(token.text.as_bytes())
+}
+
+/// Whether a line with this keyword is left out, by the tokens behind its first and whether the open entry is a
+/// choice: its first word, options, named and tristate choices, and paths that are patterns ("Kconfig syntax").
+pub fn is_left_out(keyword: Keyword, tokens: &[Token<'_>], choice_is_open: bool) -> bool
+    ensures { (read : List Group) → is_choice_open (open_entry read) ≡ choice_is_open
+        → result ≡ is_left_out read (meant keyword) (pieces_of tokens.now) }
+{
+    match keyword {
+        Keyword::LeftOut => true,
+        Keyword::Option => !tokens.is_empty() && is_left_out_option(&tokens[0]),
+        Keyword::Choice => !tokens.is_empty() && is_word(&tokens[0]),
+        Keyword::Source => !tokens.is_empty() && is_glob_path(&tokens[0]),
+        Keyword::Type(Kind::Tristate) => choice_is_open,
+        _ => false,
+    }
+}

@@ -1,0 +1,65 @@
+//! The form of ranges, by the tokens behind `range` ("Menu attributes").
+ghost use Rattle.std.specs.Prelude.{◌≡◌, true, Some, IfOk, IfErr};
+ghost use Rattle.kc_expr.specs.Arena.{Grows};
+ghost use Rattle.kc_expr.specs.Grammar.{is_operand_kind, operand_of_piece};
+ghost use Rattle.kc_expr.specs.Token.{pieces_of, piece_of};
+ghost use Rattle.kc_tree_model.specs.declared.fault.TreeKind.TheVariants.{OutOfMemory};
+ghost use Rattle.kc_tree_model.specs.Forms.{range_line};
+ghost use Rattle.kc_statements.specs.Said.{Gives, StatementHeld, OperandHeld, statement_in, operand_in};
+
+use super::condition::optional_if;
+use super::statement::{Attribute, Bounded, Statement};
+use super::token::is_operand;
+use kc_expr::{Arena, ExprId, Token};
+use kc_tree_model::TreeKind;
+
+/// The operand that a word or a quoted text is, as an expression.
+fn operand(arena: &mut Arena, token: &Token<'_>) -> Result<ExprId, TreeKind>
+    requires { is_operand_kind token.now.kind ≡ true }
+    ensures grows { Grows arena.old arena.new }
+    ensures operand { IfOk result (λ id. operand_of_piece (piece_of token.now) ≡ Some (operand_in arena.new id)) }
+    ensures held { IfOk result (OperandHeld arena.new) }
+    ensures memory { IfErr result (λ k. k ≡ OutOfMemory) }
+{
+    let alone = [*token];
+    match arena.parse_expr(&alone, 0, false) {
+        Ok(read) => Ok(read.0),
+        Err(_) => Err(TreeKind::OutOfMemory),
+    }
+}
+
+/// `OP OP [if E]`.
+pub(crate) fn range_line<'a>(
+    arena: &mut Arena,
+    tokens: &[Token<'_>],
+) -> Result<Statement<'a>, TreeKind>
+    ensures grows { Grows arena.old arena.new }
+    ensures gives { Gives (statement_in arena.new) result (range_line (pieces_of tokens.now)) }
+    ensures held { IfOk result (StatementHeld arena.new) }
+{
+    if tokens.len() < 2 {
+        return Err(TreeKind::Malformed);
+    }
+    if !is_operand(&tokens[0]) {
+        return Err(TreeKind::Malformed);
+    }
+    if !is_operand(&tokens[1]) {
+        return Err(TreeKind::Malformed);
+    }
+    let low = match operand(arena, &tokens[0]) {
+        Ok(id) => id,
+        Err(kind) => return Err(kind),
+    };
+    let high = match operand(arena, &tokens[1]) {
+        Ok(id) => id,
+        Err(kind) => return Err(kind),
+    };
+    match optional_if(arena, tokens, 2) {
+        Ok(condition) => Ok(Statement::Attribute(Attribute::Range(Bounded {
+            low,
+            high,
+            condition,
+        }))),
+        Err(kind) => Err(kind),
+    }
+}
