@@ -10,7 +10,7 @@ use Rattle.kc_dotconfig_model.specs.Names.{lacks}
 use Rattle.kc_dotconfig_model.specs.Lines.{Saying, IsMalformed, without_white_end}
 use Rattle.kc_dotconfig_model.specs.Files.{file_lines, FileSays}
 use Rattle.kc_dotconfig_model.specs.LoadFaults.{IsLineAt, newlines}
-use Rattle.kc_dotconfig_model.specs.Reading.{line_saying, with_rest, sayings_of_lines, file_sayings}
+use Rattle.kc_dotconfig_model.specs.checker.Reading.{line_saying, with_rest, sayings_of_lines, file_sayings}
 use Rattle.kc_dotconfig_model.specs.Laws.{AcceptedFilesAreRead}
 use Rattle.kc_dotconfig_model.proofs.LineLaws.{line_read, file_read}
 

@@ -14,7 +14,7 @@ use Rattle.kc_dotconfig_model.specs.Names.{lacks, is_prefix}
 use Rattle.kc_dotconfig_model.specs.Lines.{Saying, Says, IsMalformed, without_white_end}
 use Rattle.kc_dotconfig_model.specs.Files.{file_lines, has_utf8_lines}
 use Rattle.kc_dotconfig_model.specs.Laws.{IsGoodLine, AcceptedFilesHaveGoodLines}
-use Rattle.kc_dotconfig_model.specs.Reading.{line_saying}
+use Rattle.kc_dotconfig_model.specs.checker.Reading.{line_saying}
 use Rattle.kc_dotconfig_model.proofs.LineLaws.{line_read}
 use Rattle.kc_dotconfig_model.proofs.AcceptedFiles.{placed}
 use Rattle.kc_dotconfig_model.specs.LoadFaults.{IsLineAt, newlines, IsAccepted, MOST_BYTES, MOST_LINES, MOST_LINE_BYTES}

@@ -12,7 +12,7 @@ use Rattle.kc_dotconfig_model.specs.declared.notice.NoticeKind.{NoticeKind}
 use Rattle.kc_dotconfig_model.specs.declared.notice.NoticeKind.TheVariants.{UnknownSymbol, NotOfType}
 use Rattle.kc_dotconfig_model.specs.Lines.{Saying, assigns, notice, silent}
 use Rattle.kc_dotconfig_model.specs.Files.{file_users, assigned_over, laid_over, notices_from}
-use Rattle.kc_dotconfig_model.specs.Reading.{line_saying, file_sayings}
+use Rattle.kc_dotconfig_model.specs.checker.Reading.{line_saying, file_sayings}
 
 -- a file's assignment and its notices, if no line is malformed
 abbrev read : List ℕ → Whole → List ℕ → Option (List (Option UserValue) × List (ℕ × NoticeKind))

@@ -6,7 +6,7 @@ use Rattle.std.proofs.lemmas.Bool.{eqb-true, eq-eqb, and_parts, and_from, not-tr
 use Rattle.std.proofs.lemmas.Slice.Eq.{bytes_eq-Decides}
 use Rattle.kc_dotconfig_model.specs.Names.{lacks}
 use Rattle.kc_dotconfig_model.specs.Lines.{IsValueLine, IsUnsetLine}
-use Rattle.kc_dotconfig_model.specs.Reading.{behind, cut_at, if_named, named_before, value_parts, if_not_set, unset_name}
+use Rattle.kc_dotconfig_model.specs.checker.Reading.{behind, cut_at, if_named, named_before, value_parts, if_not_set, unset_name}
 
 behind_is : (front text rest : List ℕ) → behind front text ≡ Some rest → text ≡ front ++ rest
 behind_is [] text rest e = cc

@@ -11,7 +11,7 @@ use Rattle.kc_tree_model.specs.TreeLookup.{is_name_byte, symbol_named, found_at}
 use Rattle.kc_dotconfig_model.specs.Names.{is_prefix}
 use Rattle.kc_dotconfig_model.specs.Lines.{Saying, silent, Says, value, unset, unknown_value, unknown_unset, empty, comment, IsValueLine, IsUnsetLine, unset_saying, without_white_end}
 use Rattle.kc_dotconfig_model.specs.Files.{file_lines}
-use Rattle.kc_dotconfig_model.specs.Reading.{value_saying, value_parts, unset_name, named_before, behind, of_symbol_at, of_named, is_hash, of_other, of_unset, of_value, line_saying, with_rest, sayings_of_lines}
+use Rattle.kc_dotconfig_model.specs.checker.Reading.{value_saying, value_parts, unset_name, named_before, behind, of_symbol_at, of_named, is_hash, of_other, of_unset, of_value, line_saying, with_rest, sayings_of_lines}
 use Rattle.kc_dotconfig_model.specs.Laws.{LinesAreRead, FilesAreRead}
 use Rattle.kc_dotconfig_model.proofs.ValueLaws.{value_says, value_said}
 use Rattle.kc_dotconfig_model.proofs.LineForms.{value_line_is, value_line_read, unset_line_is, unset_line_read}

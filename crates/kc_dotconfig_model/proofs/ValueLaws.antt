@@ -15,7 +15,7 @@ use Rattle.kc_rules_model.specs.Kinds.{is_y, is_tri_kind}
 use Rattle.kc_value.specs.Number.{number_of_text}
 use Rattle.kc_dotconfig_model.specs.declared.notice.NoticeKind.TheVariants.{NotOfType}
 use Rattle.kc_dotconfig_model.specs.Lines.{Saying, assigns, notice, silent, tri_meant, ValueSays, tri, chosen, not_chosen, quoted, number, no_int, no_hex, no_tri, no_text, no_number}
-use Rattle.kc_dotconfig_model.specs.Reading.{ended, unquoted_rest, unquoted, tri_saying, string_saying, without_number, number_saying, saying_of_kind, value_saying}
+use Rattle.kc_dotconfig_model.specs.checker.Reading.{ended, unquoted_rest, unquoted, tri_saying, string_saying, without_number, number_saying, saying_of_kind, value_saying}
 
 -- what is read behind an opening quote is a body and a closing quote
 record IsRest (rest means : List ℕ) : Type 0 where

@@ -12,7 +12,7 @@ use Rattle.kc_dotconfig_model.specs.Names.{is_prefix}
 use Rattle.kc_dotconfig_model.specs.Lines.{Saying, Says, without_white_end}
 use Rattle.kc_dotconfig_model.specs.Files.{file_lines, has_utf8_lines, FileSays, assigned_over, file_users, laid_over}
 use Rattle.kc_dotconfig_model.specs.LoadFaults.{MOST_BYTES, MOST_LINES, MOST_LINE_BYTES, Extent, complete, cut_short, ComesAt, IsFirstFault, IsAccepted, newlines}
-use Rattle.kc_dotconfig_model.specs.Reading.{line_saying, file_sayings}
+use Rattle.kc_dotconfig_model.specs.checker.Reading.{line_saying, file_sayings}
 
 -- each line says one thing at most
 abbrev pub LinesAreRead : Type 0

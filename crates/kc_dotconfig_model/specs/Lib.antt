@@ -1,8 +1,7 @@
 pub mod Names
-pub mod Prefixes
 pub mod Lines
 pub mod Files
 pub mod LoadFaults
 pub mod Missed
-pub mod Reading
 pub mod Laws
+pub mod checker

@@ -13,12 +13,12 @@ use Rattle.kc_rules_model.specs.declared.profile.Profile.{Profile}
 use Rattle.kc_rules_model.specs.declared.values.UnitValue.{UnitValue}
 use Rattle.kc_rules_model.specs.declared.values.UserValue.{UserValue}
 use Rattle.kc_rules_model.specs.Equality.{same_value}
-use Rattle.kc_rules_model.specs.EqualityLaws.{values_decided}
+use Rattle.kc_rules_model.specs.checker.EqualityLaws.{values_decided}
 use Rattle.kc_rules_model.specs.Rule.{rule, as_user}
 use Rattle.kc_rules_model.specs.Dependencies.{dependencies}
 use Rattle.kc_rules_model.specs.Shapes.{user_fits}
-use Rattle.kc_rules_model.specs.FrameLaw.{rules_frame}
-use Rattle.kc_rules_model.specs.RestoreLaw.{rules_restore}
+use Rattle.kc_rules_model.specs.checker.FrameLaw.{rules_frame}
+use Rattle.kc_rules_model.specs.checker.RestoreLaw.{rules_restore}
 use Rattle.kc_dotconfig_model.specs.Names.{is_prefix}
 use Rattle.kc_dotconfig_model.specs.Lines.{Saying}
 use Rattle.kc_rules_model.specs.SymbolValues.{symbol_seen}
@@ -27,7 +27,7 @@ use Rattle.kc_dotconfig_model.specs.Files.{FileSays, file_users, no_users, has_u
 use Rattle.kc_dotconfig_model.proofs.FittingFiles.{file_fits}
 use Rattle.kc_dotconfig_model.proofs.LineLaws.{file_read}
 use Rattle.kc_minimal_model.specs.MinimalFile.{is_kept, has_line, may_have_line, minimal_symbols, minimal_file}
-use Rattle.kc_minimal_model.proofs.OrderedTrees.{IsOrderedTree}
+use Rattle.kc_rules_model.proofs.OrderedTrees.{IsOrderedTree}
 use Rattle.kc_minimal_model.specs.Loading.{ReadsTo}
 use Rattle.kc_minimal_model.specs.MinimalText.{with_lines}
 use Rattle.kc_minimal_model.proofs.MinimalLineList.{lines_are_utf8}

@@ -20,7 +20,7 @@ use Rattle.kc_rules_model.specs.Kinds.{is_tri_kind}
 use Rattle.kc_rules_model.specs.SymbolValues.{symbol_seen, seen_in, seen_as_tri, tri_of, text_of, member_of, tri_if_chosen}
 use Rattle.kc_rules_model.specs.Shapes.{value_fits, unit_value_fits, symbol_value_fits, choice_value_fits, is_member, tri_fits, text_fits}
 use Rattle.kc_rules_model.specs.Equality.{same_tri}
-use Rattle.kc_rules_model.specs.EqualityLaws.{values_decided}
+use Rattle.kc_rules_model.specs.checker.EqualityLaws.{values_decided}
 use Rattle.kc_rules_model.specs.Reports.{symbol_numbers}
 use Rattle.kc_rules_model.proofs.Lookups.{inside, place_is, unit_is}
 use Rattle.kc_minimal_model.specs.Differences.{Difference, same_seen, difference_at, differences}

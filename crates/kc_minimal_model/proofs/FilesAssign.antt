@@ -15,7 +15,7 @@ use Rattle.kc_dotconfig_model.specs.Lines.{Saying, assigns, notice, silent}
 use Rattle.kc_dotconfig_model.specs.Files.{file_users, assigned_over, no_users}
 use Rattle.kc_dotconfig_model.proofs.FittingFiles.{file_fits}
 use Rattle.kc_minimal_model.specs.MinimalFile.{has_line, minimal_symbols}
-use Rattle.kc_minimal_model.proofs.OrderedTrees.{IsOrderedTree, ordered_tree}
+use Rattle.kc_rules_model.proofs.OrderedTrees.{IsOrderedTree, ordered_tree}
 use Rattle.kc_minimal_model.specs.MinimalText.{NeedsTheLines}
 use Rattle.kc_minimal_model.specs.FilesAssign.{assigned_units, HasAtLeastTheLines, FilesAssignTheLines}
 use Rattle.kc_minimal_model.specs.Loading.{ReadsTo}

@@ -23,14 +23,14 @@ use Rattle.kc_rules_model.specs.Rule.{rule, rule_of_unit, rule_of_choice, as_use
 use Rattle.kc_rules_model.specs.Dependencies.{dependencies}
 use Rattle.kc_rules_model.specs.Shapes.{user_fits, is_line}
 use Rattle.kc_rules_model.specs.Reports.{is_written, is_written_symbol, symbol_numbers}
-use Rattle.kc_rules_model.specs.FrameLaw.{rules_frame}
+use Rattle.kc_rules_model.specs.checker.FrameLaw.{rules_frame}
 use Rattle.kc_rules_model.proofs.Lookups.{inside, place_is, unit_is}
 use Rattle.kc_dotconfig_model.specs.Lines.{Saying, assigns, notice, silent}
 use Rattle.kc_dotconfig_model.specs.Files.{assigned_over, file_users, no_users}
 use Rattle.kc_dotconfig_model.proofs.FittingFiles.{file_fits}
 use Rattle.kc_minimal_model.specs.MinimalFile.{is_kept, has_line, may_have_line, stands_for_its_unit}
 use Rattle.kc_minimal_model.specs.FullFile.{full_file}
-use Rattle.kc_minimal_model.proofs.OrderedTrees.{IsOrderedTree, ordered_tree}
+use Rattle.kc_rules_model.proofs.OrderedTrees.{IsOrderedTree, ordered_tree}
 use Rattle.kc_minimal_model.specs.FullFilesBack.{FullFilesLeadBack}
 use Rattle.kc_minimal_model.proofs.Canonical.{decides}
 use Rattle.kc_minimal_model.proofs.FullLines.{is_for, is_definition, IsTold, told}
@@ -40,7 +40,7 @@ use Rattle.kc_minimal_model.proofs.LeastFile.{none_held, none_length, unit_there
 use Rattle.kc_minimal_model.proofs.NeededUnits.{needs}
 use Rattle.kc_minimal_model.proofs.OwnLines.{IsOwn}
 use Rattle.kc_minimal_model.proofs.OwnValues.{own_values, hidden_values}
-use Rattle.kc_minimal_model.proofs.SolutionsFit.{solutions_fit}
+use Rattle.kc_rules_model.proofs.SolutionsFit.{solutions_fit}
 
 or_false : (b : Bool) → (b || false) ≡ b
 or_false true = refl

@@ -23,7 +23,7 @@ use Rattle.kc_dotconfig_model.specs.Files.{FileSays, file_lines, has_utf8_lines}
 use Rattle.kc_minimal_model.specs.Spelling.{symbol_line, ended_line}
 use Rattle.kc_minimal_model.specs.MinimalFile.{has_line}
 use Rattle.kc_minimal_model.specs.FullFile.{heading_title, heading, end_line, applies, pieces}
-use Rattle.kc_minimal_model.proofs.OrderedTrees.{IsOrderedTree}
+use Rattle.kc_rules_model.proofs.OrderedTrees.{IsOrderedTree}
 use Rattle.kc_minimal_model.proofs.Bytes.{first_line, all_of_both}
 use Rattle.kc_minimal_model.proofs.HeadingLines.{blank_says, hash_says, heading_says, end_says}
 use Rattle.kc_minimal_model.proofs.KeptLines.{line_reads, read_as_assignment, meant, user_meant, saying_of_user}

@@ -6,6 +6,8 @@ use Rattle.std.proofs.lemmas.Bool.{cases_Bool, eqb-true, eq-eqb}
 use Rattle.std.proofs.lemmas.List.{length-map}
 use Rattle.kc_tree_model.specs.Trees.{Whole}
 use Rattle.kc_tree_model.specs.TreeLookup.{IsConsistent}
+use Rattle.kc_tree_model.specs.Contents.{tree_of_files}
+use Rattle.kc_tree_model.proofs.Consistency.Consistent.{tree_is_consistent}
 use Rattle.kc_system.specs.Solutions.{FitsUsers, FitsValues}
 use Rattle.kc_system.proofs.Lists.{get-some}
 use Rattle.kc_rules_model.specs.declared.profile.Profile.{Profile}
@@ -24,12 +26,12 @@ use Rattle.kc_minimal_model.specs.Differences.{Difference, difference_at, differ
 use Rattle.kc_minimal_model.specs.MinimalFile.{has_line, minimal_symbols, minimal_file}
 use Rattle.kc_minimal_model.specs.Loading.{ReadsTo, Loads, HaveSameValues, DifferAtASymbol, without_line}
 use Rattle.kc_minimal_model.specs.MinimalText.{with_lines}
-use Rattle.kc_minimal_model.specs.Headline.{MinimalFilesAreCanonical}
-use Rattle.kc_minimal_model.proofs.OrderedTrees.{IsOrderedTree, ordered_tree}
+use Rattle.kc_minimal_model.specs.Headline.{MinimalFilesAreCanonical, DifferencesTellMinimalFiles, Headline}
+use Rattle.kc_rules_model.proofs.OrderedTrees.{IsOrderedTree, ordered_tree}
 use Rattle.kc_minimal_model.proofs.LeastFile.{passes_filter}
 use Rattle.kc_minimal_model.proofs.MinimalLineList.{minimal_file_lines}
 use Rattle.kc_minimal_model.proofs.DifferenceLaws.{differences_tell, none_left, same_as_itself}
-use Rattle.kc_minimal_model.proofs.SolutionsFit.{solutions_fit}
+use Rattle.kc_rules_model.proofs.SolutionsFit.{solutions_fit}
 use Rattle.kc_minimal_model.proofs.Canonical.{fits_of, each, one, reads_back, same_files, needed}
 use Rattle.kc_minimal_model.proofs.Accepting.{passes_at}
 use Rattle.kc_minimal_model.proofs.MinimalAccepted.{lines_are_short, minimal_files_accepted}
@@ -188,3 +190,14 @@ canonical prefix profile tree a b valid settled accepted_a accepted_b =
       once = λ again loaded. ap (minimal_file prefix profile tree) (one prefix valid profile tree (ordered_tree tree settled) (minimal_file prefix profile tree first.0) again first.0 loaded.reads (back_reads prefix valid profile tree settled a first.0 left));
       needed = λ small k below. without_one prefix valid profile tree settled a first.0 first.1 small k below;
     }
+
+pub differences_tell_files : DifferencesTellMinimalFiles
+differences_tell_files prefix profile tree a b left right valid settled fits_a fits_b gives_a gives_b =
+    let ordered = ordered_tree tree settled in
+    let tell = differences_tell tree left right settled.consistent (solutions_fit profile tree ordered a fits_a left gives_a.solves) (solutions_fit profile tree ordered b fits_b right gives_b.solves) in
+    let equal = same_files prefix valid profile tree ordered a b left right fits_a fits_b gives_a.solves gives_b.solves in
+    (λ none. equal.0 (tell.0 none), λ files. tell.1 (equal.1 files))
+
+pub headline : Headline
+headline files root prefix profile a b valid no_fault acyclic accepted_a accepted_b =
+    canonical prefix profile (tree_of_files files root) a b valid (record { consistent = tree_is_consistent files root no_fault; acyclic = acyclic }) accepted_a accepted_b

@@ -11,8 +11,8 @@ use Rattle.kc_rules_model.specs.declared.values.UserValue.{UserValue}
 use Rattle.kc_rules_model.specs.Rule.{rule, as_user}
 use Rattle.kc_rules_model.specs.Shapes.{user_fits}
 use Rattle.kc_rules_model.specs.Equality.{same_value, value_is}
-use Rattle.kc_rules_model.specs.EqualityLaws.{values_decided}
-use Rattle.kc_rules_model.specs.RestoreLaw.{rules_restore}
+use Rattle.kc_rules_model.specs.checker.EqualityLaws.{values_decided}
+use Rattle.kc_rules_model.specs.checker.RestoreLaw.{rules_restore}
 use Rattle.kc_minimal_model.specs.MinimalFile.{is_kept}
 
 -- its value, and the fitting user value that gives it again

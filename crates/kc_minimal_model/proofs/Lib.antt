@@ -4,7 +4,6 @@ pub mod KeptUnits
 pub mod KeptLines
 pub mod LeastFile
 pub mod LineUnits
-pub mod OrderedTrees
 pub mod MinimalLineList
 pub mod Canonical
 pub mod NeededUnits
@@ -13,7 +12,6 @@ pub mod Accepting
 pub mod FittingLines
 pub mod MinimalAccepted
 pub mod OwnValues
-pub mod SolutionsFit
 pub mod HeadingLines
 pub mod OwnLines
 pub mod FullLines

@@ -33,7 +33,7 @@ use Rattle.kc_dotconfig_model.specs.LoadFaults.{MOST_LINES, MOST_LINE_BYTES, IsA
 use Rattle.kc_dotconfig_model.proofs.FittingFiles.{file_fits}
 use Rattle.kc_minimal_model.specs.Spelling.{spelled, symbol_line, line_if_seen, line_with}
 use Rattle.kc_minimal_model.specs.MinimalFile.{is_kept, has_line, may_have_line, minimal_symbols}
-use Rattle.kc_minimal_model.proofs.OrderedTrees.{IsOrderedTree, ordered_tree}
+use Rattle.kc_rules_model.proofs.OrderedTrees.{IsOrderedTree, ordered_tree}
 use Rattle.kc_minimal_model.specs.Loading.{ReadsTo}
 use Rattle.kc_minimal_model.specs.FileLimits.{MinimalFilesAreAccepted}
 use Rattle.kc_minimal_model.proofs.Accepting.{accepted_symbols, filter_shorter}

@@ -15,7 +15,7 @@ use Rattle.kc_minimal_model.specs.Spelling.{ended_line}
 use Rattle.kc_minimal_model.specs.MinimalFile.{has_line, minimal_symbols, minimal_file}
 use Rattle.kc_minimal_model.specs.Loading.{has_short_lines}
 use Rattle.kc_minimal_model.specs.MinimalText.{with_lines, MinimalTextsAreMinimal}
-use Rattle.kc_minimal_model.proofs.OrderedTrees.{IsOrderedTree, ordered_tree}
+use Rattle.kc_rules_model.proofs.OrderedTrees.{IsOrderedTree, ordered_tree}
 use Rattle.kc_minimal_model.proofs.LeastFile.{passes_filter}
 use Rattle.kc_minimal_model.proofs.Canonical.{all_of_filter, some_have_lines, reads_back, needed}
 use Rattle.kc_minimal_model.proofs.NeededUnits.{needs}

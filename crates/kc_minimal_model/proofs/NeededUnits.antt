@@ -17,11 +17,11 @@ use Rattle.kc_rules_model.specs.Dependencies.{dependencies}
 use Rattle.kc_rules_model.specs.Shapes.{user_fits}
 use Rattle.kc_rules_model.specs.Reports.{symbol_numbers}
 use Rattle.kc_rules_model.specs.Laws.{is_tri_value}
-use Rattle.kc_rules_model.specs.FrameLaw.{rules_frame}
+use Rattle.kc_rules_model.specs.checker.FrameLaw.{rules_frame}
 use Rattle.kc_rules_model.proofs.AssignedTexts.{texts_assigned}
 use Rattle.kc_dotconfig_model.specs.Names.{is_prefix}
 use Rattle.kc_minimal_model.specs.MinimalFile.{is_kept, has_line, may_have_line}
-use Rattle.kc_minimal_model.proofs.OrderedTrees.{IsOrderedTree, ordered_tree}
+use Rattle.kc_rules_model.proofs.OrderedTrees.{IsOrderedTree, ordered_tree}
 use Rattle.kc_minimal_model.specs.MinimalText.{NeedsTheLines, MinimalLinesAreNeeded}
 use Rattle.kc_minimal_model.proofs.KeptUnits.{kept_unit, kept_passes, others_fail}
 use Rattle.kc_minimal_model.proofs.KeptLines.{unit_inside}

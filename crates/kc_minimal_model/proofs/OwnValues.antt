@@ -18,7 +18,7 @@ use Rattle.kc_rules_model.specs.declared.values.UserValue.TheVariants.{Tri as Tr
 use Rattle.kc_rules_model.specs.Kinds.{is_n, y_for_m, is_bool, is_tristate, largest}
 use Rattle.kc_rules_model.specs.Rule.{rule, rule_of_unit, rule_of_symbol, rule_of_choice, symbol_rule, tri_rule, string_rule, number_rule, choice_rule, as_user, is_visible, visibility, conditions, modules_value, unassigned, selected, leaves_no_m, default_text, number_default, is_within, active_range, or_else, is_shown, is_visible_member, assigned_text}
 use Rattle.kc_rules_model.specs.Reports.{IsLifted}
-use Rattle.kc_rules_model.specs.RestoreLaw.{rules_restore, promoted_if}
+use Rattle.kc_rules_model.specs.checker.RestoreLaw.{rules_restore, promoted_if}
 use Rattle.kc_rules_model.specs.Shapes.{user_fits, unit_user_fits, symbol_user_fits, user_text_fits}
 use Rattle.kc_minimal_model.proofs.Canonical.{decides}
 

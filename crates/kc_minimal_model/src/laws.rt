@@ -2,7 +2,7 @@
 ghost use Rattle.kc_minimal_model.specs.FileLimits.{MinimalFileLines, MinimalFilesAreAccepted, ReadFilesAreAccepted};
 ghost use Rattle.kc_minimal_model.specs.FilesAssign.{FilesAssignTheLines};
 ghost use Rattle.kc_minimal_model.specs.FullFilesBack.{FullFilesLeadBack};
-ghost use Rattle.kc_minimal_model.specs.Headline.{MinimalFilesAreCanonical};
+ghost use Rattle.kc_minimal_model.specs.Headline.{DifferencesTellMinimalFiles, Headline, MinimalFilesAreCanonical};
 ghost use Rattle.kc_minimal_model.specs.Laws.{DifferencesTell, MinimalFilesAssignLeast, MinimalLinesAreRead, MinimalLinesDiffer};
 ghost use Rattle.kc_minimal_model.specs.MinimalText.{MinimalLinesAreNeeded, MinimalTextsAreMinimal};
 
@@ -70,7 +70,19 @@ pub fn minimal_files_are_canonical()
     ensures { MinimalFilesAreCanonical }
 {}
 
+/// The headline: for Kconfig files that are read without a fault and whose units have no cycle,
+/// minimal files are canonical.
+pub fn headline()
+    ensures { Headline }
+{}
+
 /// Nothing differs between two valuations exactly if they are the same.
 pub fn differences_tell()
     ensures { DifferencesTell }
+{}
+
+/// Nothing differs between what two fitting assignments give exactly if their minimal files are
+/// equal byte for byte.
+pub fn differences_tell_minimal_files()
+    ensures { DifferencesTellMinimalFiles }
 {}

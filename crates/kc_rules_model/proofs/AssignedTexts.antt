@@ -11,7 +11,7 @@ use Rattle.kc_rules_model.specs.declared.values.UserValue.{UserValue}
 use Rattle.kc_rules_model.specs.declared.values.UserValue.TheVariants.{Tri as TriUser, Text as TextUser, Member as MemberUser}
 use Rattle.kc_value.specs.Number.{number_of_text}
 use Rattle.kc_rules_model.specs.Rule.{rule, rule_of_unit, rule_of_symbol, rule_of_choice, symbol_rule, string_rule, number_rule, choice_rule, as_user, is_visible, default_text, number_default, is_within, active_range, is_shown, is_visible_member}
-use Rattle.kc_rules_model.specs.RestoreLaw.{text_kept, number_kept, member_kept, no_text, no_number}
+use Rattle.kc_rules_model.specs.checker.RestoreLaw.{text_kept, number_kept, member_kept, no_text, no_number}
 use Rattle.kc_rules_model.specs.Laws.{is_tri_value, TextsAreAssigned}
 
 module _ (profile : Profile) (tree : Whole) (values : List UnitValue) where

@@ -31,7 +31,7 @@ use Rattle.kc_rules_model.specs.Kinds.{is_n, is_tri_kind, is_tristate}
 use Rattle.kc_rules_model.specs.SymbolValues.{seen_in, seen_as_tri, symbol_seen, names_under, condition, tri_of, text_of}
 use Rattle.kc_rules_model.specs.Rule.{rule, rule_of_unit, rule_of_symbol, rule_of_choice, symbol_rule, string_rule, number_rule, choice_rule, expression_text, default_text, number_default, limited, bound, active_range, active_default, is_within, is_visible, is_visible_member, is_shown, assigned_text, assigned_member, or_else, modules_value, leaves_no_m}
 use Rattle.kc_rules_model.specs.Shapes.{user_fits, value_fits, unit_user_fits, unit_value_fits, symbol_user_fits, symbol_value_fits, choice_user_fits, choice_value_fits, user_text_fits, text_fits, is_line}
-use Rattle.kc_rules_model.specs.RestoreLaw.{fits_promoted}
+use Rattle.kc_rules_model.specs.checker.RestoreLaw.{fits_promoted}
 use Rattle.kc_rules_model.specs.Laws.{RulesFit}
 use Rattle.kc_rules_model.proofs.Lookups.{inside, unit_is}
 use Rattle.kc_rules_model.proofs.Ink.{is_ink, isn't}

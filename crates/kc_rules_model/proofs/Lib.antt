@@ -2,6 +2,8 @@ pub mod Lookups
 pub mod Ink
 pub mod Numbers
 pub mod FittingValues
+pub mod OrderedTrees
+pub mod SolutionsFit
 pub mod AssignedTexts
 pub mod RowTrees
 mod TristateRows

@@ -3,7 +3,7 @@ use Rattle.std.specs.Prelude.{◌≡◌, ◌≢◌, ℕ, Bool, true, false, ◌<
 use Rattle.kc_tree_model.specs.Trees.{Whole}
 use Rattle.kc_tree_model.specs.TreeLookup.{IsConsistent}
 use Rattle.kc_system.specs.Dependencies.{IsGraph}
-use Rattle.kc_system.specs.Solutions.{KeepsFrame, Restores, FitsValues}
+use Rattle.kc_system.specs.Solutions.{Solves, KeepsFrame, Restores, FitsUsers, FitsValues}
 use Rattle.kc_rules_model.specs.declared.profile.Profile.{Profile}
 use Rattle.kc_rules_model.specs.declared.values.UnitValue.{UnitValue}
 use Rattle.kc_rules_model.specs.declared.values.UnitValue.TheVariants.{Tri as TriValue, Text as TextValue, Member as MemberValue}
@@ -11,6 +11,7 @@ use Rattle.kc_rules_model.specs.declared.values.UserValue.{UserValue}
 use Rattle.kc_rules_model.specs.Rule.{rule, as_user}
 use Rattle.kc_rules_model.specs.Dependencies.{dependencies}
 use Rattle.kc_rules_model.specs.Shapes.{user_fits, value_fits}
+use Rattle.kc_rules_model.specs.SettledTrees.{IsSettledTree}
 
 -- the dependencies ascend without repeats, and name units
 abbrev pub DependenciesAreGraph : Type 0
@@ -43,3 +44,10 @@ RulesFit = (profile : Profile) (tree : Whole) (u : ℕ) (x : Option UserValue) (
     → IsConsistent tree → u < length tree.units → IfSome x (λ y. IsTrue (user_fits tree u y))
     → FitsValues (length tree.units) (λ w v. IsTrue (value_fits tree w v)) values
     → IsTrue (value_fits tree u (rule profile tree u x values))
+
+-- the values that a fitting assignment gives fit their units, over a settled tree
+abbrev pub SolutionsFit : Type 0
+SolutionsFit = (profile : Profile) (tree : Whole) (users : List (Option UserValue)) (values : List UnitValue)
+    → IsSettledTree tree → FitsUsers (length tree.units) (λ u x. IsTrue (user_fits tree u x)) users
+    → Solves (length tree.units) (rule profile tree) users values
+    → FitsValues (length tree.units) (λ u v. IsTrue (value_fits tree u v)) values

@@ -7,8 +7,4 @@ pub mod SettledTrees
 pub mod Equality
 pub mod Reports
 pub mod Laws
-pub mod Agreement
-pub mod FrameLaw
-pub mod RestoreLaw
-pub mod GraphLaw
-pub mod EqualityLaws
+pub mod checker

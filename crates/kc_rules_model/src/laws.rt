@@ -2,7 +2,7 @@
 ghost use Rattle.std.specs.Prelude.{◌≡◌, ◌↔◌, IsTrue};
 ghost use Rattle.kc_rules_model.specs.declared.values.UnitValue.{UnitValue};
 ghost use Rattle.kc_rules_model.specs.declared.values.UserValue.{UserValue};
-ghost use Rattle.kc_rules_model.specs.Laws.{DependenciesAreGraph, RulesKeepFrame, RulesRestore, RulesFit, TextsAreAssigned};
+ghost use Rattle.kc_rules_model.specs.Laws.{DependenciesAreGraph, RulesKeepFrame, RulesRestore, RulesFit, TextsAreAssigned, SolutionsFit};
 ghost use Rattle.kc_rules_model.specs.Equality.{same_value, same_user};
 
 /// The dependencies of each tree ascend without repeats and name units.
@@ -24,6 +24,12 @@ pub fn rules_restore()
 /// In each profile, what a rule gives fits its unit, where the values and the user value fit theirs.
 pub fn rules_fit()
     ensures { RulesFit }
+{}
+
+/// In each profile, the values that a fitting assignment gives fit their units, over a consistent
+/// tree without a cycle.
+pub fn solutions_fit()
+    ensures { SolutionsFit }
 {}
 
 /// In each profile, a text or member that a unit wouldn't have without its user value is its user

@@ -7,7 +7,7 @@ mod values;
 
 pub use laws::{
     dependencies_are_a_graph, equality_is_decided, rules_fit, rules_keep_the_frame, rules_restore,
-    texts_are_assigned,
+    solutions_fit, texts_are_assigned,
 };
 pub use profile::Profile;
 pub use values::{UnitValue, UserValue};

@@ -6,7 +6,7 @@ use Rattle.kc_system.specs.Dependencies.{IsOrder}
 use Rattle.kc_system.proofs.AcyclicOrders.{order_of_acyclic}
 use Rattle.kc_rules_model.specs.Dependencies.{dependencies}
 use Rattle.kc_rules_model.specs.SettledTrees.{IsSettledTree}
-use Rattle.kc_rules_model.specs.GraphLaw.{rules_graph}
+use Rattle.kc_rules_model.specs.checker.GraphLaw.{rules_graph}
 
 -- a consistent tree, and an order in which each unit comes after its dependencies
 pub record IsOrderedTree (tree : Whole) : Type 0 where

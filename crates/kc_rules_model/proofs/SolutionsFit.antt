@@ -18,9 +18,10 @@ use Rattle.kc_rules_model.specs.declared.values.UserValue.{UserValue}
 use Rattle.kc_rules_model.specs.Rule.{rule}
 use Rattle.kc_rules_model.specs.Dependencies.{dependencies}
 use Rattle.kc_rules_model.specs.Shapes.{user_fits, value_fits, unit_value_fits, symbol_value_fits, text_fits, tri_fits}
-use Rattle.kc_rules_model.specs.FrameLaw.{rules_frame}
+use Rattle.kc_rules_model.specs.checker.FrameLaw.{rules_frame}
 use Rattle.kc_rules_model.proofs.FittingValues.{rules_fit}
-use Rattle.kc_minimal_model.proofs.OrderedTrees.{IsOrderedTree}
+use Rattle.kc_rules_model.proofs.OrderedTrees.{IsOrderedTree, ordered_tree}
+use Rattle.kc_rules_model.specs.Laws.{SolutionsFit as Law}
 
 -- a value that fits, for each kind of unit
 abbrev blank_of_kind : Kind → UnitValue
@@ -91,3 +92,7 @@ module _ (profile : Profile) (tree : Whole) (settled : IsOrderedTree tree) (user
       let other = solving.solved_all (length tree.units) (dependencies tree) (rule profile tree) (λ u x. IsTrue (user_fits tree u x)) settled.order settled.ordered (rules_frame profile tree) users fitting.1 all.0 all.1.0 all.2 in
       let same : all.0 ≡ values = solving.unique (length tree.units) (dependencies tree) (rule profile tree) (λ u x. IsTrue (user_fits tree u x)) settled.order settled.ordered (rules_frame profile tree) users fitting.1 all.0 values other solved in
       subst (λ v. FitsValues (length tree.units) (λ u w. IsTrue (value_fits tree u w)) v) same all.1
+
+-- as a law
+pub all_solutions_fit : Law
+all_solutions_fit profile tree users values settled fitting solved = solutions_fit profile tree (ordered_tree tree settled) users fitting values solved

@@ -26,7 +26,7 @@ use Rattle.kc_rules_model.specs.Rule.{conditions, forces, is_visible, expression
 use Rattle.kc_rules_model.specs.Dependencies.{units_named, units_of_forces, needed_by_symbol, needed_by_choice, needed_by, needed_by_symbol_at, needed_by_choice_at, dependencies, prompts_at, prompts_of, prompt_names}
 use Rattle.kc_expr.specs.Mentioned.{names_in, operand_names}
 use Rattle.kc_rules_model.specs.Shapes.{user_fits, unit_user_fits, choice_user_fits}
-use Rattle.kc_rules_model.specs.Agreement.{Agrees, parts, text_agrees, value_agrees, find_agrees, all_map}
+use Rattle.kc_rules_model.specs.checker.Agreement.{Agrees, parts, text_agrees, value_agrees, find_agrees, all_map}
 
 visible_by_prompts : (b : Bool) (t : Tri) → not (is_n (cond b (y_for_m t) t)) ≡ not (is_n t)
 visible_by_prompts true N = refl
