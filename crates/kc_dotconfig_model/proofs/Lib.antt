@@ -8,5 +8,8 @@ pub mod FirstFaults
 pub mod AcceptedLines
 pub mod TrimmedLines
 pub mod AssigningLines
+pub mod Cuts
+pub mod FaultsAtCuts
+pub mod JudgedFiles
 mod FileRows
 mod MissedRows

@@ -1,5 +1,5 @@
 -- A line says what the function of `Reading` tells, and nothing else.
-use Rattle.std.specs.Prelude.{◌≡◌, ◌↔◌, ℕ, ◌+◌, ◌≤◌, true, List, Option, Some, length, slice_get, IsTrue}
+use Rattle.std.specs.Prelude.{◌≡◌, ◌⊎◌, ◌↔◌, ℕ, ◌+◌, ◌≤◌, true, List, Option, Some, length, slice_get, IsTrue}
 use Rattle.std.specs.Str.{IsUtf8}
 use Rattle.kc_tree_model.specs.Trees.{Whole}
 use Rattle.kc_tree_model.specs.TreeLookup.{IsConsistent}
@@ -73,3 +73,14 @@ pub record IsOfGoodLines (prefix : List ℕ) (tree : Whole) (bytes : List ℕ) :
 abbrev pub AcceptedFilesHaveGoodLines : Type 0
 AcceptedFilesHaveGoodLines = (prefix : List ℕ) (tree : Whole) (bytes : List ℕ) → is_prefix prefix ≡ true
     → IsAccepted prefix tree bytes ↔ IsOfGoodLines prefix tree bytes
+
+-- each file is accepted or has a first fault
+abbrev pub EachFileIsJudged : Type 0
+EachFileIsJudged = (prefix : List ℕ) (tree : Whole) (bytes : List ℕ) → is_prefix prefix ≡ true
+    → IsAccepted prefix tree bytes
+    ⊎ ((kind : LoadKind) × (number : ℕ) × IsFirstFault prefix tree complete bytes kind number)
+
+-- and each that a failed read cut short has a first fault
+abbrev pub EachCutFileIsJudged : Type 0
+EachCutFileIsJudged = (prefix : List ℕ) (tree : Whole) (bytes : List ℕ) → is_prefix prefix ≡ true
+    → (kind : LoadKind) × (number : ℕ) × IsFirstFault prefix tree cut_short bytes kind number

@@ -1,5 +1,5 @@
 //! Laws of lines and files.
-ghost use Rattle.kc_dotconfig_model.specs.Laws.{LinesAreRead, FilesAreRead, FilesLieOverAssignments, FilesFit, AcceptedFilesAreRead, OneFaultIsFirst, FaultyFilesAreRefused, FailedReadsAreTold, AcceptedFilesHaveGoodLines};
+ghost use Rattle.kc_dotconfig_model.specs.Laws.{LinesAreRead, FilesAreRead, FilesLieOverAssignments, FilesFit, AcceptedFilesAreRead, OneFaultIsFirst, FaultyFilesAreRefused, FailedReadsAreTold, AcceptedFilesHaveGoodLines, EachFileIsJudged, EachCutFileIsJudged};
 
 /// A line says what the forms of lines have it say, and one thing at most.
 pub fn lines_are_read()
@@ -45,4 +45,10 @@ pub fn failed_reads_are_told()
 /// is within the limit of bytes, UTF-8 and not malformed.
 pub fn accepted_files_have_good_lines()
     ensures { AcceptedFilesHaveGoodLines }
+{}
+
+/// Each file is accepted or has a first fault, and each that a failed read cut short has one.
+pub fn each_file_is_judged()
+    ensures whole { EachFileIsJudged }
+    ensures cut { EachCutFileIsJudged }
 {}

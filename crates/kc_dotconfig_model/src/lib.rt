@@ -8,9 +8,9 @@ mod prefix;
 
 pub use fault::{LoadFault, LoadKind};
 pub use laws::{
-    accepted_files_are_read, accepted_files_have_good_lines, failed_reads_are_told,
-    faulty_files_are_refused, files_are_read, files_fit, files_lie_over_assignments,
-    lines_are_read, one_fault_is_first,
+    accepted_files_are_read, accepted_files_have_good_lines, each_file_is_judged,
+    failed_reads_are_told, faulty_files_are_refused, files_are_read, files_fit,
+    files_lie_over_assignments, lines_are_read, one_fault_is_first,
 };
 pub use notice::{Notice, NoticeKind};
 pub use prefix::Prefix;

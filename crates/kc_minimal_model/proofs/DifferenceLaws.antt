@@ -24,6 +24,7 @@ use Rattle.kc_rules_model.specs.checker.EqualityLaws.{values_decided}
 use Rattle.kc_rules_model.specs.Reports.{symbol_numbers}
 use Rattle.kc_rules_model.proofs.Lookups.{inside, place_is, unit_is}
 use Rattle.kc_minimal_model.specs.Differences.{Difference, same_seen, difference_at, differences}
+use Rattle.kc_minimal_model.proofs.KeptLines.{tri_kind}
 use Rattle.kc_minimal_model.specs.Laws.{DifferencesTell}
 
 same_by_get : (v w : List UnitValue) → length v ≡ length w → ((u : ℕ) → u < length v → slice_get v u ≡ slice_get w u) → v ≡ w
@@ -56,14 +57,7 @@ pub same_as_itself : (s : ℕ) (o : Option Seen) → difference_at s o o ≡ Non
 same_as_itself s None = refl
 same_as_itself s (Some a) = ap (λ t. cond {A = Option Difference} t None (Some (record { symbol = s; left = a; right = a }))) (and_from (same_tri a.tri a.tri) (bytes_eq a.text a.text) (tri_same a.tri) ((bytes_eq-Decides a.text a.text).1 refl))
 
-tri_kind : (kind : Kind) (t : Tri) → tri_fits kind t ≡ true → is_tri_kind kind ≡ true
-tri_kind Boolean t e = refl
-tri_kind Tristate t e = refl
-tri_kind Text t e = absurd (false≢true e)
-tri_kind Int t e = absurd (false≢true e)
-tri_kind Hex t e = absurd (false≢true e)
-
-text_kind : (kind : Kind) (text : List ℕ) → text_fits kind text ≡ true → is_tri_kind kind ≡ false
+pub text_kind : (kind : Kind) (text : List ℕ) → text_fits kind text ≡ true → is_tri_kind kind ≡ false
 text_kind Boolean t e = absurd (false≢true e)
 text_kind Tristate t e = absurd (false≢true e)
 text_kind Text t e = refl

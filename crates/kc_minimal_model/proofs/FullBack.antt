@@ -1,9 +1,9 @@
 -- Where nothing is lifted, reading the full file gives the values back.
-use Rattle.std.proofs.Common.{◌≡◌, inl, inr, ℕ, zero, suc, ◌<◌, Bool, true, false, not, ◌||◌, ◌==◌, cond, IsTrue, List, [], ◌∷◌, Option, Some, None, length, filter, refl, sym, ap, ◌∙◌, subst, arith, unwrap_or}
+use Rattle.std.proofs.Common.{◌≡◌, inl, inr, ℕ, zero, suc, ◌<◌, Bool, true, false, not, ◌||◌, ◌==◌, cond, IsTrue, List, [], ◌∷◌, Option, Some, None, length, refl, sym, ap, ◌∙◌, subst, arith, unwrap_or}
 use Rattle.std.specs.Prelude.{slice_get, slice_set, nat_eq}
 use Rattle.std.specs.Option.{option_map, option_and_then}
 use Rattle.std.specs.List.{AllByRecursion, list_any}
-use Rattle.std.proofs.lemmas.Bool.{cases_Bool, false≢true, and_parts, and_from, or_left, or_right, or_cases, eq-eqb, eqb-true, eqb-false}
+use Rattle.std.proofs.lemmas.Bool.{cases_Bool, false≢true, and_parts, and_from, or_left, or_right, eq-eqb, eqb-true, eqb-false}
 use Rattle.std.proofs.lemmas.List.{get_or-set_same, get_or-set_other, length-set}
 use Rattle.kc_value.specs.declared.tri.Tri.TheVariants.{N, Y}
 use Rattle.kc_tree_model.specs.Trees.{Whole, Symbol, Choice, Entry, of_symbol, of_choice, definition}
@@ -36,23 +36,11 @@ use Rattle.kc_minimal_model.proofs.Canonical.{decides}
 use Rattle.kc_minimal_model.proofs.FullLines.{is_for, is_definition, IsTold, told}
 use Rattle.kc_minimal_model.proofs.KeptLines.{user_meant}
 use Rattle.kc_minimal_model.proofs.KeptUnits.{kept_unit, kept_passes, others_fail}
-use Rattle.kc_minimal_model.proofs.LeastFile.{none_held, none_length, unit_there, speaks_at}
-use Rattle.kc_minimal_model.proofs.NeededUnits.{needs}
+use Rattle.kc_minimal_model.proofs.LeastFile.{or_false, or_true, or_assoc, none_held, none_length, unit_there, speaks_at}
+use Rattle.kc_minimal_model.proofs.NeededUnits.{any_found, needs}
 use Rattle.kc_minimal_model.proofs.OwnLines.{IsOwn}
 use Rattle.kc_minimal_model.proofs.OwnValues.{own_values, hidden_values}
 use Rattle.kc_rules_model.proofs.SolutionsFit.{solutions_fit}
-
-or_false : (b : Bool) → (b || false) ≡ b
-or_false true = refl
-or_false false = refl
-
-or_assoc : (a b c : Bool) → ((a || b) || c) ≡ (a || (b || c))
-or_assoc true b c = refl
-or_assoc false b c = refl
-
-or_true : (b : Bool) → (b || true) ≡ true
-or_true true = refl
-or_true false = refl
 
 -- lines that assign each unit its own value or nothing give a unit its own value if one is for it
 after_own : (values : List UnitValue) (u : ℕ) (sayings : List Saying) (held : List (Option UserValue)) (before : Bool) → u < length held → AllByRecursion (IsOwn values) sayings → user_of held u ≡ cond before (user_meant values u) None
@@ -78,13 +66,6 @@ defined (entry ∷ entries) zero s at =
     let same : entry ≡ definition s = cc in
     or_left (is_definition s entry) (list_any (is_definition s) entries) (ap (is_definition s) same ∙ eq-eqb s s refl)
 defined (entry ∷ entries) (suc k) s at = or_right (is_definition s entry) (list_any (is_definition s) entries) (defined entries k s at)
-
-any_found : (p q : ℕ → Bool) (xs : List ℕ) → list_any p (filter q xs) ≡ true → (s : ℕ) × (q s ≡ true) × (p s ≡ true)
-any_found p q [] any = absurd (false≢true any)
-any_found p q (x ∷ xs) any = go (q x) refl any (any_found p q xs) where
-  go : (t : Bool) → q x ≡ t → list_any p (cond t (x ∷ filter q xs) (filter q xs)) ≡ true → (list_any p (filter q xs) ≡ true → (s : ℕ) × (q s ≡ true) × (p s ≡ true)) → (s : ℕ) × (q s ≡ true) × (p s ≡ true)
-  go true e any next = elim (or_cases (p x) (list_any p (filter q xs)) any) [ inl here ↦ (x, e, here) | inr later ↦ next later ]
-  go false e any next = next any
 
 -- the member of a choice that isn't `n` is the choice's value
 chosen_is : (s : ℕ) (o : Option UnitValue) → not (is_n (tri_if_chosen s (member_of o))) ≡ true → o ≡ Some (MemberValue (Some s))

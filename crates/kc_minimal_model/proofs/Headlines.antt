@@ -1,11 +1,10 @@
 -- The headline, over the bytes of two files.
-use Rattle.std.proofs.Common.{◌≡◌, ◌≢◌, inl, inr, ℕ, zero, suc, ◌+◌, ◌<◌, ◌≤◌, Bool, true, false, not, ◌==◌, cond, IsTrue, List, [], ◌∷◌, ◌++◌, Option, Some, None, length, map, filter, take, drop, refl, sym, ap, ◌∙◌, subst, arith}
+use Rattle.std.proofs.Common.{◌≡◌, inl, inr, ℕ, zero, suc, ◌+◌, ◌<◌, ◌≤◌, Bool, true, false, not, ◌==◌, cond, IsTrue, List, [], ◌∷◌, ◌++◌, Some, length, map, filter, take, drop, refl, sym, ap, ◌∙◌, subst, arith}
 use Rattle.std.specs.Prelude.{slice_get}
-use Rattle.std.specs.List.{flat_map, filter_map, cons_option, range_with_len}
+use Rattle.std.specs.List.{flat_map, range_with_len}
 use Rattle.std.proofs.lemmas.Bool.{cases_Bool, eqb-true, eq-eqb}
 use Rattle.std.proofs.lemmas.List.{length-map}
 use Rattle.kc_tree_model.specs.Trees.{Whole}
-use Rattle.kc_tree_model.specs.TreeLookup.{IsConsistent}
 use Rattle.kc_tree_model.specs.Contents.{tree_of_files}
 use Rattle.kc_tree_model.proofs.Consistency.Consistent.{tree_is_consistent}
 use Rattle.kc_system.specs.Solutions.{FitsUsers, FitsValues}
@@ -22,19 +21,19 @@ use Rattle.kc_dotconfig_model.specs.LoadFaults.{MOST_BYTES, IsAccepted}
 use Rattle.kc_dotconfig_model.proofs.AcceptedFiles.{accepted_read}
 use Rattle.kc_dotconfig_model.proofs.AcceptedLines.{accepted_utf8}
 use Rattle.kc_minimal_model.specs.Spelling.{symbol_line, ended_line}
-use Rattle.kc_minimal_model.specs.Differences.{Difference, difference_at, differences}
 use Rattle.kc_minimal_model.specs.MinimalFile.{has_line, minimal_symbols, minimal_file}
-use Rattle.kc_minimal_model.specs.Loading.{ReadsTo, Loads, HaveSameValues, DifferAtASymbol, without_line}
+use Rattle.kc_minimal_model.specs.Loading.{ReadsTo, Loads, DifferAtASymbol, without_line}
 use Rattle.kc_minimal_model.specs.MinimalText.{with_lines}
 use Rattle.kc_minimal_model.specs.Headline.{MinimalFilesAreCanonical, DifferencesTellMinimalFiles, Headline}
 use Rattle.kc_rules_model.proofs.OrderedTrees.{IsOrderedTree, ordered_tree}
 use Rattle.kc_minimal_model.proofs.LeastFile.{passes_filter}
 use Rattle.kc_minimal_model.proofs.MinimalLineList.{minimal_file_lines}
-use Rattle.kc_minimal_model.proofs.DifferenceLaws.{differences_tell, none_left, same_as_itself}
+use Rattle.kc_minimal_model.proofs.DifferenceLaws.{differences_tell}
 use Rattle.kc_rules_model.proofs.SolutionsFit.{solutions_fit}
 use Rattle.kc_minimal_model.proofs.Canonical.{fits_of, each, one, reads_back, same_files, needed}
 use Rattle.kc_minimal_model.proofs.Accepting.{passes_at}
 use Rattle.kc_minimal_model.proofs.MinimalAccepted.{lines_are_short, minimal_files_accepted}
+use Rattle.kc_minimal_model.proofs.DifferingSymbols.{same_values, differ_somewhere}
 use Rattle.kc_minimal_model.proofs.MinimalTexts.{part_accepted}
 
 -- a list without one of its elements
@@ -86,34 +85,6 @@ one_out p a (suc n) k x at = go (p a) k at (one_out p (a + 1) n) where
       let other : (a == x) ≡ false = elim (cases_Bool (a == x)) [ inl same ↦ (let e = eqb-true a x same in absurd (omega (arith, e, later))) | inr differs ↦ differs ] in
       ap (λ b. cond (not b) (a ∷ filter (λ t. not (t == x)) (filter p (range_with_len (a + 1) n))) (filter (λ t. not (t == x)) (filter p (range_with_len (a + 1) n)))) other ∙ ap (λ l. a ∷ l) (next k x at)
   go false k at next = next k x at
-
--- a list of what some elements give, that isn't empty, has one of them
-found_some : {X Z : Type 0} (f : X → Option Z) (xs : List X) (z : Z) (zs : List Z) → filter_map f xs ≡ z ∷ zs → (x : X) × (y : Z) × (f x ≡ Some y)
-found_some f [] z zs e = cc
-found_some {X = X} {Z = Z} f (x ∷ xs) z zs e = go (f x) refl e (found_some f xs z zs) where
-  go : (o : Option Z) → f x ≡ o → cons_option o (filter_map f xs) ≡ z ∷ zs → (filter_map f xs ≡ z ∷ zs → (w : X) × (y : Z) × (f w ≡ Some y)) → (w : X) × (y : Z) × (f w ≡ Some y)
-  go (Some y) here e next = (x, y, here)
-  go None here e next = next e
-
-abbrev Fits : Whole → List UnitValue → Type 0
-Fits tree values = FitsValues (length tree.units) (λ u x. IsTrue (value_fits tree u x)) values
-
--- the same value at a symbol is no difference
-no_difference : (tree : Whole) (v w : List UnitValue) (s : ℕ) → symbol_seen tree v s ≡ symbol_seen tree w s → difference_at s (symbol_seen tree v s) (symbol_seen tree w s) ≡ None
-no_difference tree v w s same = ap (difference_at s (symbol_seen tree v s)) (sym same) ∙ same_as_itself s (symbol_seen tree v s)
-
--- values are the same where every symbol has the same
-same_values : (tree : Whole) (v w : List UnitValue) → IsConsistent tree → Fits tree v → Fits tree w → HaveSameValues tree v w → v ≡ w
-same_values tree v w sound fits_v fits_w same = (differences_tell tree v w sound fits_v fits_w).0 (none_left (λ s. difference_at s (symbol_seen tree v s) (symbol_seen tree w s)) (symbol_numbers tree) (λ s. no_difference tree v w s (same s)))
-
--- and differ at a symbol where they aren't the same
-differ_somewhere : (tree : Whole) (v w : List UnitValue) → IsConsistent tree → Fits tree v → Fits tree w → v ≢ w → DifferAtASymbol tree v w
-differ_somewhere tree v w sound fits_v fits_w differ = go (differences tree v w) refl where
-  go : (ds : List Difference) → differences tree v w ≡ ds → (s : ℕ) × (symbol_seen tree v s ≢ symbol_seen tree w s)
-  go [] e = absurd (differ ((differences_tell tree v w sound fits_v fits_w).0 e))
-  go (d ∷ ds) e =
-      let found = found_some (λ s. difference_at s (symbol_seen tree v s) (symbol_seen tree w s)) (symbol_numbers tree) d ds e in
-      (found.0, λ same. (let none = no_difference tree v w found.0 same in let some = found.2 in cc (none, some)))
 
 module _ (prefix : List ℕ) (valid : is_prefix prefix ≡ true) (profile : Profile) (tree : Whole) (settled : IsSettledTree tree) where
   ordered : IsOrderedTree tree

@@ -47,7 +47,7 @@ value_of_tri (TextValue a) t e = cc
 value_of_tri (MemberValue None) t e = cc
 value_of_tri (MemberValue (Some a)) t e = cc
 
-value_of_text : (held : UnitValue) (text : List ℕ) → as_user held ≡ Some (TextUser text) → held ≡ TextValue text
+pub value_of_text : (held : UnitValue) (text : List ℕ) → as_user held ≡ Some (TextUser text) → held ≡ TextValue text
 value_of_text (TriValue a) t e = cc
 value_of_text (TextValue a) t e = cc
 value_of_text (MemberValue None) t e = cc
@@ -59,7 +59,7 @@ value_of_member (TextValue a) t e = cc
 value_of_member (MemberValue None) t e = cc
 value_of_member (MemberValue (Some a)) t e = cc
 
-tri_kind : (kind : Kind) (t : Tri) → tri_fits kind t ≡ true → is_tri_kind kind ≡ true
+pub tri_kind : (kind : Kind) (t : Tri) → tri_fits kind t ≡ true → is_tri_kind kind ≡ true
 tri_kind Boolean t e = refl
 tri_kind Tristate t e = refl
 tri_kind Text t e = absurd (false≢true e)

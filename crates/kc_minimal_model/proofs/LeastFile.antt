@@ -67,11 +67,11 @@ pub none_length : (n : ℕ) → length {A = Option UserValue} (replicate n None)
 none_length zero = refl
 none_length (suc n) = let rest = none_length n in omega arith
 
-or_false : (b : Bool) → (b || false) ≡ b
+pub or_false : (b : Bool) → (b || false) ≡ b
 or_false true = refl
 or_false false = refl
 
-or_true : (b : Bool) → (b || true) ≡ true
+pub or_true : (b : Bool) → (b || true) ≡ true
 or_true true = refl
 or_true false = refl
 
@@ -79,7 +79,7 @@ either_none : {X : Type 0} (t : Bool) (o : Option X) → o ≡ None → cond t o
 either_none true o e = e
 either_none false o e = refl
 
-or_assoc : (a b c : Bool) → ((a || b) || c) ≡ (a || (b || c))
+pub or_assoc : (a b c : Bool) → ((a || b) || c) ≡ (a || (b || c))
 or_assoc true b c = refl
 or_assoc false b c = refl
 

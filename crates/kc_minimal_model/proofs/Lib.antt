@@ -17,6 +17,7 @@ pub mod OwnLines
 pub mod FullLines
 pub mod FullBack
 pub mod FilesAssign
+pub mod DifferingSymbols
 pub mod MinimalTexts
 pub mod Headlines
 mod Witness

@@ -5,7 +5,6 @@ use Rattle.std.specs.Option.{option_map}
 use Rattle.std.specs.List.{list_all}
 use Rattle.std.proofs.lemmas.Bool.{and_parts, and_from, cases_Bool, false≢true, le-leb}
 use Rattle.std.proofs.lemmas.List.FromFn.{length-range_with_len}
-use Rattle.kc_value.specs.declared.tri.Tri.{Tri}
 use Rattle.kc_value.specs.declared.tri.Tri.TheVariants.{N}
 use Rattle.kc_value.specs.declared.value.Kind.{Kind}
 use Rattle.kc_value.specs.declared.value.Kind.TheVariants.{Bool as Boolean, Tristate, Text, Int, Hex}
@@ -17,13 +16,13 @@ use Rattle.kc_tree_model.specs.TreeLookup.{IsConsistent, unit_of, place_of_unit}
 use Rattle.kc_system.specs.Solutions.{user_of, FitsUsers}
 use Rattle.kc_rules_model.specs.declared.profile.Profile.{Profile}
 use Rattle.kc_rules_model.specs.declared.values.UnitValue.{UnitValue}
-use Rattle.kc_rules_model.specs.declared.values.UnitValue.TheVariants.{Tri as TriValue, Text as TextValue, Member as MemberValue}
+use Rattle.kc_rules_model.specs.declared.values.UnitValue.TheVariants.{Text as TextValue}
 use Rattle.kc_rules_model.specs.declared.values.UserValue.{UserValue}
 use Rattle.kc_rules_model.specs.declared.values.UserValue.TheVariants.{Tri as TriUser, Text as TextUser, Member as MemberUser}
 use Rattle.kc_rules_model.specs.Kinds.{is_tri_kind}
 use Rattle.kc_rules_model.specs.SymbolValues.{symbol_seen, seen_in, seen_as_tri, tri_of, text_of, member_of, tri_if_chosen}
 use Rattle.kc_rules_model.specs.Rule.{as_user}
-use Rattle.kc_rules_model.specs.Shapes.{user_fits, unit_user_fits, symbol_user_fits, tri_fits}
+use Rattle.kc_rules_model.specs.Shapes.{user_fits, unit_user_fits, symbol_user_fits}
 use Rattle.kc_rules_model.specs.Reports.{symbol_numbers}
 use Rattle.kc_rules_model.proofs.Lookups.{inside, unit_is}
 use Rattle.kc_dotconfig_model.specs.Names.{is_prefix}
@@ -41,6 +40,7 @@ use Rattle.kc_minimal_model.proofs.Canonical.{reads_back}
 use Rattle.kc_dotconfig_model.proofs.AcceptedLines.{accepted_line}
 use Rattle.kc_dotconfig_model.proofs.AssigningLines.{HasAssigningLine, assigning_line, text_line, named_so, same_symbol}
 use Rattle.kc_minimal_model.proofs.FittingLines.{IsFitLine, prefix_fits, tri_fits_line, text_fits_line}
+use Rattle.kc_minimal_model.proofs.KeptLines.{value_of_text, tri_kind}
 use Rattle.kc_minimal_model.proofs.KeptUnits.{kept_unit}
 use Rattle.kc_minimal_model.proofs.LeastFile.{none_held, none_length, passes_filter}
 use Rattle.kc_minimal_model.proofs.NeededUnits.{needs}
@@ -69,19 +69,6 @@ spelled_no_longer kind symbol text means is (inl q) u =
 spelled_no_longer kind symbol text means is (inr n) u =
     let same : spelled kind means ≡ text = ap (spelled kind) (sym n.0) ∙ number_spelled kind text (ap (λ k. is_some (number_of_text k text)) (sym is) ∙ n.1) in
     subst (λ l. (length l ≤ length text) × IsUtf8 l) (sym same) (omega arith, u)
-
-value_of_text : (held : UnitValue) (text : List ℕ) → as_user held ≡ Some (TextUser text) → held ≡ TextValue text
-value_of_text (TriValue a) t e = cc
-value_of_text (TextValue a) t e = cc
-value_of_text (MemberValue None) t e = cc
-value_of_text (MemberValue (Some a)) t e = cc
-
-tri_kind : (kind : Kind) (t : Tri) → tri_fits kind t ≡ true → is_tri_kind kind ≡ true
-tri_kind Boolean t e = refl
-tri_kind Tristate t e = refl
-tri_kind Text t e = absurd (false≢true e)
-tri_kind Int t e = absurd (false≢true e)
-tri_kind Hex t e = absurd (false≢true e)
 
 text_held : (symbol : Symbol) (held : UnitValue) (again : UserValue) → is_tri_kind symbol.kind ≡ false → as_user held ≡ Some again → symbol_user_fits (Some symbol) again ≡ true → (text : List ℕ) × (held ≡ TextValue text)
 text_held symbol held (TriUser t) large e fits = absurd (false≢true (sym large ∙ tri_kind symbol.kind t fits))

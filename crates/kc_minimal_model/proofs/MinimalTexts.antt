@@ -1,5 +1,5 @@
 -- The minimal file of what any fitting assignment gives.
-use Rattle.std.proofs.Common.{◌≡◌, ℕ, ◌≤◌, Bool, true, IsTrue, List, Option, length, filter, refl, arith}
+use Rattle.std.proofs.Common.{◌≡◌, ℕ, ◌≤◌, Bool, true, false, IsTrue, List, Option, length, filter, refl, arith}
 use Rattle.std.specs.List.{list_all}
 use Rattle.kc_tree_model.specs.Trees.{Whole}
 use Rattle.kc_system.specs.Solutions.{FitsUsers, Solves}
@@ -13,11 +13,14 @@ use Rattle.kc_dotconfig_model.specs.Names.{is_prefix}
 use Rattle.kc_dotconfig_model.specs.LoadFaults.{MOST_BYTES, IsAccepted}
 use Rattle.kc_minimal_model.specs.Spelling.{ended_line}
 use Rattle.kc_minimal_model.specs.MinimalFile.{has_line, minimal_symbols, minimal_file}
-use Rattle.kc_minimal_model.specs.Loading.{has_short_lines}
+use Rattle.kc_minimal_model.specs.Loading.{ReadsTo, DifferAtASymbol, has_short_lines}
 use Rattle.kc_minimal_model.specs.MinimalText.{with_lines, MinimalTextsAreMinimal}
 use Rattle.kc_rules_model.proofs.OrderedTrees.{IsOrderedTree, ordered_tree}
 use Rattle.kc_minimal_model.proofs.LeastFile.{passes_filter}
-use Rattle.kc_minimal_model.proofs.Canonical.{all_of_filter, some_have_lines, reads_back, needed}
+use Rattle.kc_minimal_model.proofs.Canonical.{all_of_filter, some_have_lines, fits_of, reads_back, needed}
+use Rattle.kc_dotconfig_model.specs.Files.{file_users}
+use Rattle.kc_rules_model.proofs.SolutionsFit.{solutions_fit}
+use Rattle.kc_minimal_model.proofs.DifferingSymbols.{differ_somewhere}
 use Rattle.kc_minimal_model.proofs.NeededUnits.{needs}
 use Rattle.kc_minimal_model.proofs.Accepting.{is_short, accepted_symbols, shorts_of_file, filter_shorter, flat_shorter}
 use Rattle.kc_minimal_model.proofs.MinimalAccepted.{few_lines}
@@ -45,6 +48,16 @@ module _ (prefix : List ℕ) (valid : is_prefix prefix ≡ true) (profile : Prof
   pub shorts : has_short_lines (minimal_file prefix profile tree values) ≡ true → list_all (is_short prefix valid profile tree settled.consistent users values fitting solved) (minimal_symbols profile tree values) ≡ true
   shorts short = shorts_of_file prefix valid profile tree settled.consistent users values fitting solved (minimal_symbols profile tree values) (passes_filter (has_line profile tree values) (symbol_numbers tree)) short
 
+  -- without a line, and others or not, some symbol has another value
+  differing : (keeps : ℕ → Bool) (s : ℕ) → has_line profile tree values s ≡ true → keeps s ≡ false
+      → (others : List UnitValue) × ReadsTo prefix profile tree (with_lines keeps prefix profile tree values) others × DifferAtASymbol tree others values
+  differing keeps s has dropped =
+      let lost = needed prefix valid profile tree settled users values fitting solved keeps s has dropped in
+      let bytes = with_lines keeps prefix profile tree values in
+      let fits_lost = fits_of prefix valid profile tree settled bytes lost.1.sayings lost.1.utf8 lost.1.says in
+      let others_fit = solutions_fit profile tree settled (file_users tree lost.1.sayings) fits_lost lost.0 lost.1.gives.solves in
+      (lost.0, lost.1, differ_somewhere tree lost.0 values settled.consistent others_fit (solutions_fit profile tree settled users fitting values solved) lost.2)
+
 pub minimal_texts : MinimalTextsAreMinimal
 minimal_texts prefix profile tree users values valid settled fitting gives =
     let ordered = ordered_tree tree settled in
@@ -54,6 +67,6 @@ minimal_texts prefix profile tree users values valid settled fitting gives =
       back = reads_back prefix valid profile tree ordered users values fitting gives.solves;
       accepted = λ small short. whole_accepted prefix valid profile tree ordered users values fitting gives.solves small (shorts prefix valid profile tree ordered users values fitting gives.solves short);
       part_accepted = λ small short keeps. part_accepted prefix valid profile tree ordered users values fitting gives.solves keeps small (shorts prefix valid profile tree ordered users values fitting gives.solves short);
-      needed = λ keeps s has dropped. needed prefix valid profile tree ordered users values fitting gives.solves keeps s has dropped;
+      needed = λ keeps s has dropped. differing prefix valid profile tree ordered users values fitting gives.solves keeps s has dropped;
       least = λ any fits solves. needs profile tree any values ordered fits solves;
     }

@@ -28,7 +28,7 @@ use Rattle.kc_minimal_model.proofs.KeptLines.{unit_inside}
 use Rattle.kc_minimal_model.proofs.LeastFile.{speaks_at, unit_there}
 use Rattle.kc_minimal_model.proofs.Canonical.{decides}
 
-any_found : (p q : ℕ → Bool) (xs : List ℕ) → list_any p (filter q xs) ≡ true → (s : ℕ) × (q s ≡ true) × (p s ≡ true)
+pub any_found : (p q : ℕ → Bool) (xs : List ℕ) → list_any p (filter q xs) ≡ true → (s : ℕ) × (q s ≡ true) × (p s ≡ true)
 any_found p q [] any = absurd (false≢true any)
 any_found p q (x ∷ xs) any = go (q x) refl any (any_found p q xs) where
   go : (t : Bool) → q x ≡ t → list_any p (cond t (x ∷ filter q xs) (filter q xs)) ≡ true → (list_any p (filter q xs) ≡ true → (s : ℕ) × (q s ≡ true) × (p s ≡ true)) → (s : ℕ) × (q s ≡ true) × (p s ≡ true)

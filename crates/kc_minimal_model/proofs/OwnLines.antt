@@ -1,5 +1,5 @@
 -- The line of each symbol says nothing, or assigns its unit the value that it has.
-use Rattle.std.proofs.Common.{◌≡◌, inl, inr, ℕ, Bool, true, false, not, ◌||◌, ◌==◌, cond, IsTrue, IfSome, List, [], ◌∷◌, ◌++◌, Option, Some, None, length, refl, sym, ap, ◌∙◌, subst, arith, append_assoc}
+use Rattle.std.proofs.Common.{◌≡◌, inl, inr, ℕ, Bool, true, not, ◌||◌, ◌==◌, cond, IsTrue, IfSome, List, [], ◌∷◌, ◌++◌, Option, Some, None, length, refl, sym, ap, ◌∙◌, subst, arith, append_assoc}
 use Rattle.std.specs.Prelude.{slice_get, is_some}
 use Rattle.std.specs.Option.{option_map, option_and_then}
 use Rattle.std.specs.List.{list_all}
@@ -21,13 +21,14 @@ use Rattle.kc_rules_model.specs.declared.values.UserValue.TheVariants.{Tri as Tr
 use Rattle.kc_rules_model.specs.Kinds.{is_tri_kind}
 use Rattle.kc_rules_model.specs.SymbolValues.{seen_in, seen_as_tri, tri_of, text_of, member_of, tri_if_chosen}
 use Rattle.kc_rules_model.specs.Rule.{as_user}
-use Rattle.kc_rules_model.specs.Shapes.{value_fits, unit_value_fits, symbol_value_fits, tri_fits, text_fits, user_text_fits}
+use Rattle.kc_rules_model.specs.Shapes.{value_fits, unit_value_fits, symbol_value_fits, text_fits, user_text_fits}
 use Rattle.kc_rules_model.proofs.Lookups.{inside, found_by_name, place_is, unit_is}
 use Rattle.kc_dotconfig_model.specs.Names.{is_prefix}
 use Rattle.kc_dotconfig_model.specs.Lines.{Saying, assigns, notice, silent, value, unset_saying, ValueSays, no_int, no_hex, without_white_end}
 use Rattle.kc_minimal_model.specs.Spelling.{symbol_line, line_if_seen, line_with, value_line, unset_line}
 use Rattle.kc_minimal_model.proofs.Bytes.{name_lacks, all_of_both, ends_in_ink}
-use Rattle.kc_minimal_model.proofs.KeptLines.{user_meant}
+use Rattle.kc_minimal_model.proofs.DifferenceLaws.{text_kind}
+use Rattle.kc_minimal_model.proofs.KeptLines.{tri_kind, user_meant}
 use Rattle.kc_minimal_model.proofs.LineReads.{IsLine, utf8_value_line, tri_line, text_line, member_line, not_set_line}
 
 -- nothing is assigned but the value that is held
@@ -41,20 +42,6 @@ pub record IsOwnLine (prefix : List ℕ) (tree : Whole) (values : List UnitValue
   pub saying : Saying
   pub reads : IsLine prefix tree line saying
   pub own : IsOwn values saying
-
-tri_kind : (kind : Kind) (t : Tri) → tri_fits kind t ≡ true → is_tri_kind kind ≡ true
-tri_kind Boolean t e = refl
-tri_kind Tristate t e = refl
-tri_kind Text t e = absurd (false≢true e)
-tri_kind Int t e = absurd (false≢true e)
-tri_kind Hex t e = absurd (false≢true e)
-
-text_kind : (kind : Kind) (text : List ℕ) → text_fits kind text ≡ true → is_tri_kind kind ≡ false
-text_kind Boolean t e = absurd (false≢true e)
-text_kind Tristate t e = absurd (false≢true e)
-text_kind Text t e = refl
-text_kind Int t e = refl
-text_kind Hex t e = refl
 
 no_bytes : (text : List ℕ) → (length text == 0) ≡ true → text ≡ []
 no_bytes [] e = refl

@@ -1,5 +1,5 @@
--- The headline's premises hold of a tree read from bytes.
-use Rattle.std.proofs.Common.{◌≡◌, ℕ, List, [], ◌∷◌, None, refl, sym, ◌-◌, length, Contains, arith, ap, subst, ◌∙◌}
+-- The headline's premises hold of a tree and files read from bytes.
+use Rattle.std.proofs.Common.{◌≡◌, true, ℕ, List, [], ◌∷◌, Some, None, refl, sym, ◌-◌, length, Contains, arith, ap, subst, ◌∙◌}
 use Rattle.kc_system.proofs.Lists.{get-some, get_from_Contains}
 use Rattle.std.specs.Prelude.{codes}
 use Rattle.std.specs.Str.{is_utf8, chars}
@@ -16,6 +16,17 @@ use Rattle.kc_tree_model.proofs.Consistency.Consistent.{tree_is_consistent}
 use Rattle.kc_system.specs.Dependencies.{HasNoCycle}
 use Rattle.kc_rules_model.specs.Dependencies.{dependencies}
 use Rattle.kc_rules_model.specs.SettledTrees.{IsSettledTree}
+use Rattle.kc_rules_model.specs.declared.profile.Profile.TheVariants.{Present}
+use Rattle.kc_rules_model.specs.declared.values.UserValue.TheVariants.{Tri as TriUser}
+use Rattle.kc_value.specs.declared.tri.Tri.TheVariants.{Y}
+use Rattle.kc_dotconfig_model.specs.Lines.{assigns}
+use Rattle.kc_dotconfig_model.specs.Files.{file_lines, has_utf8_lines}
+use Rattle.kc_dotconfig_model.specs.LoadFaults.{IsAccepted}
+use Rattle.kc_dotconfig_model.specs.checker.Reading.{line_saying, file_sayings}
+use Rattle.kc_dotconfig_model.proofs.LineLaws.{file_read}
+use Rattle.kc_minimal_model.specs.Headline.{AreCanonical}
+use Rattle.kc_minimal_model.proofs.Accepting.{accepted_within}
+use Rattle.kc_minimal_model.proofs.Headlines.{canonical}
 
 abbrev files : Files
 files = (codes "K", codes "config A\n\tbool \"a\"\n") ∷ []
@@ -49,6 +60,33 @@ no_cycle cycle is =
     let zero_is : 0 ≡ last.0 = omega (arith, below, o) in
     empty_holds first.0 (dependencies tree last.0) (ap (dependencies tree) (sym zero_is) ∙ no_needs) (is.closes last.0 first.0 last.1 first.1)
 
--- and so is what is read of every tree without a fault and without a cycle
 settled : IsSettledTree tree
 settled = record { consistent = tree_is_consistent files (codes "K") no_fault; acyclic = no_cycle }
+
+-- a file, and what it says
+abbrev plain : List ℕ
+plain = codes "CONFIG_"
+
+abbrev file : List ℕ
+file = codes "CONFIG_A=y\n"
+
+said : file_sayings plain tree file ≡ Some (assigns 0 (TriUser Y) ∷ [])
+unfolding line_saying lead_of is_utf8 chars read_expr lines_of source_fault line_says reading lib.Utf8.encode whole_of tree_of_files
+said = refl
+
+is_text : has_utf8_lines file ≡ true
+unfolding is_utf8 chars lib.Utf8.encode
+is_text = refl
+
+file_accepted : IsAccepted plain tree file
+file_accepted =
+    let size : length file ≡ 11 = refl in
+    let count : length (file_lines file) ≡ 1 = refl in
+    accepted_within plain tree file (assigns 0 (TriUser Y) ∷ []) is_text ((file_read plain tree file (assigns 0 (TriUser Y) ∷ []) refl).0 said) (omega (arith, size)) (omega (arith, count)) refl
+
+nothing_accepted : IsAccepted plain tree []
+nothing_accepted = accepted_within plain tree [] [] refl tt (omega arith) (omega arith) refl
+
+-- so the headline says something of them
+both : AreCanonical plain Present tree file []
+both = canonical plain Present tree file [] refl settled file_accepted nothing_accepted

@@ -1,5 +1,5 @@
 -- The minimal file of what an assignment gives, wherever its user values came from.
-use Rattle.std.specs.Prelude.{◌≡◌, ◌≢◌, ◌↔◌, ℕ, Bool, true, false, ◌≤◌, List, Option, Some, length, slice_get, filter, IsTrue}
+use Rattle.std.specs.Prelude.{◌≡◌, ◌↔◌, ℕ, Bool, true, false, ◌≤◌, List, Option, Some, length, slice_get, filter, IsTrue}
 use Rattle.std.specs.List.{flat_map}
 use Rattle.kc_tree_model.specs.Trees.{Whole}
 use Rattle.kc_tree_model.specs.TreeLookup.{unit_of}
@@ -16,7 +16,7 @@ use Rattle.kc_dotconfig_model.specs.Names.{is_prefix}
 use Rattle.kc_dotconfig_model.specs.LoadFaults.{MOST_BYTES, IsAccepted}
 use Rattle.kc_minimal_model.specs.Spelling.{ended_line}
 use Rattle.kc_minimal_model.specs.MinimalFile.{has_line, minimal_symbols, minimal_file}
-use Rattle.kc_minimal_model.specs.Loading.{ReadsTo, has_short_lines}
+use Rattle.kc_minimal_model.specs.Loading.{ReadsTo, DifferAtASymbol, has_short_lines}
 
 -- the minimal file with some of its lines alone
 abbrev pub with_lines : (ℕ → Bool) → List ℕ → Profile → Whole → List UnitValue → List ℕ
@@ -44,10 +44,10 @@ pub record IsMinimalText (prefix : List ℕ) (profile : Profile) (tree : Whole) 
   pub accepted : length text ≤ MOST_BYTES → has_short_lines text ≡ true → IsAccepted prefix tree text
   pub part_accepted : length text ≤ MOST_BYTES → has_short_lines text ≡ true → (keeps : ℕ → Bool)
       → IsAccepted prefix tree (with_lines keeps prefix profile tree values)
-  -- without one line, and others or not, it gives other values
+  -- without one line, and others or not, it gives some symbol another value
   pub needed : (keeps : ℕ → Bool) (s : ℕ) → has_line profile tree values s ≡ true → keeps s ≡ false
       → (others : List UnitValue) × ReadsTo prefix profile tree (with_lines keeps prefix profile tree values) others
-      × (others ≢ values)
+      × DifferAtASymbol tree others values
   -- any assignment that gives the values needs just the units of its lines
   pub least : (any : List (Option UserValue)) → FitsUsers (length tree.units) (λ u x. IsTrue (user_fits tree u x)) any
       → Solves (length tree.units) (rule profile tree) any values → NeedsTheLines profile tree values any
