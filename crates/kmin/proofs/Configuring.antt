@@ -6,7 +6,7 @@ use Rattle.std.proofs.lemmas.Slice.Eq.{bytes_eq-Decides}
 use Rattle.kc_value.specs.declared.tri.Tri.{Tri}
 use Rattle.kmin.specs.Names.{place_of}
 use Rattle.kmin.specs.Configuration.{Setting, trimmed, IsSetting, IsComment, IsNothing, HasSettings, assigned_to, or_earlier, user_after, users_after}
-use Rattle.kmin.specs.Settings.{assigned_at, ConfiguredSoFar}
+use Rattle.kmin.specs.checker.Settings.{assigned_at, ConfiguredSoFar}
 
 -- one setting more
 after_more : (x : List ℕ) (u : Option Tri) (front : List Setting) (s : Setting) → user_after x u (front ++ s ∷ []) ≡ or_earlier (assigned_to x s) (user_after x u front)

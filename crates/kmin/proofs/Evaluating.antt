@@ -5,7 +5,7 @@ use Rattle.kc_value.specs.Tri.{tri_and, tri_or}
 use Rattle.kmin.specs.Grammar.{Attribute, bool, default, depends_on}
 use Rattle.kmin.specs.Symbols.{Condition, prompts_under, defaults_under, dependency_of}
 use Rattle.kmin.specs.Values.{condition_value, greatest, default_value, is_n, promoted}
-use Rattle.kmin.specs.Evaluated.{greatest_under, default_under}
+use Rattle.kmin.specs.checker.Evaluated.{greatest_under, default_under}
 
 pub prompts_same : (read : List ℕ → Tri) (c : Condition) (attributes : List Attribute) → greatest (map (condition_value read) (prompts_under c attributes)) ≡ greatest_under (condition_value read c) attributes
 prompts_same read c [] = refl

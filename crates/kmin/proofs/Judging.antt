@@ -2,7 +2,7 @@
 use Rattle.std.proofs.Common.{◌≡◌, ◌↔◌, ℕ, List, [], ◌∷◌, ◌++◌, Option, Some, None, refl, sym, ◌∙◌, ap, append-nil, map, flat_map}
 use Rattle.std.specs.Prelude.{IsNone}
 use Rattle.kmin.specs.Grammar.{Attribute, attribute, Entry, Statement, listing, HasStatements, IsTree, AreTyped, AreDistinct}
-use Rattle.kmin.specs.Read.{ReadSoFar}
+use Rattle.kmin.specs.checker.Read.{ReadSoFar}
 use Rattle.kmin.proofs.Reading.{orphan}
 
 -- statements are those of one list of entries alone

@@ -1,7 +1,7 @@
 -- The statements of entries, and the entries of statements.
 use Rattle.std.proofs.Common.{◌≡◌, ℕ, zero, suc, ◌+◌, List, [], ◌∷◌, ◌++◌, sym, ◌∙◌, ap, append_assoc, append-nil, arith, map, flat_map, length, get_or, slice_set}
 use Rattle.kmin.specs.Grammar.{Statement, listing}
-use Rattle.kmin.specs.Read.{entry_of}
+use Rattle.kmin.specs.checker.Read.{entry_of}
 use Rattle.kmin.specs.declared.entry.Entry.{Entry}
 
 -- more statements of the last entry

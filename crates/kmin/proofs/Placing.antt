@@ -9,7 +9,7 @@ use Rattle.kmin.specs.Names.{noted, place_of}
 use Rattle.std.specs.Borrow.{Bor}
 use Rattle.std.specs.HashMap as hash
 use Rattle.std.proofs.lemmas.Map.Text.{hash_map_updates_str}
-use Rattle.kmin.specs.Read.{IsNumbered, entries_of, entry_of}
+use Rattle.kmin.specs.checker.Read.{IsNumbered, entries_of, entry_of}
 use Rattle.kmin.specs.declared.entry.Entry.{Entry as ReadEntry}
 use Rattle.std.proofs.lemmas.List.{take_more, map-append, length-map, length-take-le}
 use Rattle.kmin.specs.Grammar.{Entry, AreDistinct, names_of}

@@ -1,7 +1,7 @@
 -- Reading the lines of a tree, one after another.
 use Rattle.std.proofs.Common.{◌≡◌, ℕ, Bool, true, false, IsTrue, List, [], ◌∷◌, ◌++◌, ◌⊎◌, inl, inr, Option, Some, None, refl, sym, ◌∙◌, ap, append_assoc, flat_map}
 use Rattle.kmin.specs.Grammar.{Token, Statement, attribute, Attribute, Entry, listing, IsStatement, HasStatements}
-use Rattle.kmin.specs.Read.{IsRead, ReadSoFar, statement_of}
+use Rattle.kmin.specs.checker.Read.{IsRead, ReadSoFar, statement_of}
 use Rattle.kmin.specs.declared.entry.Line.TheVariants.{Blank, Says, Unsupported}
 use Rattle.kmin.specs.declared.statement.Statement.{Statement as ReadStatement}
 use Rattle.kmin.proofs.Saying.{said_of, same_statement}

@@ -2,7 +2,7 @@
 use Rattle.std.proofs.Common.{◌≡◌, ◌≢◌, ℕ, Bool, true, false, List, [], ◌∷◌, Option, Some, None, option_map, refl, sym, ◌∙◌, ap, arith, codes, bytes_eq, if◌then◌else◌, length, ◌<◌}
 use Rattle.std.proofs.lemmas.Slice.Eq.{bytes_eq-Decides}
 use Rattle.kmin.specs.Grammar.{HasTokens, Token, word, quoted, bool, default, depends_on, Statement, config, attribute, is_name, is_operand, IsStatement, config_line, bool_line, prompt_line, default_line, depends_line}
-use Rattle.kmin.specs.Said.{lone_name, lone_operand, lone_prompt, operand_behind_on, said}
+use Rattle.kmin.specs.checker.Said.{lone_name, lone_operand, lone_prompt, operand_behind_on, said}
 
 -- each statement is what its tokens say
 pub said_of : (tokens : List Token) (s : Statement) → IsStatement tokens s → said tokens ≡ Some s

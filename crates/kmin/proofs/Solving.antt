@@ -15,7 +15,7 @@ use Rattle.kmin.specs.Grammar.{Attribute, bool, default, depends_on, Entry, oper
 use Rattle.kmin.specs.Symbols.{Symbol, symbol_of, symbols_of, dependency_of}
 use Rattle.kmin.specs.Values as values
 use Rattle.kmin.specs.Values.{value_at, reading, condition_value, visibility, default_value, promoted, base_value, rule, Solves, is_n, greatest}
-use Rattle.kmin.specs.Evaluated.{greatest_under, default_under}
+use Rattle.kmin.specs.checker.Evaluated.{greatest_under, default_under}
 use Rattle.kmin.proofs.Evaluating.{prompts_same, defaults_same}
 
 -- a later value changes no reading of an earlier place

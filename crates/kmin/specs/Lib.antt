@@ -3,15 +3,12 @@ pub mod Bytes
 pub mod Grammar
 pub mod Lines
 pub mod Statuses
-pub mod Read
-pub mod Said
 pub mod Names
 pub mod FullFile
-pub mod Settings
 pub mod Symbols
 pub mod Values
 pub mod Configuration
-pub mod Evaluated
 pub mod Jobs
 pub mod Refusals
 pub mod Files
+pub mod checker

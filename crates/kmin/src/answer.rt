@@ -4,7 +4,7 @@ ghost use Rattle.kmin.specs.Configuration.{HasSettings, Setting};
 ghost use Rattle.kmin.specs.Grammar.{AreDistinct, AreOrdered};
 ghost use Rattle.kmin.specs.Jobs.{AnswersBundle, AnswersTree};
 ghost use Rattle.kmin.specs.Lines.{lines};
-ghost use Rattle.kmin.specs.Read.{entries_of};
+ghost use Rattle.kmin.specs.checker.Read.{entries_of};
 ghost use Rattle.kmin.specs.Refusals.{RefusesBundle};
 ghost use Rattle.kmin.specs.Statuses.{IsLoad};
 

@@ -4,8 +4,8 @@ ghost use Rattle.kmin.specs.Configuration.{HasSettings, Setting as SpelledSettin
 ghost use Rattle.kmin.specs.Grammar.{AreDistinct, names_of};
 ghost use Rattle.kmin.specs.Lines.{lines};
 ghost use Rattle.kmin.specs.Names.{place_of};
-ghost use Rattle.kmin.specs.Read.{entries_of};
-ghost use Rattle.kmin.specs.Settings.{ConfiguredSoFar, assigned_at, notice_of};
+ghost use Rattle.kmin.specs.checker.Read.{entries_of};
+ghost use Rattle.kmin.specs.checker.Settings.{ConfiguredSoFar, assigned_at, notice_of};
 ghost use Rattle.kmin.specs.Statuses.{IsLoad};
 
 use crate::entry::Entry;

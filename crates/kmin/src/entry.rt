@@ -3,7 +3,7 @@ ghost use Rattle.std.specs.Prelude.{◌≡◌, ◌++◌, ◌∷◌, [], map, fla
 ghost use Rattle.std.specs.Prelude.{List, ℕ, ◌⊎◌, IsTrue, OnOk, Some, None, option_map};
 ghost use Rattle.kmin.specs.Grammar.{attribute, config, listing};
 ghost use Rattle.kmin.specs.Lines.{lines};
-ghost use Rattle.kmin.specs.Read.{IsRead, ReadSoFar, attribute_of, entry_of, statements_of};
+ghost use Rattle.kmin.specs.checker.Read.{IsRead, ReadSoFar, attribute_of, entry_of, statements_of};
 
 use crate::lines::Lines;
 use crate::statement::{Attribute, Statement, read_statement};

@@ -2,7 +2,7 @@
 ghost use Rattle.std.specs.Prelude.{◌≡◌, ◌++◌, [], if◌then◌else◌, length, vec_len, IfOk, OnOk};
 ghost use Rattle.kmin.specs.FullFile.{full_file, is_written, spelled};
 ghost use Rattle.kmin.specs.Grammar.{names_of};
-ghost use Rattle.kmin.specs.Read.{entries_of, entry_of};
+ghost use Rattle.kmin.specs.checker.Read.{entries_of, entry_of};
 ghost use Rattle.kmin.specs.Symbols.{symbol_of, symbols_of};
 ghost use Rattle.kmin.specs.Values.{reading};
 

@@ -1,7 +1,7 @@
 //! What a line of a configuration file says.
 ghost use Rattle.std.specs.Prelude.{◌≡◌, List, ℕ, IsTrue, IfSome, IfNone, ◌↔◌};
 ghost use Rattle.kmin.specs.Configuration.{IsComment, IsSetting, assigned, trimmed, unset};
-ghost use Rattle.kmin.specs.Settings.{IsSettingRead};
+ghost use Rattle.kmin.specs.checker.Settings.{IsSettingRead};
 
 use crate::bytes::{Class, split_run, strip_byte};
 

@@ -1,8 +1,8 @@
 //! What a line of a tree says.
 ghost use Rattle.std.specs.Prelude.{◌≡◌, ◌∷◌, List, ℕ, map, option_map, option_to_list, IfSome, IfNone};
 ghost use Rattle.kmin.specs.Grammar.{Token as SpelledToken, is_name, is_operand, word};
-ghost use Rattle.kmin.specs.Read.{statement_of, token_of};
-ghost use Rattle.kmin.specs.Said.{lone_name, lone_operand, lone_prompt, operand_behind_on, said};
+ghost use Rattle.kmin.specs.checker.Read.{statement_of, token_of};
+ghost use Rattle.kmin.specs.checker.Said.{lone_name, lone_operand, lone_prompt, operand_behind_on, said};
 
 use crate::token::Token;
 
@@ -19,7 +19,7 @@ pub enum Attribute<'a> {
 
 impl<'a> Attribute<'a> {
     ghost use Rattle.kmin.specs.Grammar.{operands_in};
-    ghost use Rattle.kmin.specs.Read.{attribute_of};
+    ghost use Rattle.kmin.specs.checker.Read.{attribute_of};
 
     /// What it refers to.
     pub fn operand(&self) -> Option<&'a str>

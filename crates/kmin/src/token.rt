@@ -3,7 +3,7 @@ ghost use Rattle.std.specs.Prelude.{◌≡◌, ◌≢◌, ◌<◌, ◌++◌, ◌
 ghost use Rattle.std.specs.List.{list_all};
 ghost use Rattle.kmin.specs.Bytes.{begins_without, is_blank, is_quoted, is_word};
 ghost use Rattle.kmin.specs.Grammar.{HasTokens, IsToken, Token as SpelledToken, spelling, word};
-ghost use Rattle.kmin.specs.Read.{token_of};
+ghost use Rattle.kmin.specs.checker.Read.{token_of};
 
 use crate::bytes::{Class, split_run, strip_byte};
 use std::alloc::{AllocError, Global};

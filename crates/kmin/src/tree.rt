@@ -4,7 +4,7 @@ ghost use Rattle.kmin.specs.Names.{noted, place_of};
 ghost use Rattle.std.specs.Prelude.{◌<◌, ◌⊎◌, IfErr, IfSome, vec_len};
 ghost use Rattle.kmin.specs.Grammar.{AreDistinct, AreOrdered, AreTyped, Entry as GrammarEntry, HasType, IsTree, names_of, refers_forward};
 ghost use Rattle.kmin.specs.Lines.{lines};
-ghost use Rattle.kmin.specs.Read.{IsNumbered, attribute_of, entries_of, entry_of};
+ghost use Rattle.kmin.specs.checker.Read.{IsNumbered, attribute_of, entries_of, entry_of};
 ghost use Rattle.kmin.specs.Statuses.{IsUnsupported};
 
 use crate::entry::{Entry, read_entries};

@@ -1,9 +1,9 @@
 //! The values of symbols.
 ghost use Rattle.std.specs.Prelude.{◌≡◌, length, map, IfOk, vec_len};
-ghost use Rattle.kmin.specs.Evaluated.{default_under, greatest_under};
+ghost use Rattle.kmin.specs.checker.Evaluated.{default_under, greatest_under};
 ghost use Rattle.kmin.specs.FullFile.{is_written};
 ghost use Rattle.kmin.specs.Grammar.{AreOrdered, names_of};
-ghost use Rattle.kmin.specs.Read.{attribute_of, entries_of, entry_of};
+ghost use Rattle.kmin.specs.checker.Read.{attribute_of, entries_of, entry_of};
 ghost use Rattle.kmin.specs.Symbols.{dependency_of, symbol_of, symbols_of};
 ghost use Rattle.kmin.specs.Values.{Solves, condition_value, default_value, is_n, promoted, reading, rule, visibility};
 

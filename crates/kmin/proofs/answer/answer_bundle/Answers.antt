@@ -1,6 +1,6 @@
 use Rattle.std.proofs.Common.{◌≡◌, refl, false, true}
 use Rattle.std.proofs.lemmas.Result.{err_from_is_err_and}
-use Rattle.kmin.specs.Read.{entries_of}
+use Rattle.kmin.specs.checker.Read.{entries_of}
 use Rattle.kmin.proofs.Answering.{answered, refused_either, refused_order, refused_tree}
 use Rattle.kmin.proofs.answer.answer_bundle.Goals as goal
 

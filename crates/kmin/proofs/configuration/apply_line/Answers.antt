@@ -4,8 +4,8 @@ use Rattle.kc_value.specs.declared.tri.Tri.TheVariants.{N}
 use Rattle.kmin.specs.Configuration.{assigned, unset, bool_of}
 use Rattle.kmin.specs.Grammar.{names_of}
 use Rattle.kmin.specs.Names.{place_of}
-use Rattle.kmin.specs.Settings.{assigned_at}
-use Rattle.kmin.specs.Read.{entries_of}
+use Rattle.kmin.specs.checker.Settings.{assigned_at}
+use Rattle.kmin.specs.checker.Read.{entries_of}
 use Rattle.kmin.proofs.Configuring.{nothing_step, refused_utf8, setting_step, utf8_is, utf8_not}
 use Rattle.kmin.proofs.Placing.{stands_once}
 use Rattle.kmin.proofs.configuration.apply_line.Goals as goal

@@ -2,7 +2,7 @@ use Rattle.std.proofs.Common.{◌≡◌, ◌∙◌, None, map, length, vec_len, 
 use Rattle.std.proofs.lemmas.List.{length-map}
 use Rattle.kmin.specs.Grammar.{names_of}
 use Rattle.kmin.specs.Lines.{lines}
-use Rattle.kmin.specs.Read.{entries_of, entry_of}
+use Rattle.kmin.specs.checker.Read.{entries_of, entry_of}
 use Rattle.kmin.specs.Grammar.{Entry as GrammarEntry}
 use Rattle.kmin.specs.declared.lines.Lines.{Lines}
 use Rattle.kmin.proofs.Configuring.{configured_all, configured_none, no_users, written_back}

@@ -1,8 +1,8 @@
 use Rattle.std.proofs.Common.{◌≡◌, length, vec_len}
 use Rattle.kmin.specs.Grammar.{names_of}
 use Rattle.kmin.specs.Lines.{lines}
-use Rattle.kmin.specs.Read.{entries_of}
-use Rattle.kmin.specs.Settings.{ConfiguredSoFar}
+use Rattle.kmin.specs.checker.Read.{entries_of}
+use Rattle.kmin.specs.checker.Settings.{ConfiguredSoFar}
 use Rattle.kmin.proofs.configuration.read_configuration.Given as goal
 
 abbrev pub invariant-loop-line : goal.invariant-loop-line

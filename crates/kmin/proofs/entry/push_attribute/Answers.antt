@@ -1,7 +1,7 @@
 use Rattle.std.proofs.Common.{◌≡◌, ◌++◌, ◌∷◌, [], arith, map, ap, ◌∙◌}
 use Rattle.std.proofs.lemmas.List.{map-append}
 use Rattle.kmin.specs.Grammar.{attribute, config}
-use Rattle.kmin.specs.Read.{attribute_of}
+use Rattle.kmin.specs.checker.Read.{attribute_of}
 use Rattle.kmin.proofs.Listing.{last_listing}
 use Rattle.kmin.proofs.entry.push_attribute.Goals as goal
 

@@ -1,5 +1,5 @@
 use Rattle.kmin.specs.Lines.{lines}
-use Rattle.kmin.specs.Read.{ReadSoFar, statements_of}
+use Rattle.kmin.specs.checker.Read.{ReadSoFar, statements_of}
 use Rattle.kmin.proofs.entry.read_entries.Given as goal
 
 abbrev pub invariant-loop-line : goal.invariant-loop-line

@@ -1,6 +1,6 @@
 use Rattle.std.proofs.Common.{◌<◌, map, ap, arith, length, option_map}
 use Rattle.std.proofs.lemmas.List.{length-map}
-use Rattle.kmin.specs.Read.{token_of, statement_of}
+use Rattle.kmin.specs.checker.Read.{token_of, statement_of}
 use Rattle.kmin.proofs.Saying.{says_it, says_none}
 use Rattle.kmin.proofs.entry.read_line.Goals as goal
 

@@ -1,6 +1,6 @@
 use Rattle.std.proofs.Common.{◌≡◌, ap, []}
 use Rattle.kmin.specs.Grammar.{config, attribute}
-use Rattle.kmin.specs.Read.{statements_of, statement_of, attribute_of}
+use Rattle.kmin.specs.checker.Read.{statements_of, statement_of, attribute_of}
 use Rattle.kmin.proofs.Reading.{no_entry, says_step, unsupported_step, orphan_step}
 use Rattle.kmin.proofs.entry.read_next.Goals as goal
 

@@ -2,7 +2,7 @@ use Rattle.std.proofs.Common.{◌≡◌, ◌++◌, ◌∙◌, [], sym, ap, arith
 use Rattle.std.proofs.Math.ListN.{drop_of_length-le}
 use Rattle.kmin.specs.FullFile.{written_lines}
 use Rattle.kmin.specs.Grammar.{names_of}
-use Rattle.kmin.specs.Read.{entries_of}
+use Rattle.kmin.specs.checker.Read.{entries_of}
 use Rattle.kmin.specs.Symbols.{symbols_of}
 use Rattle.kmin.specs.Values.{reading}
 use Rattle.kmin.proofs.Solving.{same_names}

@@ -1,7 +1,7 @@
 use Rattle.std.proofs.Common.{◌≡◌, ◌++◌, drop}
 use Rattle.kmin.specs.FullFile.{written_lines}
 use Rattle.kmin.specs.Grammar.{names_of}
-use Rattle.kmin.specs.Read.{entries_of}
+use Rattle.kmin.specs.checker.Read.{entries_of}
 use Rattle.kmin.specs.Symbols.{symbols_of}
 use Rattle.kmin.specs.Values.{reading}
 use Rattle.kmin.proofs.full_file.full_text.Given as goal

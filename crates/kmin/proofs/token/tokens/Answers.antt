@@ -1,6 +1,6 @@
 use Rattle.std.proofs.Common.{◌≡◌, ◌<◌, ◌∷◌, ◌++◌, [], arith, map, length, refl}
 use Rattle.std.proofs.lemmas.List.{map-append}
-use Rattle.kmin.specs.Read.{token_of}
+use Rattle.kmin.specs.checker.Read.{token_of}
 use Rattle.kmin.proofs.Tokens.{empty, first_tokens, first_only, next_tokens, next_only, last_tokens, last_only, some_more}
 use Rattle.kmin.proofs.token.tokens.Goals as goal
 

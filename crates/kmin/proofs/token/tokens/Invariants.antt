@@ -1,7 +1,7 @@
 use Rattle.std.proofs.Common.{◌≡◌, ◌++◌, List, map, IsTrue, length}
 use Rattle.kmin.specs.Bytes.{begins_without, is_blank}
 use Rattle.kmin.specs.Grammar.{Token, HasTokens}
-use Rattle.kmin.specs.Read.{token_of}
+use Rattle.kmin.specs.checker.Read.{token_of}
 use Rattle.kmin.proofs.token.tokens.Given as goal
 
 -- the tokens so far, with those of what is left, are the line's

@@ -1,6 +1,6 @@
 use Rattle.std.proofs.Common.{◌↔◌, drop}
 use Rattle.kmin.specs.Grammar.{AreTyped}
-use Rattle.kmin.specs.Read.{entries_of}
+use Rattle.kmin.specs.checker.Read.{entries_of}
 use Rattle.kmin.proofs.tree.first_untyped.Given as goal
 
 -- all entries are typed exactly if those to come are

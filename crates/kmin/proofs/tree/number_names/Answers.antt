@@ -3,7 +3,7 @@ use Rattle.std.specs.Prelude.{is_none}
 use Rattle.std.proofs.lemmas.List.{length-map}
 use Rattle.kmin.specs.Names.{place_of}
 use Rattle.kmin.specs.Grammar.{names_of}
-use Rattle.kmin.specs.Read.{entries_of, entry_of}
+use Rattle.kmin.specs.checker.Read.{entries_of, entry_of}
 use Rattle.kmin.proofs.Placing.{distinct_step, distinct_whole, entry_at, length_names, names_more, take_entries}
 use Rattle.kmin.proofs.tree.number_names.Goals as goal
 

@@ -1,5 +1,5 @@
 use Rattle.std.proofs.Common.{take}
-use Rattle.kmin.specs.Read.{IsNumbered, entries_of}
+use Rattle.kmin.specs.checker.Read.{IsNumbered, entries_of}
 use Rattle.kmin.specs.Grammar.{names_of}
 use Rattle.kmin.proofs.Placing.{DistinctBelow}
 use Rattle.kmin.proofs.tree.number_names.Given as goal

@@ -2,7 +2,7 @@ use Rattle.std.proofs.Common.{◌≡◌, ◌↔◌, inr, true, false, refl}
 use Rattle.std.specs.Prelude.{IsNone}
 use Rattle.kmin.specs.Grammar.{AreTyped, AreDistinct}
 use Rattle.kmin.specs.Lines.{lines}
-use Rattle.kmin.specs.Read.{entries_of}
+use Rattle.kmin.specs.checker.Read.{entries_of}
 use Rattle.kmin.proofs.Judging.{accepted, others_same, read_whole, refused}
 use Rattle.kmin.proofs.tree.read_tree.Goals as goal
 

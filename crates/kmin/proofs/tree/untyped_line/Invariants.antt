@@ -1,5 +1,5 @@
 use Rattle.std.proofs.Common.{◌≡◌, ◌+◌, drop, if◌then◌else◌}
-use Rattle.kmin.specs.Read.{types_in}
+use Rattle.kmin.specs.checker.Read.{types_in}
 use Rattle.kmin.proofs.tree.untyped_line.Given as goal
 
 -- the types so far and those to come

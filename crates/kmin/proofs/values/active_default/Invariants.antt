@@ -1,7 +1,7 @@
 use Rattle.std.proofs.Common.{◌≡◌, drop, map}
-use Rattle.kmin.specs.Evaluated.{default_under}
+use Rattle.kmin.specs.checker.Evaluated.{default_under}
 use Rattle.kmin.specs.Grammar.{names_of}
-use Rattle.kmin.specs.Read.{attribute_of, entries_of}
+use Rattle.kmin.specs.checker.Read.{attribute_of, entries_of}
 use Rattle.kmin.specs.Values.{reading}
 use Rattle.kmin.proofs.values.active_default.Given as goal
 

@@ -1,5 +1,5 @@
 use Rattle.std.proofs.Common.{map, ap}
-use Rattle.kmin.specs.Read.{attribute_of}
+use Rattle.kmin.specs.checker.Read.{attribute_of}
 use Rattle.kmin.proofs.Evaluating.{default_from}
 use Rattle.kmin.proofs.values.default_of.Goals as goal
 

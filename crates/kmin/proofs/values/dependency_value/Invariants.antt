@@ -1,7 +1,7 @@
 use Rattle.std.proofs.Common.{◌≡◌, drop, map}
 use Rattle.kc_value.specs.Tri.{tri_and}
 use Rattle.kmin.specs.Grammar.{names_of}
-use Rattle.kmin.specs.Read.{attribute_of, entries_of}
+use Rattle.kmin.specs.checker.Read.{attribute_of, entries_of}
 use Rattle.kmin.specs.Symbols.{dependency_of}
 use Rattle.kmin.specs.Values.{condition_value, reading}
 use Rattle.kmin.proofs.values.dependency_value.Given as goal

@@ -4,7 +4,7 @@ use Rattle.std.proofs.lemmas.List.{length-map}
 use Rattle.kmin.specs.Grammar.{names_of}
 use Rattle.kmin.specs.Symbols.{symbol_of}
 use Rattle.kmin.specs.Values.{reading, rule}
-use Rattle.kmin.specs.Read.{entries_of, entry_of}
+use Rattle.kmin.specs.checker.Read.{entries_of, entry_of}
 use Rattle.kmin.proofs.Placing.{entry_at}
 use Rattle.kmin.proofs.Solving.{solved_more, solved_all}
 use Rattle.kmin.proofs.values.evaluate.Goals as goal

@@ -1,5 +1,5 @@
 use Rattle.std.proofs.Common.{◌≡◌, length}
-use Rattle.kmin.specs.Read.{entries_of}
+use Rattle.kmin.specs.checker.Read.{entries_of}
 use Rattle.kmin.proofs.Solving.{SolvedBelow}
 use Rattle.kmin.proofs.values.evaluate.Given as goal
 

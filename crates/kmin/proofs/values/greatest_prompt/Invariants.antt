@@ -1,7 +1,7 @@
 use Rattle.std.proofs.Common.{◌≡◌, drop, map}
 use Rattle.kc_value.specs.Tri.{tri_or}
-use Rattle.kmin.specs.Evaluated.{greatest_under}
-use Rattle.kmin.specs.Read.{attribute_of}
+use Rattle.kmin.specs.checker.Evaluated.{greatest_under}
+use Rattle.kmin.specs.checker.Read.{attribute_of}
 use Rattle.kmin.proofs.values.greatest_prompt.Given as goal
 
 -- the greatest so far, with that of what is left

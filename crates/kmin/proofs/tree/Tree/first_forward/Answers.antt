@@ -2,7 +2,7 @@ use Rattle.std.proofs.Common.{◌≡◌, ◌≤◌, ◌∙◌, sym, true, false,
 use Rattle.std.specs.Prelude.{slice_get}
 use Rattle.std.proofs.lemmas.List.{length-map}
 use Rattle.kmin.specs.Grammar.{names_of, refers_forward}
-use Rattle.kmin.specs.Read.{entries_of, entry_of, attribute_of}
+use Rattle.kmin.specs.checker.Read.{entries_of, entry_of, attribute_of}
 use Rattle.kmin.proofs.Placing.{entry_at}
 use Rattle.kmin.proofs.Ordering.{ordered_more, ordered_all}
 use Rattle.kmin.proofs.tree.Tree.first_forward.Goals as goal

@@ -1,5 +1,5 @@
 use Rattle.kmin.specs.Grammar.{names_of}
-use Rattle.kmin.specs.Read.{entries_of}
+use Rattle.kmin.specs.checker.Read.{entries_of}
 use Rattle.kmin.proofs.Ordering.{OrderedBelow}
 use Rattle.kmin.proofs.tree.Tree.first_forward.Given as goal
 

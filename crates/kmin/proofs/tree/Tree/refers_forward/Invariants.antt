@@ -1,6 +1,6 @@
 use Rattle.std.proofs.Common.{◌≡◌, drop, map}
 use Rattle.kmin.specs.Grammar.{names_of, refers_forward}
-use Rattle.kmin.specs.Read.{attribute_of, entries_of}
+use Rattle.kmin.specs.checker.Read.{attribute_of, entries_of}
 use Rattle.kmin.proofs.tree.Tree.refers_forward.Given as goal
 
 -- what was passed over refers to none

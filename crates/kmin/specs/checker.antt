@@ -1,0 +1,4 @@
+pub mod Evaluated
+pub mod Read
+pub mod Said
+pub mod Settings
