@@ -1,5 +1,11 @@
+pub mod GatheredAttributes
+pub mod GatheredFits
+pub mod GatheredView
 pub mod GroupedItems
 pub mod Kept
+pub mod NameTable
+pub mod Numbered
 pub mod PartsView
 pub mod Places
 pub mod TreeView
+pub mod Units

@@ -2,10 +2,14 @@
 #![tactic(auto)]
 
 mod entry;
+mod gathered;
 mod grouped;
+mod keyed;
+mod names;
 mod parts;
 mod symbol;
 mod tree;
+mod units;
 
 pub use entry::Entry;
 pub use kc_tree_model::{Sym, Texts, TreeFault, TreeKind, Unit};

@@ -11,7 +11,7 @@ use kc_expr::{Arena, ExprId, NameId};
 use kc_tree_model::{Sym, Unit};
 use kc_value::{Kind, Text};
 
-/// A symbol's name, type, first place, choice and unit.
+/// A symbol's name, type, first place and choice.
 #[derive(Clone, Copy)]
 pub(crate) struct SymbolRow {
     pub name: NameId,
@@ -19,15 +19,13 @@ pub(crate) struct SymbolRow {
     pub file: u32,
     pub line: u32,
     pub choice: Option<u32>,
-    pub unit: u32,
 }
 
-/// A choice's place, unit and the condition of its prompt.
+/// A choice's place and the condition of its prompt.
 #[derive(Clone, Copy)]
 pub(crate) struct ChoiceRow {
     pub file: u32,
     pub line: u32,
-    pub unit: u32,
     pub prompt: Option<ExprId>,
 }
 
@@ -52,7 +50,8 @@ pub(crate) enum EntryRow {
     },
 }
 
-/// All that a tree has, and for each name of the arena the symbol of that name.
+/// All that a tree has, and besides the unit of each symbol and of each choice, and for each name of the arena the symbol
+/// of that name.
 #[derive(Drop)]
 pub(crate) struct Parts {
     pub arena: Arena,
@@ -69,6 +68,8 @@ pub(crate) struct Parts {
     pub entries: Vec<EntryRow>,
     pub titles: Vec<Text>,
     pub units: Vec<Unit>,
+    pub unit_of_symbol: Vec<u32>,
+    pub unit_of_choice: Vec<u32>,
     pub symbol_of_name: Vec<Option<Sym>>,
 }
 
@@ -93,7 +94,7 @@ impl Parts {
             file: row.file,
             line: row.line,
             choice: row.choice,
-            unit: row.unit,
+            unit: self.unit_of(s),
             prompts: self.prompts.get(s),
             defaults: self.defaults.get(s),
             ranges: self.ranges.get(s),
@@ -116,7 +117,7 @@ impl Parts {
         Choice {
             file: row.file,
             line: row.line,
-            unit: row.unit,
+            unit: self.unit_of_choice[c],
             members: self.members.get(c),
             prompt: row.prompt,
             defaults: self.member_defaults.get(c),
@@ -141,7 +142,7 @@ impl Parts {
         ensures unit { result ≡ unit_of (whole_from self.now) s }
         ensures within { result < length self.now.units.items }
     {
-        self.symbols[s].unit
+        self.unit_of_symbol[s]
     }
 
     /// The name of a symbol.

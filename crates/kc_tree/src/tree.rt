@@ -38,6 +38,17 @@ impl Model for Tree {
 }
 
 impl Tree {
+    ghost use Rattle.kc_tree.specs.checker.PartsView.{whole_from};
+    ghost use Rattle.kc_tree.specs.checker.Kept.{IsKept};
+
+    /// The tree of its lists.
+    pub(crate) fn of(parts: Parts) -> Tree
+        requires { IsKept parts }
+        ensures { result ≡ record { exprs = parts.arena; whole = whole_from parts } }
+    {
+        Tree { parts }
+    }
+
     /// The arena of all names and expressions of the tree. A name that it doesn't hold is no symbol's.
     pub fn arena(&self) -> &Arena
         ensures arena { result.now ≡ self.now.exprs }

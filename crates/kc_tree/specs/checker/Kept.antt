@@ -1,5 +1,5 @@
 -- What the lists of a tree keep.
-use Rattle.std.specs.Prelude.{◌≡◌, ℕ, ◌+◌, ◌<◌, ◌^◌, List, length, map, All, Some, None, slice_get}
+use Rattle.std.specs.Prelude.{◌≡◌, ℕ, ◌+◌, ◌<◌, ◌^◌, List, length, map, All, Some, None, slice_get, slice_index}
 use Rattle.kc_expr.specs.Lookup.{place_of}
 use Rattle.kc_tree_model.specs.declared.ids.Unit.TheVariants.{Symbol as SymbolUnit, Choice as ChoiceUnit}
 use Rattle.kc_tree_model.specs.Trees.{of_choice}
@@ -50,14 +50,16 @@ pub record HasPlaces (p : Parts) : Type 0 where
   pub direct : length p.direct.starts.items ≡ length p.symbols.items + 1
   pub members : length p.members.starts.items ≡ length p.choices.items + 1
   pub member_defaults : length p.member_defaults.starts.items ≡ length p.choices.items + 1
+  pub unit_of_symbol : length p.unit_of_symbol.items ≡ length p.symbols.items
+  pub unit_of_choice : length p.unit_of_choice.items ≡ length p.choices.items
 
--- the numbers are there, each row has its unit, the table has the symbol of each name and no symbol has another name,
+-- the numbers are there, each symbol and choice has its unit, the table has the symbol of each name and no symbol has another name,
 -- and the tree is consistent
 pub record IsKept (p : Parts) : Type 0 where
   pub fits : PartsFit p
   pub places : HasPlaces p
-  pub units : (s : ℕ) (r : SymbolRow) → slice_get p.symbols.items s ≡ Some r → (r.unit ≡ unit_of (whole_from p) s) × (r.unit < length p.units.items)
-  pub choice_units : (c : ℕ) (r : ChoiceRow) → slice_get p.choices.items c ≡ Some r → (r.unit ≡ place_of_unit (whole_from p) (of_choice c)) × (r.unit < length p.units.items)
+  pub units : (s : ℕ) → s < length p.symbols.items → (slice_index p.unit_of_symbol.items s ≡ unit_of (whole_from p) s) × (slice_index p.unit_of_symbol.items s < length p.units.items)
+  pub choice_units : (c : ℕ) → c < length p.choices.items → (slice_index p.unit_of_choice.items c ≡ place_of_unit (whole_from p) (of_choice c)) × (slice_index p.unit_of_choice.items c < length p.units.items)
   pub table : p.symbol_of_name.items ≡ map (symbol_named (whole_from p)) p.arena.names
   pub held : (x : List ℕ) → place_of x p.arena.names ≡ None → symbol_named (whole_from p) x ≡ None
   pub consistent : IsConsistent (whole_from p)

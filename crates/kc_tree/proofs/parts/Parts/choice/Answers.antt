@@ -1,6 +1,8 @@
-use Rattle.std.proofs.Common.{refl, arith}
+use Rattle.std.proofs.Common.{◌≡◌, ◌∙◌, refl, arith}
 use Rattle.std.proofs.lemmas.Option.{slice_get_read}
 use Rattle.std.specs.Prelude.{◌<◌, length}
+use Rattle.std.specs.Prelude.{slice_index}
+use Rattle.std.proofs.lemmas.Grind.{get_or_default_zero}
 use Rattle.kc_tree.specs.Told.{MemberDefaultFits}
 use Rattle.kc_tree.specs.checker.PartsView.{choice_seen}
 use Rattle.kc_tree.proofs.Seen.{seen_get, all_at}
@@ -23,7 +25,13 @@ returns-clause-fits c =
     }
 
 pub returns-clause-unit : goal.returns-clause-unit
-returns-clause-unit c = (c.requires.kept.choice_units c.args.c c.index-row.result.now (slice_get_read c.args.self.now.choices.items _ c.args.c c.index-row.result.now refl c.requires.there c.index-row.ensures)).0
+returns-clause-unit c =
+    let p = c.args.self.now in
+    let e : c.index.result.now ≡ slice_index p.unit_of_choice.items c.args.c = c.index.ensures ∙ get_or_default_zero p.unit_of_choice.items c.args.c c.index.result.now (omega (arith, c.requires.kept.places.unit_of_choice)) in
+    e ∙ (c.requires.kept.choice_units c.args.c c.requires.there).0
 
 pub returns-clause-within : goal.returns-clause-within
-returns-clause-within c = (c.requires.kept.choice_units c.args.c c.index-row.result.now (slice_get_read c.args.self.now.choices.items _ c.args.c c.index-row.result.now refl c.requires.there c.index-row.ensures)).1
+returns-clause-within c =
+    let p = c.args.self.now in
+    let e : c.index.result.now ≡ slice_index p.unit_of_choice.items c.args.c = c.index.ensures ∙ get_or_default_zero p.unit_of_choice.items c.args.c c.index.result.now (omega (arith, c.requires.kept.places.unit_of_choice)) in
+    rw e (c.requires.kept.choice_units c.args.c c.requires.there).1

@@ -28,9 +28,3 @@ returns-clause-fits c =
       impliers = rw c.get-5.ensures (all_at (ForceFits (length p.arena.nodes) (length p.symbols.items)) p.impliers.starts.items p.impliers.items.items c.args.s f.impliers);
       direct = rw c.get-6.ensures (all_at (λ i. i < length p.arena.nodes) p.direct.starts.items p.direct.items.items c.args.s f.direct);
     }
-
-pub returns-clause-unit : goal.returns-clause-unit
-returns-clause-unit c = (c.requires.kept.units c.args.s c.index-row.result.now (slice_get_read c.args.self.now.symbols.items _ c.args.s c.index-row.result.now refl c.requires.there c.index-row.ensures)).0
-
-pub returns-clause-within : goal.returns-clause-within
-returns-clause-within c = (c.requires.kept.units c.args.s c.index-row.result.now (slice_get_read c.args.self.now.symbols.items _ c.args.s c.index-row.result.now refl c.requires.there c.index-row.ensures)).1
