@@ -1,12 +1,11 @@
 -- Lines cut off the front.
-use Rattle.std.proofs.Common.{◌≡◌, ℕ, suc, zero, ◌+◌, ◌≤◌, ◌<◌, Bool, true, false, List, [], ◌∷◌, ◌++◌, length, drop, take, refl, ap, sym, ◌∙◌, arith, cond, get_or, ◌-◌, ◌==◌, sub-one, length-drop, map, drop-drop}
+use Rattle.std.proofs.Common.{◌≡◌, ℕ, suc, zero, ◌+◌, ◌≤◌, ◌<◌, Bool, true, false, List, [], ◌∷◌, length, drop, take, refl, ap, sym, ◌∙◌, arith, get_or, ◌-◌, ◌==◌, length-drop, map, drop-drop}
 use Rattle.std.proofs.lemmas.List.{get_or-take, length-take-le}
 use Rattle.std.proofs.lemmas.Bool.Decides.{nat_tests}
 use Rattle.std.proofs.Math.Seq.{drop-length, take-length}
 use Rattle.bstr.specs.Find.{Nowhere, Passes, is_byte}
-use Rattle.kc_tree_model.specs.Lines.{Physical as Seen, cut, byte_before, physical_lines, without_return, without_last, last_byte}
-use Rattle.kc_listing.specs.declared.lines.Physical.{Physical}
-use Rattle.kc_listing.specs.checker.Cut.{line_of, IsLineAt}
+use Rattle.kc_tree_model.specs.Lines.{cut, byte_before, physical_lines, without_return, without_last, last_byte}
+use Rattle.kc_listing.specs.checker.Cut.{IsLineAt}
 
 -- a newline at a place ends the line at the front
 pub cut_at_newline : (n : ℕ) (bs : List ℕ) → n < length bs → ((k : ℕ) → k < n → (get_or bs k 0 == 10) ≡ false) → (get_or bs n 0 == 10) ≡ true

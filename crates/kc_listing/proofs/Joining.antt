@@ -1,10 +1,10 @@
 -- Lines that go on in the next one.
-use Rattle.std.proofs.Common.{◌≡◌, ℕ, suc, zero, ◌+◌, ◌≤◌, ◌<◌, Bool, true, false, List, [], ◌∷◌, ◌++◌, length, drop, take, refl, ap, sym, ◌∙◌, arith, cond, get_or, ◌-◌, ◌==◌, sub-one, length-drop, map, drop-drop, append_assoc}
+use Rattle.std.proofs.Common.{◌≡◌, ℕ, suc, zero, ◌+◌, ◌≤◌, ◌<◌, Bool, true, false, List, [], ◌∷◌, ◌++◌, length, drop, take, refl, ap, sym, ◌∙◌, arith, cond, ◌-◌, ◌==◌, length-drop, drop-drop, append_assoc}
 use Rattle.std.proofs.lemmas.List.{length-map}
 use Rattle.std.proofs.lemmas.List.{length-take-le}
 use Rattle.std.proofs.Math.Seq.{drop-length}
 use Rattle.std.specs.Prelude.{slice_range}
-use Rattle.kc_tree_model.specs.Lines.{Physical as Seen, cut, byte_before, physical_lines, without_return, without_last, last_byte, goes_on, joined, lines_joined, logical, Logical, begins_help, help_len}
+use Rattle.kc_tree_model.specs.Lines.{Physical as Seen, cut, byte_before, physical_lines, without_last, goes_on, joined, lines_joined, logical, begins_help, help_len}
 use Rattle.kc_listing.specs.declared.lines.Physical.{Physical}
 use Rattle.kc_listing.specs.checker.Cut.{line_of, IsLineAt, IsLogicalAt, AreJoined}
 use Rattle.kc_listing.proofs.CutSteps.{take_less}

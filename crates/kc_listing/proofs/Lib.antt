@@ -1,2 +1,9 @@
 pub mod CutSteps
 pub mod Joining
+pub mod NameLemmas
+pub mod Growing
+pub mod PutSteps
+pub mod StandSteps
+pub mod FileSteps
+pub mod HeadSteps
+pub mod ReaderSteps

@@ -1,1 +1,4 @@
+pub mod Names
+pub mod Shown
+pub mod Told
 pub mod checker

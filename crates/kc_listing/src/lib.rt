@@ -2,4 +2,15 @@
 //! reading meets.
 #![tactic(auto)]
 
+mod fault;
+mod heads;
 mod lines;
+mod listing;
+mod names;
+mod progress;
+mod putting;
+mod sources;
+mod standing;
+mod text;
+
+pub use listing::{Group, Line, Listing, Names, What};

@@ -1,12 +1,14 @@
 -- The files of a tree, through the map that holds them.
-use Rattle.std.proofs.Common.{◌≡◌, ℕ, zero, suc, length, arith, Bool, true, false, List, [], ◌∷◌, map, refl, ap, ◌∙◌, cond}
+use Rattle.std.proofs.Common.{◌≡◌, ℕ, zero, suc, length, arith, ◌≤◌, ◌+◌, Bool, true, false, not, List, [], ◌∷◌, map, refl, ap, sym, ◌∙◌, cond}
 use Rattle.std.specs.List.{IsDistinct, AllByRecursion}
-use Rattle.std.specs.Prelude.{slice_get, String, Vec, string_bytes, string_eq, bytes_eq, Option, Some, option_map}
+use Rattle.std.proofs.lemmas.Bool.{ltb-false}
+use Rattle.std.specs.List.{position, position_or_len}
+use Rattle.std.specs.Prelude.{None, nat_lt, slice_get, String, Vec, string_bytes, string_eq, bytes_eq, Option, Some, option_map}
 use Rattle.std.specs.declared.alloc.Global.{Global}
 use Rattle.indexmap.specs.IndexMap.{insert_entry}
 use Rattle.std.specs.Map.{lookup, keys_of}
 use Rattle.kc_tree_model.specs.checker.TextsView.{file_of}
-use Rattle.kc_tree_model.specs.Files.{with_file, file_at, path_at, HasDistinctPaths}
+use Rattle.kc_tree_model.specs.Files.{Files, with_file, file_at, number_of_file, path_at, HasDistinctPaths}
 
 insert_by : (b : Bool) (e : String Global × Vec ℕ Global) (es fs : List (String Global × Vec ℕ Global)) (v : Vec ℕ Global) → map file_of (cond b ((e.0, v) ∷ es) (e ∷ fs)) ≡ cond b ((string_bytes e.0, v.items) ∷ map file_of es) (file_of e ∷ map file_of fs)
 insert_by true e es fs v = refl
@@ -48,3 +50,44 @@ length-files (e ∷ es) = ap suc (length-files es)
 pub no_files : (es : List (String Global × Vec ℕ Global)) → length es ≡ 0 → map file_of es ≡ []
 no_files [] h = refl
 no_files (e ∷ es) h = absurd (omega arith)
+
+-- the number of a path is its position among the keys
+number_by : (b : Bool) (m : ℕ) → cond b 0 (suc m) ≡ cond (not b) (1 + m) 0
+number_by true m = refl
+number_by false m = omega arith
+
+number_of_key : (path : List ℕ) (es : List (String Global × Vec ℕ Global)) → number_of_file (map file_of es) path ≡ position_or_len (λ k. bytes_eq path (string_bytes k)) (keys_of es)
+number_of_key path [] = refl
+number_of_key path (e ∷ es) = ap (λ m. cond (bytes_eq path (string_bytes e.0)) 0 (suc m)) (number_of_key path es) ∙ number_by (bytes_eq path (string_bytes e.0)) (position_or_len (λ k. bytes_eq path (string_bytes k)) (keys_of es))
+
+within_by : (b : Bool) (m n : ℕ) → m ≤ n → cond b 0 (suc m) ≤ suc n
+within_by true m n h = omega arith
+within_by false m n h = omega arith
+
+number_within : (path : List ℕ) (fs : Files) → number_of_file fs path ≤ length fs
+number_within path [] = omega arith
+number_within path (f ∷ fs) = within_by (bytes_eq path f.0) (number_of_file fs path) (length fs) (number_within path fs)
+
+found_by : (b : Bool) (n i : ℕ) → cond b (Some n) None ≡ Some i → i ≡ n
+found_by true n i e = cc
+found_by false n i e = cc
+
+absent_by : (b : Bool) (n m : ℕ) → nat_lt n m ≡ b → cond b (Some n) None ≡ None → m ≤ n
+absent_by true n m t e = cc
+absent_by false n m t e = ltb-false n m t
+
+length-keys : (es : List (String Global × Vec ℕ Global)) → length (keys_of es) ≡ length (map file_of es)
+length-keys [] = refl
+length-keys (e ∷ es) = ap suc (length-keys es)
+
+pub number_found : (path : List ℕ) (es : List (String Global × Vec ℕ Global)) (i : ℕ) → position (λ k. bytes_eq path (string_bytes k)) (keys_of es) ≡ Some i → i ≡ number_of_file (map file_of es) path
+number_found path es i e = found_by (nat_lt (position_or_len (λ k. bytes_eq path (string_bytes k)) (keys_of es)) (length (keys_of es))) (position_or_len (λ k. bytes_eq path (string_bytes k)) (keys_of es)) i e ∙ sym (number_of_key path es)
+
+pub number_absent : (path : List ℕ) (es : List (String Global × Vec ℕ Global)) → position (λ k. bytes_eq path (string_bytes k)) (keys_of es) ≡ None → length es ≡ number_of_file (map file_of es) path
+number_absent path es e =
+    let a = absent_by (nat_lt (position_or_len (λ k. bytes_eq path (string_bytes k)) (keys_of es)) (length (keys_of es))) (position_or_len (λ k. bytes_eq path (string_bytes k)) (keys_of es)) (length (keys_of es)) refl e in
+    let k = number_of_key path es in
+    let w = number_within path (map file_of es) in
+    let l = length-keys es in
+    let f = length-files es in
+    omega (arith, a, k, w, l, f)

@@ -1,6 +1,6 @@
 //! The files of a tree.
 ghost use Rattle.std.specs.Prelude.{◌≡◌, ◌↔◌, [], length, IsTrue, OnOk, OnErr, option_map};
-ghost use Rattle.kc_tree_model.specs.Files.{with_file, file_at, path_at, HasDistinctPaths};
+ghost use Rattle.kc_tree_model.specs.Files.{with_file, file_at, number_of_file, path_at, HasDistinctPaths};
 
 use indexmap::IndexMap;
 use std::alloc::{AllocError, Global};
@@ -58,6 +58,16 @@ impl Texts {
         Some(bytes.as_slice())
     }
 
+    /// The position of a path among the files; of one that is absent their count.
+    pub fn number_of(&self, path: &str) -> usize
+        ensures { result ≡ number_of_file self.now path.now }
+    {
+        match self.files.get_index_of(path) {
+            Some(index) => index,
+            None => self.files.len(),
+        }
+    }
+
     /// The path of a file by its position.
     pub fn path_at(&self, index: u32) -> Option<&str>
         ensures { option_map (λ p. p.now) result ≡ path_at self.now index }
@@ -101,6 +111,8 @@ mod tests {
         );
         assert_eq!(rt; texts.get("a").ok_or("absent")?.len(), 0);
         assert!(rt; texts.get("b").is_none());
+        assert_eq!(rt; texts.number_of("a"), 1);
+        assert_eq!(rt; texts.number_of("b"), 2);
         assert_eq!(rt; texts.path_at(0).ok_or("absent")?, "Kconfig");
         assert_eq!(rt; texts.path_at(1).ok_or("absent")?, "a");
         assert!(rt; texts.path_at(2).is_none());

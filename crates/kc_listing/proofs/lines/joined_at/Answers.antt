@@ -1,4 +1,4 @@
-use Rattle.std.proofs.Common.{arith, sym, ◌∙◌}
+use Rattle.std.proofs.Common.{sym, ◌∙◌}
 use Rattle.kc_listing.proofs.Joining.{joined_stops, joined_goes_on}
 use Rattle.kc_listing.proofs.lines.joined_at.Goals as goal
 

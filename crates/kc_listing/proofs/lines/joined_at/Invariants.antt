@@ -1,5 +1,4 @@
-use Rattle.std.proofs.Common.{◌≡◌, ◌≤◌, ◌<◌, ◌+◌, ◌-◌, ◌++◌, drop, length}
-use Rattle.kc_tree_model.specs.Lines.{physical_lines, joined}
+use Rattle.std.proofs.Common.{◌-◌, length}
 use Rattle.kc_listing.specs.checker.Cut.{AreJoined}
 use Rattle.kc_listing.proofs.lines.joined_at.Given as goal
 

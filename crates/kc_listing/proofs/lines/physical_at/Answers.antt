@@ -1,4 +1,4 @@
-use Rattle.std.proofs.Common.{arith, refl, ◌≡◌, List, ℕ, length, drop, ◌-◌, take}
+use Rattle.std.proofs.Common.{arith, refl}
 use Rattle.kc_expr.proofs.Lexing.{rest_is}
 use Rattle.kc_listing.proofs.CutSteps.{line_at_end, line_returned, line_kept}
 use Rattle.kc_listing.proofs.lines.physical_at.Goals as goal

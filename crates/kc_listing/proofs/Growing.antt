@@ -1,0 +1,138 @@
+-- What a listing shows stays as the arena and the lists grow.
+use Rattle.std.proofs.Common.{◌≡◌, ℕ, suc, zero, ◌-◌, ◌<◌, ◌≤◌, List, [], ◌∷◌, ◌++◌, length, get_or, drop, take, map, Option, Some, None, refl, ap, sym, ◌∙◌, arith, length-append, length-drop}
+use Rattle.std.specs.Prelude.{slice_get, slice_range, All}
+use Rattle.std.proofs.lemmas.List.{take-append-drop, get_or_append_left, take-append-le, drop-append-le}
+use Rattle.std.proofs.lemmas.List.Elements.{All-take, All-drop}
+use Rattle.kc_expr.specs.Arena.{Exprs, Grows, stands_for}
+use Rattle.kc_expr.specs.Expr.{alone, constant}
+use Rattle.kc_value.specs.declared.tri.Tri.TheVariants.{N}
+use Rattle.kc_tree_model.specs.Blocks.{Group, What}
+use Rattle.kc_statements.specs.declared.statement.Attribute.{Attribute as CodeAttribute}
+use Rattle.kc_statements.specs.declared.statement.Attribute.TheVariants as attributes
+use Rattle.kc_statements.specs.declared.statement.Valued.{Valued as CodeValued}
+use Rattle.kc_statements.specs.declared.statement.Aimed.{Aimed as CodeAimed}
+use Rattle.kc_statements.specs.declared.statement.Bounded.{Bounded as CodeBounded}
+use Rattle.kc_statements.specs.Said.{attribute_in, AttributeHeld, IfHeld, if_in, OperandHeld, operand_in, operand_of_expr, ValuedHeld, valued_in, AimedHeld, aimed_in, BoundedHeld, bounded_in}
+use Rattle.kc_listing.specs.declared.listing.Group.{Group as CodeGroup}
+use Rattle.kc_listing.specs.declared.listing.Line.{Line as CodeLine}
+use Rattle.kc_listing.specs.declared.listing.What.{What as CodeWhat}
+use Rattle.kc_listing.specs.declared.listing.What.TheVariants as codes
+use Rattle.kc_listing.specs.Shown.{WhatShown, line_in, LineHeld, GroupShown, GroupsShown}
+use Rattle.kc_listing.proofs.NameLemmas.{words_kept, longer}
+
+pub get_more : {A : Type 0} (xs ys : List A) (i : ℕ) (x : A) → slice_get xs i ≡ Some x → slice_get (xs ++ ys) i ≡ Some x
+get_more [] ys i x h = cc
+get_more (z ∷ xs) ys zero x h = h
+get_more (z ∷ xs) ys (suc i) x h = get_more xs ys i x h
+
+pub get_last : {A : Type 0} (xs : List A) (x : A) → slice_get (xs ++ x ∷ []) (length xs) ≡ Some x
+get_last [] x = refl
+get_last (y ∷ xs) x = get_last xs x
+
+module _ (old new : Exprs) (grows : Grows old new) where
+  nodes_are : old.nodes ++ drop (length old.nodes) new.nodes ≡ new.nodes
+  nodes_are = ap (λ xs. xs ++ drop (length old.nodes) new.nodes) (sym grows.nodes) ∙ take-append-drop (length old.nodes) new.nodes
+
+  node_held : (id : ℕ) → id < length old.nodes → id < length new.nodes
+  node_held id h = let e = ap length nodes_are in omega (arith, e, length-append old.nodes (drop (length old.nodes) new.nodes))
+
+  pub node_kept : (id : ℕ) → id < length old.nodes → stands_for new id ≡ stands_for old id
+  node_kept id h = ap (λ nodes. get_or nodes id (alone (constant N))) (sym nodes_are) ∙ get_or_append_left old.nodes (drop (length old.nodes) new.nodes) (alone (constant N)) id h
+
+  if_held : (c : Option ℕ) → IfHeld old c → IfHeld new c
+  if_held None h = tt
+  if_held (Some id) h = node_held id h
+
+  if_kept : (c : Option ℕ) → IfHeld old c → if_in new c ≡ if_in old c
+  if_kept None h = refl
+  if_kept (Some id) h = ap Some (node_kept id h)
+
+  operand_kept : (id : ℕ) → OperandHeld old id → operand_in new id ≡ operand_in old id
+  operand_kept id h = ap operand_of_expr (node_kept id h.within)
+
+  operand_held : (id : ℕ) → OperandHeld old id → OperandHeld new id
+  operand_held id h = record { within = node_held id h.within; is = node_kept id h.within ∙ h.is ∙ ap alone (sym (operand_kept id h)) }
+
+  valued_kept : (d : CodeValued) → ValuedHeld old d → valued_in new d ≡ valued_in old d
+  valued_kept d h = rw (node_kept d.value h.0, if_kept d.condition h.1) refl
+
+  aimed_kept : (d : CodeAimed) → AimedHeld old d → aimed_in new d ≡ aimed_in old d
+  aimed_kept d h = rw (words_kept old new grows d.name h.0, if_kept d.condition h.1) refl
+
+  aimed_held : (d : CodeAimed) → AimedHeld old d → AimedHeld new d
+  aimed_held d h = (let l = longer old new grows in let w = h.0 in omega arith, if_held d.condition h.1)
+
+  bounded_kept : (d : CodeBounded) → BoundedHeld old d → bounded_in new d ≡ bounded_in old d
+  bounded_kept d h = rw (operand_kept d.low h.0, operand_kept d.high h.1, if_kept d.condition h.2) refl
+
+  attribute_kept : (a : CodeAttribute) → AttributeHeld old a → attribute_in new a ≡ attribute_in old a
+  attribute_kept (attributes.Typed k) h = refl
+  attribute_kept (attributes.TypedPrompt k c) h = rw (if_kept c h) refl
+  attribute_kept (attributes.TypedDefault k d) h = rw (valued_kept d h) refl
+  attribute_kept (attributes.Prompt c) h = rw (if_kept c h) refl
+  attribute_kept (attributes.Default d) h = rw (valued_kept d h) refl
+  attribute_kept (attributes.Depends id) h = rw (node_kept id h) refl
+  attribute_kept (attributes.Select s) h = rw (aimed_kept s h) refl
+  attribute_kept (attributes.Imply s) h = rw (aimed_kept s h) refl
+  attribute_kept (attributes.Range r) h = rw (bounded_kept r h) refl
+  attribute_kept (attributes.Visible id) h = rw (node_kept id h) refl
+  attribute_kept attributes.Help h = refl
+  attribute_kept attributes.Modules h = refl
+
+  attribute_held : (a : CodeAttribute) → AttributeHeld old a → AttributeHeld new a
+  attribute_held (attributes.Typed k) h = tt
+  attribute_held (attributes.TypedPrompt k c) h = if_held c h
+  attribute_held (attributes.TypedDefault k d) h = (node_held d.value h.0, if_held d.condition h.1)
+  attribute_held (attributes.Prompt c) h = if_held c h
+  attribute_held (attributes.Default d) h = (node_held d.value h.0, if_held d.condition h.1)
+  attribute_held (attributes.Depends id) h = node_held id h
+  attribute_held (attributes.Select s) h = aimed_held s h
+  attribute_held (attributes.Imply s) h = aimed_held s h
+  attribute_held (attributes.Range r) h = (operand_held r.low h.0, operand_held r.high h.1, if_held r.condition h.2)
+  attribute_held (attributes.Visible id) h = node_held id h
+  attribute_held attributes.Help h = tt
+  attribute_held attributes.Modules h = tt
+
+  pub lines_held : (lines : List CodeLine) → All (LineHeld old) lines → All (LineHeld new) lines
+  lines_held lines h = λ k d i. attribute_held _ (h k d i)
+
+  lines_kept : (lines : List CodeLine) → All (LineHeld old) lines → map (line_in new) lines ≡ map (line_in old) lines
+  lines_kept [] h = refl
+  lines_kept (l ∷ lines) h = rw (attribute_kept l.attribute (h 0 l (omega arith)), lines_kept lines (λ k d i. h (suc k) d (omega arith))) refl
+
+  what_kept : (names ns texts ts : List (List ℕ)) (c : CodeWhat) (w : What) → WhatShown old names texts c w → WhatShown new (names ++ ns) (texts ++ ts) c w
+  what_kept names ns texts ts (codes.Config s) w h = (h.0, get_more names ns s h.0 h.1, h.2)
+  what_kept names ns texts ts codes.Choice w h = h
+  what_kept names ns texts ts (codes.Menu t) w h = (h.0, get_more texts ts t h.0 h.1, h.2)
+  what_kept names ns texts ts (codes.Condition id) w h = (node_held id h.0, rw (node_kept id h.0) h.1)
+  what_kept names ns texts ts (codes.Comment t) w h = (h.0, get_more texts ts t h.0 h.1, h.2)
+  what_kept names ns texts ts (codes.Source t) w h = (h.0, get_more texts ts t h.0 h.1, h.2)
+  what_kept names ns texts ts codes.Mainmenu w h = h
+  what_kept names ns texts ts (codes.Ends b) w h = h
+  what_kept names ns texts ts codes.FileEnd w h = h
+
+  range_kept : (lines ls : List CodeLine) (a end : ℕ) → a ≤ end → end ≤ length lines → slice_range (lines ++ ls) a end ≡ slice_range lines a end
+  range_kept lines ls a end l e = ap (take (end - a)) (drop-append-le a lines ls (omega arith)) ∙ take-append-le (end - a) (drop a lines) ls (omega (arith, length-drop a lines))
+
+  group_kept : (names ns texts ts : List (List ℕ)) (lines ls : List CodeLine) (end before : ℕ) (g : CodeGroup) (m : Group) → All (LineHeld old) lines → g.attributes ≤ end → end ≤ length lines
+      → GroupShown old names texts (slice_range lines g.attributes end) before g m → GroupShown new (names ++ ns) (texts ++ ts) (slice_range (lines ++ ls) g.attributes end) before g m
+  group_kept names ns texts ts lines ls end before g m held a e h = record {
+    number_is = h.number_is;
+    file_is = h.file_is;
+    line_is = h.line_is;
+    what = what_kept names ns texts ts g.what m.what h.what;
+    attributes = rw (range_kept lines ls g.attributes end a e)
+        (h.attributes ∙ sym (lines_kept (slice_range lines g.attributes end) (All-take (LineHeld old) (end - g.attributes) (drop g.attributes lines) (All-drop (LineHeld old) g.attributes lines held))));
+  }
+
+  pub groups_kept : (names ns texts ts : List (List ℕ)) (lines ls : List CodeLine) → All (LineHeld old) lines → (end : ℕ) → end ≤ length lines → (gs : List CodeGroup) (ms : List Group)
+      → GroupsShown old names texts lines end gs ms → GroupsShown new (names ++ ns) (texts ++ ts) (lines ++ ls) end gs ms
+  groups_kept names ns texts ts lines ls held end e [] [] h = tt
+  groups_kept names ns texts ts lines ls held end e [] (m ∷ ms) h = absurd h
+  groups_kept names ns texts ts lines ls held end e (g ∷ gs) [] h = absurd h
+  groups_kept names ns texts ts lines ls held end e (g ∷ gs) (m ∷ ms) h =
+      (group_kept names ns texts ts lines ls end (length ms) g m held h.1 e h.0, h.1, groups_kept names ns texts ts lines ls held g.attributes (let a = h.1 in omega arith) gs ms h.2)
+
+  pub groups_later : (names ns names2 texts ts texts2 : List (List ℕ)) (lines ls lines2 : List CodeLine) → names2 ≡ names ++ ns → texts2 ≡ texts ++ ts → lines2 ≡ lines ++ ls → All (LineHeld old) lines → (gs : List CodeGroup) (ms : List Group)
+      → (end : ℕ) → end ≤ length lines → GroupsShown old names texts lines end gs ms → GroupsShown new names2 texts2 lines2 end gs ms
+  groups_later names ns names2 texts ts texts2 lines ls lines2 e f g held gs ms end l h = rw (e, f, g) (groups_kept names ns texts ts lines ls held end l gs ms h)

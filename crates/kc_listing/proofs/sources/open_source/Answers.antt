@@ -1,0 +1,19 @@
+use Rattle.std.proofs.Common.{inl, inr, refl, sym, ap, ◌∙◌}
+use Rattle.kc_tree_model.specs.Blocks.{said}
+use Rattle.kc_tree_model.specs.Statements.{source}
+use Rattle.kc_tree_model.specs.Limits.{source_fault}
+use Rattle.kc_listing.specs.checker.Progress.{origin_of}
+use Rattle.kc_listing.proofs.ReaderSteps.{shown_of}
+use Rattle.kc_listing.proofs.sources.open_source.Goals as goal
+
+pub returns-in-Ok-put_group-clause-sourced : goal.returns-in-Ok-put_group-clause-sourced
+returns-in-Ok-put_group-clause-sourced c = λ before d.
+    let kept = shown_of (origin_of c.args.from) _ before (c.in-Ok.ensures.describes (origin_of c.args.from) before d) in
+    let shows = c.in-Ok-put_group.ensures.put before (said (source c.args.path)) kept (c.args.path, c.in-Ok.ensures.kept, refl) refl in
+    elim (c.in-Err.ensures.sourced before d) [
+      | inl m ↦ inl (c.told_at.ensures.memory m)
+      | inr e ↦ elim c.told_at.ensures.told [
+        | inl m ↦ inl m
+        | inr f ↦ inr (c.in-Err.kind, ap (source_fault (origin_of c.args.from) before) (sym c.as_str.ensures.characters) ∙ e, f, shows)
+      ]
+    ]

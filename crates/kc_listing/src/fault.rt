@@ -1,0 +1,39 @@
+//! Faults at their places.
+ghost use Rattle.std.specs.Prelude.{◌≡◌, ◌⊎◌, Some};
+ghost use Rattle.kc_tree_model.specs.declared.fault.TreeKind.TheVariants.{OutOfMemory};
+ghost use Rattle.kc_listing.specs.checker.Faults.{IsMemory, fault_in};
+
+use kc_tree_model::{TreeFault, TreeKind};
+
+/// Want of memory.
+pub(crate) fn out_of_memory() -> TreeFault
+    ensures { IsMemory result }
+{
+    TreeFault {
+        file: None,
+        line: 0,
+        kind: TreeKind::OutOfMemory,
+    }
+}
+
+/// A fault at a line of a file.
+pub(crate) fn fault_at(file: u32, line: u32, kind: TreeKind) -> TreeFault
+    ensures { result ≡ fault_in file line kind }
+{
+    TreeFault {
+        file: Some(file),
+        line,
+        kind,
+    }
+}
+
+/// The same, unless memory ran out, which has no place.
+pub(crate) fn told_at(file: u32, line: u32, kind: TreeKind) -> TreeFault
+    ensures memory { kind ≡ OutOfMemory → IsMemory result }
+    ensures told { IsMemory result ⊎ (result ≡ fault_in file line kind) }
+{
+    match kind {
+        TreeKind::OutOfMemory => out_of_memory(),
+        _ => fault_at(file, line, kind),
+    }
+}

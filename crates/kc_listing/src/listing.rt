@@ -1,0 +1,55 @@
+//! What was read.
+use kc_expr::{Arena, ExprId, NameId};
+use kc_statements::{Attribute, Block};
+use kc_value::Text;
+
+/// A statement that closes the open entry, or the end of a sourced file. A symbol is told by its number in order of
+/// first definition, a title or a path by its place among the texts.
+#[derive(Clone, Copy)]
+pub enum What {
+    Config(u32),
+    Choice,
+    Menu(usize),
+    Condition(ExprId),
+    Comment(usize),
+    Source(usize),
+    Mainmenu,
+    Ends(Block),
+    FileEnd,
+}
+
+/// A statement, its place, and where its attributes begin; they reach up to those of the next group.
+#[derive(Clone, Copy)]
+pub struct Group {
+    pub file: u32,
+    pub line: u32,
+    pub what: What,
+    pub attributes: usize,
+}
+
+/// An attribute and its line.
+#[derive(Clone, Copy)]
+pub struct Line {
+    pub number: u32,
+    pub attribute: Attribute,
+}
+
+/// The names of symbols in an arena.
+///
+/// `symbols` has the name of each symbol. `numbers` has for a name of the arena one more than the number of its
+/// symbol, and 0 where no entry defines it; names behind its end are no symbol's.
+#[derive(Drop)]
+pub struct Names {
+    pub arena: Arena,
+    pub symbols: Vec<NameId>,
+    pub numbers: Vec<u32>,
+}
+
+/// All that was read, in reading order.
+#[derive(Drop)]
+pub struct Listing {
+    pub names: Names,
+    pub texts: Vec<Text>,
+    pub groups: Vec<Group>,
+    pub lines: Vec<Line>,
+}

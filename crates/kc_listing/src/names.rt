@@ -1,0 +1,88 @@
+//! The names of symbols.
+ghost use Rattle.std.specs.Prelude.{◌≡◌, ◌<◌, ◌≤◌, ◌++◌, ◌∷◌, ℕ, List, [], length, None, IfOk, IfErr, OnOk, slice_index};
+ghost use Rattle.kc_tree_model.specs.declared.fault.TreeKind.TheVariants.{OutOfMemory};
+ghost use Rattle.kc_expr.specs.Arena.{Grows};
+ghost use Rattle.kc_expr.specs.Lookup.{place_of};
+ghost use Rattle.kc_listing.specs.Names.{number_kept, number_in, HasNames};
+ghost use Rattle.kc_listing.specs.checker.Symbols.{SymbolTold};
+
+use super::listing::Names;
+use kc_expr::NameId;
+use kc_tree_model::TreeKind;
+use std::alloc::AllocError;
+
+/// The most symbols of a tree.
+const MAX_SYMBOLS: usize = 1_000_000;
+
+/// The number of the symbol of a name of the arena, if an entry defines it.
+fn number_at(numbers: &[u32], id: NameId) -> Option<u32>
+    ensures { result ≡ number_kept (slice_index numbers.now id) }
+{
+    let index = id.index();
+    if index < numbers.len() && numbers[index] > 0 {
+        return Some(numbers[index] - 1);
+    }
+    None
+}
+
+/// Puts zeros behind numbers until they are so many.
+fn pad(numbers: &mut Vec<u32>, count: usize) -> Result<(), AllocError>
+    ensures same { OnOk result ((i : ℕ) → slice_index numbers.new.items i ≡ slice_index numbers.old.items i) }
+    ensures many { OnOk result (count ≤ length numbers.new.items) }
+    ensures few { OnOk result (length numbers.old.items ≤ count → length numbers.new.items ≤ count) }
+{
+    if numbers.len() < count {
+        numbers.resize(count, 0)?;
+    }
+    Ok(())
+}
+
+impl Names {
+    /// The number of the symbol of a name, if an entry defines it.
+    pub fn number_of(&self, name: &str) -> Option<u32>
+        ensures { result ≡ number_in self.now.arena.names self.now.numbers.items name.now }
+    {
+        let id = self.arena.find(name)?;
+        number_at(self.numbers.as_slice(), id)
+    }
+
+    /// The number of a new symbol.
+    pub(crate) fn define(&mut self, name: &str) -> Result<u32, TreeKind>
+        requires { length self.old.symbols.items < 1000000 }
+        ensures grows { Grows self.old.arena self.new.arena }
+        ensures number { IfOk result (λ n. n ≡ length self.old.symbols.items) }
+        ensures named { (names : List (List ℕ)) → HasNames self.old.arena self.old.symbols.items self.old.numbers.items names
+            → place_of name.now names ≡ None
+            → OnOk result (HasNames self.new.arena self.new.symbols.items self.new.numbers.items (names ++ name.now ∷ [])) }
+        ensures memory { IfErr result (λ k. k ≡ OutOfMemory) }
+    {
+        let number = self.symbols.len() as u32;
+        let Ok(id) = self.arena.intern(name) else {
+            return Err(TreeKind::OutOfMemory);
+        };
+        let Ok(()) = pad(&mut self.numbers, self.arena.name_count()) else {
+            return Err(TreeKind::OutOfMemory);
+        };
+        self.numbers[id.index()] = number + 1;
+        let Ok(()) = self.symbols.push(id) else {
+            return Err(TreeKind::OutOfMemory);
+        };
+        Ok(number)
+    }
+
+    /// The number of the symbol of a name, which is a new one where no entry defines it yet. `TooMany` where there
+    /// are as many symbols as there may be.
+    pub(crate) fn symbol_of(&mut self, name: &str) -> Result<u32, TreeKind>
+        ensures grows { Grows self.old.arena self.new.arena }
+        ensures told { (names : List (List ℕ)) → HasNames self.old.arena self.old.symbols.items self.old.numbers.items names
+            → SymbolTold name.now names self.new result }
+    {
+        if let Some(number) = self.number_of(name) {
+            return Ok(number);
+        }
+        if self.symbols.len() >= MAX_SYMBOLS {
+            return Err(TreeKind::TooMany);
+        }
+        self.define(name)
+    }
+}

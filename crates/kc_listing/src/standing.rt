@@ -1,0 +1,76 @@
+//! What stands open.
+ghost use Rattle.std.specs.Prelude.{◌≡◌, count_by};
+ghost use Rattle.std.specs.List.{list_any};
+ghost use Rattle.kc_listing.specs.checker.Standing.{is_block, is_file, is_choice, is_file_of, block_kept};
+
+use super::progress::Open;
+use kc_statements::Block;
+use kc_value::Text;
+
+/// How many blocks stand open, over all open files.
+pub(crate) fn blocks_open(stack: &[Open]) -> usize
+    ensures { result ≡ count_by is_block stack.now }
+{
+    let mut count = 0;
+    for o in stack {
+        if let Open::Block(_, _) = o {
+            count += 1;
+        }
+    }
+    count
+}
+
+/// How many sourced files stand open.
+pub(crate) fn files_open(stack: &[Open]) -> usize
+    ensures { result ≡ count_by is_file stack.now }
+{
+    let mut count = 0;
+    for o in stack {
+        if let Open::Source(_) = o {
+            count += 1;
+        }
+    }
+    count
+}
+
+fn opens_choice(kept: &Open) -> bool
+    ensures { result ≡ is_choice kept.now }
+{
+    matches!(kept, Open::Block(Block::Choice, _))
+}
+
+/// Whether a choice stands open.
+pub(crate) fn in_choice(stack: &[Open]) -> bool
+    ensures { result ≡ list_any is_choice stack.now }
+{
+    stack.iter().any(|o| opens_choice(o))
+}
+
+fn is_of(kept: &Open, texts: &[Text], path: &str) -> bool
+    ensures { result ≡ is_file_of texts.now path.now kept.now }
+{
+    match kept {
+        Open::Source(place) => match texts.get(*place) {
+            Some(text) => text.as_str() == path,
+            None => false,
+        },
+        Open::Block(_, _) => false,
+    }
+}
+
+/// Whether the sourced file of a path stands open.
+pub(crate) fn is_path_open(stack: &[Open], texts: &[Text], path: &str) -> bool
+    ensures { result ≡ list_any (is_file_of texts.now path.now) stack.now }
+{
+    stack.iter().any(|o| is_of(o, texts, path))
+}
+
+/// The innermost open block of the file that is read, and its line.
+pub(crate) fn innermost(stack: &[Open]) -> Option<(Block, u32)>
+    ensures { result ≡ block_kept stack.now }
+{
+    match stack.last() {
+        Some(Open::Block(block, line)) => Some((*block, *line)),
+        _ => None,
+    }
+}
