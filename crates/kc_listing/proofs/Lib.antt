@@ -7,3 +7,4 @@ pub mod StandSteps
 pub mod FileSteps
 pub mod HeadSteps
 pub mod ReaderSteps
+pub mod PlaceSteps

@@ -7,6 +7,7 @@ mod heads;
 mod lines;
 mod listing;
 mod names;
+mod placement;
 mod progress;
 mod putting;
 mod sources;

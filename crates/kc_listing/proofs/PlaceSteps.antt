@@ -1,0 +1,131 @@
+-- Where lines may stand.
+use Rattle.std.proofs.Common.{◌≡◌, ℕ, suc, ◌-◌, ◌<◌, true, false, not, ◌&&◌, ◌==◌, List, [], ◌∷◌, length, get_or, Option, Some, None, refl, ap, sym, ◌∙◌, arith, reverse}
+use Rattle.std.specs.Prelude.{filter_map, slice_get, is_some, option_map}
+use Rattle.std.specs.List.{list_all, cons_option}
+use Rattle.std.proofs.lemmas.List.{get_or-reverse, length-reverse}
+use Rattle.std.proofs.lemmas.Option.{slice_get-get_or}
+use Rattle.std.proofs.lemmas.Bool.Decides.{nat_tests}
+use Rattle.kc_expr.specs.Arena.{Exprs}
+use Rattle.kc_expr.specs.Token.{Piece}
+use Rattle.kc_tree_model.specs.declared.fault.TreeKind.TheVariants.{LeftOut, Misplaced, StrayEnd}
+use Rattle.kc_tree_model.specs.Statements.{Block, same_block}
+use Rattle.kc_tree_model.specs.Keywords.{Keyword}
+use Rattle.kc_tree_model.specs.Blocks.{Group, What, open_blocks, block_of, head_gives, innermost, is_stray, is_matched}
+use Rattle.kc_tree_model.specs.Limits.{names_defined}
+use Rattle.kc_tree_model.specs.Placement.{Open, is_left_out, is_allowed, is_stray_end, open_entry, opened_by, takes, entry_takes}
+use Rattle.kc_statements.specs.declared.keyword.Keyword.{Keyword as CodeKeyword}
+use Rattle.kc_statements.specs.declared.keyword.Keyword.TheVariants as words
+use Rattle.kc_statements.specs.declared.statement.Block.{Block as CodeBlock}
+use Rattle.kc_statements.specs.Meanings.{meant, block_meant, open_meant}
+use Rattle.kc_listing.specs.declared.listing.Group.{Group as CodeGroup}
+use Rattle.kc_listing.specs.declared.listing.Line.{Line as CodeLine}
+use Rattle.kc_listing.specs.declared.listing.What.{What as CodeWhat}
+use Rattle.kc_listing.specs.declared.listing.What.TheVariants as codes
+use Rattle.kc_listing.specs.Shown.{WhatShown, GroupsShown, ListsShown}
+use Rattle.kc_listing.specs.checker.Placing.{place_of_keyword, may_stand, block_ended, is_stray_block, entry_opened, entry_of_group, entry_kept, fault_before}
+use Rattle.kc_listing.proofs.StandSteps.{IsInnermost}
+
+some_blocks : (n : ℕ) → false ≡ (suc n == 0)
+some_blocks n = grind (arith, nat_tests)
+
+no_blocks : (gs : List Group) → list_all (λ g. not (is_some (block_of g))) gs ≡ (length (filter_map block_of gs) == 0)
+no_blocks [] = refl
+no_blocks (g ∷ gs) = by_block (block_of g) (no_blocks gs)
+  where
+    by_block : (b : Option Block) → list_all (λ g. not (is_some (block_of g))) gs ≡ (length (filter_map block_of gs) == 0)
+        → (not (is_some b) && list_all (λ g. not (is_some (block_of g))) gs) ≡ (length (cons_option b (filter_map block_of gs)) == 0)
+    by_block None ih = ih
+    by_block (Some x) ih = some_blocks (length (filter_map block_of gs))
+
+pub allowed_is : (k : CodeKeyword) (before : List Group) → is_allowed before (meant k) ≡ may_stand before (place_of_keyword k) (meant k)
+allowed_is words.Config before = refl
+allowed_is words.Choice before = refl
+allowed_is words.Menu before = refl
+allowed_is words.If before = refl
+allowed_is words.Comment before = refl
+allowed_is words.Source before = refl
+allowed_is words.Mainmenu before = no_blocks (open_blocks 0 before)
+allowed_is (words.End b) before = refl
+allowed_is (words.Type k) before = refl
+allowed_is (words.DefaultType k) before = refl
+allowed_is words.Prompt before = refl
+allowed_is words.Default before = refl
+allowed_is words.Depends before = refl
+allowed_is words.Select before = refl
+allowed_is words.Imply before = refl
+allowed_is words.Range before = refl
+allowed_is words.Visible before = refl
+allowed_is words.Help before = refl
+allowed_is words.Modules before = refl
+allowed_is words.Option before = refl
+allowed_is words.LeftOut before = refl
+
+pub stray_is : (k : CodeKeyword) (before : List Group) → is_stray_end before (meant k) ≡ is_stray_block before (block_ended k)
+stray_is (words.End b) before = refl
+stray_is k before = refl
+
+last_by : (xs : List CodeGroup) → (0 < length xs) → (d : CodeGroup) → slice_get xs (length xs - 1) ≡ slice_get (reverse xs) 0
+last_by xs h d =
+    slice_get-get_or xs (length xs - 1) d (omega arith)
+    ∙ ap Some (ap (λ i. get_or xs i d) (let e : length xs - 1 ≡ length xs - 1 - 0 = omega arith in e) ∙ sym (get_or-reverse xs 0 d h))
+    ∙ sym (slice_get-get_or (reverse xs) 0 d (omega (arith, length-reverse xs)))
+
+last_is : (xs : List CodeGroup) → slice_get xs (length xs - 1) ≡ slice_get (reverse xs) 0
+last_is [] = refl
+last_is (x ∷ xs) = last_by (x ∷ xs) (omega arith) x
+
+entry_same : (exprs : Exprs) (names texts : List (List ℕ)) (c : CodeWhat) (w : What) → WhatShown exprs names texts c w → head_gives opened_by w ≡ option_map open_meant (entry_opened c)
+entry_same exprs names texts (codes.Config s) w h = rw h.2 refl
+entry_same exprs names texts codes.Choice w h = rw h refl
+entry_same exprs names texts (codes.Menu t) w h = rw h.2 refl
+entry_same exprs names texts (codes.Condition id) w h = rw h.1 refl
+entry_same exprs names texts (codes.Comment t) w h = rw h.2 refl
+entry_same exprs names texts (codes.Source t) w h = rw h.2 refl
+entry_same exprs names texts codes.Mainmenu w h = rw h refl
+entry_same exprs names texts (codes.Ends b) w h = rw h refl
+entry_same exprs names texts codes.FileEnd w h = rw h refl
+
+entry_top : (exprs : Exprs) (names texts : List (List ℕ)) (lines : List CodeLine) (end : ℕ) (gs : List CodeGroup) (ms : List Group) → GroupsShown exprs names texts lines end gs ms → open_entry ms ≡ option_map open_meant (entry_of_group (slice_get gs 0))
+entry_top exprs names texts lines end [] [] h = refl
+entry_top exprs names texts lines end [] (m ∷ ms) h = absurd h
+entry_top exprs names texts lines end (g ∷ gs) [] h = absurd h
+entry_top exprs names texts lines end (g ∷ gs) (m ∷ ms) h = entry_same exprs names texts g.what m.what h.0.what
+
+pub entry_is : (exprs : Exprs) (symbols numbers : List ℕ) (texts : List (List ℕ)) (lines : List CodeLine) (groups : List CodeGroup) (read : List Group) → ListsShown exprs symbols numbers texts lines groups read
+    → open_entry read ≡ option_map open_meant (entry_kept groups)
+entry_is exprs symbols numbers texts lines groups read h =
+    entry_top exprs (names_defined read) texts lines (length lines) (reverse groups) read h.groups_are ∙ ap (λ g. option_map open_meant (entry_of_group g)) (sym (last_is groups))
+
+pub stray_none : (read : List Group) (b : Block) → IsInnermost None (innermost read) → is_stray read b ≡ true
+stray_none read b h = by_innermost (innermost read) h
+  where
+    by_innermost : (o : Option (Group × Block)) → IsInnermost None o → not (is_matched b o) ≡ true
+    by_innermost None h = refl
+    by_innermost (Some q) h = absurd h
+
+pub stray_some : (read : List Group) (b : Block) (c : CodeBlock) (line : ℕ) → IsInnermost (Some (c, line)) (innermost read) → is_stray read b ≡ not (same_block b (block_meant c))
+stray_some read b c line h = by_innermost (innermost read) h
+  where
+    by_innermost : (o : Option (Group × Block)) → IsInnermost (Some (c, line)) o → not (is_matched b o) ≡ not (same_block b (block_meant c))
+    by_innermost None h = absurd h
+    by_innermost (Some q) h = rw h.0 refl
+
+pub entry_some : (before : List Group) (k : Keyword) (e : Open) → open_entry before ≡ Some e → entry_takes before k ≡ takes e k
+entry_some before k e h = rw (h, entry_takes) refl
+
+pub entry_none : (before : List Group) (k : Keyword) → open_entry before ≡ None → entry_takes before k ≡ false
+entry_none before k h = rw (h, entry_takes) refl
+
+-- the fault before the form
+module _ (before : List Group) (k : Keyword) (ts : List Piece) where
+  pub told_left_out : is_left_out before k ts ≡ true → fault_before before k ts ≡ Some LeftOut
+  told_left_out a = rw a refl
+
+  pub told_misplaced : is_left_out before k ts ≡ false → is_allowed before k ≡ false → fault_before before k ts ≡ Some Misplaced
+  told_misplaced a b = rw (a, b) refl
+
+  pub told_stray : is_left_out before k ts ≡ false → is_allowed before k ≡ true → is_stray_end before k ≡ true → fault_before before k ts ≡ Some StrayEnd
+  told_stray a b c = rw (a, b, c) refl
+
+  pub told_none : is_left_out before k ts ≡ false → is_allowed before k ≡ true → is_stray_end before k ≡ false → fault_before before k ts ≡ None
+  told_none a b c = rw (a, b, c) refl
