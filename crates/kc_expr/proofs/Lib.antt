@@ -5,6 +5,7 @@ pub mod LeafLemmas
 pub mod Lexing
 pub mod MentionedLemmas
 pub mod NameLemmas
+pub mod NamesRead
 pub mod NodeLemmas
 pub mod ParseSteps
 pub mod Places

@@ -8,6 +8,11 @@ use Rattle.kc_expr.specs.Operand.{operand_alone}
 abbrev pub with_name : List ℕ → List (List ℕ) → List (List ℕ)
 with_name name names = if is_some (place_of name names) then names else names ++ name ∷ []
 
+-- the new ones of these names behind the others, in order, each once
+abbrev pub with_names : List (List ℕ) → List (List ℕ) → List (List ℕ)
+with_names [] names = names
+with_names (x ∷ xs) names = with_names xs (with_name x names)
+
 -- the name that an operand is, if it is one
 abbrev pub name_of_operand : Operand → Option (List ℕ)
 name_of_operand (constant t) = None

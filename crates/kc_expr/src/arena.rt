@@ -45,7 +45,7 @@ impl Arena {
     ghost use Rattle.kc_expr.specs.Expr.{both, shown, value};
     ghost use Rattle.kc_expr.specs.Lookup.{names_seen, place_of};
     ghost use Rattle.kc_expr.specs.Mentioned.{names_in};
-    ghost use Rattle.kc_expr.specs.Names.{name_alone, with_name};
+    ghost use Rattle.kc_expr.specs.Names.{name_alone, with_name, with_names};
     ghost use Rattle.kc_expr.specs.Operand.{operand_alone, operand_told, IsHeld};
     ghost use Rattle.kc_expr.specs.Reading.{expr_at, expr_end, IsRead, IsNotRead};
     ghost use Rattle.kc_expr.specs.Token.{pieces_of};
@@ -84,7 +84,7 @@ impl Arena {
     ///
     /// `Malformed` stands at the first token that can't go on, and at the end of the token before where none is left;
     /// `TooDeep` at a symbol under more than 64 `!` and parentheses; `OutOfMemory` is want of memory. The first is
-    /// told. An `Err` leaves the arena as it was.
+    /// told. An `Err` leaves the arena as it was; an `Ok` adds the new names of the expression, in their order.
     pub fn parse_expr(
         &mut self,
         tokens: &[Token<'_>],
@@ -93,6 +93,7 @@ impl Arena {
     ) -> Result<(ExprId, usize), ExprFault>
         requires { at ≤ length tokens.now }
         ensures grows { Grows self.old self.new }
+        ensures names { IfOk result (λ r. self.new.names ≡ with_names (names_in (stands_for self.new r.0)) self.old.names) }
         ensures end { IfOk result (λ r. r.1 ≡ expr_end (pieces_of tokens.now) at) }
         ensures ok { IfOk result (λ r. IsRead self.new r.0 condition (expr_at (pieces_of tokens.now) at)) }
         ensures fault { IfErr result (λ e. (e.kind ≡ OutOfMemory) ⊎ IsNotRead (pieces_of tokens.now) at e) }
@@ -117,6 +118,7 @@ impl Arena {
         requires left { a < length self.old.nodes }
         requires right { b < length self.old.nodes }
         ensures grows { Grows self.old self.new }
+        ensures names { self.new.names ≡ self.old.names }
         ensures ok { IfOk result (λ id. Stands self.new id (both (stands_for self.old a) (stands_for self.old b))) }
         ensures memory { IfErr result (λ e. e.kind ≡ OutOfMemory) }
         ensures err { OnErr result (self.new ≡ self.old) }
@@ -129,6 +131,7 @@ impl Arena {
     pub fn shown(&mut self, id: ExprId) -> Result<ExprId, ExprFault>
         requires { id < length self.old.nodes }
         ensures grows { Grows self.old self.new }
+        ensures names { self.new.names ≡ self.old.names }
         ensures ok { IfOk result (λ i. Stands self.new i (shown (stands_for self.old id))) }
         ensures memory { IfErr result (λ e. e.kind ≡ OutOfMemory) }
         ensures err { OnErr result (self.new ≡ self.old) }

@@ -4,8 +4,10 @@ ghost use Rattle.kc_expr.specs.declared.fault.ExprKind.TheVariants.{OutOfMemory}
 ghost use Rattle.kc_expr.specs.Arena.{Stands};
 ghost use Rattle.kc_expr.specs.Expr.{alone, named, quoted};
 ghost use Rattle.kc_expr.specs.Grammar.{as_condition, constant_or, letter_value, quoted_text};
+ghost use Rattle.kc_expr.specs.Mentioned.{operand_names};
+ghost use Rattle.kc_expr.specs.Names.{with_names};
 ghost use Rattle.kc_expr.specs.checker.Nodes.{LeafFits, operand_of};
-ghost use Rattle.kc_expr.specs.checker.Parsing.{first_operand, is_m};
+ghost use Rattle.kc_expr.specs.checker.Parsing.{first_operand, is_m, names_of_leaf, names_of_m};
 ghost use Rattle.kc_expr.specs.Token.{pieces_of};
 
 use super::fault::ExprFault;
@@ -42,6 +44,7 @@ impl Store {
         ensures sound { IsSound self.new }
         ensures extends { Extends self.old self.new }
         ensures fits { IfOk result (λ l. LeafFits (length (names_held self.new)) (length self.new.texts.items) l) }
+        ensures names { IfOk result (λ l. names_held self.new ≡ with_names (operand_names (operand_of (names_held self.new) self.new.texts.items l)) (names_held self.old)) }
         ensures operand { IfOk result (λ l. operand_of (names_held self.new) self.new.texts.items l ≡ constant_or named text.now) }
         ensures memory { IfErr result (λ e. e.kind ≡ OutOfMemory) }
     {
@@ -60,6 +63,7 @@ impl Store {
         ensures sound { IsSound self.new }
         ensures extends { Extends self.old self.new }
         ensures fits { IfOk result (λ l. LeafFits (length (names_held self.new)) (length self.new.texts.items) l) }
+        ensures names { IfOk result (λ l. names_held self.new ≡ with_names (operand_names (operand_of (names_held self.new) self.new.texts.items l)) (names_held self.old)) }
         ensures operand { IfOk result (λ l. operand_of (names_held self.new) self.new.texts.items l ≡ constant_or quoted (quoted_text text.now)) }
         ensures memory { IfErr result (λ e. e.kind ≡ OutOfMemory) }
     {
@@ -83,6 +87,7 @@ impl Store {
         ensures sound { IsSound self.new }
         ensures extends { Extends self.old self.new }
         ensures fits { IfOk result (λ o. IfSome o (LeafFits (length (names_held self.new)) (length self.new.texts.items))) }
+        ensures names { IfOk result (λ o. names_held self.new ≡ with_names (names_of_leaf (names_held self.new) self.new.texts.items o) (names_held self.old)) }
         ensures operand { IfOk result (λ o. option_map (operand_of (names_held self.new) self.new.texts.items) o ≡ first_operand (drop at (pieces_of tokens.now))) }
         ensures memory { IfErr result (λ e. e.kind ≡ OutOfMemory) }
     {
@@ -103,6 +108,7 @@ impl Store {
         requires fits { LeafFits (length (names_held self.old)) (length self.old.texts.items) leaf }
         ensures sound { IsSound self.new }
         ensures extends { Extends self.old self.new }
+        ensures names { IfOk result (λ _. names_held self.new ≡ with_names (names_of_m condition leaf) (names_held self.old)) }
         ensures stands { IfOk result (λ id. Stands (exprs_in self.new) id (as_condition condition (alone (operand_of (names_held self.old) self.old.texts.items leaf)))) }
         ensures memory { IfErr result (λ e. e.kind ≡ OutOfMemory) }
     {

@@ -102,7 +102,7 @@ fn parts_at(left: TokenKind, right: TokenKind) -> bool
 }
 
 impl Store {
-    ghost use Rattle.kc_expr.specs.checker.Store.{IsSound, Extends};
+    ghost use Rattle.kc_expr.specs.checker.Store.{IsSound, Extends, HasNamesOf};
 
     /// An operand, or a relation of two.
     fn parse_relation(
@@ -115,6 +115,7 @@ impl Store {
         requires sound { IsSound self.old }
         ensures sound { IsSound self.new }
         ensures extends { Extends self.old self.new }
+        ensures names { IfOk result (λ r. HasNamesOf self.old self.new r.0) }
         ensures parses { Parses self.new (pieces_of tokens.now) condition at (operand_read (drop at (pieces_of tokens.now))) result }
     {
         let Some(left) = self.leaf_at(tokens, at)? else {
@@ -142,6 +143,7 @@ impl Store {
         requires sound { IsSound self.old }
         ensures sound { IsSound self.new }
         ensures extends { Extends self.old self.new }
+        ensures names { IfOk result (λ r. HasNamesOf self.old self.new r.0) }
         ensures parses { Parses self.new (pieces_of tokens.now) condition at (factor_read depth (drop at (pieces_of tokens.now))) result }
     {
         let negated = stands_at(tokens, at, TokenKind::Not);
@@ -176,6 +178,7 @@ impl Store {
         requires sound { IsSound self.old }
         ensures sound { IsSound self.new }
         ensures extends { Extends self.old self.new }
+        ensures names { IfOk result (λ r. HasNamesOf self.old self.new r.0) }
         ensures parses { Parses self.new (pieces_of tokens.now) condition at (ands_read depth (drop at (pieces_of tokens.now))) result }
     {
         let (mut left, mut next) = self.parse_factor(tokens, at, depth, condition)?;
@@ -200,6 +203,7 @@ impl Store {
         requires sound { IsSound self.old }
         ensures sound { IsSound self.new }
         ensures extends { Extends self.old self.new }
+        ensures names { IfOk result (λ r. HasNamesOf self.old self.new r.0) }
         ensures parses { Parses self.new (pieces_of tokens.now) condition at (ors_read depth (drop at (pieces_of tokens.now))) result }
     {
         let (mut left, mut next) = self.parse_ands(tokens, at, depth, condition)?;
@@ -223,6 +227,7 @@ impl Store {
         requires sound { IsSound self.old }
         ensures sound { IsSound self.new }
         ensures extends { Extends self.old self.new }
+        ensures names { IfOk result (HasNamesOf self.old self.new) }
         ensures ok { IfOk result (IsParsedWhole self.new condition (whole_read depth (drop at (pieces_of tokens.now)))) }
         ensures fault { IfErr result (IsRefusedWhole (pieces_of tokens.now) (whole_read depth (drop at (pieces_of tokens.now)))) }
     {

@@ -115,6 +115,7 @@ impl Store {
         requires fits { NodeFits (length (names_held self.old)) (length self.old.texts.items) (length self.old.nodes.items) node }
         ensures sound { IsSound self.new }
         ensures extends { Extends self.old self.new }
+        ensures names { names_held self.new ≡ names_held self.old }
         ensures stands { IfOk result (λ id. Stands (exprs_in self.new) id (expr_of (names_held self.old) self.old.texts.items (exprs_in self.old).nodes node)) }
         ensures memory { IfErr result (λ e. e.kind ≡ OutOfMemory) }
         ensures err { OnErr result (exprs_in self.new ≡ exprs_in self.old) }
@@ -169,6 +170,7 @@ impl Store {
         ensures sound { IsSound self.new }
         ensures extends { Extends self.old self.new }
         ensures within { IfOk result (λ i. i < length self.new.texts.items) }
+        ensures names { names_held self.new ≡ names_held self.old }
         ensures text { IfOk result (λ i. slice_index_or self.new.texts.items i [] ≡ text) }
         ensures memory { IfErr result (λ e. e.kind ≡ OutOfMemory) }
     {

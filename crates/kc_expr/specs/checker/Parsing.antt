@@ -1,5 +1,5 @@
 -- What the functions of the parser answer.
-use Rattle.std.specs.Prelude.{◌≡◌, ℕ, ◌≤◌, Bool, true, false, List, [], ◌∷◌, length, drop, Option, Some, None, Result, Ok, Err, ◌⊎◌}
+use Rattle.std.specs.Prelude.{◌≡◌, ℕ, ◌≤◌, Bool, true, false, ◌&&◌, if◌then◌else◌, List, [], ◌∷◌, length, drop, Option, Some, None, Result, Ok, Err, ◌⊎◌}
 use Rattle.kc_value.specs.declared.tri.Tri.TheVariants.{N, M, Y}
 use Rattle.kc_expr.specs.declared.fault.ExprFault.{ExprFault}
 use Rattle.kc_expr.specs.declared.fault.ExprKind.{ExprKind}
@@ -11,7 +11,9 @@ use Rattle.kc_expr.specs.declared.token.Relop.{Relop}
 use Rattle.kc_expr.specs.declared.token.TokenKind.{TokenKind}
 use Rattle.kc_expr.specs.declared.token.TokenKind.TheVariants.{Word, Quoted, Relation, Not, And, Or, Open, Close}
 use Rattle.kc_expr.specs.Arena.{Stands}
-use Rattle.kc_expr.specs.Expr.{Expr, Operand}
+use Rattle.kc_expr.specs.Expr.{Expr, Operand, modules}
+use Rattle.kc_expr.specs.Mentioned.{operand_names}
+use Rattle.kc_expr.specs.checker.Nodes.{operand_of}
 use Rattle.kc_expr.specs.Grammar.{Read, behind_operand, operand_of_piece, read_factor, read_ands, read_ors, whole, fault_of, as_condition}
 use Rattle.kc_expr.specs.checker.Store.{exprs_in}
 use Rattle.kc_expr.specs.Token.{Piece}
@@ -98,3 +100,12 @@ IsRefusedWhole all read e = (e.kind ≡ OutOfMemory) ⊎ ((f : ExprKind × List 
 -- the fault is the one that is met
 abbrev pub MeetsFault : List Piece → Read → ExprFault → Type 0
 MeetsFault all read e = (f : ExprKind × List Piece) × (read ≡ Err f) × (e ≡ fault_of all f)
+
+-- the names of an operand that was found
+abbrev pub names_of_leaf : List (List ℕ) → List (List ℕ) → Option Leaf → List (List ℕ)
+names_of_leaf names texts None = []
+names_of_leaf names texts (Some leaf) = operand_names (operand_of names texts leaf)
+
+-- the name that a constant `m` brings with it in a condition
+abbrev pub names_of_m : Bool → Leaf → List (List ℕ)
+names_of_m condition leaf = if condition && is_m leaf then modules ∷ [] else []

@@ -2,8 +2,10 @@
 use Rattle.std.specs.Prelude.{◌≡◌, ℕ, ◌≤◌, ◌^◌, List, length, take, map, string_bytes}
 use Rattle.kc_expr.specs.declared.store.Store.{Store}
 use Rattle.kc_expr.specs.declared.store.Mark.{Mark}
-use Rattle.kc_expr.specs.Arena.{Exprs}
+use Rattle.kc_expr.specs.Arena.{Exprs, stands_for}
 use Rattle.kc_expr.specs.Lookup.{AreDistinct}
+use Rattle.kc_expr.specs.Mentioned.{names_in}
+use Rattle.kc_expr.specs.Names.{with_names}
 use Rattle.kc_expr.specs.checker.Nodes.{exprs_of, AreNodes}
 
 abbrev pub names_held : Store → List (List ℕ)
@@ -25,6 +27,10 @@ pub record Extends (old new : Store) : Type 0 where
   pub names : take (length old.names.keys) new.names.keys ≡ old.names.keys
   pub texts : take (length old.texts.items) new.texts.items ≡ old.texts.items
   pub nodes : take (length old.nodes.items) new.nodes.items ≡ old.nodes.items
+
+-- the names are those that were there and the new ones of a node's expression
+abbrev pub HasNamesOf : Store → Store → ℕ → Type 0
+HasNamesOf old new id = names_held new ≡ with_names (names_in (stands_for (exprs_in new) id)) (names_held old)
 
 -- the lengths of the lists
 pub record IsMark (s : Store) (m : Mark) : Type 0 where

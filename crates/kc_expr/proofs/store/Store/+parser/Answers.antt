@@ -1,11 +1,15 @@
-use Rattle.std.proofs.Common.{◌-◌, inl, inr, arith}
+use Rattle.std.proofs.Common.{◌≡◌, ℕ, ◌+◌, ◌-◌, ◌≤◌, List, length, drop, Some, inl, inr, refl, arith, rules}
 use Rattle.std.proofs.lemmas.Bool.{both_ways}
+use Rattle.std.proofs.lemmas.List.{length-map}
 use Rattle.std.proofs.lemmas.Result.{err_from_is_err_and}
+use Rattle.kc_expr.specs.declared.token.Token.{Token}
+use Rattle.kc_expr.specs.declared.token.TokenKind.{TokenKind}
 use Rattle.kc_expr.specs.declared.token.TokenKind.TheVariants.{And, Or}
 use Rattle.kc_expr.specs.Expr.{both, either}
-use Rattle.kc_expr.specs.checker.Parsing.{factor_read, ands_read, ors_read}
-use Rattle.kc_expr.specs.Token.{pieces_of}
-use Rattle.kc_expr.proofs.ParseSteps.{as_both, as_either, factor_is_operand, factor_beyond, not_fails, not_parsed, open_fails, open_unclosed, open_parsed, parses_by, chain_first_fails, chain_begins, chain_fails, chain_goes_on, chain_ends}
+use Rattle.kc_expr.specs.checker.Parsing.{first_kind, factor_read, ands_read, ors_read}
+use Rattle.kc_expr.specs.Token.{piece_of, pieces_of}
+use Rattle.kc_expr.proofs.NamesRead.{read_negated, read_joined}
+use Rattle.kc_expr.proofs.ParseSteps.{as_both, as_either, factor_is_operand, factor_beyond, not_fails, not_parsed, open_fails, open_unclosed, open_parsed, parses_by, kind_within, chain_first_fails, chain_begins, chain_fails, chain_goes_on, chain_ends}
 use Rattle.kc_expr.proofs.ReaderSteps.{ands_on, ors_on, ands_first_fails, ands_first, ands_link_fails, ands_link, ands_end, ors_first_fails, ors_first, ors_link_fails, ors_link, ors_end}
 use Rattle.kc_expr.proofs.StoreLemmas.{stands_later, stands_node, extends_on}
 use Rattle.kc_expr.proofs.store.Store.+parser.Goals as goal
@@ -20,6 +24,7 @@ pub parse_ands-ands-init : goal.parse_ands-ands-init
 parse_ands-ands-init t c = record {
   sound = c.parse_factor.ensures.sound;
   extends = c.parse_factor.ensures.extends;
+  names = c.in_ok-left.ensures.names;
   chained = chain_begins factor_read ands_read ands_on And both ands_first_fails ands_first ands_link_fails ands_link ands_end as_both (pieces_of c.args.tokens.now) c.args.condition c.args.at c.args.depth c.parse_factor.new.self _ _ c.in_ok-left.ensures.parses;
 }
 
@@ -37,6 +42,7 @@ pub parse_ands-ands-preserved : goal.parse_ands-ands-preserved
 parse_ands-ands-preserved t c = record {
   sound = c.push.ensures.sound;
   extends = extends_on c.args.self.now c.parse_factor-in-ands.new.self c.push.new.self (extends_on c.args.self.now c.ands.self c.parse_factor-in-ands.new.self c.ands.invariant.extends c.parse_factor-in-ands.ensures.extends) c.push.ensures.extends;
+  names = read_joined c.args.self.now c.push.new.self _ both (λ a b. refl) c.ands.self c.parse_factor-in-ands.new.self c.ands.left c.in_ok-right.right _ c.ands.invariant.names c.ands.invariant.sound c.parse_factor-in-ands.ensures.extends c.ands.invariant.chained.stands c.in_ok-right.ensures.names c.push.ensures.names c.in_ok-left-2.ensures.stands;
   chained = chain_goes_on factor_read ands_read ands_on And both ands_first_fails ands_first ands_link_fails ands_link ands_end as_both (pieces_of c.args.tokens.now) c.args.condition c.args.at c.args.depth c.ands.self c.parse_factor-in-ands.new.self c.push.new.self _ _ _ _ _ c.ands.invariant.chained (c.stands_at.ensures.0 c.ands-test.true) c.ands.invariant.sound c.parse_factor-in-ands.ensures.extends c.in_ok-right.ensures.parses c.in_ok-left-2.ensures.stands;
 }
 
@@ -52,6 +58,7 @@ pub parse_ors-ors-init : goal.parse_ors-ors-init
 parse_ors-ors-init t c = record {
   sound = c.parse_ands.ensures.sound;
   extends = c.parse_ands.ensures.extends;
+  names = c.in_ok-left.ensures.names;
   chained = chain_begins ands_read ors_read ors_on Or either ors_first_fails ors_first ors_link_fails ors_link ors_end as_either (pieces_of c.args.tokens.now) c.args.condition c.args.at c.args.depth c.parse_ands.new.self _ _ c.in_ok-left.ensures.parses;
 }
 
@@ -69,6 +76,7 @@ pub parse_ors-ors-preserved : goal.parse_ors-ors-preserved
 parse_ors-ors-preserved t c = record {
   sound = c.push.ensures.sound;
   extends = extends_on c.args.self.now c.parse_ands-in-ors.new.self c.push.new.self (extends_on c.args.self.now c.ors.self c.parse_ands-in-ors.new.self c.ors.invariant.extends c.parse_ands-in-ors.ensures.extends) c.push.ensures.extends;
+  names = read_joined c.args.self.now c.push.new.self _ either (λ a b. refl) c.ors.self c.parse_ands-in-ors.new.self c.ors.left c.in_ok-right.right _ c.ors.invariant.names c.ors.invariant.sound c.parse_ands-in-ors.ensures.extends c.ors.invariant.chained.stands c.in_ok-right.ensures.names c.push.ensures.names c.in_ok-left-2.ensures.stands;
   chained = chain_goes_on ands_read ors_read ors_on Or either ors_first_fails ors_first ors_link_fails ors_link ors_end as_either (pieces_of c.args.tokens.now) c.args.condition c.args.at c.args.depth c.ors.self c.parse_ands-in-ors.new.self c.push.new.self _ _ _ _ _ c.ors.invariant.chained (c.stands_at.ensures.0 c.ors-test.true) c.ors.invariant.sound c.parse_ands-in-ors.ensures.extends c.in_ok-right.ensures.parses c.in_ok-left-2.ensures.stands;
 }
 
@@ -108,3 +116,15 @@ parse_factor-returns-then-stands_at-clause-parses t c =
 pub parse_factor-returns-else-stands_at-clause-parses : goal.parse_factor-returns-else-stands_at-clause-parses
 parse_factor-returns-else-stands_at-clause-parses t c =
     open_unclosed (pieces_of c.args.tokens.now) c.args.condition c.args.at c.args.depth (c.args.depth - 1) (omega arith) (elim c.else-not-negated.branch [ parse_factor-else-not-negated-via-then-not-negated+else-not-stands_at w ↦ w.stands_at.ensures.0 w.if-not-stands_at.false | parse_factor-else-not-negated-via-else-not-negated w ↦ absurd (both_ways _ c.if-negated.false w.if-not-negated.false) ]) c.parse_ors.new.self _ _ c.in_ok-inside.ensures.parses (λ k. both_ways _ c.if-stands_at.false (c.stands_at-2.ensures.1 k)) _ c.fault_at.ensures
+
+pub parse_factor-returns-then-negated-clause-names : goal.parse_factor-returns-then-negated-clause-names
+parse_factor-returns-then-negated-clause-names t c = read_negated c.args.self.now c.push.new.self _ c.parse_factor.new.self c.in_ok-part.part c.in_ok-part.ensures.names c.push.ensures.names c.in_ok-push.ensures.stands
+
+next_within : (all : List Token) (at : ℕ) (k : TokenKind) → first_kind (drop at (pieces_of all)) ≡ Some k → at + 1 ≤ length all
+next_within all at k e = omega (arith, kind_within (pieces_of all) at k e, length-map all piece_of)
+
+pub parse_ands-parse_factor-requires-in-ands : goal.parse_ands-parse_factor-requires-in-ands
+parse_ands-parse_factor-requires-in-ands t c = (search rules, (next_within c.args.tokens.now c.ands.next And (c.stands_at.ensures.0 c.ands-test.true), c.ands.invariant.sound))
+
+pub parse_ors-parse_ands-requires-in-ors : goal.parse_ors-parse_ands-requires-in-ors
+parse_ors-parse_ands-requires-in-ors t c = (search rules, (next_within c.args.tokens.now c.ors.next Or (c.stands_at.ensures.0 c.ors-test.true), c.ors.invariant.sound))

@@ -1,6 +1,6 @@
 use Rattle.std.proofs.Common.{◌+◌, ◌*◌, ◌-◌, length}
 use Rattle.kc_expr.specs.checker.Parsing.{ands_read, ors_read}
-use Rattle.kc_expr.specs.checker.Store.{IsSound, Extends}
+use Rattle.kc_expr.specs.checker.Store.{IsSound, Extends, HasNamesOf}
 use Rattle.kc_expr.specs.Token.{pieces_of}
 use Rattle.kc_expr.proofs.ParseSteps.{IsChained}
 use Rattle.kc_expr.proofs.ReaderSteps.{ands_on, ors_on}
@@ -19,6 +19,7 @@ abbrev pub invariant-parse_ands-ands : goal.invariant-parse_ands-ands
 invariant-parse_ands-ands l = record {
   sound : IsSound l.self;
   extends : Extends l.fn.self l.self;
+  names : HasNamesOf l.fn.self l.self l.left;
   chained : IsChained ands_on ands_read l.self (pieces_of l.tokens) l.condition l.at l.depth l.left l.next;
 }
 
@@ -29,6 +30,7 @@ abbrev pub invariant-parse_ors-ors : goal.invariant-parse_ors-ors
 invariant-parse_ors-ors l = record {
   sound : IsSound l.self;
   extends : Extends l.fn.self l.self;
+  names : HasNamesOf l.fn.self l.self l.left;
   chained : IsChained ors_on ors_read l.self (pieces_of l.tokens) l.condition l.at l.depth l.left l.next;
 }
 
