@@ -26,4 +26,6 @@ pub use quoted::quoted_text;
 pub use token::{Relop, Token, TokenKind, tokens};
 
 #[cfg(test)]
+mod arena_tests;
+#[cfg(test)]
 mod tests;

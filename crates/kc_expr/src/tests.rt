@@ -1,12 +1,11 @@
-//! Worked rows, and the calls whose refusals leave all as it was.
-ghost use Rattle.std.specs.Prelude.{◌≡◌, ◌<◌, length, IfOk, option_map, option_and_then, slice_get};
+//! Worked rows of tokens and of values.
+ghost use Rattle.std.specs.Prelude.{◌≡◌, option_map, option_and_then, slice_get};
 ghost use Rattle.kc_expr.specs.Lookup.{seen_of};
 
 use crate::arena::Arena;
 use crate::fault::{ExprFault, ExprKind};
-use crate::ids::{ExprId, NameId};
+use crate::ids::NameId;
 use crate::lookup::{Looked, Lookup};
-use crate::operand::Operand;
 use crate::quoted::quoted_text;
 use crate::token::{Relop, Token, TokenKind, tokens};
 use kc_value::{Kind, Tri};
@@ -14,7 +13,7 @@ use std::alloc::{AllocError, Global};
 
 /// What the names of an arena stand for, by their numbers.
 #[derive(Drop)]
-struct Symbols {
+pub(crate) struct Symbols {
     rows: Vec<Option<Looked<'static>>>,
 }
 
@@ -35,7 +34,7 @@ fn row(kind: Kind, tri: Tri, text: &'static str) -> Option<Looked<'static>> {
 }
 
 /// A is `y`, B `m`, C `n`; N is the int 10, H the hex 0x0A, S the string 10; MODULES is `y`; others are undefined.
-fn known_symbols(alloc: Global) -> Result<Symbols, AllocError> {
+pub(crate) fn known_symbols(alloc: Global) -> Result<Symbols, AllocError> {
     let rows = vec![in alloc;
         row(Kind::Tristate, Tri::Y, "y"),
         row(Kind::Tristate, Tri::M, "m"),
@@ -49,7 +48,7 @@ fn known_symbols(alloc: Global) -> Result<Symbols, AllocError> {
 }
 
 /// An arena that holds the names of the table, in its order.
-fn known_arena(alloc: Global) -> Result<Arena, ExprFault> {
+pub(crate) fn known_arena(alloc: Global) -> Result<Arena, ExprFault> {
     let mut arena = Arena::new(alloc);
     for name in ["A", "B", "C", "N", "H", "S", "MODULES"] {
         let list = tokens(alloc, name)?;
@@ -247,82 +246,6 @@ fn ends_before_the_next_word(rt: HostRuntime) -> Result<(), std::test::Fail> {
 }
 
 #[test]
-fn tells_names(rt: HostRuntime) -> Result<(), std::test::Fail> {
-    let alloc = rt.alloc();
-    let mut arena = Arena::new(alloc);
-    let list = tokens(alloc, "Z = \"x\" && (!A || Z) && m")?;
-    let (id, _) = arena.parse_expr(&list, 0, true)?;
-    let names = arena.names(id)?;
-    assert_eq!(rt; names.len(), 3);
-    for (name, text) in names.iter().zip(["Z", "A", "MODULES"]) {
-        assert_eq!(rt; arena.find(text).map(|n| n.index()), Some(name.index()));
-    }
-    assert_eq!(rt; arena.find("x").map(|n| n.index()), None);
-    assert!(rt; arena.operand(id).is_none());
-    Ok(())
-}
-
-/// What an operand is, in a letter and its text.
-fn spelled(arena: &Arena, id: ExprId) -> (char, &str)
-    requires { id < length arena.now.nodes }
-{
-    let Some(operand) = arena.operand(id) else {
-        return ('-', "");
-    };
-    match &operand {
-        Operand::Name(name) => ('N', arena.name(*name)),
-        Operand::Quoted(text) => ('Q', text),
-        Operand::Tri(Tri::N) => ('T', "n"),
-        Operand::Tri(Tri::M) => ('T', "m"),
-        Operand::Tri(Tri::Y) => ('T', "y"),
-    }
-}
-
-#[test]
-fn tells_operands(rt: HostRuntime) -> Result<(), std::test::Fail> {
-    let mut arena = known_arena(rt.alloc())?;
-    for (text, letter, want) in [
-        ("A", 'N', "A"),
-        ("(B)", 'N', "B"),
-        ("'Q'", 'Q', "Q"),
-        ("\"m\"", 'T', "m"),
-        ("n", 'T', "n"),
-        ("y", 'T', "y"),
-        ("!A", '-', ""),
-        ("A = B", '-', ""),
-    ] {
-        let list = tokens(rt.alloc(), text)?;
-        let (id, _) = arena.parse_expr(&list, 0, false)?;
-        let (found, spelling) = spelled(&arena, id);
-        assert_eq!(rt; found, letter, "{text}");
-        assert_eq!(rt; spelling, want);
-    }
-    Ok(())
-}
-
-#[test]
-fn joins_and_shows(rt: HostRuntime) -> Result<(), std::test::Fail> {
-    let alloc = rt.alloc();
-    let mut arena = known_arena(alloc)?;
-    let symbols = known_symbols(alloc)?;
-    let list = tokens(alloc, "A")?;
-    let (a, _) = arena.parse_expr(&list, 0, true)?;
-    let list = tokens(alloc, "B")?;
-    let (b, _) = arena.parse_expr(&list, 0, true)?;
-    let list = tokens(alloc, "C")?;
-    let (c, _) = arena.parse_expr(&list, 0, true)?;
-    let ab = arena.join(a, b)?;
-    assert_eq!(rt; arena.value(ab, &symbols), Tri::M);
-    let shown = arena.shown(ab)?;
-    assert_eq!(rt; arena.value(shown, &symbols), Tri::Y);
-    let none = arena.join(shown, c)?;
-    assert_eq!(rt; arena.value(none, &symbols), Tri::N);
-    let hidden = arena.shown(c)?;
-    assert_eq!(rt; arena.value(hidden, &symbols), Tri::N);
-    Ok(())
-}
-
-#[test]
 fn unquotes(rt: HostRuntime) -> Result<(), std::test::Fail> {
     for (text, want) in [
         ("\"a\\\"b\\\\\"", "a\"b\\"),
@@ -332,58 +255,6 @@ fn unquotes(rt: HostRuntime) -> Result<(), std::test::Fail> {
     ] {
         assert_eq!(rt; quoted_text(rt.alloc(), text)?.as_str(), want);
     }
-    Ok(())
-}
-
-/// Both of an expression, shown and as it is; what was refused is asked for again.
-fn joined(arena: &mut Arena, id: ExprId) -> Result<ExprId, ExprFault>
-    requires { id < length arena.old.nodes }
-    ensures { IfOk result (λ id. id < length arena.new.nodes) }
-{
-    let shown = match arena.shown(id) {
-        Ok(shown) => shown,
-        Err(_) => arena.shown(id)?,
-    };
-    match arena.join(shown, shown) {
-        Ok(both) => Ok(both),
-        Err(_) => arena.join(shown, shown),
-    }
-}
-
-#[test]
-fn a_fault_leaves_the_arena(rt: HostRuntime) -> Result<(), std::test::Fail> {
-    let mut arena = known_arena(rt.alloc())?;
-    let list = tokens(rt.alloc(), "X && \"q\" = (Y")?;
-    assert!(rt; arena.parse_expr(&list, 0, true).is_err());
-    assert_eq!(rt; arena.find("X").map(|n| n.index()), None);
-    Ok(())
-}
-
-#[test]
-fn want_of_memory_leaves_the_arena(rt: HostRuntime) -> Result<(), std::test::Fail> {
-    let mut arena = known_arena(rt.alloc())?;
-    let list = tokens(rt.alloc(), "X && \"q\" = \"r\" || !(m && Z)")?;
-    if let Err(fault) = arena.parse_expr(&list, 0, true) {
-        assert_eq!(rt; fault.kind, ExprKind::OutOfMemory);
-        assert_eq!(rt; arena.find("X").map(|n| n.index()), None);
-        arena.parse_expr(&list, 0, true)?;
-    }
-    assert_eq!(rt; arena.find("X").map(|n| n.index()), Some(7));
-    assert_eq!(rt; arena.find("Z").map(|n| n.index()), Some(8));
-    Ok(())
-}
-
-#[test]
-fn joins_again_after_a_refusal(rt: HostRuntime) -> Result<(), std::test::Fail> {
-    let mut arena = Arena::new(rt.alloc());
-    let list = tokens(rt.alloc(), "A")?;
-    let (a, _) = arena.parse_expr(&list, 0, true)?;
-    let last = joined(&mut arena, a)?;
-    let last = joined(&mut arena, last)?;
-    let last = joined(&mut arena, last)?;
-    let last = joined(&mut arena, last)?;
-    let last = joined(&mut arena, last)?;
-    assert_eq!(rt; arena.names(last)?.len(), 1);
     Ok(())
 }
 
@@ -399,5 +270,13 @@ fn a_kind_is_its_name(rt: HostRuntime) -> Result<(), std::test::Fail> {
     ] {
         assert_eq!(rt; format!(in rt.alloc(); "{kind}")?.as_str(), name);
     }
+    let fault = ExprFault {
+        offset: 12,
+        kind: ExprKind::TooDeep,
+    };
+    assert_eq!(rt;
+        format!(in rt.alloc(); "{fault}")?.as_str(),
+        "TooDeep at byte 12"
+    );
     Ok(())
 }
