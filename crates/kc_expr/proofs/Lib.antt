@@ -16,3 +16,4 @@ pub mod TokenLaws
 pub mod TokenPlaces
 pub mod TokenTexts
 mod Vectors
+pub mod WordBytes

@@ -23,7 +23,7 @@ pub use laws::{reading_is_the_grammar, tokens_are_the_language};
 pub use lookup::{Looked, Lookup};
 pub use operand::Operand;
 pub use quoted::quoted_text;
-pub use token::{Relop, Token, TokenKind, tokens};
+pub use token::{Relop, Token, TokenKind, push_tokens, tokens};
 
 #[cfg(test)]
 mod arena_tests;

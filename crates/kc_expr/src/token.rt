@@ -1,7 +1,8 @@
 //! Words, quoted texts and operators of a line.
-ghost use Rattle.std.specs.Prelude.{◌≡◌, ◌<◌, ◌≤◌, true, length, IfSome, position, take_while, ◌==◌, ◌-◌, slice_index, [], ◌∷◌};
+ghost use Rattle.std.specs.Prelude.{◌≡◌, ◌<◌, ◌≤◌, ◌⊎◌, true, length, take, IfSome, IfErr, OnOk, OnErr, position, take_while, ◌==◌, ◌-◌, slice_index, [], ◌∷◌};
+ghost use Rattle.kc_expr.specs.declared.fault.ExprKind.TheVariants.{OutOfMemory};
 ghost use Rattle.kc_expr.specs.Token.{is_white_byte, is_word_byte, lead_of, lead_of_quoted, lead_of_operator, lexed, pieces_of, Reaches};
-ghost use Rattle.kc_expr.specs.Answers.{Answers};
+ghost use Rattle.kc_expr.specs.Answers.{Answers, with_front};
 
 use super::fault::{ExprFault, ExprKind};
 use kc_value::closing_quote;
@@ -49,6 +50,17 @@ pub(crate) enum Lead {
     Fault(ExprKind, usize),
 }
 
+/// The bytes of words, each at its own place; a `!` at the place of any other byte.
+static WORD_BYTES: [u8; 256] = *b"\
+    !!!!!!!!!!!!!!!!!!!!!!!!!!!!!!!!\
+    !!!!!!!!!!!!!-./0123456789!!!!!!\
+    !ABCDEFGHIJKLMNOPQRSTUVWXYZ!!!!_\
+    !abcdefghijklmnopqrstuvwxyz!!!!!\
+    !!!!!!!!!!!!!!!!!!!!!!!!!!!!!!!!\
+    !!!!!!!!!!!!!!!!!!!!!!!!!!!!!!!!\
+    !!!!!!!!!!!!!!!!!!!!!!!!!!!!!!!!\
+    !!!!!!!!!!!!!!!!!!!!!!!!!!!!!!!!";
+
 fn is_white(byte: u8) -> bool
     ensures { result ≡ is_white_byte byte }
 {
@@ -58,7 +70,7 @@ fn is_white(byte: u8) -> bool
 fn is_word(byte: u8) -> bool
     ensures { result ≡ is_word_byte byte }
 {
-    matches!(byte, b'A'..=b'Z' | b'a'..=b'z' | b'0'..=b'9' | b'_' | b'-' | b'.' | b'/')
+    WORD_BYTES[byte as usize] != b'!'
 }
 
 /// The first `$`.
@@ -70,14 +82,18 @@ fn dollar_in(bytes: &[u8]) -> Option<usize>
 }
 
 /// How many word bytes stand at the front.
-#[tactic(auto, using(crate::proofs::Lexing::word_run, crate::proofs::Lexing::word_ends))]
 fn word_len(bytes: &[u8]) -> usize
     ensures count { result ≡ length (take_while is_word_byte bytes.now) }
     ensures within { result ≤ length bytes.now }
     ensures run { 0 < length bytes.now → is_word_byte (slice_index bytes.now 0) ≡ true → 0 < result }
     ensures ends { 0 < result → slice_index bytes.now (result - 1) < 128 }
 {
-    bytes.iter().take_while(|b| is_word(**b)).count()
+    for i in 0..bytes.len() {
+        if !is_word(bytes[i]) {
+            return i;
+        }
+    }
+    bytes.len()
 }
 
 /// What stands behind an opening quote, at bytes that begin with it.
@@ -145,8 +161,34 @@ fn front_of(bytes: &[u8]) -> Lead
 pub fn tokens(alloc: Global, line: &str) -> Result<Vec<Token<'_>>, ExprFault>
     ensures { Answers (λ v. pieces_of v.items) result (lexed 0 0 line.now) }
 {
-    let bytes = line.as_bytes();
     let mut found = Vec::new(alloc);
+    push_tokens(line, &mut found)?;
+    Ok(found)
+}
+
+/// Puts the tokens of a line, up to a comment, behind others. An `Err` leaves the others alone.
+pub fn push_tokens<'a>(line: &'a str, found: &mut Vec<Token<'a>>) -> Result<(), ExprFault>
+    ensures tokens { OnOk result (with_front (pieces_of found.old.items) (lexed 0 0 line.now) ≡ Ok (pieces_of found.new.items)) }
+    ensures fault { IfErr result (λ e. (e.kind ≡ OutOfMemory) ⊎ (lexed 0 0 line.now ≡ Err e)) }
+    ensures err { OnErr result (found.new.items ≡ found.old.items) }
+{
+    let kept = found.len();
+    match cut(line, found) {
+        Ok(()) => Ok(()),
+        Err(fault) => {
+            found.truncate(kept);
+            Err(fault)
+        }
+    }
+}
+
+/// Puts the tokens of a line behind others, up to a comment or a fault.
+fn cut<'a>(line: &'a str, found: &mut Vec<Token<'a>>) -> Result<(), ExprFault>
+    ensures tokens { OnOk result (with_front (pieces_of found.old.items) (lexed 0 0 line.now) ≡ Ok (pieces_of found.new.items)) }
+    ensures fault { IfErr result (λ e. (e.kind ≡ OutOfMemory) ⊎ (lexed 0 0 line.now ≡ Err e)) }
+    ensures kept { take (length found.old.items) found.new.items ≡ found.old.items }
+{
+    let bytes = line.as_bytes();
     let mut at = 0;
     while at < bytes.len() {
         match front_of(&bytes[at..]) {
@@ -171,5 +213,5 @@ pub fn tokens(alloc: Global, line: &str) -> Result<Vec<Token<'_>>, ExprFault>
             }
         }
     }
-    Ok(found)
+    Ok(())
 }

@@ -1,11 +1,13 @@
-use Rattle.std.proofs.Common.{arith, sym, length-drop}
+use Rattle.std.proofs.Common.{arith, refl, sym, length-drop}
+use Rattle.std.proofs.Math.Seq.{take-length}
+use Rattle.kc_expr.specs.Answers.{with_front}
 use Rattle.std.proofs.lemmas.Str.{IsCharBoundary-start}
 use Rattle.kc_expr.specs.Token.{lexed, pieces_of}
-use Rattle.kc_expr.proofs.Lexing.{step_white, step_token_of, cut_after_token, rest_is, pieces_more, text_is, with_front_none}
-use Rattle.kc_expr.proofs.token.tokens.Goals as goal
+use Rattle.kc_expr.proofs.Lexing.{step_white, step_token_of, cut_after_token, rest_is, pieces_more, text_is, kept_behind}
+use Rattle.kc_expr.proofs.token.cut.Goals as goal
 
 pub loop-at-init : goal.loop-at-init
-loop-at-init c = record { read = rw c.new-found.ensures.items (with_front_none (lexed 0 0 c.args.line.now)); cut = IsCharBoundary-start c.args.line.now c.utf8.line }
+loop-at-init c = record { read = refl; kept = take-length c.args.found.now.items; cut = IsCharBoundary-start c.args.line.now c.utf8.line }
 
 pub loop-at-preserved-in-White : goal.loop-at-preserved-in-White
 loop-at-preserved-in-White c =
@@ -13,7 +15,8 @@ loop-at-preserved-in-White c =
     let e = rw r at c.in-White.ensures.lead in
     let b = rw r at c.in-White.ensures.reaches in
     record {
-      read = step_white c.args.line.now c.loop-at.at (pieces_of c.loop-at.found.items) (lexed 0 0 c.args.line.now) (omega (arith, c.as_bytes-bytes.ensures.len)) c.loop-at.invariant.read (sym e);
+      read = step_white c.args.line.now c.loop-at.at (pieces_of c.loop-at.found.items) (with_front (pieces_of c.args.found.now.items) (lexed 0 0 c.args.line.now)) (omega (arith, c.as_bytes-bytes.ensures.len)) c.loop-at.invariant.read (sym e);
+      kept = c.loop-at.invariant.kept;
       cut = cut_after_token c.args.line.now c.loop-at.at 1 c.utf8.line (omega arith) (omega (arith, length-drop c.loop-at.at c.args.line.now, c.as_bytes-bytes.ensures.len)) (omega (arith, c.as_bytes-bytes.ensures.len)) b;
     }
 
@@ -29,6 +32,7 @@ loop-at-preserved c =
     let e = rw r at c.in-Token.ensures.lead in
     let b = rw r at c.in-Token.ensures.reaches in
     record {
-      read = rw (c.in_ok-push-in-Token.ensures.items, pieces_more, text_is c.args.line.now c.loop-at.at c.in-Token.len c.range-text.result.now c.range-text.ensures.value) (step_token_of c.args.line.now c.loop-at.at (pieces_of c.loop-at.found.items) (lexed 0 0 c.args.line.now) (omega (arith, c.as_bytes-bytes.ensures.len)) c.loop-at.invariant.read c.in-Token.kind c.in-Token.len b.0 (sym e));
+      read = rw (c.in_ok-push-in-Token.ensures.items, pieces_more, text_is c.args.line.now c.loop-at.at c.in-Token.len c.range-text.result.now c.range-text.ensures.value) (step_token_of c.args.line.now c.loop-at.at (pieces_of c.loop-at.found.items) (with_front (pieces_of c.args.found.now.items) (lexed 0 0 c.args.line.now)) (omega (arith, c.as_bytes-bytes.ensures.len)) c.loop-at.invariant.read c.in-Token.kind c.in-Token.len b.0 (sym e));
+      kept = rw c.in_ok-push-in-Token.ensures.items (kept_behind c.args.found.now.items c.loop-at.found.items _ c.loop-at.invariant.kept);
       cut = cut_after_token c.args.line.now c.loop-at.at c.in-Token.len c.utf8.line b.0 b.1 (omega (arith, c.as_bytes-bytes.ensures.len)) b.2;
     }
