@@ -12,4 +12,5 @@ pub mod Cuts
 pub mod FaultsAtCuts
 pub mod JudgedFiles
 mod FileRows
+mod FaultRows
 mod MissedRows

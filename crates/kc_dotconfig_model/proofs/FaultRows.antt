@@ -1,0 +1,90 @@
+-- The first fault of small files, and of the same files where a read failed behind them.
+use Rattle.std.proofs.Common.{◌≡◌, inl, inr, ℕ, ◌≤◌, true, false, List, [], ◌∷◌, ◌++◌, Some, None, length, refl, sym, ◌∙◌, arith}
+use Rattle.std.specs.Prelude.{codes}
+use Rattle.std.specs.Str.{is_utf8, chars}
+use Rattle.std.proofs.lemmas.Bool.{false≢true}
+use Rattle.std.proofs.lemmas.Str.{is_utf8-from_IsUtf8}
+use Rattle.kc_value.specs.declared.tri.Tri.TheVariants.{Y}
+use Rattle.kc_rules_model.specs.declared.values.UserValue.TheVariants.{Tri as TriUser}
+use Rattle.kc_rules_model.proofs.RowTrees.{tree_a}
+use Rattle.kc_dotconfig_model.specs.declared.fault.LoadKind.TheVariants.{Malformed, NotUtf8, Read}
+use Rattle.kc_dotconfig_model.specs.Names.{lacks}
+use Rattle.kc_dotconfig_model.specs.Lines.{Saying, assigns}
+use Rattle.kc_dotconfig_model.specs.LoadFaults.{complete, cut_short, IsFirstFault, IsAccepted}
+use Rattle.kc_dotconfig_model.specs.checker.Reading.{line_saying}
+use Rattle.kc_dotconfig_model.specs.checker.Cutting.{IsSound, IsCut}
+use Rattle.kc_dotconfig_model.proofs.LineLaws.{line_read}
+use Rattle.kc_dotconfig_model.proofs.TrimmedLines.{low_utf8}
+use Rattle.kc_dotconfig_model.proofs.FirstFaults.{failed_reads}
+use Rattle.kc_dotconfig_model.proofs.FaultsAtCuts.{clean, not_utf8, malformed, accepted, held}
+
+abbrev plain : List ℕ
+plain = codes "CONFIG_"
+
+-- a line that is whole
+abbrev front : List ℕ
+front = codes "CONFIG_A=y\n"
+
+abbrev first : List Saying
+first = assigns 0 (TriUser Y) ∷ []
+
+first_read : line_saying plain tree_a (codes "CONFIG_A=y") ≡ Some (assigns 0 (TriUser Y))
+unfolding line_saying
+first_read = refl
+
+first_sound : IsSound plain tree_a (codes "CONFIG_A=y") (assigns 0 (TriUser Y))
+first_sound = record {
+  text = low_utf8 (codes "CONFIG_A=y") refl;
+  short = omega arith;
+  says = (line_read plain tree_a (codes "CONFIG_A=y") (assigns 0 (TriUser Y)) refl).0 first_read;
+}
+
+told_front : IsCut plain tree_a front [] first
+told_front = record {
+  front = front;
+  whole = refl;
+  ended = inr (codes "CONFIG_A=y", refl);
+  one_line = refl;
+  sound = (first_sound, tt);
+  few = omega arith;
+  room = λ some. absurd (omega arith);
+  small = omega arith;
+  short = omega arith;
+}
+
+front_accepted : IsAccepted plain tree_a front
+front_accepted = accepted plain tree_a front [] first told_front [] (inl (refl, refl))
+
+-- behind it a line that isn't whole
+told_more : (line : List ℕ) → length line ≤ 8 → lacks 10 line ≡ true → IsCut plain tree_a (front ++ line) ([] ++ line) first
+told_more line few one = held plain tree_a front [] first told_front line one (omega arith) (omega arith) (omega arith)
+
+none_read : line_saying plain tree_a (codes "CON") ≡ None
+unfolding line_saying
+none_read = refl
+
+-- at the file's end it is malformed, and where a read failed it counts for nothing
+malformed_line : IsFirstFault plain tree_a complete (codes "CONFIG_A=y\nCON") Malformed 2
+malformed_line =
+    malformed plain tree_a (front ++ codes "CON") (codes "CON") first (told_more (codes "CON") (omega arith) refl) [] (inl (refl, omega arith)) (low_utf8 (codes "CON") refl)
+    (λ saying says. let some = (line_read plain tree_a (codes "CON") saying refl).1 says in let none = none_read in cc (some, none))
+
+cut_line : IsFirstFault plain tree_a cut_short (codes "CONFIG_A=y\nCON") Read 2
+cut_line =
+    (failed_reads plain tree_a (codes "CONFIG_A=y\nCON") 2).1
+    ((λ kind byte number comes. clean plain tree_a (front ++ codes "CON") (codes "CON") first (told_more (codes "CON") (omega arith) refl) [] kind byte number comes), refl)
+
+not_text : is_utf8 (255 ∷ []) ≡ false
+unfolding is_utf8 chars lib.Utf8.encode
+not_text = refl
+
+-- so it is of bytes that aren't UTF-8
+odd_line : IsFirstFault plain tree_a complete (front ++ 255 ∷ []) NotUtf8 2
+odd_line =
+    not_utf8 plain tree_a (front ++ 255 ∷ []) (255 ∷ []) first (told_more (255 ∷ []) (omega arith) refl) [] (inl (refl, omega arith))
+    (λ text. false≢true (sym not_text ∙ is_utf8-from_IsUtf8 (255 ∷ []) text))
+
+cut_odd_line : IsFirstFault plain tree_a cut_short (front ++ 255 ∷ []) Read 2
+cut_odd_line =
+    (failed_reads plain tree_a (front ++ 255 ∷ []) 2).1
+    ((λ kind byte number comes. clean plain tree_a (front ++ 255 ∷ []) (255 ∷ []) first (told_more (255 ∷ []) (omega arith) refl) [] kind byte number comes), refl)
