@@ -1,3 +1,4 @@
+pub mod ConjunctionLemmas
 pub mod Gathering
 pub mod GroupedLemmas
 pub mod Grouping

@@ -1,3 +1,4 @@
+pub mod Conjunctions
 pub mod GatheredAttributes
 pub mod GatheredFits
 pub mod GatheredView

@@ -1,6 +1,7 @@
 //! What the files of a Kconfig tree hold: symbols, choices, entries and units, with all conditions joined.
 #![tactic(auto)]
 
+mod conditions;
 mod entry;
 mod gathered;
 mod grouped;

@@ -1,0 +1,8 @@
+use Rattle.std.proofs.Common.{subst, ℕ, Option}
+use Rattle.kc_tree.specs.checker.Conjunctions.{Conjoins}
+use Rattle.kc_tree.proofs.ConjunctionLemmas.{joined}
+use Rattle.kc_tree.proofs.conditions.with.Goals as goal
+
+pub returns-in_ok-join-in-Some-Some-clause-ok : goal.returns-in_ok-join-in-Some-Some-clause-ok
+returns-in_ok-join-in-Some-Some-clause-ok c = λ es h.
+    rw c.in-Some-Some.is-1 (joined c.args.arena.now c.join.new.self c.in-Some-Some.a c.in-Some-Some.b c.in_ok-join-in-Some-Some.field-0 es c.in_ok-join-in-Some-Some.ensures.ok (subst (λ (o : Option ℕ). Conjoins c.args.arena.now o es) c.in-Some-Some.is-0 h))
