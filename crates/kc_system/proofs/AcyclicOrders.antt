@@ -5,7 +5,7 @@ use Rattle.std.proofs.lemmas.Option.{none-some, slice_get-get_or}
 use Rattle.std.proofs.lemmas.List.{length-replicate, get_or-replicate}
 use Rattle.std.specs.List.{Contains}
 use Rattle.kc_system.specs.Dependencies.{IsGraph, IsOrder, HasNoCycle, IsLeft, IsLeast, IsNamedCycle}
-use Rattle.kc_system.specs.Taking.{Taking, TellsLeft}
+use Rattle.kc_system.specs.checker.Taking.{Taking, TellsLeft}
 use Rattle.kc_system.proofs.Lists.{get_from_Contains, Contains_from_get}
 use Rattle.kc_system.proofs.Cycles.{named_is_cycle}
 use Rattle.kc_system.proofs.Takings.{takes_more, all_taken, length-once, nothing_taken, left_told}

@@ -1,0 +1,9 @@
+pub mod Logs
+pub mod Pending
+pub mod PlaceSets
+pub mod Plans
+pub mod Revising
+pub mod Rows
+pub mod Sums
+pub mod SumsLaws
+pub mod Taking
