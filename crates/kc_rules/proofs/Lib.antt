@@ -1,0 +1,12 @@
+pub mod Pushes
+pub mod Needs
+pub mod Rising
+pub mod Chains
+pub mod Orders
+pub mod ModulesLemmas
+pub mod Evaluations
+pub mod Blanks
+pub mod Bounds
+pub mod HeldNames
+pub mod Filters
+pub mod UserFits

@@ -1,0 +1,14 @@
+-- The symbol of a name that an arena holds.
+use Rattle.std.proofs.Common.{◌≡◌, ℕ, ◌∙◌, ap, sym, List, [], Option, Some}
+use Rattle.std.specs.Prelude.{option_and_then}
+use Rattle.std.proofs.lemmas.Option.{slice_get-get_or}
+use Rattle.kc_expr.specs.Lookup.{place_of}
+use Rattle.kc_expr.proofs.Places.{place_there}
+use Rattle.kc_tree_model.specs.Trees.{Whole}
+use Rattle.kc_tree_model.specs.TreeLookup.{symbol_named}
+use Rattle.kc_tree.specs.Told.{name_told}
+
+pub told_as_named : (tree : Whole) (names : List (List ℕ)) (name : ℕ) (x : List ℕ) (r : Option ℕ) → place_of x names ≡ Some name → r ≡ name_told tree names name → r ≡ symbol_named tree x
+told_as_named tree names name x r p e =
+    let (h, g) = place_there x names name p in
+    e ∙ ap (option_and_then (symbol_named tree)) (slice_get-get_or names name [] h) ∙ ap (symbol_named tree) g

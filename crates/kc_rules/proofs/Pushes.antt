@@ -1,0 +1,79 @@
+-- Tests over lists: what walks put behind a list so far.
+use Rattle.std.proofs.Common.{◌≡◌, ℕ, ◌+◌, ◌<◌, Bool, true, false, ◌||◌, ◌==◌, List, [], ◌∷◌, ◌++◌, length, map, get_or, take, Option, Some, None, IsSome, subst, refl, sym, ap, ◌∙◌}
+use Rattle.std.specs.List.{flat_map, filter_map, list_any, cons_option}
+use Rattle.std.specs.Prelude.{slice_index_or}
+use Rattle.std.proofs.Math.Bool.{or_assoc, or_comm}
+use Rattle.std.proofs.lemmas.List.Elements.{All-append, All-cons, All-nil}
+use Rattle.std.proofs.lemmas.Bool.{false≢true}
+use Rattle.std.proofs.lemmas.List.Folds.{list_any-append, list_any_more}
+use Rattle.kc_expr.specs.Arena.{Exprs}
+use Rattle.kc_expr.specs.Expr.{Expr, alone, related, negated, both, either, shown}
+use Rattle.kc_expr.specs.Mentioned.{names_in, operand_names}
+use Rattle.kc_expr.specs.Operand.{operand_alone}
+use Rattle.kc_expr.specs.Words.{words}
+use Rattle.kc_tree.specs.Told.{operand_in}
+use Rattle.kc_tree_model.specs.Trees.{Whole}
+use Rattle.kc_rules.specs.checker.Links.{is_at, some_name, mentions, has, AreUnits}
+
+-- one more element
+pub any_pushed : {X : Type 0} (m : X → Bool) (xs : List X) (i : ℕ) (x : X) (start old new : Bool) → i < length xs → x ≡ get_or xs i x → new ≡ (old || m x) → old ≡ (start || list_any m (take i xs)) → new ≡ (start || list_any m (take (i + 1) xs))
+any_pushed m xs i x start old new h e a b =
+    a ∙ ap (λ t. t || m x) b ∙ or_assoc start (list_any m (take i xs)) (m x) ∙ ap (λ t. start || t) (ap (λ y. list_any m (take i xs) || m y) e ∙ sym (list_any_more m xs i x h))
+
+pub any_same : {X : Type 0} (p q : X → Bool) → ((x : X) → p x ≡ q x) → (xs : List X) → list_any p xs ≡ list_any q xs
+any_same p q f [] = refl
+any_same p q f (x ∷ xs) = ap (λ t. t || list_any p xs) (f x) ∙ ap (λ t. q x || t) (any_same p q f xs)
+
+pub any_map : {X Y : Type 0} (p : Y → Bool) (f : X → Y) (xs : List X) → list_any p (map f xs) ≡ list_any (λ x. p (f x)) xs
+any_map p f [] = refl
+any_map p f (x ∷ xs) = ap (λ t. p (f x) || t) (any_map p f xs)
+
+pub any_flat : {X Y : Type 0} (p : Y → Bool) (f : X → List Y) (xs : List X) → list_any p (flat_map f xs) ≡ list_any (λ x. list_any p (f x)) xs
+any_flat p f [] = refl
+any_flat p f (x ∷ xs) = list_any-append p (f x) (flat_map f xs) ∙ ap (λ t. list_any p (f x) || t) (any_flat p f xs)
+
+any_cons : (d : ℕ) (o : Option ℕ) (us : List ℕ) → list_any (λ e. e == d) (cons_option o us) ≡ (is_at d o || list_any (λ e. e == d) us)
+any_cons d None us = refl
+any_cons d (Some u) us = refl
+
+pub any_told : {X : Type 0} (h : X → Option ℕ) (d : ℕ) (xs : List X) → list_any (λ e. e == d) (filter_map h xs) ≡ list_any (λ x. is_at d (h x)) xs
+any_told h d [] = refl
+any_told h d (x ∷ xs) = any_cons d (h x) (filter_map h xs) ∙ ap (λ t. is_at d (h x) || t) (any_told h d xs)
+
+-- the names are the same from either side
+pub words_mention : (p : List ℕ → Bool) (e : Expr) → list_any p (words e) ≡ mentions p e
+words_mention p (alone a) = refl
+words_mention p (related op a b) = refl
+words_mention p (negated e) = words_mention p e
+words_mention p (shown e) = words_mention p e
+words_mention p (both a b) = list_any-append p (words b) (words a) ∙ ap (λ t. t || list_any p (words a)) (words_mention p b) ∙ ap (λ t. mentions p b || t) (words_mention p a) ∙ or_comm (mentions p b) (mentions p a) ∙ sym (list_any-append p (names_in a) (names_in b))
+words_mention p (either a b) = list_any-append p (words b) (words a) ∙ ap (λ t. t || list_any p (words a)) (words_mention p b) ∙ ap (λ t. mentions p b || t) (words_mention p a) ∙ or_comm (mentions p b) (mentions p a) ∙ sym (list_any-append p (names_in a) (names_in b))
+
+pub expr_pushed : (exprs : Exprs) (p : List ℕ → Bool) (e : Expr) (old new : List ℕ) → map (λ i. slice_index_or exprs.names i []) new ≡ map (λ i. slice_index_or exprs.names i []) old ++ words e → some_name exprs p new ≡ (some_name exprs p old || mentions p e)
+expr_pushed exprs p e old new h =
+    let w : List ℕ → List (List ℕ) = map (λ i. slice_index_or exprs.names i []) in
+    ap (list_any p) h ∙ list_any-append p (w old) (words e) ∙ ap (λ t. list_any p (w old) || t) (words_mention p e)
+
+-- a bound is an operand
+pub operand_mention : (p : List ℕ → Bool) (e : Expr) → IsSome (operand_alone e) → list_any p (operand_names (operand_in e)) ≡ mentions p e
+operand_mention p (alone a) h = refl
+operand_mention p (related op a b) h = absurd (false≢true h)
+operand_mention p (negated e) h = absurd (false≢true h)
+operand_mention p (both a b) h = absurd (false≢true h)
+operand_mention p (either a b) h = absurd (false≢true h)
+operand_mention p (shown e) h = absurd (false≢true h)
+
+pub nothing_more : (b : Bool) → b ≡ (b || false)
+nothing_more true = refl
+nothing_more false = refl
+
+-- two parts one after the other
+pub two_pushed : (o a b m n : Bool) → m ≡ (o || a) → n ≡ (m || b) → n ≡ (o || (a || b))
+two_pushed o a b m n e f = f ∙ ap (λ t. t || b) e ∙ or_assoc o a b
+
+-- one more unit
+pub has_pushed : (old new : List ℕ) (u d : ℕ) → new ≡ old ++ u ∷ [] → has new d ≡ (has old d || (u == d))
+has_pushed old new u d e = ap (λ us. has us d) e ∙ list_any-append (λ m. m == d) old (u ∷ []) ∙ ap (λ t. has old d || t) (sym (nothing_more (u == d)))
+
+pub units_pushed : (tree : Whole) (old new : List ℕ) (u : ℕ) → new ≡ old ++ u ∷ [] → u < length tree.units → AreUnits tree old → AreUnits tree new
+units_pushed tree old new u e below all = subst (λ us. AreUnits tree us) (sym e) (All-append (λ w. w < length tree.units) old (u ∷ []) all (All-cons (λ w. w < length tree.units) u [] below (All-nil (λ w. w < length tree.units))))

@@ -1,0 +1,10 @@
+use Rattle.std.proofs.Common.{ℕ, Bool, ◌||◌, arith}
+use Rattle.std.specs.List.{list_any}
+use Rattle.kc_expr.specs.Arena.{stands_for}
+use Rattle.kc_tree.specs.declared.symbol.Force.{Force}
+use Rattle.kc_rules.specs.checker.Links.{mentions}
+use Rattle.kc_rules.proofs.Pushes.{any_pushed, two_pushed}
+use Rattle.kc_rules.proofs.linking.push_conditions.Goals as goal
+
+pub loop-force-preserved : goal.loop-force-preserved
+loop-force-preserved c = λ p. any_pushed (λ (f : Force). mentions p (stands_for c.args.tree.now.exprs f.condition)) c.args.all.now c.loop-force.force-index c.force-item.result _ _ _ (omega arith) c.force-item.is (c.in_ok-push_expr.ensures p) (c.loop-force.invariant p)

@@ -1,0 +1,15 @@
+use Rattle.std.proofs.Common.{◌||◌, ◌==◌, ap, ◌∙◌, arith}
+use Rattle.kc_tree.specs.declared.symbol.Force.{Force}
+use Rattle.kc_tree_model.specs.TreeLookup.{unit_of}
+use Rattle.kc_rules.specs.checker.Links.{has}
+use Rattle.kc_rules.proofs.Pushes.{any_pushed, has_pushed, units_pushed}
+use Rattle.kc_rules.proofs.linking.push_forces.Goals as goal
+
+pub loop-force-preserved : goal.loop-force-preserved
+loop-force-preserved c =
+    let old = c.loop-force.units.items in
+    let new = c.push.new.self.items in
+    record {
+      units = λ d. any_pushed (λ (f : Force). unit_of c.args.tree.now.whole f.by == d) c.args.all.now c.loop-force.force-index c.force-item.result _ _ _ (omega arith) c.force-item.is (has_pushed old new c.unit_of.result d c.in_ok-push.ensures.items ∙ ap (λ v. has old d || (v == d)) c.unit_of.ensures.unit) (c.loop-force.invariant.units d);
+      below = λ all. units_pushed c.args.tree.now.whole old new c.unit_of.result c.in_ok-push.ensures.items c.unit_of.ensures.within (c.loop-force.invariant.below all);
+    }

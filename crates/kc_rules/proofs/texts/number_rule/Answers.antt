@@ -1,0 +1,18 @@
+use Rattle.std.proofs.Common.{◌≡◌, true, ℤ, sym, ap, ◌∙◌, pos, unwrap_or, Option}
+use Rattle.std.proofs.lemmas.Result.{IfOk-weaker}
+use Rattle.std.specs.Option.{option_map, option_copied}
+use Rattle.kc_value.specs.Number.{number_of_text}
+use Rattle.kc_tree.specs.Told.{symbol_of, range_of}
+use Rattle.kc_tree_model.specs.Trees.{Range}
+use Rattle.kc_rules_model.specs.Rule.{is_within, is_visible}
+use Rattle.kc_rules.specs.checker.UnderView.{tree_under, exprs_under, values_under}
+use Rattle.kc_rules.proofs.Evaluations.{number_given}
+use Rattle.kc_rules.proofs.texts.number_rule.Goals as goal
+
+pub returns-then-is_visible : goal.returns-then-is_visible
+returns-then-is_visible c =
+    let u = c.args.under.now in
+    let k = c.args.symbol.now.kind in
+    let n = unwrap_or (number_of_text k c.in-Some.assigned.now) (pos 0) in
+    let within = sym (c.is_text_within-within.ensures ∙ ap (λ o. is_within (tree_under u) (values_under u) k o n) c.active_range-range.ensures.range) ∙ c.if-within.true in
+    IfOk-weaker c.copied.result _ _ (λ text same. same ∙ number_given (tree_under u) (values_under u) (symbol_of (exprs_under u) c.args.symbol.now) (option_copied c.args.user) c.in-Some.assigned.now (ap option_copied c.in-Some.is) (sym c.is_visible.ensures ∙ c.if-is_visible.true) within) c.copied.ensures

@@ -1,0 +1,4 @@
+pub mod Told
+pub mod Metered
+pub mod SettleFaults
+pub mod checker

@@ -1,0 +1,6 @@
+-- What a meter has counted.
+use Rattle.std.specs.Prelude.{ℕ}
+use Rattle.kc_rules.specs.declared.steps.Steps.{Steps}
+
+abbrev pub counted : Steps → ℕ
+counted steps = steps.count

@@ -1,0 +1,94 @@
+-- The dependencies as they are kept, and what is met on the way to them.
+use Rattle.std.specs.Prelude.{◌≡◌, ℕ, ◌+◌, ◌-◌, ◌<◌, ◌≤◌, Bool, false, ◌&&◌, ◌||◌, ◌==◌, List, [], length, map, take, drop, All, Option, Some, None, slice_get, slice_index, slice_index_or}
+use Rattle.std.specs.List.{list_any}
+use Rattle.std.specs.Option.{option_map}
+use Rattle.kc_value.specs.declared.value.Kind.{Kind}
+use Rattle.kc_expr.specs.Arena.{Exprs, stands_for}
+use Rattle.kc_expr.specs.Expr.{Expr}
+use Rattle.kc_expr.specs.Mentioned.{names_in}
+use Rattle.kc_tree.specs.declared.symbol.Default.{Default as KeptDefault}
+use Rattle.kc_tree.specs.declared.symbol.Range.{Range as KeptRange}
+use Rattle.kc_tree.specs.declared.symbol.Force.{Force as KeptForce}
+use Rattle.kc_tree.specs.declared.symbol.Symbol.{Symbol as KeptSymbol}
+use Rattle.kc_tree.specs.declared.symbol.Choice.{Choice as KeptChoice}
+use Rattle.kc_tree.specs.declared.symbol.MemberDefault.{MemberDefault as KeptMemberDefault}
+use Rattle.kc_tree_model.specs.Trees.{Whole}
+use Rattle.kc_tree_model.specs.TreeLookup.{unit_of, symbol_named}
+use Rattle.kc_rules_model.specs.Dependencies.{dependencies, prompts_at}
+use Rattle.kc_rules_model.specs.Kinds.{is_tristate}
+
+-- those of the units below this one stand from their place in `starts` to that of the next unit, and nothing behind
+-- them
+pub record LinksBelow (tree : Whole) (unit : ℕ) (starts links : List ℕ) : Type 0 where
+  pub places : length starts ≡ unit + 1
+  pub last : slice_index starts unit ≡ length links
+  pub rises : (u : ℕ) → u < unit → slice_index starts u ≤ slice_index starts (u + 1)
+  pub within : (u : ℕ) → u < unit → slice_index starts (u + 1) ≤ length links
+  pub rows : (u : ℕ) → u < unit → take (slice_index starts (u + 1) - slice_index starts u) (drop (slice_index starts u) links) ≡ dependencies tree u
+
+-- those of all units
+abbrev pub AreLinks : Whole → List ℕ → List ℕ → Type 0
+AreLinks tree starts links = LinksBelow tree (length tree.units) starts links
+
+-- numbers of units
+abbrev pub AreUnits : Whole → List ℕ → Type 0
+AreUnits tree units = All (λ u. u < length tree.units) units
+
+-- whether some number is this one
+abbrev pub has : List ℕ → ℕ → Bool
+has units d = list_any (λ e. e == d) units
+
+abbrev pub is_at : ℕ → Option ℕ → Bool
+is_at d None = false
+is_at d (Some u) = u == d
+
+-- whether a name is that of a symbol of unit d
+abbrev pub is_of : Whole → ℕ → List ℕ → Bool
+is_of tree d name = is_at d (option_map (unit_of tree) (symbol_named tree name))
+
+-- whether the test passes a name in an expression
+abbrev pub mentions : (List ℕ → Bool) → Expr → Bool
+mentions p e = list_any p (names_in e)
+
+-- whether the test passes one of the names of these numbers
+abbrev pub some_name : Exprs → (List ℕ → Bool) → List ℕ → Bool
+some_name exprs p ids = list_any p (map (λ i. slice_index_or exprs.names i []) ids)
+
+-- the same of the names in some expressions, defaults, ranges, conditions of selects and implies
+abbrev pub in_exprs : Exprs → (List ℕ → Bool) → List ℕ → Bool
+in_exprs exprs p ids = list_any (λ i. mentions p (stands_for exprs i)) ids
+
+abbrev pub in_defaults : Exprs → (List ℕ → Bool) → List KeptDefault → Bool
+in_defaults exprs p ds = list_any (λ (d : KeptDefault). mentions p (stands_for exprs d.value) || mentions p (stands_for exprs d.condition)) ds
+
+abbrev pub in_ranges : Exprs → (List ℕ → Bool) → List KeptRange → Bool
+in_ranges exprs p rs = list_any (λ (r : KeptRange). mentions p (stands_for exprs r.low) || mentions p (stands_for exprs r.high) || mentions p (stands_for exprs r.condition)) rs
+
+abbrev pub in_forces : Exprs → (List ℕ → Bool) → List KeptForce → Bool
+in_forces exprs p fs = list_any (λ (f : KeptForce). mentions p (stands_for exprs f.condition)) fs
+
+-- the same of all names of a symbol
+abbrev pub in_symbol : Exprs → (List ℕ → Bool) → KeptSymbol → Bool
+in_symbol exprs p k = in_exprs exprs p k.prompts.now || in_defaults exprs p k.defaults.now || in_ranges exprs p k.ranges.now || in_exprs exprs p k.direct.now || in_forces exprs p k.selectors.now || in_forces exprs p k.impliers.now
+
+-- the same of a choice's defaults, its members' prompts, all of its names
+abbrev pub in_member_defaults : Whole → Exprs → (List ℕ → Bool) → List KeptMemberDefault → Bool
+in_member_defaults tree exprs p ds = list_any (λ (d : KeptMemberDefault). mentions p (stands_for exprs d.condition) || list_any p (prompts_at tree d.member)) ds
+
+abbrev pub in_members : Whole → (List ℕ → Bool) → List ℕ → Bool
+in_members tree p ms = list_any (λ s. list_any p (prompts_at tree s)) ms
+
+abbrev pub in_prompt : Exprs → (List ℕ → Bool) → Option ℕ → Bool
+in_prompt exprs p None = false
+in_prompt exprs p (Some i) = mentions p (stands_for exprs i)
+
+abbrev pub in_choice : Whole → Exprs → (List ℕ → Bool) → KeptChoice → Bool
+in_choice tree exprs p k = in_prompt exprs p k.prompt || in_member_defaults tree exprs p k.defaults.now || in_members tree p k.members.now
+
+-- whether one of the symbols that select or imply is of unit d
+abbrev pub forced_by : Whole → ℕ → List KeptForce → Bool
+forced_by tree d fs = list_any (λ (f : KeptForce). unit_of tree f.by == d) fs
+
+-- whether unit d is that of `MODULES`, for a tristate
+abbrev pub by_modules : Whole → ℕ → Kind → Option ℕ → Bool
+by_modules tree d kind modules = is_tristate kind && is_at d (option_map (unit_of tree) modules)

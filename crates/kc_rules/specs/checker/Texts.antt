@@ -1,0 +1,40 @@
+-- The rules of texts, with the user value told as a text.
+use Rattle.std.specs.Prelude.{ℕ, Bool, not, List, Option, Some, None, ℤ, pos, unwrap_or, find, if◌then◌else◌}
+use Rattle.std.specs.Option.{option_map, option_and_then}
+use Rattle.kc_value.specs.declared.value.Kind.{Kind}
+use Rattle.kc_value.specs.declared.value.Kind.TheVariants.{Bool as Boolean, Tristate, Text, Int, Hex}
+use Rattle.kc_value.specs.Number.{number_of_text}
+use Rattle.kc_expr.specs.Expr.{Expr}
+use Rattle.kc_tree_model.specs.Trees.{Whole, Symbol, Default, Range}
+use Rattle.kc_rules_model.specs.declared.values.UnitValue.{UnitValue}
+use Rattle.kc_rules_model.specs.Kinds.{is_n}
+use Rattle.kc_rules_model.specs.SymbolValues.{condition}
+use Rattle.kc_rules_model.specs.Rule.{is_visible, default_text, number_default, active_range, is_within}
+use Rattle.kc_rules.specs.checker.RuleParts.{active_default_of}
+
+-- int and hex
+abbrev pub IsNumber : Kind → Type 0
+IsNumber Int = Unit {0}
+IsNumber Hex = Unit {0}
+IsNumber Boolean = ⊥
+IsNumber Tristate = ⊥
+IsNumber Text = ⊥
+
+abbrev pub active_value_of : Whole → List UnitValue → List Default → Option Expr
+active_value_of tree values defaults = option_map (λ (d : Default). d.value) (active_default_of tree values defaults)
+
+abbrev pub active_range_of : Whole → List UnitValue → List Range → Option Range
+active_range_of tree values ranges = find (λ (r : Range). not (is_n (condition tree values r.condition))) ranges
+
+abbrev pub visible_text_of : Whole → List UnitValue → Symbol → Option (List ℕ) → Option (List ℕ)
+visible_text_of tree values symbol user = if is_visible tree values symbol then user else None
+
+abbrev pub string_rule_of : Whole → List UnitValue → Symbol → Option (List ℕ) → List ℕ
+string_rule_of tree values symbol user = unwrap_or (visible_text_of tree values symbol user) (default_text tree values symbol)
+
+abbrev pub number_rule_of : Whole → List UnitValue → Symbol → Option (List ℕ) → List ℕ
+number_rule_of tree values symbol user =
+    let range = active_range tree values symbol in
+    let number : List ℕ → ℤ = λ text. unwrap_or (number_of_text symbol.kind text) (pos 0) in
+    let within : List ℕ → Bool = λ text. is_within tree values symbol.kind range (number text) in
+    unwrap_or (option_and_then (λ text. if within text then Some text else None) (visible_text_of tree values symbol user)) (number_default tree values symbol)

@@ -1,0 +1,41 @@
+//! Units and their dependencies.
+ghost use Rattle.std.specs.Prelude.{length};
+ghost use Rattle.kc_rules_model.specs.Dependencies.{dependencies};
+ghost use Rattle.kc_rules_model.specs.checker.GraphLaw.{rules_graph};
+
+use super::rules::{Rules, Settled};
+use kc_system::Graph;
+
+impl Graph for Rules {
+    ghost size = { λ r. length r.tree.whole.units };
+
+    ghost dependencies = { λ r u. dependencies r.tree.whole u };
+
+    ghost graph = { λ r. rules_graph r.tree.whole };
+
+    fn len(&self) -> u32 {
+        self.tree.len()
+    }
+
+    fn deps(&self, u: u32) -> &[u32] {
+        let start = self.starts[u as usize] as usize;
+        let end = self.starts[u as usize + 1] as usize;
+        &self.links[start..end]
+    }
+}
+
+impl Graph for Settled {
+    ghost size = { λ s. length s.rules.tree.whole.units };
+
+    ghost dependencies = { λ s u. dependencies s.rules.tree.whole u };
+
+    ghost graph = { λ s. rules_graph s.rules.tree.whole };
+
+    fn len(&self) -> u32 {
+        self.rules.tree.len()
+    }
+
+    fn deps(&self, u: u32) -> &[u32] {
+        self.rules.deps(u)
+    }
+}

@@ -1,0 +1,132 @@
+//! What is told of the symbols under values of the units.
+ghost use Rattle.std.specs.Prelude.{◌≡◌, ◌<◌, ◌++◌, ◌∷◌, [], length, nat_lt, IfOk, OnOk, if◌then◌else◌};
+ghost use Rattle.kc_value.specs.Tri.{rank};
+ghost use Rattle.kc_tree.specs.Told.{SymbolFits, symbol_of};
+ghost use Rattle.kc_rules_model.specs.Reports.{has_default, is_written_symbol, is_written, is_unmet_symbol, is_unmet, unmet};
+ghost use Rattle.kc_rules.specs.Told.{whole_of};
+ghost use Rattle.kc_rules.specs.checker.UnderView.{tree_under, exprs_under, values_under};
+
+use super::reading::is_n;
+use super::rules::Settled;
+use super::texts::active_default;
+use super::tristates::{default_value, forced, is_visible, largest};
+use super::under::Under;
+use kc_rules_model::UnitValue;
+use kc_tree::{Sym, Symbol};
+use kc_value::{Kind, Tri};
+use std::alloc::{AllocError, Global};
+
+/// Whether a bool or tristate has a default that isn't `n`, or another symbol a default that counts.
+fn has_default(under: &Under<'_>, symbol: &Symbol<'_>) -> bool
+    requires { SymbolFits (exprs_under under.now) (length (tree_under under.now).symbols) symbol.now }
+    ensures { result ≡ has_default (tree_under under.now) (values_under under.now) (symbol_of (exprs_under under.now) symbol.now) }
+{
+    match symbol.kind {
+        Kind::Bool => !is_n(default_value(under, symbol.defaults)),
+        Kind::Tristate => !is_n(default_value(under, symbol.defaults)),
+        Kind::Text => active_default(under, symbol.defaults).is_some(),
+        Kind::Int => active_default(under, symbol.defaults).is_some(),
+        Kind::Hex => active_default(under, symbol.defaults).is_some(),
+    }
+}
+
+/// Whether a full file has the symbol.
+fn is_symbol_written(under: &Under<'_>, symbol: &Symbol<'_>) -> bool
+    requires { SymbolFits (exprs_under under.now) (length (tree_under under.now).symbols) symbol.now }
+    ensures { result ≡ is_written_symbol (tree_under under.now) (values_under under.now) (symbol_of (exprs_under under.now) symbol.now) }
+{
+    if is_visible(under, symbol) {
+        return true;
+    }
+    if symbol.choice.is_some() {
+        return false;
+    }
+    has_default(under, symbol)
+        || !is_n(forced(under, symbol.selectors))
+        || (!is_n(forced(under, symbol.impliers)) && !is_n(largest(under, symbol.direct)))
+}
+
+/// Whether the first is below the second.
+fn is_below(a: Tri, b: Tri) -> bool
+    ensures { result ≡ nat_lt (rank a) (rank b) }
+{
+    match (a, b) {
+        (Tri::N, Tri::N) => false,
+        (Tri::N, Tri::M) => true,
+        (Tri::N, Tri::Y) => true,
+        (Tri::M, Tri::N) => false,
+        (Tri::M, Tri::M) => false,
+        (Tri::M, Tri::Y) => true,
+        (Tri::Y, Tri::N) => false,
+        (Tri::Y, Tri::M) => false,
+        (Tri::Y, Tri::Y) => false,
+    }
+}
+
+/// Whether a symbol outside choices is selected above its direct dependency.
+fn is_symbol_unmet(under: &Under<'_>, symbol: &Symbol<'_>) -> bool
+    requires { SymbolFits (exprs_under under.now) (length (tree_under under.now).symbols) symbol.now }
+    ensures { result ≡ is_unmet_symbol (tree_under under.now) (values_under under.now) (symbol_of (exprs_under under.now) symbol.now) }
+{
+    if symbol.choice.is_some() {
+        return false;
+    }
+    is_below(
+        largest(under, symbol.direct),
+        forced(under, symbol.selectors),
+    )
+}
+
+/// The same of a symbol by its number.
+fn is_unmet(under: &Under<'_>, s: Sym) -> bool
+    requires { s < length (tree_under under.now).symbols }
+    ensures { result ≡ is_unmet (tree_under under.now) (values_under under.now) s }
+{
+    is_symbol_unmet(under, &under.rules.tree.symbol(s))
+}
+
+/// Puts a symbol behind others where it counts.
+#[tactic(auto, using(crate::proofs::Filters::nothing_behind))]
+fn push_if(found: &mut Vec<Sym>, s: Sym, counts: bool) -> Result<(), AllocError>
+    ensures { OnOk result (found.new.items ≡ found.old.items ++ (if counts then s ∷ [] else [])) }
+{
+    if counts {
+        found.push(s)?;
+        Ok(())
+    } else {
+        Ok(())
+    }
+}
+
+impl Settled {
+    /// Whether a full file has the symbol: each that is visible, and outside choices each that has a default, is
+    /// selected, or is implied where its direct dependency isn't `n`. Takes no memory.
+    pub fn written(&self, s: Sym, values: &[UnitValue]) -> bool
+        requires { s < length (whole_of self.now).symbols }
+        ensures { result ≡ is_written (whole_of self.now) values.now s }
+    {
+        let under = Under {
+            rules: &self.rules,
+            values,
+        };
+        is_symbol_written(&under, &self.rules.tree.symbol(s))
+    }
+
+    /// The symbols outside choices that are selected above their direct dependency ("reverse dependencies"), in order
+    /// of first definition. An `Err` is want of memory.
+    pub fn unmet(&self, alloc: Global, values: &[UnitValue]) -> Result<Vec<Sym>, AllocError>
+        ensures { IfOk result (λ found. found.items ≡ unmet (whole_of self.now) values.now) }
+    {
+        let under = Under {
+            rules: &self.rules,
+            values,
+        };
+        let mut found = Vec::new(alloc);
+        for number in 0..self.rules.tree.symbol_count() {
+            let s = Sym::at(number);
+            let counts = is_unmet(&under, s);
+            push_if(&mut found, s, counts)?;
+        }
+        Ok(found)
+    }
+}

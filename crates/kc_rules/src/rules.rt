@@ -1,0 +1,34 @@
+//! A tree with what its units depend on.
+ghost use Rattle.std.specs.Prelude.{◌≡◌, length};
+ghost use Rattle.kc_rules.specs.checker.Links.{AreLinks};
+ghost use Rattle.kc_rules.specs.checker.ModulesSymbol.{modules_symbol};
+ghost use Rattle.kc_rules_model.specs.Dependencies.{dependencies};
+ghost use Rattle.kc_tree_model.specs.TreeLookup.{IsConsistent};
+ghost use Rattle.kc_system.specs.Dependencies.{IsOrder, HasNoCycle};
+
+use kc_rules_model::Profile;
+use kc_system::Order;
+use kc_tree::{Sym, Tree};
+
+/// A tree, its profile, its symbol `MODULES`, and the dependencies of each unit: `links` from its place in `starts` to
+/// that of the next unit.
+#[derive(Drop)]
+pub struct Rules {
+    pub(crate) tree: Tree,
+    pub(crate) profile: Profile,
+    pub(crate) modules: Option<Sym>,
+    pub(crate) starts: Vec<u32>,
+    pub(crate) links: Vec<u32>,
+    ghost consistent: { ∥ IsConsistent tree.whole ∥₁ },
+    ghost modules_is: { modules ≡ modules_symbol tree.whole },
+    ghost links_are: { AreLinks tree.whole starts.items links.items },
+}
+
+/// A tree and an order of its units.
+#[derive(Drop)]
+pub struct Settled {
+    pub(crate) rules: Rules,
+    pub(crate) order: Order,
+    ghost ordered: { ∥ IsOrder (length rules.tree.whole.units) (dependencies rules.tree.whole) order ∥₁ },
+    ghost acyclic: { HasNoCycle (length rules.tree.whole.units) (dependencies rules.tree.whole) },
+}

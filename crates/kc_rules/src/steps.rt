@@ -1,0 +1,36 @@
+//! The meter of evaluations.
+ghost use Rattle.std.specs.Prelude.{◌≡◌, ◌+◌, ◌<◌, ◌^◌, min};
+
+/// Counts evaluations.
+#[derive(Drop)]
+pub struct Steps {
+    count: u64,
+    ghost counts: { count < 2 ^ 64 },
+}
+
+impl Steps {
+    ghost use Rattle.kc_rules.specs.Metered.{counted};
+
+    /// None counted.
+    pub fn new() -> Steps
+        ensures { counted result ≡ 0 }
+    {
+        Steps { count: 0 }
+    }
+
+    /// How many were counted.
+    pub fn count(&self) -> u64
+        ensures { result ≡ counted self.now }
+    {
+        self.count
+    }
+
+    /// One more, to 2^64 - 1 at most.
+    pub(crate) fn step(&mut self)
+        ensures { counted self.new ≡ min (counted self.old + 1) u64.MAX }
+    {
+        if self.count < u64::MAX {
+            self.count += 1;
+        }
+    }
+}
