@@ -1,6 +1,17 @@
 //! Configuration files: what their lines say, what they assign, and why one is refused.
 #![tactic(auto)]
 
+/// Makes a call of a test again where it was refused at its first try.
+#[cfg(test)]
+macro_rules! twice {
+    ($call:expr) => {
+        match $call {
+            Ok(made) => made,
+            Err(_) => $call?,
+        }
+    };
+}
+
 mod fault;
 mod laws;
 mod notice;

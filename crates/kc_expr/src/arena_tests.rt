@@ -13,9 +13,9 @@ use kc_value::{Seed, Tri};
 fn tells_names(rt: HostRuntime) -> Result<(), std::test::Fail> {
     let alloc = rt.alloc();
     let mut arena = Arena::new(alloc);
-    let list = tokens(alloc, "Z = \"x\" && (!A || Z) && m")?;
-    let (id, _) = arena.parse_expr(&list, 0, true)?;
-    let names = arena.names(id)?;
+    let list = twice!(tokens(alloc, "Z = \"x\" && (!A || Z) && m"));
+    let (id, _) = twice!(arena.parse_expr(&list, 0, true));
+    let names = twice!(arena.names(id));
     assert_eq!(rt; names.len(), 3);
     for (name, text) in names.iter().zip(["Z", "A", "MODULES"]) {
         assert_eq!(rt; arena.find(text).map(|n| n.index()), Some(name.index()));
@@ -24,7 +24,7 @@ fn tells_names(rt: HostRuntime) -> Result<(), std::test::Fail> {
     assert!(rt; arena.operand(id).is_none());
     assert!(rt; arena.bare_name(id).is_none());
     let mut found = Vec::new(alloc);
-    arena.push_names(id, &mut found)?;
+    twice!(arena.push_names(id, &mut found));
     assert_eq!(rt; found.len(), 4);
     Ok(())
 }
@@ -47,7 +47,7 @@ fn spelled(arena: &Arena, id: ExprId) -> (char, &str)
 
 #[test]
 fn tells_operands(rt: HostRuntime) -> Result<(), std::test::Fail> {
-    let mut arena = known_arena(rt.alloc())?;
+    let mut arena = twice!(known_arena(rt.alloc()));
     for (text, letter, want) in [
         ("A", 'N', "A"),
         ("(B)", 'N', "B"),
@@ -58,8 +58,8 @@ fn tells_operands(rt: HostRuntime) -> Result<(), std::test::Fail> {
         ("!A", '-', ""),
         ("A = B", '-', ""),
     ] {
-        let list = tokens(rt.alloc(), text)?;
-        let (id, _) = arena.parse_expr(&list, 0, false)?;
+        let list = twice!(tokens(rt.alloc(), text));
+        let (id, _) = twice!(arena.parse_expr(&list, 0, false));
         let (found, spelling) = spelled(&arena, id);
         assert_eq!(rt; found, letter, "{text}");
         assert_eq!(rt; spelling, want);
@@ -70,21 +70,21 @@ fn tells_operands(rt: HostRuntime) -> Result<(), std::test::Fail> {
 #[test]
 fn joins_and_shows(rt: HostRuntime) -> Result<(), std::test::Fail> {
     let alloc = rt.alloc();
-    let mut arena = known_arena(alloc)?;
-    let symbols = known_symbols(alloc)?;
-    let list = tokens(alloc, "A")?;
-    let (a, _) = arena.parse_expr(&list, 0, true)?;
-    let list = tokens(alloc, "B")?;
-    let (b, _) = arena.parse_expr(&list, 0, true)?;
-    let list = tokens(alloc, "C")?;
-    let (c, _) = arena.parse_expr(&list, 0, true)?;
-    let ab = arena.join(a, b)?;
+    let mut arena = twice!(known_arena(alloc));
+    let symbols = twice!(known_symbols(alloc));
+    let list = twice!(tokens(alloc, "A"));
+    let (a, _) = twice!(arena.parse_expr(&list, 0, true));
+    let list = twice!(tokens(alloc, "B"));
+    let (b, _) = twice!(arena.parse_expr(&list, 0, true));
+    let list = twice!(tokens(alloc, "C"));
+    let (c, _) = twice!(arena.parse_expr(&list, 0, true));
+    let ab = twice!(arena.join(a, b));
     assert_eq!(rt; arena.value(ab, &symbols), Tri::M);
-    let shown = arena.shown(ab)?;
+    let shown = twice!(arena.shown(ab));
     assert_eq!(rt; arena.value(shown, &symbols), Tri::Y);
-    let none = arena.join(shown, c)?;
+    let none = twice!(arena.join(shown, c));
     assert_eq!(rt; arena.value(none, &symbols), Tri::N);
-    let hidden = arena.shown(c)?;
+    let hidden = twice!(arena.shown(c));
     assert_eq!(rt; arena.value(hidden, &symbols), Tri::N);
     Ok(())
 }
@@ -96,7 +96,7 @@ fn joined(arena: &mut Arena, id: ExprId) -> Result<ExprId, ExprFault>
 {
     let shown = match arena.shown(id) {
         Ok(shown) => shown,
-        Err(_) => arena.shown(id)?,
+        Err(_) => twice!(arena.shown(id)),
     };
     match arena.join(shown, shown) {
         Ok(both) => Ok(both),
@@ -106,8 +106,8 @@ fn joined(arena: &mut Arena, id: ExprId) -> Result<ExprId, ExprFault>
 
 #[test]
 fn a_fault_leaves_the_arena(rt: HostRuntime) -> Result<(), std::test::Fail> {
-    let mut arena = known_arena(rt.alloc())?;
-    let list = tokens(rt.alloc(), "X && \"q\" = (Y")?;
+    let mut arena = twice!(known_arena(rt.alloc()));
+    let list = twice!(tokens(rt.alloc(), "X && \"q\" = (Y"));
     assert!(rt; arena.parse_expr(&list, 0, true).is_err());
     assert_eq!(rt; arena.find("X").map(|n| n.index()), None);
     Ok(())
@@ -115,8 +115,8 @@ fn a_fault_leaves_the_arena(rt: HostRuntime) -> Result<(), std::test::Fail> {
 
 #[test]
 fn want_of_memory_leaves_the_arena(rt: HostRuntime) -> Result<(), std::test::Fail> {
-    let mut arena = known_arena(rt.alloc())?;
-    let list = tokens(rt.alloc(), "X && \"q\" = \"r\" || !(m && Z)")?;
+    let mut arena = twice!(known_arena(rt.alloc()));
+    let list = twice!(tokens(rt.alloc(), "X && \"q\" = \"r\" || !(m && Z)"));
     if let Err(fault) = arena.parse_expr(&list, 0, true) {
         let refused = ExprFault {
             offset: 0,
@@ -124,7 +124,7 @@ fn want_of_memory_leaves_the_arena(rt: HostRuntime) -> Result<(), std::test::Fai
         };
         assert_eq!(rt; fault, refused);
         assert_eq!(rt; arena.find("X").map(|n| n.index()), None);
-        arena.parse_expr(&list, 0, true)?;
+        twice!(arena.parse_expr(&list, 0, true));
     }
     assert_eq!(rt; arena.find("X").map(|n| n.index()), Some(7));
     assert_eq!(rt; arena.find("Z").map(|n| n.index()), Some(8));
@@ -134,28 +134,28 @@ fn want_of_memory_leaves_the_arena(rt: HostRuntime) -> Result<(), std::test::Fai
 #[test]
 fn joins_again_after_a_refusal(rt: HostRuntime) -> Result<(), std::test::Fail> {
     let mut arena = Arena::new(rt.alloc());
-    let list = tokens(rt.alloc(), "A")?;
-    let (a, _) = arena.parse_expr(&list, 0, true)?;
-    let last = joined(&mut arena, a)?;
-    let last = joined(&mut arena, last)?;
-    let last = joined(&mut arena, last)?;
-    let last = joined(&mut arena, last)?;
-    let last = joined(&mut arena, last)?;
-    assert_eq!(rt; arena.names(last)?.len(), 1);
+    let list = twice!(tokens(rt.alloc(), "A"));
+    let (a, _) = twice!(arena.parse_expr(&list, 0, true));
+    let last = twice!(joined(&mut arena, a));
+    let last = twice!(joined(&mut arena, last));
+    let last = twice!(joined(&mut arena, last));
+    let last = twice!(joined(&mut arena, last));
+    let last = twice!(joined(&mut arena, last));
+    assert_eq!(rt; twice!(arena.names(last)).len(), 1);
     Ok(())
 }
 
 #[test]
 fn holds_names_without_a_node(rt: HostRuntime) -> Result<(), std::test::Fail> {
     let alloc = rt.alloc();
-    let mut arena = known_arena(alloc)?;
+    let mut arena = twice!(known_arena(alloc));
     let nodes = arena.node_count();
-    assert_eq!(rt; arena.intern("B")?.index(), 1);
-    assert_eq!(rt; arena.intern("NEW")?.index(), 7);
+    assert_eq!(rt; twice!(arena.intern("B")).index(), 1);
+    assert_eq!(rt; twice!(arena.intern("NEW")).index(), 7);
     assert_eq!(rt; arena.name_count(), 8);
     assert_eq!(rt; arena.node_count(), nodes);
-    let list = tokens(alloc, "NEW")?;
-    let (id, _) = arena.parse_expr(&list, 0, true)?;
+    let list = twice!(tokens(alloc, "NEW"));
+    let (id, _) = twice!(arena.parse_expr(&list, 0, true));
     assert_eq!(rt; arena.bare_name(id).map(|n| n.index()), Some(7));
     assert_eq!(rt; id.index(), nodes);
     Ok(())
@@ -166,13 +166,13 @@ fn holds_many(rt: HostRuntime) -> Result<(), std::test::Fail> {
     let alloc = rt.alloc();
     let mut line = String::new(alloc);
     for _ in 0..30000 {
-        line.push_str("(")?;
+        twice!(line.push_str("("));
     }
-    assert_eq!(rt; tokens(alloc, line.as_str())?.len(), 30000);
+    assert_eq!(rt; twice!(tokens(alloc, line.as_str())).len(), 30000);
     let mut arena = Arena::with_seed(alloc, Seed::of(1, 2));
     for i in 0..1000usize {
-        let name = format!(in alloc; "N{i}")?;
-        assert_eq!(rt; arena.intern(name.as_str())?.index(), i);
+        let name = twice!(format!(in alloc; "N{i}"));
+        assert_eq!(rt; twice!(arena.intern(name.as_str())).index(), i);
     }
     assert_eq!(rt; arena.find("N999").map(|n| n.index()), Some(999));
     Ok(())

@@ -1,6 +1,17 @@
 //! Tokens of lines, and expressions.
 #![tactic(auto)]
 
+/// Makes a call of a test again where it was refused at its first try.
+#[cfg(test)]
+macro_rules! twice {
+    ($call:expr) => {
+        match $call {
+            Ok(made) => made,
+            Err(_) => $call?,
+        }
+    };
+}
+
 mod arena;
 mod evaluate;
 mod fault;

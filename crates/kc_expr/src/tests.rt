@@ -35,7 +35,7 @@ fn row(kind: Kind, tri: Tri, text: &'static str) -> Option<Looked<'static>> {
 
 /// A is `y`, B `m`, C `n`; N is the int 10, H the hex 0x0A, S the string 10; MODULES is `y`; others are undefined.
 pub(crate) fn known_symbols(alloc: Global) -> Result<Symbols, AllocError> {
-    let rows = vec![in alloc;
+    let rows = twice!(vec![in alloc;
         row(Kind::Tristate, Tri::Y, "y"),
         row(Kind::Tristate, Tri::M, "m"),
         row(Kind::Tristate, Tri::N, "n"),
@@ -43,7 +43,7 @@ pub(crate) fn known_symbols(alloc: Global) -> Result<Symbols, AllocError> {
         row(Kind::Hex, Tri::N, "0x0A"),
         row(Kind::Text, Tri::N, "10"),
         row(Kind::Bool, Tri::Y, "y"),
-    ]?;
+    ]);
     Ok(Symbols { rows })
 }
 
@@ -51,18 +51,18 @@ pub(crate) fn known_symbols(alloc: Global) -> Result<Symbols, AllocError> {
 pub(crate) fn known_arena(alloc: Global) -> Result<Arena, ExprFault> {
     let mut arena = Arena::new(alloc);
     for name in ["A", "B", "C", "N", "H", "S", "MODULES"] {
-        let list = tokens(alloc, name)?;
-        arena.parse_expr(&list, 0, false)?;
+        let list = twice!(tokens(alloc, name));
+        twice!(arena.parse_expr(&list, 0, false));
     }
     Ok(arena)
 }
 
 /// The value of a text, under the table.
 fn value_of(alloc: Global, text: &str, condition: bool) -> Result<Tri, ExprFault> {
-    let mut arena = known_arena(alloc)?;
-    let symbols = known_symbols(alloc)?;
-    let list = tokens(alloc, text)?;
-    let (id, _) = arena.parse_expr(&list, 0, condition)?;
+    let mut arena = twice!(known_arena(alloc));
+    let symbols = twice!(known_symbols(alloc));
+    let list = twice!(tokens(alloc, text));
+    let (id, _) = twice!(arena.parse_expr(&list, 0, condition));
     Ok(arena.value(id, &symbols))
 }
 
@@ -105,10 +105,10 @@ const VALUES: [(&str, Tri); 33] = [
 #[test]
 fn evaluates_the_table(rt: HostRuntime) -> Result<(), std::test::Fail> {
     for (text, want) in VALUES {
-        assert_eq!(rt; value_of(rt.alloc(), text, false)?, want, "{text}");
+        assert_eq!(rt; twice!(value_of(rt.alloc(), text, false)), want, "{text}");
     }
-    assert_eq!(rt; value_of(rt.alloc(), "m", true)?, Tri::M);
-    assert_eq!(rt; value_of(rt.alloc(), "B = m", true)?, Tri::Y);
+    assert_eq!(rt; twice!(value_of(rt.alloc(), "m", true)), Tri::M);
+    assert_eq!(rt; twice!(value_of(rt.alloc(), "B = m", true)), Tri::Y);
     Ok(())
 }
 
@@ -122,11 +122,11 @@ fn repeated(
 ) -> Result<String, AllocError> {
     let mut text = String::new(alloc);
     for _ in 0..times {
-        text.push_str(before)?;
+        twice!(text.push_str(before));
     }
-    text.push_str(middle)?;
+    twice!(text.push_str(middle));
     for _ in 0..times {
-        text.push_str(behind)?;
+        twice!(text.push_str(behind));
     }
     Ok(text)
 }
@@ -135,9 +135,9 @@ fn repeated(
 fn goes_64_deep(rt: HostRuntime) -> Result<(), std::test::Fail> {
     let alloc = rt.alloc();
     for (before, behind) in [("!", ""), ("(", ")")] {
-        let text = repeated(alloc, 64, before, "y", behind)?;
-        assert_eq!(rt; value_of(alloc, text.as_str(), true)?, Tri::Y);
-        let text = repeated(alloc, 65, before, "y", behind)?;
+        let text = twice!(repeated(alloc, 64, before, "y", behind));
+        assert_eq!(rt; twice!(value_of(alloc, text.as_str(), true)), Tri::Y);
+        let text = twice!(repeated(alloc, 65, before, "y", behind));
         let too_deep = ExprFault {
             offset: 65,
             kind: ExprKind::TooDeep,
@@ -149,9 +149,9 @@ fn goes_64_deep(rt: HostRuntime) -> Result<(), std::test::Fail> {
 
 #[test]
 fn walks_a_line_of_ands(rt: HostRuntime) -> Result<(), std::test::Fail> {
-    let text = repeated(rt.alloc(), 13107, "y && ", "y", "")?;
+    let text = twice!(repeated(rt.alloc(), 13107, "y && ", "y", ""));
     assert_eq!(rt; text.len(), 65536);
-    assert_eq!(rt; value_of(rt.alloc(), text.as_str(), true)?, Tri::Y);
+    assert_eq!(rt; twice!(value_of(rt.alloc(), text.as_str(), true)), Tri::Y);
     Ok(())
 }
 
@@ -173,14 +173,14 @@ fn cuts_lines_into_tokens(rt: HostRuntime) -> Result<(), std::test::Fail> {
         (TokenKind::Quoted, 24, "'a\\'b'"),
         (TokenKind::Quoted, 31, "\"q\""),
     ];
-    let found = tokens(rt.alloc(), line)?;
+    let found = twice!(tokens(rt.alloc(), line));
     assert_eq!(rt; found.len(), want.len());
     for (token, (kind, start, text)) in found.iter().zip(&want) {
         assert_eq!(rt; token.kind, *kind, "at {start}");
         assert_eq!(rt; token.start, *start);
         assert_eq!(rt; token.text, *text);
     }
-    assert_eq!(rt; tokens(rt.alloc(), " \t# only a comment")?.len(), 0);
+    assert_eq!(rt; twice!(tokens(rt.alloc(), " \t# only a comment")).len(), 0);
     Ok(())
 }
 
@@ -230,12 +230,12 @@ fn tells_where_an_expression_cannot_go_on(rt: HostRuntime) {
 
 #[test]
 fn ends_before_the_next_word(rt: HostRuntime) -> Result<(), std::test::Fail> {
-    let mut arena = known_arena(rt.alloc())?;
-    let list = tokens(rt.alloc(), "depends on !A = B && (C || D) if X")?;
+    let mut arena = twice!(known_arena(rt.alloc()));
+    let list = twice!(tokens(rt.alloc(), "depends on !A = B && (C || D) if X"));
     assert_eq!(rt; list.len(), 14);
-    let (_, end) = arena.parse_expr(&list, 2, true)?;
+    let (_, end) = twice!(arena.parse_expr(&list, 2, true));
     assert_eq!(rt; end, 12);
-    let (_, end) = arena.parse_expr(&list, 13, true)?;
+    let (_, end) = twice!(arena.parse_expr(&list, 13, true));
     assert_eq!(rt; end, 14);
     let fault = ExprFault {
         offset: 34,
@@ -253,7 +253,7 @@ fn unquotes(rt: HostRuntime) -> Result<(), std::test::Fail> {
         ("''", ""),
         ("a", "a"),
     ] {
-        assert_eq!(rt; quoted_text(rt.alloc(), text)?.as_str(), want);
+        assert_eq!(rt; twice!(quoted_text(rt.alloc(), text)).as_str(), want);
     }
     Ok(())
 }
@@ -268,14 +268,14 @@ fn a_kind_is_its_name(rt: HostRuntime) -> Result<(), std::test::Fail> {
         (ExprKind::LeftOut, "LeftOut"),
         (ExprKind::OutOfMemory, "OutOfMemory"),
     ] {
-        assert_eq!(rt; format!(in rt.alloc(); "{kind}")?.as_str(), name);
+        assert_eq!(rt; twice!(format!(in rt.alloc(); "{kind}")).as_str(), name);
     }
     let fault = ExprFault {
         offset: 12,
         kind: ExprKind::TooDeep,
     };
     assert_eq!(rt;
-        format!(in rt.alloc(); "{fault}")?.as_str(),
+        twice!(format!(in rt.alloc(); "{fault}")).as_str(),
         "TooDeep at byte 12"
     );
     Ok(())

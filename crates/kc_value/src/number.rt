@@ -201,7 +201,7 @@ mod tests {
                 _ => false,
             };
             if printable {
-                assert_eq!(rt; number_text(rt.alloc(), kind, value)?.as_str(), text);
+                assert_eq!(rt; twice!(number_text(rt.alloc(), kind, value)).as_str(), text);
             }
         }
         Ok(())
