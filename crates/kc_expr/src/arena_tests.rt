@@ -5,9 +5,10 @@ use crate::arena::Arena;
 use crate::fault::{ExprFault, ExprKind};
 use crate::ids::ExprId;
 use crate::operand::Operand;
-use crate::tests::{known_arena, known_symbols};
+use crate::tests::known_arena;
 use crate::token::tokens;
 use kc_value::{Seed, Tri};
+use std::alloc::{AllocError, Global};
 
 #[test]
 fn tells_names(rt: HostRuntime) -> Result<(), std::test::Fail> {
@@ -67,28 +68,6 @@ fn tells_operands(rt: HostRuntime) -> Result<(), std::test::Fail> {
     Ok(())
 }
 
-#[test]
-fn joins_and_shows(rt: HostRuntime) -> Result<(), std::test::Fail> {
-    let alloc = rt.alloc();
-    let mut arena = twice!(known_arena(alloc));
-    let symbols = twice!(known_symbols(alloc));
-    let list = twice!(tokens(alloc, "A"));
-    let (a, _) = twice!(arena.parse_expr(&list, 0, true));
-    let list = twice!(tokens(alloc, "B"));
-    let (b, _) = twice!(arena.parse_expr(&list, 0, true));
-    let list = twice!(tokens(alloc, "C"));
-    let (c, _) = twice!(arena.parse_expr(&list, 0, true));
-    let ab = twice!(arena.join(a, b));
-    assert_eq!(rt; arena.value(ab, &symbols), Tri::M);
-    let shown = twice!(arena.shown(ab));
-    assert_eq!(rt; arena.value(shown, &symbols), Tri::Y);
-    let none = twice!(arena.join(shown, c));
-    assert_eq!(rt; arena.value(none, &symbols), Tri::N);
-    let hidden = twice!(arena.shown(c));
-    assert_eq!(rt; arena.value(hidden, &symbols), Tri::N);
-    Ok(())
-}
-
 /// Both of an expression, shown and as it is; what was refused is asked for again.
 fn joined(arena: &mut Arena, id: ExprId) -> Result<ExprId, ExprFault>
     requires { id < length arena.old.nodes }
@@ -96,7 +75,7 @@ fn joined(arena: &mut Arena, id: ExprId) -> Result<ExprId, ExprFault>
 {
     let shown = match arena.shown(id) {
         Ok(shown) => shown,
-        Err(_) => twice!(arena.shown(id)),
+        Err(_) => arena.shown(id)?,
     };
     match arena.join(shown, shown) {
         Ok(both) => Ok(both),
@@ -131,16 +110,24 @@ fn want_of_memory_leaves_the_arena(rt: HostRuntime) -> Result<(), std::test::Fai
     Ok(())
 }
 
+/// The expression of a text; what was refused is asked for again.
+fn read(arena: &mut Arena, alloc: Global, text: &str) -> Result<ExprId, ExprFault>
+    ensures { IfOk result (λ id. id < length arena.new.nodes) }
+{
+    let list = twice!(tokens(alloc, text));
+    let (id, _) = twice!(arena.parse_expr(&list, 0, true));
+    Ok(id)
+}
+
 #[test]
 fn joins_again_after_a_refusal(rt: HostRuntime) -> Result<(), std::test::Fail> {
     let mut arena = Arena::new(rt.alloc());
-    let list = twice!(tokens(rt.alloc(), "A"));
-    let (a, _) = twice!(arena.parse_expr(&list, 0, true));
-    let last = twice!(joined(&mut arena, a));
-    let last = twice!(joined(&mut arena, last));
-    let last = twice!(joined(&mut arena, last));
-    let last = twice!(joined(&mut arena, last));
-    let last = twice!(joined(&mut arena, last));
+    let last = read(&mut arena, rt.alloc(), "A")?;
+    let last = joined(&mut arena, last)?;
+    let last = joined(&mut arena, last)?;
+    let last = joined(&mut arena, last)?;
+    let last = joined(&mut arena, last)?;
+    let last = joined(&mut arena, last)?;
     assert_eq!(rt; twice!(arena.names(last)).len(), 1);
     Ok(())
 }
@@ -161,18 +148,35 @@ fn holds_names_without_a_node(rt: HostRuntime) -> Result<(), std::test::Fail> {
     Ok(())
 }
 
+/// A line of so many open parentheses.
+fn parentheses(alloc: Global, count: usize) -> Result<String, AllocError> {
+    let mut line = String::new(alloc);
+    for _ in 0..count {
+        line.push_str("(")?;
+    }
+    Ok(line)
+}
+
+/// How many tokens a line has.
+fn token_count(alloc: Global, line: &str) -> Result<usize, ExprFault> {
+    Ok(tokens(alloc, line)?.len())
+}
+
+/// The number of the name `N` and these digits, put into the arena; what was refused is asked for again.
+fn numbered(arena: &mut Arena, alloc: Global, digits: usize) -> Result<usize, std::test::Fail> {
+    let name = twice!(format!(in alloc; "N{digits}"));
+    let id = twice!(arena.intern(name.as_str()));
+    Ok(id.index())
+}
+
 #[test]
 fn holds_many(rt: HostRuntime) -> Result<(), std::test::Fail> {
     let alloc = rt.alloc();
-    let mut line = String::new(alloc);
-    for _ in 0..30000 {
-        twice!(line.push_str("("));
-    }
-    assert_eq!(rt; twice!(tokens(alloc, line.as_str())).len(), 30000);
+    let line = twice!(parentheses(alloc, 30000));
+    assert_eq!(rt; twice!(token_count(alloc, line.as_str())), 30000);
     let mut arena = Arena::with_seed(alloc, Seed::of(1, 2));
     for i in 0..1000usize {
-        let name = twice!(format!(in alloc; "N{i}"));
-        assert_eq!(rt; twice!(arena.intern(name.as_str())).index(), i);
+        assert_eq!(rt; numbered(&mut arena, alloc, i)?, i);
     }
     assert_eq!(rt; arena.find("N999").map(|n| n.index()), Some(999));
     Ok(())

@@ -34,7 +34,7 @@ fn row(kind: Kind, tri: Tri, text: &'static str) -> Option<Looked<'static>> {
 }
 
 /// A is `y`, B `m`, C `n`; N is the int 10, H the hex 0x0A, S the string 10; MODULES is `y`; others are undefined.
-pub(crate) fn known_symbols(alloc: Global) -> Result<Symbols, AllocError> {
+fn known_symbols(alloc: Global) -> Result<Symbols, AllocError> {
     let rows = twice!(vec![in alloc;
         row(Kind::Tristate, Tri::Y, "y"),
         row(Kind::Tristate, Tri::M, "m"),
@@ -184,6 +184,23 @@ fn cuts_lines_into_tokens(rt: HostRuntime) -> Result<(), std::test::Fail> {
     Ok(())
 }
 
+/// The fault of a line's tokens, if they have one.
+fn told_of_line(alloc: Global, line: &str) -> Option<ExprFault> {
+    match tokens(alloc, line) {
+        Ok(_) => None,
+        Err(fault) => Some(fault),
+    }
+}
+
+/// The fault of a line's tokens, if they have one; what was refused is asked for again.
+fn fault_of_line(alloc: Global, line: &str) -> Option<ExprFault> {
+    let told = told_of_line(alloc, line)?;
+    if told.kind == ExprKind::OutOfMemory {
+        return told_of_line(alloc, line);
+    }
+    Some(told)
+}
+
 #[test]
 fn tells_the_first_fault_of_a_line(rt: HostRuntime) {
     for (line, kind, offset) in [
@@ -198,10 +215,8 @@ fn tells_the_first_fault_of_a_line(rt: HostRuntime) {
         ("\\", ExprKind::BadToken, 0),
         ("\u{feff}a", ExprKind::BadToken, 0),
     ] {
-        match tokens(rt.alloc(), line) {
-            Ok(_) => assert!(rt; false, "{line}"),
-            Err(fault) => assert_eq!(rt; fault, ExprFault { offset, kind }, "{line}"),
-        }
+        let fault = fault_of_line(rt.alloc(), line);
+        assert_eq!(rt; fault, Some(ExprFault { offset, kind }), "{line}");
     }
 }
 

@@ -3,6 +3,7 @@ ghost use Rattle.std.specs.Prelude.{◌≡◌, ◌↔◌, [], length, IsTrue, On
 ghost use Rattle.kc_tree_model.specs.Files.{with_file, file_at, number_of_file, path_at, HasDistinctPaths};
 
 use indexmap::IndexMap;
+use kc_value::Seed;
 use std::alloc::{AllocError, Global};
 use std::marker::Model;
 
@@ -10,7 +11,7 @@ use std::marker::Model;
 #[derive(Drop)]
 pub struct Texts {
     alloc: Global,
-    files: IndexMap<String, Vec<u8>>,
+    files: IndexMap<String, Vec<u8>, Seed>,
 }
 
 impl Model for Texts {
@@ -25,13 +26,20 @@ impl Model for Texts {
 }
 
 impl Texts {
-    /// No files.
+    /// No files; their paths are hashed by the fixed seed.
     pub fn new(alloc: Global) -> Texts
+        ensures { result ≡ [] }
+    {
+        Texts::with_seed(alloc, Seed::fixed())
+    }
+
+    /// No files; their paths are hashed by this seed.
+    pub fn with_seed(alloc: Global, seed: Seed) -> Texts
         ensures { result ≡ [] }
     {
         Texts {
             alloc,
-            files: IndexMap::new(alloc),
+            files: IndexMap::with_hasher(alloc, seed),
         }
     }
 
@@ -97,25 +105,51 @@ mod tests {
     use super::*;
     use std::test::Fail;
 
+    /// Two files, one of them put in twice.
+    fn filled(alloc: Global, seed: Seed) -> Result<Texts, AllocError> {
+        let mut texts = Texts::with_seed(alloc, seed);
+        texts.insert("Kconfig", b"source \"a\"")?;
+        texts.insert("a", b"")?;
+        texts.insert("Kconfig", b"config A")?;
+        Ok(texts)
+    }
+
+    /// Whether a path is there with these bytes.
+    fn has(texts: &Texts, path: &str, bytes: &[u8]) -> bool {
+        match texts.get(path) {
+            Some(found) => found == bytes,
+            None => false,
+        }
+    }
+
+    /// Whether a path stands at this position.
+    fn is_at(texts: &Texts, index: u32, path: &str) -> bool {
+        match texts.path_at(index) {
+            Some(found) => found == path,
+            None => false,
+        }
+    }
+
+    /// Whether two files stand as they were put in, and no third.
+    fn is_filled(texts: &Texts) -> bool {
+        has(texts, "Kconfig", b"config A")
+            && has(texts, "a", b"")
+            && is_at(texts, 0, "Kconfig")
+            && is_at(texts, 1, "a")
+            && texts.len() == 2
+            && texts.number_of("a") == 1
+            && texts.number_of("b") == 2
+            && texts.get("b").is_none()
+            && texts.path_at(2).is_none()
+    }
+
     #[test]
     fn keeps_files_in_order_of_insertion(rt: HostRuntime) -> Result<(), Fail> {
-        let mut texts = Texts::new(rt.alloc());
-        assert!(rt; texts.is_empty());
-        twice!(texts.insert("Kconfig", b"source \"a\""));
-        twice!(texts.insert("a", b""));
-        twice!(texts.insert("Kconfig", b"config A"));
-        assert_eq!(rt; texts.len(), 2);
-        assert_eq!(rt;
-            texts.get("Kconfig").ok_or("absent")?,
-            b"config A".as_slice()
-        );
-        assert_eq!(rt; texts.get("a").ok_or("absent")?.len(), 0);
-        assert!(rt; texts.get("b").is_none());
-        assert_eq!(rt; texts.number_of("a"), 1);
-        assert_eq!(rt; texts.number_of("b"), 2);
-        assert_eq!(rt; texts.path_at(0).ok_or("absent")?, "Kconfig");
-        assert_eq!(rt; texts.path_at(1).ok_or("absent")?, "a");
-        assert!(rt; texts.path_at(2).is_none());
+        assert!(rt; Texts::new(rt.alloc()).is_empty());
+        let texts = twice!(filled(rt.alloc(), Seed::fixed()));
+        assert!(rt; is_filled(&texts));
+        let texts = twice!(filled(rt.alloc(), Seed::of(1, 2)));
+        assert!(rt; is_filled(&texts));
         Ok(())
     }
 }
