@@ -1,8 +1,9 @@
 # make run: builds kmin and runs it on the stored bundle. make test: every proof, test and program.
+# make bench: what the libraries take, beside plain programs.
 SOURCES := crates.txt $(shell find crates -type f \( -path '*/src/*' -o -path '*/specs/*' -o -path '*/proofs/*' \) | sort)
 BUNDLE := crates/kmin/stdin
 
-.PHONY: run test clean
+.PHONY: run test bench clean
 
 run: build/kmin
 	build/kmin < $(BUNDLE)
@@ -16,6 +17,9 @@ test:
 	rt ci
 	tests/run_rows
 	tests/refuse_allocations
+
+bench:
+	bench/run
 
 clean:
 	rm -rf build crates/*/out
