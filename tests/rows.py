@@ -1,8 +1,9 @@
 """Rows: runs of the program with the bytes that go in and come out, in the files of tests/rows.
 
 A line '== NAME' begins a row; lines '# ..' behind it say what it shows. A line '$ kmin WORD ..' has the words, quoted as in a
-shell. A line '-- NAME' begins a part: what follows up to the next such line are its bytes, as they stand. Parts are 'stdin', 'stdout',
-'stderr', and any other name is a file that lies where the program runs. Behind the name a part may have one word:
+shell; in a word, too, \\xNN stands for a byte. A line '-- NAME' begins a part: what follows up to the next such line are its
+bytes, as they stand. Parts are 'stdin', 'stdout', 'stderr', and any other name is a file that lies where the program runs.
+Behind the name a part may have one word:
 
     escaped    the lines are joined, and \\n, \\r, \\t, \\\\, \\" and \\xNN stand for bytes
     repeated   each line is COUNT TEXT: TEXT, read as escaped, so many times, '{}' being its number from 0
@@ -45,7 +46,7 @@ class Row:
         self.name, *lines = head.splitlines()
         for line in lines:
             if line.startswith("$ kmin"):
-                self.words = shlex.split(line)[2:]
+                self.words = [unescaped(word) if "\\x" in word else word for word in shlex.split(line)[2:]]
             elif line and not line.startswith("#"):
                 raise ValueError(f"{self.name}: neither a remark nor words: {line}")
         for part in parts:
