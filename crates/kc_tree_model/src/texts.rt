@@ -43,6 +43,11 @@ impl Texts {
         }
     }
 
+    /// The seed by which the paths are hashed. Whoever reads the files hashes their names by it too.
+    pub fn seed(&self) -> Seed {
+        *self.files.hasher()
+    }
+
     /// Puts a new path last, or replaces the bytes of a path that is there in place; both are copied.
     ///
     /// # Errors
