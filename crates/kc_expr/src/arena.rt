@@ -42,8 +42,8 @@ impl Model for Arena {
 
 impl Arena {
     ghost use Rattle.kc_expr.specs.Arena.{Grows, stands_for, Stands};
-    ghost use Rattle.kc_expr.specs.Expr.{both, shown, value};
-    ghost use Rattle.kc_expr.specs.Lookup.{names_seen, place_of};
+    ghost use Rattle.kc_expr.specs.Expr.{alone, both, constant, shown, value};
+    ghost use Rattle.kc_expr.specs.Lookup.{AreDistinct, names_seen, place_of};
     ghost use Rattle.kc_expr.specs.Mentioned.{names_in};
     ghost use Rattle.kc_expr.specs.Names.{name_alone, with_name, with_names};
     ghost use Rattle.kc_expr.specs.Operand.{operand_alone, operand_told, IsHeld};
@@ -140,10 +140,23 @@ impl Arena {
         Ok(ExprId::at(id))
     }
 
-    /// How many names there are, 2^32 at most.
+    /// The expression of a constant. An `Err` is want of memory, and leaves the arena as it was.
+    pub fn constant(&mut self, value: Tri) -> Result<ExprId, ExprFault>
+        ensures grows { Grows self.old self.new }
+        ensures names { self.new.names ≡ self.old.names }
+        ensures ok { IfOk result (λ id. Stands self.new id (alone (constant value))) }
+        ensures memory { IfErr result (λ e. e.kind ≡ OutOfMemory) }
+        ensures err { OnErr result (self.new ≡ self.old) }
+    {
+        let id = self.store.push(Node::Alone(Leaf::Constant(value)))?;
+        Ok(ExprId::at(id))
+    }
+
+    /// How many names there are, 2^32 at most. No name is there twice.
     pub fn name_count(&self) -> usize
         ensures count { result ≡ length self.now.names }
         ensures most { length self.now.names ≤ 2 ^ 32 }
+        ensures distinct { AreDistinct self.now.names }
     {
         self.store.name_count()
     }
