@@ -8,3 +8,4 @@ pub mod FileSteps
 pub mod HeadSteps
 pub mod ReaderSteps
 pub mod PlaceSteps
+pub mod SayingSteps

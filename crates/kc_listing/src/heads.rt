@@ -25,7 +25,7 @@ const MAX_BLOCKS: usize = 64;
 const MAX_CHOICES: usize = 4_096;
 
 /// The most bytes of a name.
-const MAX_NAME: usize = 256;
+pub(crate) const MAX_NAME: usize = 256;
 
 /// Whether as many blocks stand open as may.
 fn is_deep(stack: &[Open]) -> bool

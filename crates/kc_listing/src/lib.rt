@@ -2,8 +2,10 @@
 //! reading meets.
 #![tactic(auto)]
 
+mod attributes;
 mod fault;
 mod heads;
+mod line;
 mod lines;
 mod listing;
 mod names;
@@ -12,6 +14,7 @@ mod progress;
 mod putting;
 mod sources;
 mod standing;
+mod statements;
 mod text;
 
 pub use listing::{Group, Line, Listing, Names, What};

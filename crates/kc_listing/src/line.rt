@@ -1,0 +1,92 @@
+//! What a line says.
+ghost use Rattle.std.specs.Prelude.{◌≡◌, List, Some};
+ghost use Rattle.kc_expr.specs.Token.{pieces_of};
+ghost use Rattle.kc_tree_model.specs.Blocks.{Group};
+ghost use Rattle.kc_tree_model.specs.Limits.{Origin};
+ghost use Rattle.kc_tree_model.specs.Lines.{is_help, is_help_word};
+ghost use Rattle.kc_tree_model.specs.Reading.{said_by, said_with};
+ghost use Rattle.kc_statements.specs.Meanings.{meant};
+ghost use Rattle.kc_listing.specs.checker.Progress.{Describes, origin_of};
+ghost use Rattle.kc_listing.specs.checker.Saying.{begins_with, Given};
+ghost use Rattle.kc_listing.specs.checker.Steps.{LineRead};
+
+use super::placement::fault_before_form;
+use super::progress::{Progress, Step, Supply};
+use super::statements::put_statement;
+use super::text::text_of;
+use kc_expr::{Token, tokens};
+use kc_statements::{Keyword, keyword_of, kind_of, statement_of};
+use kc_tree_model::TreeKind;
+
+/// Whether a keyword begins a help text.
+fn is_help_keyword(keyword: Keyword) -> bool
+    ensures { result ≡ is_help_word (Some (meant keyword)) }
+{
+    matches!(keyword, Keyword::Help)
+}
+
+/// Reads the tokens of a line behind its keyword.
+fn read_form(
+    read: &mut Progress,
+    file: u32,
+    line: u32,
+    keyword: Keyword,
+    tokens: &[Token<'_>],
+) -> Result<Step, TreeKind>
+    ensures { (r : Origin) (before : List Group) → Describes r read.old before
+        → Given r file line (said_with before (meant keyword) (pieces_of tokens.now)) (begins_with (meant keyword) (pieces_of tokens.now)) before read.new result }
+{
+    if let Some(kind) = fault_before_form(read, keyword, tokens) {
+        return Err(kind);
+    }
+    let said = match statement_of(read.alloc, &mut read.listing.names.arena, keyword, tokens) {
+        Ok(said) => said,
+        Err(kind) => return Err(kind),
+    };
+    match put_statement(read, file, line, said) {
+        Ok(Some(path)) => Ok(Step::Source(path)),
+        Ok(None) if is_help_keyword(keyword) => Ok(Step::Help),
+        Ok(None) => Ok(Step::Next),
+        Err(kind) => Err(kind),
+    }
+}
+
+/// Reads the tokens of a line.
+fn read_tokens(
+    read: &mut Progress,
+    file: u32,
+    line: u32,
+    tokens: &[Token<'_>],
+) -> Result<Step, TreeKind>
+    ensures { (r : Origin) (before : List Group) → Describes r read.old before
+        → Given r file line (said_by before (pieces_of tokens.now)) (is_help (pieces_of tokens.now)) before read.new result }
+{
+    let Some((first, rest)) = tokens.split_first() else {
+        return Ok(Step::Next);
+    };
+    let Some(keyword) = keyword_of(first) else {
+        return Err(TreeKind::UnknownStatement);
+    };
+    read_form(read, file, line, keyword, rest)
+}
+
+/// Reads a line that isn't of a help text.
+pub(crate) fn read_line(
+    read: &mut Progress,
+    from: Supply<'_>,
+    file: u32,
+    line: u32,
+    bytes: &[u8],
+) -> Result<Step, TreeKind>
+    ensures { (before : List Group) → Describes (origin_of from.entry) read.old before → LineRead (origin_of from.entry) file line bytes.now before read.new result }
+{
+    let text = match text_of(bytes) {
+        Ok(text) => text,
+        Err(kind) => return Err(kind),
+    };
+    let found = match tokens(read.alloc, text) {
+        Ok(found) => found,
+        Err(fault) => return Err(kind_of(fault.kind)),
+    };
+    read_tokens(read, file, line, found.as_slice())
+}
