@@ -1,0 +1,4 @@
+pub mod WrittenParts
+pub mod RangeLines
+pub mod SymbolLines
+pub mod DraftSteps

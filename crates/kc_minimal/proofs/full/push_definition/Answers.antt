@@ -1,0 +1,18 @@
+use Rattle.std.proofs.Common.{false, not, sym, ◌∙◌, refl}
+use Rattle.std.specs.Prelude.{slice_index_or}
+use Rattle.std.proofs.lemmas.Bool.{and_from}
+use Rattle.kc_rules_model.specs.Reports.{is_written}
+use Rattle.kc_rules.specs.Told.{whole_of}
+use Rattle.kc_dotconfig_model.specs.checker.Prefixes.{text_of}
+use Rattle.kc_minimal.specs.declared.full.Draft.{Draft}
+use Rattle.kc_minimal.proofs.DraftSteps.{symbol_written}
+use Rattle.kc_minimal.proofs.full.push_definition.Goals as goal
+
+pub returns-in_ok-push_behind-clause-goes : goal.returns-in_ok-push_behind-clause-goes
+returns-in_ok-push_behind-clause-goes c = λ left d.
+    let old = c.args.draft.now in
+    let tree = whole_of c.args.settled.now in
+    let new : Draft = record { text = c.push_behind.new.out; defined = c.mark-fresh.new.defined; gap = false } in
+    symbol_written (text_of c.args.prefix.now) tree c.args.values.now left old new c.args.s c.requires.symbol c.requires.marks c.mark-fresh.ensures.marked
+    (and_from (is_written tree c.args.values.now c.args.s) (not (slice_index_or old.defined.items c.args.s false)) (sym c.written.ensures ∙ c.if-written.true) (sym c.mark-fresh.ensures.fresh ∙ c.if-fresh.true))
+    c.in_ok-push_behind.ensures refl d

@@ -1,0 +1,17 @@
+use Rattle.std.proofs.Common.{◌≡◌, ◌-◌, ◌<◌, ◌≤◌, ◌∙◌, length, take, drop, ap, arith, length-drop}
+use Rattle.kc_minimal.proofs.WrittenParts.{appends_part, no_failure, rest_from}
+use Rattle.kc_minimal.proofs.writing.write_out.Goals as goal
+
+pub loop-written-preserved : goal.loop-written-preserved
+loop-written-preserved g c =
+    let w = c.loop-written.written in
+    let text = c.args.text.now in
+    let rest = take (length text - w) (drop w text) in
+    let e : rest ≡ drop w text = rest_from w text in
+    let n : c.in-Ok.count ≤ length rest = c.in-Ok.ensures.bound in
+    let some : 0 < c.in-Ok.count = omega (arith, c.in-Ok.count-test.1) in
+    record {
+      within = (let i = c.loop-written.invariant.within in let l = ap length e in omega (arith, length-drop w text));
+      took = appends_part _ _ _ text rest w c.in-Ok.count e c.loop-written.invariant.took c.in-Ok.ensures.bytes;
+      unfailed = no_failure _ c.in-Ok.count rest _ some c.in-Ok.ensures.failures ∙ c.loop-written.invariant.unfailed;
+    }

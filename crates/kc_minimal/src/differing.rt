@@ -1,0 +1,84 @@
+//! The symbols whose values differ.
+ghost use Rattle.std.specs.Prelude.{◌≡◌, ◌<◌, ◌++◌, length, map, option_to_list, IfOk, OnOk};
+ghost use Rattle.kc_expr.specs.Lookup.{seen_of};
+ghost use Rattle.kc_rules_model.specs.SymbolValues.{symbol_seen};
+ghost use Rattle.kc_rules.specs.Told.{whole_of, value_seen};
+ghost use Rattle.kc_minimal_model.specs.Differences.{same_seen, difference_at, differences};
+ghost use Rattle.kc_minimal.specs.Told.{told};
+
+use kc_expr::Looked;
+use kc_rules::{Settled, UnitValue};
+use kc_tree::Sym;
+use kc_value::{Kind, Text, Value};
+use std::alloc::{AllocError, Global};
+
+/// A symbol whose values differ, with both: of a bool or tristate a tristate, else a text.
+#[derive(Drop)]
+pub struct Difference {
+    pub symbol: Sym,
+    pub left: Value,
+    pub right: Value,
+}
+
+/// Whether two values are the same tristate and the same text.
+fn is_same(a: &Looked<'_>, b: &Looked<'_>) -> bool
+    ensures { result ≡ same_seen (seen_of a.now) (seen_of b.now) }
+{
+    a.tri == b.tri && a.text.as_bytes() == b.text.as_bytes()
+}
+
+/// A copy of a value.
+fn value_of(alloc: Global, seen: &Looked<'_>) -> Result<Value, AllocError>
+    ensures { IfOk result (λ value. value ≡ value_seen (seen_of seen.now)) }
+{
+    match seen.kind {
+        Kind::Bool => Ok(Value::Tri(seen.tri)),
+        Kind::Tristate => Ok(Value::Tri(seen.tri)),
+        Kind::Text => Ok(Value::Text(Text::copied(alloc, seen.text)?)),
+        Kind::Int => Ok(Value::Text(Text::copied(alloc, seen.text)?)),
+        Kind::Hex => Ok(Value::Text(Text::copied(alloc, seen.text)?)),
+    }
+}
+
+/// Appends a symbol with its values, if they differ.
+fn push_if_differing(
+    found: &mut Vec<Difference>,
+    alloc: Global,
+    settled: &Settled,
+    left: &[UnitValue],
+    right: &[UnitValue],
+    s: Sym,
+) -> Result<(), AllocError>
+    requires { s < length (whole_of settled.now).symbols }
+    ensures { OnOk result (found.new.items ≡ found.old.items ++ map told (option_to_list (difference_at s (symbol_seen (whole_of settled.now) left.now s) (symbol_seen (whole_of settled.now) right.now s)))) }
+{
+    let a = settled.symbol_seen(s, left);
+    let b = settled.symbol_seen(s, right);
+    if is_same(&a, &b) {
+        return Ok(());
+    }
+    let left = value_of(alloc, &a)?;
+    let right = value_of(alloc, &b)?;
+    found.push(Difference {
+        symbol: s,
+        left,
+        right,
+    })?;
+    Ok(())
+}
+
+/// The symbols whose values differ, in order of first definition.
+pub(crate) fn differing(
+    alloc: Global,
+    settled: &Settled,
+    left: &[UnitValue],
+    right: &[UnitValue],
+) -> Result<Vec<Difference>, AllocError>
+    ensures { IfOk result (λ found. found.items ≡ map told (differences (whole_of settled.now) left.now right.now)) }
+{
+    let mut found = Vec::new(alloc);
+    for number in 0..settled.tree().symbol_count() {
+        push_if_differing(&mut found, alloc, settled, left, right, Sym::at(number))?;
+    }
+    Ok(found)
+}

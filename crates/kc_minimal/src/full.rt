@@ -1,0 +1,190 @@
+//! Full files.
+ghost use Rattle.std.specs.Prelude.{◌≡◌, ◌<◌, ◌++◌, ◌∷◌, ℕ, Bool, true, false, not, List, [], length, IfOk, OnOk, slice_index_or, slice_set, if◌then◌else◌};
+ghost use Rattle.kc_expr.specs.Arena.{stands_for};
+ghost use Rattle.kc_tree.specs.Told.{entry_of, EntryFits};
+ghost use Rattle.kc_tree_model.specs.Trees.{Entry as TreeEntry, definition};
+ghost use Rattle.kc_rules.specs.Told.{whole_of, tree_of};
+ghost use Rattle.kc_dotconfig_model.specs.checker.Prefixes.{text_of};
+ghost use Rattle.kc_minimal_model.specs.Spelling.{ended_line};
+ghost use Rattle.kc_minimal_model.specs.FullFile.{heading, end_line, applies, full_file};
+ghost use Rattle.kc_minimal.specs.checker.Drafts.{IsDraft};
+
+use crate::spelling::{is_n, push_symbol};
+use kc_dotconfig_model::Prefix;
+use kc_expr::ExprId;
+use kc_rules::{Settled, UnitValue};
+use kc_tree::{Entry, Sym};
+use std::alloc::{AllocError, Global};
+
+/// What is written of a full file: its bytes, which symbols were defined, and whether an end line came last and no
+/// heading or symbol since.
+#[derive(Drop)]
+pub(crate) struct Draft {
+    text: Vec<u8>,
+    defined: Vec<bool>,
+    gap: bool,
+}
+
+/// Appends what stands before a menu or for a comment. A title that begins with the prefix stands after two spaces, so
+/// that it is never read as an unset line.
+fn push_heading(out: &mut Vec<u8>, prefix: &Prefix, title: &str) -> Result<(), AllocError>
+    ensures { OnOk result (out.new.items ≡ out.old.items ++ heading (text_of prefix.now) title.now) }
+{
+    out.extend_from_slice(b"\n#\n# ")?;
+    if title.as_bytes().starts_with(prefix.as_bytes()) {
+        out.push(b' ')?;
+    }
+    out.extend_from_slice(title.as_bytes())?;
+    out.extend_from_slice(b"\n#\n")?;
+    Ok(())
+}
+
+/// Appends the line behind a menu.
+fn push_end(out: &mut Vec<u8>, title: &str) -> Result<(), AllocError>
+    ensures { OnOk result (out.new.items ≡ out.old.items ++ end_line title.now) }
+{
+    out.extend_from_slice(b"# end of ")?;
+    out.extend_from_slice(title.as_bytes())?;
+    out.push(b'\n')?;
+    Ok(())
+}
+
+/// Whether a condition isn't `n`.
+fn applies(settled: &Settled, values: &[UnitValue], condition: ExprId) -> bool
+    requires { condition < length (tree_of settled.now).exprs.nodes }
+    ensures { result ≡ applies (whole_of settled.now) values.now (stands_for (tree_of settled.now).exprs condition) }
+{
+    !is_n(settled.condition(condition, values))
+}
+
+/// Marks a symbol, and tells whether it wasn't marked.
+fn mark(defined: &mut Vec<bool>, s: Sym) -> bool
+    requires { s < length defined.old.items }
+    ensures fresh { result ≡ not (slice_index_or defined.old.items s false) }
+    ensures marked { defined.new.items ≡ slice_set defined.old.items s true }
+{
+    let index = s.number() as usize;
+    let fresh = !defined[index];
+    defined[index] = true;
+    fresh
+}
+
+/// Appends the line of a symbol, after an end line behind an empty line.
+fn push_behind(
+    out: &mut Vec<u8>,
+    gap: bool,
+    settled: &Settled,
+    prefix: &Prefix,
+    values: &[UnitValue],
+    s: Sym,
+) -> Result<(), AllocError>
+    requires { s < length (whole_of settled.now).symbols }
+    ensures { OnOk result (out.new.items ≡ out.old.items ++ (if gap then 10 ∷ ended_line (text_of prefix.now) (whole_of settled.now) values.now s else ended_line (text_of prefix.now) (whole_of settled.now) values.now s)) }
+{
+    if gap {
+        out.push(b'\n')?;
+        push_symbol(out, settled, prefix, values, s)
+    } else {
+        push_symbol(out, settled, prefix, values, s)
+    }
+}
+
+/// Goes over a definition: at its first one a symbol is written if a full file has it.
+fn push_definition(
+    draft: &mut Draft,
+    settled: &Settled,
+    prefix: &Prefix,
+    values: &[UnitValue],
+    s: Sym,
+) -> Result<(), AllocError>
+    requires symbol { s < length (whole_of settled.now).symbols }
+    requires marks { length draft.old.defined.items ≡ length (whole_of settled.now).symbols }
+    ensures marks { length draft.new.defined.items ≡ length draft.old.defined.items }
+    ensures goes { OnOk result ((left : List TreeEntry) → IsDraft (text_of prefix.now) (whole_of settled.now) values.now (definition s ∷ left) draft.old → IsDraft (text_of prefix.now) (whole_of settled.now) values.now left draft.new) }
+{
+    let fresh = mark(&mut draft.defined, s);
+    if settled.written(s, values) && fresh {
+        push_behind(&mut draft.text, draft.gap, settled, prefix, values, s)?;
+        draft.gap = false;
+        Ok(())
+    } else {
+        Ok(())
+    }
+}
+
+/// Goes over an entry.
+fn push_entry(
+    draft: &mut Draft,
+    settled: &Settled,
+    prefix: &Prefix,
+    values: &[UnitValue],
+    entry: &Entry<'_>,
+) -> Result<(), AllocError>
+    requires entry { EntryFits (length (tree_of settled.now).exprs.nodes) (length (whole_of settled.now).symbols) (length (whole_of settled.now).choices) entry.now }
+    requires marks { length draft.old.defined.items ≡ length (whole_of settled.now).symbols }
+    ensures marks { length draft.new.defined.items ≡ length draft.old.defined.items }
+    ensures goes { OnOk result ((left : List TreeEntry) → IsDraft (text_of prefix.now) (whole_of settled.now) values.now (entry_of (tree_of settled.now).exprs entry.now ∷ left) draft.old → IsDraft (text_of prefix.now) (whole_of settled.now) values.now left draft.new) }
+{
+    match *entry {
+        Entry::Definition(s) => push_definition(draft, settled, prefix, values, s),
+        Entry::ChoiceBegins(_) => Ok(()),
+        Entry::MenuBegins {
+            title,
+            dependency,
+            visible,
+        } => {
+            if applies(settled, values, dependency) && applies(settled, values, visible) {
+                push_heading(&mut draft.text, prefix, title)?;
+                draft.gap = false;
+                Ok(())
+            } else {
+                Ok(())
+            }
+        }
+        Entry::MenuEnds {
+            title,
+            dependency,
+            visible,
+        } => {
+            if applies(settled, values, dependency) && applies(settled, values, visible) {
+                push_end(&mut draft.text, title)?;
+                draft.gap = true;
+                Ok(())
+            } else {
+                Ok(())
+            }
+        }
+        Entry::Comment { title, dependency } => {
+            if applies(settled, values, dependency) {
+                push_heading(&mut draft.text, prefix, title)?;
+                draft.gap = false;
+                Ok(())
+            } else {
+                Ok(())
+            }
+        }
+    }
+}
+
+/// The full file of some values.
+pub(crate) fn full_lines(
+    alloc: Global,
+    settled: &Settled,
+    prefix: &Prefix,
+    values: &[UnitValue],
+) -> Result<Vec<u8>, AllocError>
+    ensures { IfOk result (λ text. text.items ≡ full_file (text_of prefix.now) (whole_of settled.now) values.now) }
+{
+    let tree = settled.tree();
+    let defined = vec![in alloc; false; tree.symbol_count() as usize]?;
+    let mut draft = Draft {
+        text: Vec::new(alloc),
+        defined,
+        gap: false,
+    };
+    for i in 0..tree.entry_count() {
+        push_entry(&mut draft, settled, prefix, values, &tree.entry(i))?;
+    }
+    let Draft { text, .. } = draft;
+    Ok(text)
+}

@@ -1,0 +1,89 @@
+//! Minimal files.
+ghost use Rattle.std.specs.Prelude.{◌≡◌, ◌<◌, ◌++◌, [], length, IfOk, OnOk, if◌then◌else◌};
+ghost use Rattle.kc_rules.specs.Told.{whole_of, profile_of};
+ghost use Rattle.kc_dotconfig_model.specs.checker.Prefixes.{text_of};
+ghost use Rattle.kc_minimal_model.specs.Spelling.{ended_line};
+ghost use Rattle.kc_minimal_model.specs.MinimalFile.{is_kept, has_line, minimal_file};
+ghost use Rattle.kc_minimal.specs.checker.Values.{FitValues};
+
+use crate::spelling::{is_n, push_symbol};
+use kc_dotconfig_model::Prefix;
+use kc_rules::{Settled, Steps, UnitValue};
+use kc_system::System;
+use kc_tree::Sym;
+use std::alloc::{AllocError, Global};
+
+/// Whether a unit's value isn't what its rule gives without a user value.
+fn is_kept(
+    alloc: Global,
+    settled: &Settled,
+    values: &[UnitValue],
+    u: u32,
+) -> Result<bool, AllocError>
+    requires unit { u < length (whole_of settled.now).units }
+    requires values { FitValues (whole_of settled.now) values.now }
+    ensures { IfOk result (λ kept. kept ≡ is_kept (profile_of settled.now) (whole_of settled.now) values.now u) }
+{
+    let mut steps = Steps::new();
+    let value = settled.eval(alloc, u, None, values, &mut steps)?;
+    Ok(!Settled::same(&values[u as usize], &value))
+}
+
+/// Whether a symbol has a line: of a choice the selected member alone may have one, so that each unit's rule is
+/// evaluated once.
+fn has_line(
+    alloc: Global,
+    settled: &Settled,
+    values: &[UnitValue],
+    s: Sym,
+) -> Result<bool, AllocError>
+    requires symbol { s < length (whole_of settled.now).symbols }
+    requires values { FitValues (whole_of settled.now) values.now }
+    ensures { IfOk result (λ line. line ≡ has_line (profile_of settled.now) (whole_of settled.now) values.now s) }
+{
+    let symbol = settled.tree().symbol(s);
+    let seen = settled.symbol_seen(s, values);
+    if symbol.choice.is_some() && is_n(seen.tri) {
+        Ok(false)
+    } else {
+        is_kept(alloc, settled, values, symbol.unit)
+    }
+}
+
+/// Appends the line of a symbol, if it has one.
+fn push_if_kept(
+    out: &mut Vec<u8>,
+    alloc: Global,
+    settled: &Settled,
+    prefix: &Prefix,
+    values: &[UnitValue],
+    s: Sym,
+) -> Result<(), AllocError>
+    requires symbol { s < length (whole_of settled.now).symbols }
+    requires values { FitValues (whole_of settled.now) values.now }
+    ensures { OnOk result (out.new.items ≡ out.old.items ++ (if has_line (profile_of settled.now) (whole_of settled.now) values.now s then ended_line (text_of prefix.now) (whole_of settled.now) values.now s else [])) }
+{
+    let line = has_line(alloc, settled, values, s)?;
+    if line {
+        push_symbol(out, settled, prefix, values, s)
+    } else {
+        Ok(())
+    }
+}
+
+/// The minimal file of some values.
+pub(crate) fn minimal_lines(
+    alloc: Global,
+    settled: &Settled,
+    prefix: &Prefix,
+    values: &[UnitValue],
+) -> Result<Vec<u8>, AllocError>
+    requires { FitValues (whole_of settled.now) values.now }
+    ensures { IfOk result (λ text. text.items ≡ minimal_file (text_of prefix.now) (profile_of settled.now) (whole_of settled.now) values.now) }
+{
+    let mut text = Vec::new(alloc);
+    for number in 0..settled.tree().symbol_count() {
+        push_if_kept(&mut text, alloc, settled, prefix, values, Sym::at(number))?;
+    }
+    Ok(text)
+}

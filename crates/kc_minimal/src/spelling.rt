@@ -1,0 +1,113 @@
+//! The line of a symbol's value.
+ghost use Rattle.std.specs.Prelude.{◌≡◌, ◌<◌, ◌++◌, ◌∷◌, ◌&&◌, [], length, OnOk};
+ghost use Rattle.kc_expr.specs.Lookup.{seen_of};
+ghost use Rattle.kc_rules_model.specs.Kinds.{is_n, is_tri_kind};
+ghost use Rattle.kc_rules.specs.Told.{whole_of};
+ghost use Rattle.kc_dotconfig_model.specs.checker.Prefixes.{text_of};
+ghost use Rattle.kc_minimal_model.specs.Spelling.{spelled, value_line, unset_line, line_with, ended_line};
+
+use kc_dotconfig_model::Prefix;
+use kc_expr::Looked;
+use kc_rules::{Settled, UnitValue};
+use kc_tree::Sym;
+use kc_value::{Kind, Tri, push_escaped};
+use std::alloc::AllocError;
+
+/// Whether it is `n`.
+pub(crate) fn is_n(value: Tri) -> bool
+    ensures { result ≡ is_n value }
+{
+    match value {
+        Tri::N => true,
+        Tri::M | Tri::Y => false,
+    }
+}
+
+/// Whether values of the type are tristates.
+fn is_tri_kind(kind: Kind) -> bool
+    ensures { result ≡ is_tri_kind kind }
+{
+    match kind {
+        Kind::Bool | Kind::Tristate => true,
+        Kind::Text | Kind::Int | Kind::Hex => false,
+    }
+}
+
+/// Appends a prefix and a name.
+fn push_name(out: &mut Vec<u8>, prefix: &Prefix, name: &str) -> Result<(), AllocError>
+    ensures { OnOk result (out.new.items ≡ out.old.items ++ (text_of prefix.now ++ name.now)) }
+{
+    out.extend_from_slice(prefix.as_bytes())?;
+    out.extend_from_slice(name.as_bytes())?;
+    Ok(())
+}
+
+/// Appends an unset line.
+fn push_unset(out: &mut Vec<u8>, prefix: &Prefix, name: &str) -> Result<(), AllocError>
+    ensures { OnOk result (out.new.items ≡ out.old.items ++ (unset_line (text_of prefix.now) name.now ++ 10 ∷ [])) }
+{
+    out.extend_from_slice(b"# ")?;
+    push_name(out, prefix, name)?;
+    out.extend_from_slice(b" is not set\n")?;
+    Ok(())
+}
+
+/// Appends the text that stands after `=`: that of a string in quotes.
+fn push_spelled(out: &mut Vec<u8>, kind: Kind, text: &str) -> Result<(), AllocError>
+    ensures { OnOk result (out.new.items ≡ out.old.items ++ spelled kind text.now) }
+{
+    match kind {
+        Kind::Text => push_escaped(out, text),
+        Kind::Bool | Kind::Tristate | Kind::Int | Kind::Hex => out.extend_from_slice(
+            text.as_bytes(),
+        ),
+    }
+}
+
+/// Appends a line that assigns a value.
+fn push_set(
+    out: &mut Vec<u8>,
+    prefix: &Prefix,
+    name: &str,
+    kind: Kind,
+    text: &str,
+) -> Result<(), AllocError>
+    ensures { OnOk result (out.new.items ≡ out.old.items ++ (value_line (text_of prefix.now) name.now (spelled kind text.now) ++ 10 ∷ [])) }
+{
+    push_name(out, prefix, name)?;
+    out.push(b'=')?;
+    push_spelled(out, kind, text)?;
+    out.push(b'\n')?;
+    Ok(())
+}
+
+/// Appends the line of a name with a value: a bool or tristate of value `n` isn't set.
+fn push_line(
+    out: &mut Vec<u8>,
+    prefix: &Prefix,
+    name: &str,
+    seen: &Looked<'_>,
+) -> Result<(), AllocError>
+    ensures { OnOk result (out.new.items ≡ out.old.items ++ (line_with (text_of prefix.now) name.now (seen_of seen.now) ++ 10 ∷ [])) }
+{
+    if is_tri_kind(seen.kind) && is_n(seen.tri) {
+        push_unset(out, prefix, name)
+    } else {
+        push_set(out, prefix, name, seen.kind, seen.text)
+    }
+}
+
+/// Appends the line of a symbol's value.
+pub(crate) fn push_symbol(
+    out: &mut Vec<u8>,
+    settled: &Settled,
+    prefix: &Prefix,
+    values: &[UnitValue],
+    s: Sym,
+) -> Result<(), AllocError>
+    requires { s < length (whole_of settled.now).symbols }
+    ensures { OnOk result (out.new.items ≡ out.old.items ++ ended_line (text_of prefix.now) (whole_of settled.now) values.now s) }
+{
+    let seen = settled.symbol_seen(s, values);
+    push_line(out, prefix, settled.tree().name(s), &seen)
+}
