@@ -9,3 +9,4 @@ pub mod HeadSteps
 pub mod ReaderSteps
 pub mod PlaceSteps
 pub mod SayingSteps
+pub mod RootSteps

@@ -2,10 +2,9 @@
 use Rattle.std.proofs.Common.{◌≡◌, ◌⊎◌, inl, inr, ℕ, Bool, true, false, not, cond, List, [], ◌∷◌, Option, Some, None, Result, Ok, Err, refl, ap, sym, ◌∙◌}
 use Rattle.std.proofs.lemmas.List.{append-nil}
 use Rattle.std.specs.Str.{is_utf8}
-use Rattle.std.specs.Prelude.{length, nat_lt, option_map}
+use Rattle.std.specs.Prelude.{length, nat_lt}
 use Rattle.kc_expr.specs.Arena.{Exprs, Grows}
-use Rattle.kc_expr.specs.Answers.{Answers}
-use Rattle.kc_expr.specs.Token.{Piece, piece_of, pieces_of, lexed}
+use Rattle.kc_expr.specs.Token.{Piece, lexed}
 use Rattle.kc_expr.specs.declared.fault.ExprFault.{ExprFault}
 use Rattle.kc_expr.specs.declared.fault.ExprKind.TheVariants as expr_kinds
 use Rattle.kc_tree_model.specs.declared.fault.TreeKind.{TreeKind}
@@ -17,15 +16,14 @@ use Rattle.kc_tree_model.specs.Forms.{statement_of, kind_of_fault, ◌>>=◌}
 use Rattle.kc_tree_model.specs.Placement.{is_allowed, is_left_out, is_stray_end}
 use Rattle.kc_tree_model.specs.Blocks.{Group}
 use Rattle.kc_tree_model.specs.Limits.{Origin, most_line_bytes, is_too_deep, is_too_many, too_many_by_attribute}
-use Rattle.kc_tree_model.specs.Reading.{unless, said_with, said_by, said_by_word, said_by_tokens, line_says, path_said}
+use Rattle.kc_tree_model.specs.Reading.{unless, said_with, said_by, said_by_word, said_by_tokens, line_says}
 use Rattle.kc_listing.specs.Shown.{Shows}
 use Rattle.kc_listing.specs.declared.listing.Listing.{Listing}
 use Rattle.kc_listing.specs.declared.progress.Progress.{Progress}
 use Rattle.kc_listing.specs.declared.progress.Step.{Step}
 use Rattle.kc_listing.specs.declared.progress.Step.TheVariants.{Next, Help, Source}
 use Rattle.kc_listing.specs.checker.Placing.{fault_before}
-use Rattle.kc_listing.specs.checker.Progress.{Describes, at_line}
-use Rattle.kc_listing.specs.checker.Steps.{line_here, limits, HeadPut, AttributePut, LineRead, IsSaid}
+use Rattle.kc_listing.specs.checker.Steps.{line_here, limits, HeadPut, AttributePut, LineRead}
 use Rattle.kc_listing.proofs.PutSteps.{lists_grown}
 use Rattle.kc_listing.specs.checker.Saying.{no_path, StatementPut, begins_with, IsGiven, IsSourceGiven, Given}
 

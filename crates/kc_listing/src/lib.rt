@@ -12,9 +12,12 @@ mod names;
 mod placement;
 mod progress;
 mod putting;
+mod read;
+mod reader;
 mod sources;
 mod standing;
 mod statements;
 mod text;
 
 pub use listing::{Group, Line, Listing, Names, What};
+pub use read::{read_files, read_found_files};

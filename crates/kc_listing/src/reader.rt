@@ -1,0 +1,123 @@
+//! Reading the files of a tree.
+ghost use Rattle.std.specs.Prelude.{◌≡◌, ◌<◌, ◌≤◌, ◌+◌, ◌-◌, ◌^◌, ◌∷◌, ℕ, List, length, drop, IfOk, IfErr, Ok};
+ghost use Rattle.kc_tree_model.specs.Blocks.{Group};
+ghost use Rattle.kc_tree_model.specs.Lines.{physical_lines, lines_of, logical};
+ghost use Rattle.kc_tree_model.specs.Limits.{Origin};
+ghost use Rattle.kc_tree_model.specs.Reading.{read_lines, read_file};
+ghost use Rattle.kc_tree_model.specs.declared.fault.TreeKind.TheVariants.{OutOfMemory};
+ghost use Rattle.kc_listing.specs.checker.Progress.{Describes, origin_of};
+ghost use Rattle.kc_listing.specs.checker.Steps.{LineRead, HelpRead, SourceRead, OneRead, IsForward, FileOfRead, IsText};
+
+use super::fault::{fault_at, out_of_memory, told_at};
+use super::line::read_line;
+use super::lines::{help_lines, logical_at, physical_at};
+use super::progress::{Opened, Progress, Step, Supply};
+use super::sources::{close_source, end_of_file, open_source};
+use super::text::text_of;
+use kc_tree_model::TreeFault;
+use kc_value::Text;
+
+/// Reads the lines of a help text; answers the place behind it, and how many lines it has.
+fn read_help(
+    file: Opened<'_>,
+    at: usize,
+    number: u32,
+    count: usize,
+) -> Result<(usize, u32), TreeFault>
+    requires within { at ≤ length file.bytes.now }
+    requires few { number ≤ at + 1 }
+    requires small { length file.bytes.now < 2 ^ 31 }
+    ensures { HelpRead file.entry.number file.entry.bytes.now at number count result }
+{
+    let mut begin = at;
+    let mut lines = 0;
+    let mut left = count;
+    'help: while left > 0 && begin < file.bytes.len() {
+        let line = physical_at(file.bytes, begin);
+        if let Err(kind) = text_of(&file.bytes[begin..line.end]) {
+            return Err(fault_at(file.number, number + lines, kind));
+        }
+        begin = line.next;
+        lines += 1;
+        left -= 1;
+    }
+    Ok((begin, lines))
+}
+
+/// Reads the file of a `source` and its end, where so many more may stand open within each other.
+#[cycle(files)]
+fn read_sourced(
+    read: &mut Progress,
+    from: Supply<'_>,
+    depth: usize,
+    file: u32,
+    line: u32,
+    path: Text,
+) -> Result<(), TreeFault>
+    ensures { (before : List Group) → Describes (origin_of from.entry) read.old before → SourceRead (origin_of from.entry) (read_file depth (origin_of from.entry)) file line path before read.new result }
+{
+    let sourced = open_source(read, from, file, line, path)?;
+    read_opened(read, from, depth, sourced)?;
+    close_source(read, from, file, line)
+}
+
+/// Reads a logical line and what it leads to; answers the place behind it, and how many lines these are.
+#[cycle(files)]
+fn read_one(
+    read: &mut Progress,
+    from: Supply<'_>,
+    depth: usize,
+    file: Opened<'_>,
+    at: usize,
+    number: u32,
+) -> Result<(usize, u32), TreeFault>
+    requires here { at < length file.bytes.now }
+    requires few { number ≤ at + 1 }
+    requires small { length file.bytes.now < 2 ^ 31 }
+    ensures bounds { IfOk result (λ p. IsForward file.entry.bytes.now at p.0 p.1) }
+    ensures read { (before : List Group) → Describes (origin_of from.entry) read.old before → OneRead (origin_of from.entry) (read_file depth (origin_of from.entry)) file.entry.number file.entry.bytes.now at number before read.new result }
+{
+    let Ok(line) = logical_at(read.alloc, file.bytes, at) else {
+        return Err(out_of_memory());
+    };
+    let next = line.next;
+    let lines = line.lines as u32;
+    match read_line(read, from, file.number, number, line.text.as_slice()) {
+        Err(kind) => Err(told_at(file.number, number, kind)),
+        Ok(Step::Next) => Ok((next, lines)),
+        Ok(Step::Help) => {
+            let count = help_lines(file.bytes, next);
+            let (behind, more) = read_help(file, next, number + lines, count)?;
+            Ok((behind, lines + more))
+        }
+        Ok(Step::Source(path)) => {
+            read_sourced(read, from, depth, file.number, number, path)?;
+            Ok((next, lines))
+        }
+    }
+}
+
+/// Reads a file behind what was read, where so many may stand open within each other.
+#[cycle(files)]
+pub(crate) fn read_opened(
+    read: &mut Progress,
+    from: Supply<'_>,
+    depth: usize,
+    file: Opened<'_>,
+) -> Result<(), TreeFault>
+    requires { length file.bytes.now < 2 ^ 31 }
+    ensures { (before : List Group) → Describes (origin_of from.entry) read.old before
+        → FileOfRead (origin_of from.entry) depth file.entry before read.new result }
+{
+    if depth == 0 {
+        return Ok(());
+    }
+    let mut at = 0;
+    let mut number = 1;
+    'lines: while at < file.bytes.len() {
+        let (next, lines) = read_one(read, from, depth - 1, file, at, number)?;
+        at = next;
+        number += lines;
+    }
+    end_of_file(read, from, file.number)
+}
