@@ -7,3 +7,6 @@ pub mod Lookups
 pub mod Made
 pub mod Named
 pub mod Seen
+pub mod Wanting
+pub mod WantingLists
+pub mod ReadSteps

@@ -8,5 +8,7 @@ pub mod NameTable
 pub mod Numbered
 pub mod PartsView
 pub mod Places
+pub mod Surface
 pub mod TreeView
 pub mod Units
+pub mod Wanting

@@ -6,13 +6,16 @@ mod entry;
 mod gathered;
 mod grouped;
 mod keyed;
+mod lacking;
 mod names;
 mod parts;
+mod paths;
 mod symbol;
 mod tree;
 mod units;
 
 pub use entry::Entry;
 pub use kc_tree_model::{Sym, Texts, TreeFault, TreeKind, Unit};
+pub use lacking::wanted;
 pub use symbol::{Choice, Default, Force, MemberDefault, Range, Symbol};
 pub use tree::Tree;

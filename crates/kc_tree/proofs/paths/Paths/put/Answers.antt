@@ -1,0 +1,13 @@
+use Rattle.std.proofs.Common.{ℕ, ap, ◌∙◌, List, map}
+use Rattle.std.specs.Prelude.{String, string_bytes}
+use Rattle.std.specs.declared.alloc.Global.{Global}
+use Rattle.kc_tree.specs.checker.Wanting.{with_path}
+use Rattle.kc_tree.proofs.Wanting.{paths_put}
+use Rattle.kc_tree.proofs.paths.Paths.put.Goals as goal
+
+pub returns : goal.returns
+returns c =
+    let v = c.in_ok-from_str.field-0 in
+    ap (λ (ks : List (String Global)). map string_bytes ks) c.in_ok-insert.ensures.keys
+    ∙ paths_put string_bytes v c.args.self.now.paths.keys
+    ∙ ap (λ (x : List ℕ). with_path x (map string_bytes c.args.self.now.paths.keys)) c.in_ok-from_str.ensures.ok

@@ -1,0 +1,134 @@
+//! The files that a tree lacks.
+ghost use Rattle.std.specs.Prelude.{◌≡◌, ◌≢◌, ◌⊎◌, ◌∷◌, ◌++◌, [], false, List, Ok, Err, Some, IfOk, IfErr, OnOk, filter, filter_map, map, option_map, string_bytes};
+ghost use Rattle.kc_tree_model.specs.Blocks.{Group, source_of};
+ghost use Rattle.kc_tree_model.specs.Limits.{once};
+ghost use Rattle.kc_tree_model.specs.Reading.{full_reading, paths_or_fault, files_wanted};
+ghost use Rattle.kc_listing.specs.Shown.{Shows};
+ghost use Rattle.kc_listing.specs.Told.{no_memory};
+ghost use Rattle.kc_tree.specs.checker.Wanting.{paths_in, is_absent, with_absent, path_in};
+
+use super::paths::Paths;
+use kc_listing::{Listing, What, read_found_files};
+use kc_tree_model::{Texts, TreeFault, TreeKind};
+use kc_value::Text;
+use std::alloc::{AllocError, Global};
+
+/// Want of memory.
+pub(crate) fn out_of_memory() -> TreeFault
+    ensures { result ≡ no_memory }
+{
+    TreeFault {
+        file: None,
+        line: 0,
+        kind: TreeKind::OutOfMemory,
+    }
+}
+
+/// Whether reading ended for want of memory.
+fn is_want_of_memory(fault: Option<TreeFault>) -> bool
+    ensures { result ≡ false → fault ≢ Some no_memory }
+{
+    match fault {
+        Some(fault) => fault.kind == TreeKind::OutOfMemory,
+        None => false,
+    }
+}
+
+/// The path that a group sources.
+fn path_of<'a>(texts: &'a [Text], what: &What) -> Option<&'a str>
+    ensures { option_map (λ p. p.now) result ≡ path_in texts.now what.now }
+{
+    match what {
+        What::Source(place) => match texts.get(*place) {
+            Some(text) => Some(text.as_str()),
+            None => None,
+        },
+        _ => None,
+    }
+}
+
+/// Puts a path that is absent to the others.
+fn put_absent(paths: &mut Paths, texts: &Texts, path: &str) -> Result<(), AllocError>
+    ensures { OnOk result (paths_in paths.new ≡ with_absent texts.now (paths_in paths.old) (Some path.now)) }
+{
+    match texts.get(path) {
+        Some(_) => Ok(()),
+        None => paths.put(path),
+    }
+}
+
+/// The absent paths of what was read, the first path's too.
+fn absent_paths(
+    alloc: Global,
+    texts: &Texts,
+    root: &str,
+    listing: &Listing,
+) -> Result<Paths, AllocError>
+    ensures { (read : List Group) → Shows listing.now read
+        → IfOk result (λ p. paths_in p ≡ filter (is_absent texts.now) (once (filter_map source_of read ++ root.now ∷ []))) }
+{
+    let mut paths = Paths::new(alloc, texts.seed());
+    put_absent(&mut paths, texts, root)?;
+    for group in &listing.groups {
+        if let Some(path) = path_of(&listing.texts, &group.what) {
+            put_absent(&mut paths, texts, path)?;
+        }
+    }
+    Ok(paths)
+}
+
+/// What is told of absent paths and the fault of reading.
+fn told(paths: &Paths, fault: Option<TreeFault>) -> Result<Vec<String>, TreeFault>
+    ensures paths { IfOk result (λ list. paths_or_fault (paths_in paths.now) fault ≡ Ok (map string_bytes list.items)) }
+    ensures fault { IfErr result (λ f. (f ≡ no_memory) ⊎ (paths_or_fault (paths_in paths.now) fault ≡ Err f)) }
+{
+    if paths.is_empty()
+        && let Some(fault) = fault
+    {
+        return Err(fault);
+    }
+    match paths.to_list() {
+        Ok(list) => Ok(list),
+        Err(_) => Err(out_of_memory()),
+    }
+}
+
+/// What is told of what was read and the fault of reading.
+fn lacking(
+    alloc: Global,
+    texts: &Texts,
+    root: &str,
+    listing: &Listing,
+    fault: Option<TreeFault>,
+) -> Result<Vec<String>, TreeFault>
+    requires fault { (fault ≡ Some no_memory) ⊎ (fault ≡ (full_reading texts.now root.now).fault) }
+    requires read { (fault ≡ Some no_memory) ⊎ Shows listing.now (full_reading texts.now root.now).read }
+    ensures paths { IfOk result (λ list. files_wanted texts.now root.now ≡ Ok (map string_bytes list.items)) }
+    ensures fault { IfErr result (λ f. (f ≡ no_memory) ⊎ (files_wanted texts.now root.now ≡ Err f)) }
+{
+    if is_want_of_memory(fault) {
+        return Err(out_of_memory());
+    }
+    match absent_paths(alloc, texts, root, listing) {
+        Ok(paths) => told(&paths, fault),
+        Err(_) => Err(out_of_memory()),
+    }
+}
+
+/// The paths that a tree lacks: the absent ones that are met, from the path of the first file on, where an absent path
+/// is read as an empty file. Each stands once, in order of first sight.
+///
+/// With none, the files can be read by [`read_tree`](super::read_tree). After the paths that are told were put to
+/// `texts`, others may be wanted.
+///
+/// # Errors
+///
+/// Where no path is absent, the first fault that reading meets, with its file and line (kconfig-language.rst, "Kconfig
+/// syntax"); where memory runs out, `OutOfMemory` with no file.
+pub fn wanted(alloc: Global, texts: &Texts, root: &str) -> Result<Vec<String>, TreeFault>
+    ensures paths { IfOk result (λ paths. files_wanted texts.now root.now ≡ Ok (map string_bytes paths.items)) }
+    ensures fault { IfErr result (λ f. (f ≡ no_memory) ⊎ (files_wanted texts.now root.now ≡ Err f)) }
+{
+    let (listing, fault) = read_found_files(alloc, texts, root);
+    lacking(alloc, texts, root, &listing, fault)
+}

@@ -1,0 +1,53 @@
+//! Paths, each once.
+ghost use Rattle.std.specs.Prelude.{◌≡◌, ◌↔◌, IsTrue, [], OnOk, IfOk, map, string_bytes};
+
+use indexmap::IndexSet;
+use kc_value::Seed;
+use std::alloc::{AllocError, Global};
+
+/// Paths, each once, in order of first sight.
+#[derive(Drop)]
+pub(crate) struct Paths {
+    alloc: Global,
+    paths: IndexSet<String, Seed>,
+}
+
+impl Paths {
+    ghost use Rattle.kc_tree.specs.checker.Wanting.{paths_in, with_path};
+
+    /// No paths. They are hashed by this seed.
+    pub(crate) fn new(alloc: Global, seed: Seed) -> Paths
+        ensures { paths_in result ≡ [] }
+    {
+        Paths {
+            alloc,
+            paths: IndexSet::with_hasher(alloc, seed),
+        }
+    }
+
+    /// Whether there are none.
+    pub(crate) fn is_empty(&self) -> bool
+        ensures { IsTrue result ↔ (paths_in self.now ≡ []) }
+    {
+        self.paths.is_empty()
+    }
+
+    /// Puts a path behind the others, unless it is there. An `Err` is want of memory.
+    pub(crate) fn put(&mut self, path: &str) -> Result<(), AllocError>
+        ensures { OnOk result (paths_in self.new ≡ with_path path.now (paths_in self.old)) }
+    {
+        self.paths.insert(String::from_str(self.alloc, path)?)?;
+        Ok(())
+    }
+
+    /// All paths in order. An `Err` is want of memory.
+    pub(crate) fn to_list(&self) -> Result<Vec<String>, AllocError>
+        ensures { IfOk result (λ list. map string_bytes list.items ≡ paths_in self.now) }
+    {
+        let mut list = Vec::with_capacity(self.alloc, self.paths.len())?;
+        for path in self.paths.as_slice() {
+            list.push(path.clone()?)?;
+        }
+        Ok(list)
+    }
+}
