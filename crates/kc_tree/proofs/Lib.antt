@@ -3,6 +3,7 @@ pub mod Gathering
 pub mod GroupedLemmas
 pub mod Grouping
 pub mod GroupingLaw
+pub mod Growth
 pub mod Lookups
 pub mod Made
 pub mod Named
@@ -10,3 +11,4 @@ pub mod Seen
 pub mod Wanting
 pub mod WantingLists
 pub mod ReadSteps
+pub mod WalkSteps

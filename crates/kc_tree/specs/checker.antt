@@ -1,4 +1,6 @@
 pub mod Conjunctions
+pub mod Conjuncts
+pub mod Firsts
 pub mod GatheredAttributes
 pub mod GatheredFits
 pub mod GatheredView
@@ -12,3 +14,4 @@ pub mod Surface
 pub mod TreeView
 pub mod Units
 pub mod Wanting
+pub mod Walked

@@ -1,11 +1,42 @@
 //! The conditions of entries and attributes.
-ghost use Rattle.std.specs.Prelude.{◌≡◌, ◌<◌, ◌++◌, List, IfOk, IfErr, IfSome, OnErr, length};
-ghost use Rattle.kc_expr.specs.Arena.{Grows};
+ghost use Rattle.std.specs.Prelude.{◌≡◌, ◌<◌, ◌++◌, ◌+◌, [], List, All, IfOk, IfErr, IfSome, OnOk, OnErr, length};
+ghost use Rattle.kc_expr.specs.Arena.{Grows, Stands};
 ghost use Rattle.kc_expr.specs.Expr.{Expr};
 ghost use Rattle.kc_expr.specs.declared.fault.ExprKind.TheVariants.{OutOfMemory};
+ghost use Rattle.kc_statements.specs.Said.{AttributeHeld};
+ghost use Rattle.kc_listing.specs.Shown.{LineHeld};
+ghost use Rattle.kc_tree_model.specs.Conditions.{all_of, visible_conjunct};
 ghost use Rattle.kc_tree.specs.checker.Conjunctions.{Conjoins, conjunct};
+ghost use Rattle.kc_tree.specs.checker.Conjuncts.{if_told, is_prompt, conjunct_told, conjuncts_told, condition_told, AreJoined, AreBehind};
+ghost use Rattle.kc_tree.specs.declared.conditions.Conjuncts.TheVariants.{Dependencies, Visibles};
 
 use kc_expr::{Arena, ExprFault, ExprId};
+use kc_listing::Line;
+use kc_statements::Attribute;
+
+/// Which conjuncts of an entry's attributes are joined.
+#[derive(Clone, Copy)]
+pub(crate) enum Conjuncts {
+    Dependencies,
+    Visibles,
+}
+
+/// What stands round the inside of an open block; the title is that of a menu. `None` is the conjunction of nothing.
+#[derive(Clone, Copy)]
+pub(crate) struct Around {
+    pub dependencies: Option<ExprId>,
+    pub visibles: Option<ExprId>,
+    pub title: Option<usize>,
+}
+
+/// The conditions of an entry: its dependency with those round it, its `visible if` with those round it, and what its
+/// prompts depend on. `None` is the conjunction of nothing.
+#[derive(Clone, Copy)]
+pub(crate) struct EntryConditions {
+    pub dependencies: Option<ExprId>,
+    pub visibles: Option<ExprId>,
+    pub shown: Option<ExprId>,
+}
 
 /// A conjunction with one more behind it, where there is one; `None` is that of nothing.
 pub(crate) fn with(
@@ -25,4 +56,140 @@ pub(crate) fn with(
         (Some(a), None) => Ok(Some(a)),
         (None, b) => Ok(b),
     }
+}
+
+/// The `if` of an attribute, where it has one.
+fn if_of(attribute: &Attribute) -> Option<ExprId>
+    ensures { result ≡ if_told attribute.now }
+{
+    match *attribute {
+        Attribute::Prompt(c) => c,
+        Attribute::TypedPrompt(_, c) => c,
+        Attribute::Default(d) => d.condition,
+        Attribute::TypedDefault(_, d) => d.condition,
+        Attribute::Select(a) => a.condition,
+        Attribute::Imply(a) => a.condition,
+        Attribute::Range(r) => r.condition,
+        Attribute::Typed(_) => None,
+        Attribute::Depends(_) => None,
+        Attribute::Visible(_) => None,
+        Attribute::Help => None,
+        Attribute::Modules => None,
+    }
+}
+
+/// Whether an attribute is a prompt.
+pub(crate) fn prompts(attribute: &Attribute) -> bool
+    ensures { result ≡ is_prompt attribute.now }
+{
+    matches!(
+        *attribute,
+        Attribute::Prompt(_) | Attribute::TypedPrompt(_, _)
+    )
+}
+
+/// What an attribute gives an entry's dependency, or its `visible if`.
+fn conjunct_in(attribute: &Attribute, which: Conjuncts) -> Option<ExprId>
+    ensures { result ≡ conjunct_told which attribute.now }
+{
+    match which {
+        Conjuncts::Dependencies => match *attribute {
+            Attribute::Depends(e) => Some(e),
+            _ => None,
+        },
+        Conjuncts::Visibles => match *attribute {
+            Attribute::Visible(e) => Some(e),
+            _ => None,
+        },
+    }
+}
+
+/// A conjunction with what attributes give behind it.
+fn with_all(
+    arena: &mut Arena,
+    all: Option<ExprId>,
+    lines: &[Line],
+    which: Conjuncts,
+) -> Result<Option<ExprId>, ExprFault>
+    requires all { IfSome all (λ i. i < length arena.old.nodes) }
+    requires held { All (LineHeld arena.old) lines.now }
+    ensures grows { Grows arena.old arena.new }
+    ensures there { IfOk result (λ c. IfSome c (λ i. i < length arena.new.nodes)) }
+    ensures ok { IfOk result (λ c. (es : List Expr) → Conjoins arena.old all es → Conjoins arena.new c (es ++ conjuncts_told which arena.old lines.now)) }
+{
+    let mut joined = all;
+    for line in lines {
+        joined = with(arena, joined, conjunct_in(&line.attribute, which))?;
+    }
+    Ok(joined)
+}
+
+/// The conditions of an entry, by what stands round it and its attributes.
+pub(crate) fn entry_conditions(
+    arena: &mut Arena,
+    around: &Around,
+    lines: &[Line],
+) -> Result<EntryConditions, ExprFault>
+    requires dependencies { IfSome around.now.dependencies (λ i. i < length arena.old.nodes) }
+    requires visibles { IfSome around.now.visibles (λ i. i < length arena.old.nodes) }
+    requires held { All (LineHeld arena.old) lines.now }
+    ensures grows { Grows arena.old arena.new }
+    ensures joined { IfOk result (λ e. (ds vs : List Expr) → Conjoins arena.old around.now.dependencies ds → Conjoins arena.old around.now.visibles vs
+        → AreJoined arena.new e (ds ++ conjuncts_told Dependencies arena.old lines.now) vs (conjuncts_told Visibles arena.old lines.now)) }
+{
+    let dependencies = with_all(arena, around.dependencies, lines, Conjuncts::Dependencies)?;
+    let visibles = with_all(arena, around.visibles, lines, Conjuncts::Visibles)?;
+    let mut entry = EntryConditions {
+        dependencies,
+        visibles,
+        shown: None,
+    };
+    entry.shown = with(arena, entry.dependencies, around.visibles)?;
+    Ok(entry)
+}
+
+/// The condition of an attribute; `yes` is that of nothing.
+fn condition_of(
+    arena: &mut Arena,
+    yes: ExprId,
+    entry: &EntryConditions,
+    attribute: &Attribute,
+) -> Result<ExprId, ExprFault>
+    requires dependencies { IfSome entry.now.dependencies (λ i. i < length arena.old.nodes) }
+    requires shown { IfSome entry.now.shown (λ i. i < length arena.old.nodes) }
+    requires held { AttributeHeld arena.old attribute.now }
+    ensures grows { Grows arena.old arena.new }
+    ensures stands { IfOk result (λ c. (ds vs own : List Expr) → AreJoined arena.old entry.now ds vs own → Stands arena.old yes (all_of [])
+        → Stands arena.new c (condition_told arena.old ds vs attribute.now)) }
+{
+    let all = if prompts(attribute) {
+        entry.shown
+    } else {
+        entry.dependencies
+    };
+    let condition = with(arena, all, if_of(attribute))?;
+    Ok(condition.unwrap_or(yes))
+}
+
+/// Puts the conditions of an entry's attributes behind others.
+pub(crate) fn push_conditions(
+    arena: &mut Arena,
+    yes: ExprId,
+    entry: &EntryConditions,
+    lines: &[Line],
+    conditions: &mut Vec<ExprId>,
+) -> Result<(), ExprFault>
+    requires dependencies { IfSome entry.now.dependencies (λ i. i < length arena.old.nodes) }
+    requires shown { IfSome entry.now.shown (λ i. i < length arena.old.nodes) }
+    requires held { All (LineHeld arena.old) lines.now }
+    ensures grows { Grows arena.old arena.new }
+    ensures stand { OnOk result ((ds vs own : List Expr) → AreJoined arena.old entry.now ds vs own → Stands arena.old yes (all_of [])
+        → AreBehind arena.old arena.new conditions.old.items conditions.new.items ds vs lines.now) }
+    ensures longer { OnOk result (length conditions.new.items ≡ length conditions.old.items + length lines.now) }
+{
+    for line in lines {
+        let condition = condition_of(arena, yes, entry, &line.attribute)?;
+        conditions.push(condition)?;
+    }
+    Ok(())
 }

@@ -13,6 +13,7 @@ mod paths;
 mod symbol;
 mod tree;
 mod units;
+mod walk;
 
 pub use entry::Entry;
 pub use kc_tree_model::{Sym, Texts, TreeFault, TreeKind, Unit};

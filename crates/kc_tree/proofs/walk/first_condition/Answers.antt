@@ -1,0 +1,7 @@
+use Rattle.std.proofs.Common.{◌∙◌, sym}
+use Rattle.kc_tree.proofs.WalkSteps.{first_step}
+use Rattle.kc_tree.proofs.walk.first_condition.Goals as goal
+
+pub loop-i-preserved : goal.loop-i-preserved
+loop-i-preserved c =
+    c.loop-i.invariant ∙ first_step c.args.lines.now c.args.conditions.now c.loop-i.i c.index-lines-i.result c.loop-i-test.true c.requires (sym c.prompts.ensures ∙ c.if-prompts.false)
