@@ -1,4 +1,7 @@
+pub mod Abouts
+pub mod Aligned
 pub mod ConjunctionLemmas
+pub mod FaultKinds
 pub mod Gathering
 pub mod GroupedLemmas
 pub mod Grouping
@@ -7,8 +10,10 @@ pub mod Growth
 pub mod Lookups
 pub mod Made
 pub mod Named
+pub mod Rounds
 pub mod Seen
 pub mod Wanting
 pub mod WantingLists
 pub mod ReadSteps
 pub mod WalkSteps
+pub mod Symbols

@@ -1,3 +1,4 @@
+pub mod Attributes
 pub mod Conjunctions
 pub mod Conjuncts
 pub mod Firsts
@@ -6,11 +7,14 @@ pub mod GatheredFits
 pub mod GatheredView
 pub mod GroupedItems
 pub mod Kept
+pub mod Kinds
+pub mod Marks
 pub mod NameTable
 pub mod Numbered
 pub mod PartsView
 pub mod Places
 pub mod Surface
+pub mod Summaries
 pub mod TreeView
 pub mod Units
 pub mod Wanting

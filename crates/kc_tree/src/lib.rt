@@ -1,15 +1,24 @@
 //! What the files of a Kconfig tree hold: symbols, choices, entries and units, with all conditions joined.
 #![tactic(auto)]
 
+mod after;
+mod around;
+mod attribute;
 mod conditions;
 mod entry;
+mod forces;
 mod gathered;
 mod grouped;
 mod keyed;
 mod lacking;
+mod kind_of_fault;
+mod kinds;
+mod marks;
 mod names;
+mod own_lines;
 mod parts;
 mod paths;
+mod summary;
 mod symbol;
 mod tree;
 mod units;

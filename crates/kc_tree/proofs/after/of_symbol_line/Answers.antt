@@ -1,0 +1,14 @@
+use Rattle.std.proofs.Common.{◌≡◌, ap, sym, ◌∙◌}
+use Rattle.std.specs.Prelude.{slice_get}
+use Rattle.kc_statements.specs.Said.{attribute_in}
+use Rattle.kc_tree_model.specs.Contents.{contents_of}
+use Rattle.kc_tree_model.specs.TreeFaults.{attribute_faults}
+use Rattle.kc_tree.proofs.FaultKinds.{typed_is}
+use Rattle.kc_tree.proofs.after.of_symbol_line.Goals as goal
+
+pub returns-in-Some : goal.returns-in-Some
+returns-in-Some c = λ read name h m.
+    let e = c.args.listing.now.names.arena in
+    c.of_typed.ensures e
+    ∙ typed_is (contents_of read) name c.in-Some.kind c.args.prompted c.args.is_modules c.is_wrong_force-is_wrong.result (attribute_in e c.args.attribute.now) m (c.is_wrong_force-is_wrong.ensures read h)
+    ∙ ap (λ k. slice_get (attribute_faults (contents_of read) name k c.args.prompted (attribute_in e c.args.attribute.now)) 0) (sym c.in-Some.is)

@@ -1,0 +1,71 @@
+//! What attributes say.
+ghost use Rattle.std.specs.Prelude.{◌≡◌, ◌<◌, IfSome, is_some, length, option_map};
+ghost use Rattle.kc_expr.specs.Arena.{Exprs};
+ghost use Rattle.kc_tree_model.specs.Statements.{type_of, prompt_of, default_of, range_of, is_modules as modules};
+ghost use Rattle.kc_statements.specs.Said.{attribute_in, AttributeHeld, valued_in, ValuedHeld};
+ghost use Rattle.kc_tree.specs.checker.Attributes.{aim_of};
+ghost use Rattle.kc_listing.specs.Names.{word_in};
+
+use kc_expr::NameId;
+use kc_statements::{Attribute, Valued};
+use kc_value::Kind;
+
+/// The type that an attribute gives.
+pub(crate) fn type_given(attribute: &Attribute) -> Option<Kind>
+    ensures { (e : Exprs) → result ≡ type_of (attribute_in e attribute.now) }
+{
+    match *attribute {
+        Attribute::Typed(kind) => Some(kind),
+        Attribute::TypedPrompt(kind, _) => Some(kind),
+        Attribute::TypedDefault(kind, _) => Some(kind),
+        _ => None,
+    }
+}
+
+/// Whether an attribute is a prompt.
+pub(crate) fn is_prompt(attribute: &Attribute) -> bool
+    ensures { (e : Exprs) → result ≡ is_some (prompt_of (attribute_in e attribute.now)) }
+{
+    matches!(
+        *attribute,
+        Attribute::Prompt(_) | Attribute::TypedPrompt(_, _)
+    )
+}
+
+/// The default that an attribute is.
+pub(crate) fn default_given(attribute: &Attribute) -> Option<Valued>
+    ensures valued { (e : Exprs) → option_map (valued_in e) result ≡ default_of (attribute_in e attribute.now) }
+    ensures held { (e : Exprs) → AttributeHeld e attribute.now → IfSome result (ValuedHeld e) }
+{
+    match *attribute {
+        Attribute::Default(valued) => Some(valued),
+        Attribute::TypedDefault(_, valued) => Some(valued),
+        _ => None,
+    }
+}
+
+/// Whether an attribute is a range.
+pub(crate) fn is_range(attribute: &Attribute) -> bool
+    ensures { (e : Exprs) → result ≡ is_some (range_of (attribute_in e attribute.now)) }
+{
+    matches!(*attribute, Attribute::Range(_))
+}
+
+/// Whether an attribute marks the modules symbol.
+pub(crate) fn is_modules(attribute: &Attribute) -> bool
+    ensures { (e : Exprs) → result ≡ modules (attribute_in e attribute.now) }
+{
+    matches!(*attribute, Attribute::Modules)
+}
+
+/// The name that an attribute selects or implies.
+pub(crate) fn name_aimed_at(attribute: &Attribute) -> Option<NameId>
+    ensures name { (e : Exprs) → option_map (word_in e) result ≡ aim_of (attribute_in e attribute.now) }
+    ensures held { (e : Exprs) → AttributeHeld e attribute.now → IfSome result (λ i. i < length e.names) }
+{
+    match *attribute {
+        Attribute::Select(aimed) => Some(aimed.name),
+        Attribute::Imply(aimed) => Some(aimed.name),
+        _ => None,
+    }
+}

@@ -1,0 +1,42 @@
+//! Tests of types.
+ghost use Rattle.std.specs.Prelude.{◌≡◌};
+ghost use Rattle.kc_tree_model.specs.TreeFaults.{is_logical as logical, is_number as number, is_other_kind as other_kind, same_kind as same};
+
+use kc_value::Kind;
+
+/// Whether a type is bool or tristate.
+pub(crate) fn is_logical(kind: Kind) -> bool
+    ensures { result ≡ logical kind }
+{
+    matches!(kind, Kind::Bool | Kind::Tristate)
+}
+
+/// Whether a type is int or hex.
+pub(crate) fn is_number(kind: Kind) -> bool
+    ensures { result ≡ number kind }
+{
+    matches!(kind, Kind::Int | Kind::Hex)
+}
+
+/// Whether two types are the same.
+fn is_same(a: Kind, b: Kind) -> bool
+    ensures { result ≡ same a b }
+{
+    match a {
+        Kind::Bool => matches!(b, Kind::Bool),
+        Kind::Tristate => matches!(b, Kind::Tristate),
+        Kind::Text => matches!(b, Kind::Text),
+        Kind::Int => matches!(b, Kind::Int),
+        Kind::Hex => matches!(b, Kind::Hex),
+    }
+}
+
+/// Whether a type is given, and is another than this one.
+pub(crate) fn is_other_kind(kind: Kind, given: Option<Kind>) -> bool
+    ensures { result ≡ other_kind kind given }
+{
+    match given {
+        Some(other) => !is_same(kind, other),
+        None => false,
+    }
+}

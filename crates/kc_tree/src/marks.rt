@@ -1,0 +1,15 @@
+//! Marks of the members of a choice.
+ghost use Rattle.std.specs.Prelude.{◌<◌, All, length};
+ghost use Rattle.kc_tree.specs.checker.Marks.{WereMarked};
+
+use kc_tree_model::Sym;
+
+/// Gives these symbols a mark.
+pub(crate) fn mark_members(marks: &mut [u32], members: &[Sym], mark: u32)
+    requires { All (λ s. s < length marks.old) members.now }
+    ensures { WereMarked marks.old members.now mark marks.new }
+{
+    for member in members {
+        marks[member.number() as usize] = mark;
+    }
+}
