@@ -67,10 +67,10 @@ def entry(i, count, rng):
     yield "\n"
 
 
-def likeness(count, rng):
-    yield "mainmenu \"Configuration\"\n\nconfig MODULES\n\tbool \"Loadable modules\"\n\tdefault y\n\n"
+def part(first, last, count, rng):
+    """The symbols of some numbers, with the blocks round them."""
     open_blocks = []
-    for i in range(count):
+    for i in range(first, last):
         if rng.random() < 0.03 and len(open_blocks) < 6:
             if rng.random() < 0.5:
                 yield f'menu "Part {i}"\n\n'
@@ -84,6 +84,24 @@ def likeness(count, rng):
         if rng.random() < 0.002:
             yield f'choice\n\tprompt "Kind {i}"\n\nconfig CHOICE_{i}_A\n\tbool "a"\n\nconfig CHOICE_{i}_B\n\tbool "b"\n\nendchoice\n\n'
     yield from reversed(open_blocks)
+
+
+HEAD = 'mainmenu "Configuration"\n\nconfig MODULES\n\tbool "Loadable modules"\n\tdefault y\n\n'
+
+
+def likeness(count, rng):
+    yield HEAD
+    yield from part(0, count, count, rng)
+
+
+def likeness_in_files(count, files, folder, rng):
+    """The same in so many files of a folder, which its file Kconfig sources."""
+    with open(f"{folder}/Kconfig", "w") as root:
+        root.write(HEAD)
+        for i in range(files):
+            root.write(f'source "part_{i}"\n')
+            with open(f"{folder}/part_{i}", "w") as it:
+                it.writelines(part(count * i // files, count * (i + 1) // files, count, rng))
 
 
 def flat(count, rng):

@@ -1,17 +1,6 @@
 //! Configuration files: what their lines say, what they assign, and why one is refused.
 #![tactic(auto)]
 
-/// Makes a call of a test again where it was refused at its first try.
-#[cfg(test)]
-macro_rules! twice {
-    ($call:expr) => {
-        match $call {
-            Ok(made) => made,
-            Err(_) => $call?,
-        }
-    };
-}
-
 mod fault;
 mod laws;
 mod notice;
@@ -25,6 +14,3 @@ pub use laws::{
 };
 pub use notice::{Notice, NoticeKind};
 pub use prefix::Prefix;
-
-#[cfg(test)]
-mod tests;

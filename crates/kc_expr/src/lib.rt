@@ -1,17 +1,6 @@
 //! Tokens of lines, and expressions.
 #![tactic(auto)]
 
-/// Makes a call of a test again where it was refused at its first try.
-#[cfg(test)]
-macro_rules! twice {
-    ($call:expr) => {
-        match $call {
-            Ok(made) => made,
-            Err(_) => $call?,
-        }
-    };
-}
-
 mod arena;
 mod evaluate;
 mod fault;
@@ -35,8 +24,3 @@ pub use lookup::{Looked, Lookup};
 pub use operand::Operand;
 pub use quoted::quoted_text;
 pub use token::{Relop, Token, TokenKind, push_tokens, tokens};
-
-#[cfg(test)]
-mod arena_tests;
-#[cfg(test)]
-mod tests;

@@ -4,6 +4,4 @@ pub mod PlaceSets
 pub mod Plans
 pub mod Revising
 pub mod Rows
-pub mod Sums
-pub mod SumsLaws
 pub mod Taking

@@ -2,17 +2,6 @@
 //! its faults.
 #![tactic(auto)]
 
-/// Makes a call of a test again where it was refused at its first try.
-#[cfg(test)]
-macro_rules! twice {
-    ($call:expr) => {
-        match $call {
-            Ok(made) => made,
-            Err(_) => $call?,
-        }
-    };
-}
-
 mod fault;
 mod ids;
 mod laws;

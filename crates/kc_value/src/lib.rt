@@ -1,17 +1,6 @@
 //! Values of symbols, number and quoted texts, and the readers and writers of every crate above.
 #![tactic(auto)]
 
-/// Makes a call of a test again where it was refused at its first try.
-#[cfg(test)]
-macro_rules! twice {
-    ($call:expr) => {
-        match $call {
-            Ok(made) => made,
-            Err(_) => $call?,
-        }
-    };
-}
-
 mod number;
 mod outside;
 mod quoted;

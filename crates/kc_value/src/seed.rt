@@ -33,15 +33,3 @@ impl BuildHasher for Seed {
         self.start
     }
 }
-
-#[cfg(test)]
-mod tests {
-    use super::*;
-
-    #[test]
-    fn seeds_differ(rt: HostRuntime) {
-        let hash = Seed::of(1, 2).hash_one("A");
-        assert!(rt; hash != Seed::of(1, 3).hash_one("A"));
-        assert!(rt; hash != Seed::of(2, 2).hash_one("A"));
-    }
-}

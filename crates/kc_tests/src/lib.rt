@@ -1,0 +1,32 @@
+//! Tests of the libraries' public calls: what no contract says, and worked rows.
+//!
+//! They stand in a crate of their own, so that no library is proved a second time for its tests.
+#![tactic(auto)]
+
+/// Makes a call again where it was refused at its first try.
+#[cfg(test)]
+macro_rules! twice {
+    ($call:expr) => {
+        match $call {
+            Ok(made) => made,
+            Err(_) => $call?,
+        }
+    };
+}
+
+#[cfg(test)]
+mod configurations;
+#[cfg(test)]
+mod expressions;
+#[cfg(test)]
+mod numbers;
+#[cfg(test)]
+mod streams;
+#[cfg(test)]
+mod sums;
+#[cfg(test)]
+mod systems;
+#[cfg(test)]
+mod texts;
+#[cfg(test)]
+mod trees;
