@@ -17,3 +17,4 @@ pub mod WantingLists
 pub mod ReadSteps
 pub mod WalkSteps
 pub mod Symbols
+pub mod EntrySteps

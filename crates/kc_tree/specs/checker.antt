@@ -1,6 +1,7 @@
 pub mod Attributes
 pub mod Conjunctions
 pub mod Conjuncts
+pub mod Entries
 pub mod Firsts
 pub mod GatheredAttributes
 pub mod GatheredFits
