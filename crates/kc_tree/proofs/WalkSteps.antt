@@ -24,7 +24,7 @@ use Rattle.kc_tree_model.specs.Contents.{menu_end_of}
 use Rattle.kc_tree_model.proofs.NestedTrees.OpenBlocks.{pushed, popped, open_inside}
 use Rattle.kc_tree.specs.checker.Conjunctions.{Conjoins, conjunct}
 use Rattle.kc_tree.specs.checker.Conjuncts.{is_prompt, conjunct_told, conjuncts_told, AreJoined, AreBehind, condition_told, line_condition}
-use Rattle.kc_tree.specs.checker.Firsts.{first_prompt, PromptStands, InsideShown, is_end}
+use Rattle.kc_tree.specs.checker.Firsts.{first_prompt, PromptStands, InsideShown, is_end, WhatHeld}
 use Rattle.kc_tree.specs.checker.Walked.{condition_among, condition_at, or_yes, EndShown, AroundShown, AroundsShown, innermost_around, ConditionsShown, AllConditionsShown, IsWalked, HasWalked}
 use Rattle.kc_tree.specs.declared.conditions.Conjuncts.TheVariants.{Dependencies, Visibles}
 use Rattle.kc_tree.specs.declared.conditions.Around.{Around}
@@ -170,7 +170,7 @@ conditions_said exprs ds vs (l ∷ lines) =
     let f = conditions_said exprs ds vs lines in
     cc
 
-lines_kept : (old new : Exprs) (lines : List CodeLine) → Grows old new → All (LineHeld old) lines → map (line_in new) lines ≡ map (line_in old) lines
+pub lines_kept : (old new : Exprs) (lines : List CodeLine) → Grows old new → All (LineHeld old) lines → map (line_in new) lines ≡ map (line_in old) lines
 lines_kept old new [] g h = refl
 lines_kept old new (l ∷ lines) g h =
     let a : AttributeHeld old l.attribute = h 0 l (omega arith) in
@@ -405,3 +405,15 @@ module _ (old mid far : Exprs) (before after : List ℕ) (ds vs : List Expr) (li
   prompt_stands p first g held l e =
       subst (λ q. PromptStands far q (slice_get (prompts_among ds vs (map (line_in old) lines)) 0)) (sym (e ∙ ap (λ n. first_prompt lines (drop n after)) l ∙ ap (first_prompt lines) own_is))
       (prompt_first old far ds vs lines b.own b.held (b.stand ∙ conditions_on old mid ds vs lines g held))
+
+-- the node of an `if` is there
+pub what_held : (exprs : Exprs) (names texts : List (List ℕ)) (c : CodeWhat) (w : What) → WhatShown exprs names texts c w → WhatHeld (length exprs.nodes) c
+what_held exprs names texts (codes.Config s) w h = tt
+what_held exprs names texts codes.Choice w h = tt
+what_held exprs names texts (codes.Menu t) w h = tt
+what_held exprs names texts (codes.Condition id) w h = h.0
+what_held exprs names texts (codes.Comment t) w h = tt
+what_held exprs names texts (codes.Source t) w h = tt
+what_held exprs names texts codes.Mainmenu w h = tt
+what_held exprs names texts (codes.Ends b) w h = tt
+what_held exprs names texts codes.FileEnd w h = tt

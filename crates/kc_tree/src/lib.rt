@@ -24,6 +24,7 @@ mod symbol;
 mod tree;
 mod units;
 mod walk;
+mod walks;
 
 pub use entry::Entry;
 pub use kc_tree_model::{Sym, Texts, TreeFault, TreeKind, Unit};

@@ -6,7 +6,7 @@ ghost use Rattle.kc_tree.specs.checker.Summaries.{attributes_end, group_at, own_
 use kc_listing::{Group, Line, Listing};
 
 /// Where the attributes of a group end.
-fn end_of(groups: &[Group], lines: &[Line], i: usize) -> usize
+pub(crate) fn end_of(groups: &[Group], lines: &[Line], i: usize) -> usize
     requires { i < length groups.now }
     ensures { result ≡ attributes_end groups.now lines.now i }
 {
@@ -18,7 +18,7 @@ fn end_of(groups: &[Group], lines: &[Line], i: usize) -> usize
 }
 
 /// The lines from a place up to another.
-fn part(lines: &[Line], from: usize, to: usize) -> &[Line]
+pub(crate) fn part(lines: &[Line], from: usize, to: usize) -> &[Line]
     requires rising { from ≤ to }
     requires within { to ≤ length lines.now }
     ensures { result.now ≡ slice_range lines.now from to }
