@@ -1,4 +1,5 @@
 pub mod Attributes
+pub mod Conditioned
 pub mod Conjunctions
 pub mod Conjuncts
 pub mod Entries

@@ -16,6 +16,7 @@ mod kinds;
 mod lacking;
 mod marks;
 mod names;
+mod own_conditions;
 mod own_lines;
 mod parts;
 mod paths;
