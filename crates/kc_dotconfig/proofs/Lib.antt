@@ -1,0 +1,10 @@
+pub mod Insertions
+pub mod Takings
+pub mod ReadingSteps
+pub mod ReadingWhole
+pub mod Sayings
+pub mod Fitting
+pub mod LineParts
+pub mod Holding
+pub mod FragmentFits
+pub mod Solving

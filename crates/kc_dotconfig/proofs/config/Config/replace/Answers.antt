@@ -1,0 +1,52 @@
+use Rattle.std.proofs.Common.{◌≡◌, ◌++◌, ℕ, List, Option, IsTrue, length, ◌∙◌, sym, ap, subst}
+use Rattle.kc_system.specs.Changes.{changed_users, FitsChanges}
+use Rattle.kc_rules_model.specs.Shapes.{user_fits}
+use Rattle.kc_rules_model.specs.declared.values.UserValue.{UserValue}
+use Rattle.kc_dotconfig.specs.Configured.{Configured, tree_in}
+use Rattle.kc_dotconfig.specs.Fragments.{FitsTree, changes_of, users_of}
+use Rattle.kc_dotconfig.specs.checker.Configs.{units_of, clears_of}
+use Rattle.kc_dotconfig.proofs.Holding.{fits_changes, fits_both}
+use Rattle.kc_dotconfig.proofs.Solving.{solved_by, replaced_kept, replaced_users}
+use Rattle.kc_dotconfig.proofs.config.Config.replace.Goals as goal
+
+pub apply-requires : goal.apply-requires
+apply-requires c =
+    let e : c.deref-4.result.now ≡ clears_of c.self.inside.held.items ++ changes_of c.args.fragment.now.assigns.items =
+    c.deref-4.ensures.value ∙ c.in_ok-push_users.ensures
+    ∙ ap (λ (l : List (ℕ × Option UserValue)). l ++ changes_of c.deref-3.result.now) (c.in_ok-push_cleared.ensures ∙ ap (λ (l : List (ℕ × Option UserValue)). l ++ clears_of c.deref-2.result.now) c.in_ok-changes.ensures.items)
+    ∙ ap (λ (l : List (ℕ × UserValue)). clears_of c.deref-2.result.now ++ changes_of l) c.deref-3.ensures.value
+    ∙ ap (λ (l : List ℕ). clears_of l ++ changes_of c.args.fragment.now.assigns.items) c.deref-2.ensures.value in
+    let v : c.args.self.now ≡ c.self.inside.session = sym c.self.view_is in
+    subst (FitsChanges (length (tree_in c.self.inside.session).units) (λ u x. IsTrue (user_fits (tree_in c.self.inside.session) u x))) (sym e)
+    (fits_both (length (tree_in c.self.inside.session).units) (λ u x. IsTrue (user_fits (tree_in c.self.inside.session) u x)) c.self.inside.held.items (changes_of c.args.fragment.now.assigns.items) c.self.invariant.within
+    (fits_changes (tree_in c.self.inside.session) c.args.fragment.now.assigns.items (subst (λ (s : Configured). FitsTree (tree_in s) c.args.fragment.now.assigns.items) v c.requires)))
+
+pub invariant_of-self-2 : goal.invariant_of-self-2
+invariant_of-self-2 c =
+    let e : c.deref-4.result.now ≡ clears_of c.self.inside.held.items ++ changes_of c.args.fragment.now.assigns.items =
+    c.deref-4.ensures.value ∙ c.in_ok-push_users.ensures
+    ∙ ap (λ (l : List (ℕ × Option UserValue)). l ++ changes_of c.deref-3.result.now) (c.in_ok-push_cleared.ensures ∙ ap (λ (l : List (ℕ × Option UserValue)). l ++ clears_of c.deref-2.result.now) c.in_ok-changes.ensures.items)
+    ∙ ap (λ (l : List (ℕ × UserValue)). clears_of c.deref-2.result.now ++ changes_of l) c.deref-3.ensures.value
+    ∙ ap (λ (l : List ℕ). clears_of l ++ changes_of c.args.fragment.now.assigns.items) c.deref-2.ensures.value in
+    let v : c.args.self.now ≡ c.self.inside.session = sym c.self.view_is in
+    let users = replaced_users c.self.inside.settled.now c.self.inside.session c.self.inside.held.items c.args.fragment.now.assigns.items c.apply.new.self.users c.self.invariant
+    (c.in_ok-report.ensures.users ∙ ap (λ (l : List (ℕ × Option UserValue)). changed_users l c.self.inside.session.users) e) in
+    replaced_kept c.self.inside.settled.now c.self.inside.session c.apply.new.self c.self.inside.held.items c.in_ok-held.held.items c.args.fragment.now.assigns.items c.self.invariant
+    (subst (λ (s : Configured). FitsTree (tree_in s) c.args.fragment.now.assigns.items) v c.requires)
+    (solved_by c.self.inside.session c.apply.new.self c.self.invariant.solved c.in_ok-report.ensures.system c.in_ok-report.ensures.fits c.in_ok-report.ensures.gives)
+    c.in_ok-report.ensures.system users (c.in_ok-held.ensures ∙ ap units_of c.deref.ensures.value)
+
+pub returns-clause-users : goal.returns-clause-users
+returns-clause-users c =
+    let e : c.deref-4.result.now ≡ clears_of c.self.inside.held.items ++ changes_of c.args.fragment.now.assigns.items =
+    c.deref-4.ensures.value ∙ c.in_ok-push_users.ensures
+    ∙ ap (λ (l : List (ℕ × Option UserValue)). l ++ changes_of c.deref-3.result.now) (c.in_ok-push_cleared.ensures ∙ ap (λ (l : List (ℕ × Option UserValue)). l ++ clears_of c.deref-2.result.now) c.in_ok-changes.ensures.items)
+    ∙ ap (λ (l : List (ℕ × UserValue)). clears_of c.deref-2.result.now ++ changes_of l) c.deref-3.ensures.value
+    ∙ ap (λ (l : List ℕ). clears_of l ++ changes_of c.args.fragment.now.assigns.items) c.deref-2.ensures.value in
+    let v : c.args.self.now ≡ c.self.inside.session = sym c.self.view_is in
+    let users = replaced_users c.self.inside.settled.now c.self.inside.session c.self.inside.held.items c.args.fragment.now.assigns.items c.apply.new.self.users c.self.invariant
+    (c.in_ok-report.ensures.users ∙ ap (λ (l : List (ℕ × Option UserValue)). changed_users l c.self.inside.session.users) e) in
+    subst (λ (s : Configured). c.apply.new.self.users ≡ users_of (tree_in s) c.args.fragment.now.assigns.items) (sym v) users
+
+pub returns-clause-solved : goal.returns-clause-solved
+returns-clause-solved c = solved_by c.self.inside.session c.apply.new.self c.self.invariant.solved c.in_ok-report.ensures.system c.in_ok-report.ensures.fits c.in_ok-report.ensures.gives

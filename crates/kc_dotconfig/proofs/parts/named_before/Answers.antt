@@ -1,0 +1,14 @@
+use Rattle.std.proofs.Common.{◌≡◌, sym, ◌∙◌, ap, None}
+use Rattle.std.specs.Option.{option_and_then}
+use Rattle.kc_dotconfig_model.specs.checker.Reading.{if_named, named_before}
+use Rattle.kc_dotconfig.proofs.LineParts.{cut_none, cut_parts, named_is, if_none}
+use Rattle.kc_dotconfig.proofs.parts.named_before.Goals as goal
+
+pub returns-in_err-name-clause-none : goal.returns-in_err-name-clause-none
+returns-in_err-name-clause-none c =
+    if_none c.from_residual.result (named_before c.args.end c.args.text.now ≡ None) (ap (option_and_then if_named) (cut_none c.args.end c.args.text.now (c.in_err-name.ensures.byte c.requires (λ w o f. f))))
+
+pub returns-clause-some : goal.returns-clause-some
+returns-clause-some c =
+    let b = c.in_ok-name.ensures.byte c.requires (λ w o f. f) in
+    named_is c.args.end c.args.text.now c.in_ok-name.name.now c.in_ok-name.rest.now (cut_parts c.args.end c.args.text.now c.in_ok-name.name.now c.in_ok-name.rest.now b.0 b.1 b.2) (sym c.is_empty.ensures ∙ c.if-is_empty.false)

@@ -1,0 +1,27 @@
+-- What a configuration holds.
+use Rattle.std.specs.Prelude.{length, IsTrue}
+use Rattle.kc_system.specs.Held.{Held}
+use Rattle.kc_system.specs.Solutions.{Gives, FitsUsers, FitsValues}
+use Rattle.kc_tree_model.specs.Trees.{Whole}
+use Rattle.kc_rules_model.specs.declared.values.UnitValue.{UnitValue}
+use Rattle.kc_rules_model.specs.declared.values.UserValue.{UserValue}
+use Rattle.kc_rules_model.specs.Rule.{rule}
+use Rattle.kc_rules_model.specs.Shapes.{user_fits, value_fits}
+use Rattle.kc_rules_model.specs.SettledTrees.{IsSettledTree}
+use Rattle.kc_rules.specs.declared.rules.Settled.{Settled}
+use Rattle.kc_rules.specs.Told.{whole_of, profile_of}
+
+-- a settled tree, an assignment and its values
+abbrev pub Configured : Type 0
+Configured = Held Settled UnitValue UserValue
+
+-- the tree of a configuration
+abbrev pub tree_in : Configured → Whole
+tree_in c = whole_of c.system
+
+-- the assignment held fits the tree, and the values held are the only ones that it gives
+pub record IsSolved (c : Configured) : Type 0 where
+  pub settled : IsSettledTree (tree_in c)
+  pub fits : FitsUsers (length (tree_in c).units) (λ u x. IsTrue (user_fits (tree_in c) u x)) c.users
+  pub fits_values : FitsValues (length (tree_in c).units) (λ u v. IsTrue (value_fits (tree_in c) u v)) c.values
+  pub gives : Gives (length (tree_in c).units) (rule (profile_of c.system) (tree_in c)) c.users c.values

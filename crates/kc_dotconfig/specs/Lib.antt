@@ -1,0 +1,4 @@
+pub mod Fragments
+pub mod Reads
+pub mod Configured
+pub mod checker

@@ -1,0 +1,46 @@
+-- What reading a configuration file answers, by the bytes that the reader told.
+use Rattle.std.specs.Prelude.{◌≡◌, ◌⊎◌, ℕ, ◌-◌, ◌^◌, ◌<◌, List, ◌++◌, Option, map}
+use Rattle.std.specs.Io.KnownBytes.{Consumes, IsAtEnd}
+use Rattle.kc_tree_model.specs.Trees.{Whole}
+use Rattle.kc_dotconfig_model.specs.declared.fault.LoadKind.{LoadKind}
+use Rattle.kc_dotconfig_model.specs.declared.fault.LoadKind.TheVariants.{Malformed, NotUtf8, LineTooLong, TooManyLines, Read, OutOfMemory, TooLarge}
+use Rattle.kc_dotconfig_model.specs.Lines.{Saying}
+use Rattle.kc_dotconfig_model.specs.Files.{FileSays, file_users, notices_from}
+use Rattle.kc_dotconfig_model.specs.LoadFaults.{complete, cut_short, IsFirstFault, IsAccepted}
+use Rattle.kc_dotconfig.specs.declared.fragment.Fragment.{Fragment}
+use Rattle.kc_dotconfig.specs.Fragments.{users_of, notice_pair}
+
+-- the file was read to its end, it has no fault, and this is its assignment with its notices
+pub record IsReadAs (prefix : List ℕ) (tree : Whole) (before after : Option (List ℕ)) (f : Fragment) : Type 0 where
+  pub told : List ℕ
+  pub consumed : Consumes before after told
+  pub ended : IsAtEnd after
+  pub accepted : IsAccepted prefix tree told
+  pub sayings : List Saying
+  pub says : FileSays prefix tree told sayings
+  pub users : users_of tree f.assigns.items ≡ file_users tree sayings
+  pub noted : map notice_pair f.notices.items ≡ notices_from 1 sayings
+
+-- the first fault of the bytes told: they are the whole file, or it is the first whatever follows them
+pub record IsRefused (prefix : List ℕ) (tree : Whole) (before after : Option (List ℕ)) (kind : LoadKind) (number : ℕ) : Type 0 where
+  pub told : List ℕ
+  pub consumed : Consumes before after told
+  pub first : (IsAtEnd after × IsFirstFault prefix tree complete told kind number)
+      ⊎ ((rest : List ℕ) → IsFirstFault prefix tree complete (told ++ rest) kind number)
+
+-- a read failed behind the bytes told, and these hold no fault before it
+pub record IsCutShort (prefix : List ℕ) (tree : Whole) (before after : Option (List ℕ)) (number : ℕ) : Type 0 where
+  pub told : List ℕ
+  pub consumed : Consumes before after told
+  pub first : IsFirstFault prefix tree cut_short told Read number
+
+-- what a fault tells; a failed read also that the reader's failures rose from `failed` to `failed_after`
+abbrev pub Tells : List ℕ → Whole → (before after : Option (List ℕ)) → (failed failed_after : ℕ) → LoadKind → ℕ → Type 0
+Tells prefix tree before after failed failed_after OutOfMemory number = Unit {0}
+Tells prefix tree before after failed failed_after Read number = IsCutShort prefix tree before after number
+    × (failed < 2 ^ 64 - 1 → failed < failed_after)
+Tells prefix tree before after failed failed_after Malformed number = IsRefused prefix tree before after Malformed number
+Tells prefix tree before after failed failed_after NotUtf8 number = IsRefused prefix tree before after NotUtf8 number
+Tells prefix tree before after failed failed_after LineTooLong number = IsRefused prefix tree before after LineTooLong number
+Tells prefix tree before after failed failed_after TooManyLines number = IsRefused prefix tree before after TooManyLines number
+Tells prefix tree before after failed failed_after TooLarge number = IsRefused prefix tree before after TooLarge number

@@ -1,0 +1,73 @@
+//! Changes of an assignment, and the units that they give user values.
+ghost use Rattle.std.specs.Prelude.{◌≡◌, ◌++◌, ℕ, List, Option, None, IfOk, OnOk, length, map, take, filter, is_none};
+ghost use Rattle.kc_system.specs.Solutions.{user_of};
+ghost use Rattle.kc_dotconfig.specs.Fragments.{changes_of};
+ghost use Rattle.kc_dotconfig.specs.checker.Configs.{clears_of, units_of};
+
+use kc_rules::Settled;
+use kc_rules_model::UserValue;
+use kc_system::System;
+use std::alloc::{AllocError, Global};
+
+/// Puts user values behind some changes.
+pub(crate) fn push_users(
+    alloc: Global,
+    changes: &mut Vec<(u32, Option<UserValue>)>,
+    assigns: &[(u32, UserValue)],
+) -> Result<(), AllocError>
+    ensures { OnOk result (changes.new.items ≡ changes.old.items ++ changes_of assigns.now) }
+{
+    for (unit, user) in assigns {
+        let copy = Settled::copy_user(alloc, user)?;
+        changes.push((*unit, Some(copy)))?;
+    }
+    Ok(())
+}
+
+/// Puts behind some changes that units have no user value.
+pub(crate) fn push_cleared(
+    changes: &mut Vec<(u32, Option<UserValue>)>,
+    units: &[u32],
+) -> Result<(), AllocError>
+    ensures { OnOk result (changes.new.items ≡ changes.old.items ++ clears_of units.now) }
+{
+    for unit in units {
+        changes.push((*unit, None))?;
+    }
+    Ok(())
+}
+
+/// The units of user values.
+pub(crate) fn units_assigned(
+    alloc: Global,
+    assigns: &[(u32, UserValue)],
+) -> Result<Vec<u32>, AllocError>
+    ensures { IfOk result (λ units. units.items ≡ units_of assigns.now) }
+{
+    let mut units = Vec::with_capacity(alloc, assigns.len())?;
+    for (unit, _user) in assigns {
+        units.push(*unit)?;
+    }
+    Ok(units)
+}
+
+/// Puts the units of user values behind those held, but for those that have one.
+pub(crate) fn hold(
+    held: &mut Vec<u32>,
+    users: &[Option<UserValue>],
+    assigns: &[(u32, UserValue)],
+) -> Result<(), AllocError>
+    ensures ok { OnOk result (held.new.items ≡ held.old.items ++ filter (λ u. is_none (user_of users.now u)) (units_of assigns.now)) }
+    ensures kept { take (length held.old.items) held.new.items ≡ held.old.items }
+{
+    for (unit, _user) in assigns {
+        let has_user = match users.get(*unit as usize) {
+            Some(Some(_)) => true,
+            _ => false,
+        };
+        if !has_user {
+            held.push(*unit)?;
+        }
+    }
+    Ok(())
+}

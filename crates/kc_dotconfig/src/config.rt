@@ -1,0 +1,183 @@
+//! A configuration: what files assign, and the values that this gives.
+ghost use Rattle.std.specs.Prelude.{◌≡◌, length, IfOk, OnOk, OnErr, option_map};
+ghost use Rattle.std.specs.Option.{option_and_then};
+ghost use Rattle.kc_system.specs.Changes.{IsTouched, IsChanged, IsCountOf, IsListOf};
+ghost use Rattle.kc_tree_model.specs.TreeLookup.{symbol_named};
+ghost use Rattle.kc_rules_model.specs.Dependencies.{dependencies};
+ghost use Rattle.kc_rules_model.specs.SymbolValues.{symbol_seen};
+ghost use Rattle.kc_rules.specs.Told.{whole_of, value_seen, value_lent};
+ghost use Rattle.kc_dotconfig_model.specs.Files.{no_users, laid_over};
+ghost use Rattle.kc_dotconfig_model.specs.Missed.{missed};
+ghost use Rattle.kc_dotconfig.specs.Fragments.{FitsTree, users_of};
+ghost use Rattle.kc_dotconfig.specs.Configured.{tree_in, IsSolved};
+
+use super::changes::{hold, push_cleared, push_users, units_assigned};
+use super::fragment::Fragment;
+use super::missing::missed_symbols;
+use kc_rules::{Settled, Steps};
+use kc_rules_model::{UnitValue, UserValue};
+use kc_system::{Report, Session};
+use kc_tree::Sym;
+use kc_value::ValueRef;
+use std::alloc::{AllocError, Global};
+use std::marker::Model;
+
+/// A configuration of a settled tree: what the files that it took assign, and the one solution of this. Contracts see
+/// the tree, the assignment and the values.
+#[derive(Drop)]
+pub struct Config<'a> {
+    alloc: Global,
+    settled: &'a Settled,
+    session: Session<'a, Settled>,
+    /// The units with a user value, in no order.
+    held: Vec<u32>,
+    meter: Steps,
+}
+
+impl<'a> Model for Config<'a> {
+    ghost use Rattle.kc_dotconfig.specs.Configured.{Configured};
+    ghost use Rattle.kc_dotconfig.specs.checker.Configs.{IsKept};
+
+    ghost Value = { Configured };
+
+    ghost use Rattle.kc_expr.specs.checker.ExprCode.{expr_code};
+    ghost use Rattle.std.specs.Coded.{codes};
+
+    ghost coded = { Prim.hlevel (codes, expr_code) };
+
+    ghost view = { λ c. c.session };
+
+    ghost invariant = { λ c. IsKept c.settled.now c.session c.held.items };
+}
+
+impl<'a> Config<'a> {
+    /// A configuration without any user value, or want of memory.
+    pub fn new(alloc: Global, settled: &'a Settled) -> Result<Config<'a>, AllocError>
+        ensures settled { IfOk result (λ c. c.system ≡ settled.now) }
+        ensures users { IfOk result (λ c. c.users ≡ no_users (whole_of settled.now)) }
+        ensures solved { IfOk result (λ c. IsSolved c) }
+    {
+        let _ = settled.tree();
+        let mut meter = Steps::new();
+        let session = Session::new(alloc, settled, settled.order(), &mut meter)?;
+        let _ = session.values();
+        Ok(Config {
+            alloc,
+            settled,
+            session,
+            held: Vec::new(alloc),
+            meter,
+        })
+    }
+
+    /// Holds what a fragment assigns and nothing else, and tells which units' values differ from those before and how
+    /// many units were evaluated. After want of memory the configuration is as before. The caller owes a fragment that
+    /// fits.
+    pub fn replace(&mut self, fragment: &Fragment) -> Result<Report, AllocError>
+        requires { FitsTree (tree_in self.old) fragment.now.assigns.items }
+        ensures settled { self.new.system ≡ self.old.system }
+        ensures users { OnOk result (self.new.users ≡ users_of (tree_in self.old) fragment.now.assigns.items) }
+        ensures solved { IsSolved self.new }
+        ensures changed { IfOk result (λ report. IsListOf (length (tree_in self.old).units) (IsChanged self.old.values self.new.values) report.changed.items) }
+        ensures evaluated { IfOk result (λ report. IsCountOf (length (tree_in self.old).units) (IsTouched (dependencies (tree_in self.old)) self.old.users self.new.users self.old.values self.new.values) report.evaluated) }
+        ensures err { OnErr result (self.new ≡ self.old) }
+    {
+        let held = units_assigned(self.alloc, &fragment.assigns)?;
+        let mut changes = Vec::with_capacity(self.alloc, self.held.len())?;
+        push_cleared(&mut changes, &self.held)?;
+        push_users(self.alloc, &mut changes, &fragment.assigns)?;
+        let report = self.session.apply(&changes, &mut self.meter)?;
+        self.held = held;
+        Ok(report)
+    }
+
+    /// Holds what a fragment assigns over what is held, and tells the same. After want of memory the configuration is as
+    /// before. The caller owes a fragment that fits.
+    pub fn merge(&mut self, fragment: &Fragment) -> Result<Report, AllocError>
+        requires { FitsTree (tree_in self.old) fragment.now.assigns.items }
+        ensures settled { self.new.system ≡ self.old.system }
+        ensures users { OnOk result (self.new.users ≡ laid_over (users_of (tree_in self.old) fragment.now.assigns.items) self.old.users) }
+        ensures solved { IsSolved self.new }
+        ensures changed { IfOk result (λ report. IsListOf (length (tree_in self.old).units) (IsChanged self.old.values self.new.values) report.changed.items) }
+        ensures evaluated { IfOk result (λ report. IsCountOf (length (tree_in self.old).units) (IsTouched (dependencies (tree_in self.old)) self.old.users self.new.users self.old.values self.new.values) report.evaluated) }
+        ensures err { OnErr result (self.new ≡ self.old) }
+    {
+        let mut changes = Vec::with_capacity(self.alloc, fragment.assigns.len())?;
+        push_users(self.alloc, &mut changes, &fragment.assigns)?;
+        let count = self.held.len();
+        match hold(&mut self.held, self.session.users(), &fragment.assigns) {
+            Ok(()) => {}
+            Err(fault) => {
+                self.held.truncate(count);
+                return Err(fault);
+            }
+        }
+        match self.session.apply(&changes, &mut self.meter) {
+            Ok(report) => Ok(report),
+            Err(fault) => {
+                self.held.truncate(count);
+                Err(fault)
+            }
+        }
+    }
+
+    /// A configuration of the same tree that holds the same, or want of memory.
+    pub fn copy(&self) -> Result<Config<'a>, AllocError>
+        ensures { IfOk result (λ copy. copy ≡ self.now) }
+    {
+        let session = self.session.copy()?;
+        let held = Vec::from_slice(self.alloc, &self.held)?;
+        Ok(Config {
+            alloc: self.alloc,
+            settled: self.settled,
+            session,
+            held,
+            meter: Steps::new(),
+        })
+    }
+
+    /// The settled tree.
+    pub fn settled(&self) -> &'a Settled
+        ensures { result.now ≡ self.now.system }
+    {
+        self.settled
+    }
+
+    /// The values held: of each unit its value under what is held, the one solution of it.
+    pub fn values(&self) -> &[UnitValue]
+        ensures values { result.now ≡ self.now.values }
+        ensures solved { IsSolved self.now }
+    {
+        self.session.values()
+    }
+
+    /// What is held: each unit's user value, or none.
+    pub fn users(&self) -> &[Option<UserValue>]
+        ensures users { result.now ≡ self.now.users }
+        ensures solved { IsSolved self.now }
+    {
+        let _ = self.session.values();
+        self.session.users()
+    }
+
+    /// The value of the symbol of a name; `None` exactly if no entry of the tree defines it. Takes no memory.
+    pub fn value(&self, name: &str) -> Option<ValueRef<'_>>
+        ensures { option_map value_lent result ≡ option_and_then (λ s. option_map value_seen (symbol_seen (tree_in self.now) self.now.values s)) (symbol_named (tree_in self.now) name.now) }
+    {
+        let s = self.settled.tree().find(name)?;
+        Some(self.settled.symbol_value(s, self.session.values()))
+    }
+
+    /// The symbols outside choices whose user value isn't their value, and of each choice the user's member if it isn't
+    /// selected, in order of first definition. An `Err` is want of memory.
+    pub fn missed(&self) -> Result<Vec<Sym>, AllocError>
+        ensures { IfOk result (λ found. found.items ≡ missed (tree_in self.now) self.now.users self.now.values) }
+    {
+        missed_symbols(
+            self.alloc,
+            self.settled.tree(),
+            self.session.users(),
+            self.session.values(),
+        )
+    }
+}

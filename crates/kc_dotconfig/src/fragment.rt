@@ -1,0 +1,31 @@
+//! What a configuration file assigns.
+ghost use Rattle.std.specs.Prelude.{◌↔◌, IsTrue};
+ghost use Rattle.kc_rules.specs.Told.{whole_of};
+ghost use Rattle.kc_dotconfig.specs.Fragments.{FitsTree};
+
+use kc_dotconfig_model::Notice;
+use kc_rules::Settled;
+use kc_rules_model::UserValue;
+
+/// A file's own assignment, ascending by unit and each unit once, and its notices in order of lines.
+#[derive(Drop)]
+pub struct Fragment {
+    pub assigns: Vec<(u32, UserValue)>,
+    pub notices: Vec<Notice>,
+}
+
+impl Fragment {
+    /// Whether the units ascend, each once, and each user value has the shape of its unit. Takes no memory.
+    pub fn fits(&self, settled: &Settled) -> bool
+        ensures { IsTrue result ↔ FitsTree (whole_of settled.now) self.now.assigns.items }
+    {
+        let mut next = 0;
+        for (unit, user) in &self.assigns {
+            if *unit < next || *unit >= settled.tree().len() || !settled.user_fits(*unit, user) {
+                return false;
+            }
+            next = *unit + 1;
+        }
+        true
+    }
+}
