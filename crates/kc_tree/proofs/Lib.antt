@@ -19,3 +19,4 @@ pub mod ReadSteps
 pub mod WalkSteps
 pub mod Symbols
 pub mod EntrySteps
+pub mod ChoiceRowSteps

@@ -1,4 +1,5 @@
 pub mod Attributes
+pub mod ChoiceRows
 pub mod Conditioned
 pub mod Conjunctions
 pub mod Conjuncts

@@ -20,7 +20,7 @@ fn innermost(inside: &[Option<u32>]) -> Option<u32>
 }
 
 /// Whether a choice begins.
-fn begins_choice(what: &What) -> bool
+pub(crate) fn begins_choice(what: &What) -> bool
     ensures { result ≡ is_choice_code what.now }
 {
     matches!(*what, What::Choice)

@@ -4,6 +4,7 @@
 mod after;
 mod around;
 mod attribute;
+mod choice_rows;
 mod conditions;
 mod entries;
 mod entry;

@@ -1,0 +1,26 @@
+use Rattle.std.proofs.Common.{◌≡◌, ◌+◌, ◌<◌, true, false, [], ◌∷◌, ◌++◌, length, ap, sym, subst, ◌∙◌, arith}
+use Rattle.std.proofs.lemmas.List.{get_or_read}
+use Rattle.kc_tree.specs.checker.Summaries.{is_choice_code, group_at, no_group}
+use Rattle.kc_tree.proofs.ChoiceRowSteps.{AreRowsTo, rows_more, rows_same, all_rows}
+use Rattle.kc_tree.proofs.choice_rows.choice_rows.Goals as goal
+use Rattle.kc_tree.proofs.choice_rows.choice_rows.Goals.{then-begins_choice+in_ok-push, else-begins_choice}
+
+pub loop-i-preserved : goal.loop-i-preserved
+loop-i-preserved c = λ exprs read s k.
+    let l = c.args.listing.now in
+    let within : c.loop-i.i < length l.groups.items = omega (arith, c.loop-i-test.true, c.len-i-end.ensures) in
+    let here = get_or_read l.groups.items _ _ within c.index.ensures no_group in
+    elim c.if-begins_choice.branch [
+      | then-begins_choice+in_ok-push w ↦
+          let e : is_choice_code (group_at l.groups.items c.loop-i.i).what ≡ true = sym (ap (λ g. is_choice_code g.what) here) ∙ sym w.if-begins_choice.ensures in
+          subst (AreRowsTo l exprs c.args.groups.now c.args.conditions.now read s k (c.loop-i.i + 1)) (sym (ap (λ v. v.items) w.rows-is ∙ w.in_ok-push.ensures.items ∙ ap (λ r. c.loop-i.rows.items ++ r ∷ []) w.row_at.ensures))
+          (rows_more l exprs c.args.groups.now c.args.conditions.now read s k c.loop-i.i c.loop-i.rows.items within e (c.loop-i.invariant exprs read s k))
+      | else-begins_choice w ↦
+          let e : is_choice_code (group_at l.groups.items c.loop-i.i).what ≡ false = sym (ap (λ g. is_choice_code g.what) here) ∙ sym w.if-begins_choice.ensures in
+          subst (AreRowsTo l exprs c.args.groups.now c.args.conditions.now read s k (c.loop-i.i + 1)) (sym (ap (λ v. v.items) w.rows-is))
+          (rows_same l exprs c.args.groups.now c.args.conditions.now read s k c.loop-i.i c.loop-i.rows.items within e (c.loop-i.invariant exprs read s k))
+    ]
+
+pub returns : goal.returns
+returns c = λ exprs read s k.
+    all_rows c.args.listing.now exprs c.args.groups.now c.args.conditions.now read s k c.loop-i.i c.loop-i.rows.items (omega (arith, c.loop-i-test.false, c.loop-i.auto.i-end, c.len-i-end.ensures)) (c.loop-i.invariant exprs read s k)

@@ -1,0 +1,16 @@
+use Rattle.std.proofs.Common.{length, ap, sym, ◌∙◌, arith}
+use Rattle.kc_tree.proofs.ChoiceRowSteps.{as_many_conditions, as_long}
+use Rattle.kc_tree.proofs.choice_rows.row_at.Goals as goal
+
+pub conditions_of-own-requires-clause-here : goal.conditions_of-own-requires-clause-here
+conditions_of-own-requires-clause-here c =
+    let g = c.requires.gone in
+    let many = as_many_conditions c.args.listing.now g.exprs c.args.groups.now c.args.conditions.now g.read g.shows g.walked in
+    omega (arith, many, c.requires.here)
+
+pub row_of-requires : goal.row_of-requires
+row_of-requires c =
+    let g = c.requires.gone in
+    ap length c.conditions_of-own.ensures
+    ∙ as_long c.args.listing.now g.exprs c.args.groups.now c.args.conditions.now g.read g.shows g.walked c.args.i c.requires.here
+    ∙ sym (ap length c.lines_of-lines.ensures.lines)
