@@ -20,3 +20,6 @@ pub mod WalkSteps
 pub mod Symbols
 pub mod EntrySteps
 pub mod ChoiceRowSteps
+pub mod MemberLaw
+pub mod RowSteps
+pub mod UnitSteps

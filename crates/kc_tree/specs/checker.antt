@@ -17,8 +17,10 @@ pub mod Numbered
 pub mod PartsView
 pub mod Places
 pub mod Surface
+pub mod Rows
 pub mod Summaries
 pub mod TreeView
+pub mod UnitList
 pub mod Units
 pub mod Wanting
 pub mod Walked

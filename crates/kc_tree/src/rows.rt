@@ -1,0 +1,60 @@
+//! The rows of symbols.
+ghost use Rattle.std.specs.Prelude.{◌≡◌, List, IfOk};
+ghost use Rattle.kc_tree_model.specs.Blocks.{Group as Read};
+ghost use Rattle.kc_tree_model.specs.Contents.{contents_of};
+ghost use Rattle.kc_tree_model.specs.Limits.{names_defined};
+ghost use Rattle.kc_listing.specs.Shown.{Shows};
+ghost use Rattle.kc_tree.specs.checker.Rows.{place_kept, row_kept, AreRowsOf};
+ghost use Rattle.kc_tree.specs.checker.Summaries.{AreAbouts, IsShown};
+
+use super::parts::SymbolRow;
+use super::summary::About;
+use kc_expr::NameId;
+use kc_listing::{Group, Listing};
+use kc_value::Kind;
+use std::alloc::{AllocError, Global};
+
+/// The file and the line of the group of that number.
+fn place_of(groups: &[Group], number: Option<u32>) -> (u32, u32)
+    ensures { result ≡ place_kept groups.now number }
+{
+    let Some(number) = number else {
+        return (0, 0);
+    };
+    match groups.get(number as usize) {
+        Some(group) => (group.file, group.line),
+        None => (0, 0),
+    }
+}
+
+/// The row of a symbol of that name.
+fn row_of(groups: &[Group], name: NameId, about: &About) -> SymbolRow
+    ensures { result ≡ row_kept groups.now name about.now }
+{
+    let (file, line) = place_of(groups, about.first);
+    SymbolRow {
+        name,
+        kind: about.given.unwrap_or(Kind::Bool),
+        file,
+        line,
+        choice: about.choice,
+    }
+}
+
+/// The rows of all symbols. An `Err` is want of memory.
+pub(crate) fn symbol_rows(
+    alloc: Global,
+    listing: &Listing,
+    symbols: &[About],
+) -> Result<Vec<SymbolRow>, AllocError>
+    requires shown { IsShown listing.now }
+    requires symbols { AreAbouts listing.now symbols.now }
+    ensures { (read : List Read) → Shows listing.now read → IfOk result (λ rows. AreRowsOf listing.now.names.arena (contents_of read) (names_defined read) rows.items) }
+{
+    let names = listing.names.symbols.as_slice();
+    let mut rows = Vec::with_capacity(alloc, names.len())?;
+    for s in 0..names.len() {
+        rows.push(row_of(&listing.groups, names[s], &symbols[s]))?;
+    }
+    Ok(rows)
+}
