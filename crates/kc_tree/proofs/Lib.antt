@@ -23,3 +23,4 @@ pub mod ChoiceRowSteps
 pub mod MemberLaw
 pub mod RowSteps
 pub mod UnitSteps
+pub mod GatherSteps

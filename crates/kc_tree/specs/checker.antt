@@ -8,6 +8,7 @@ pub mod Firsts
 pub mod GatheredAttributes
 pub mod GatheredFits
 pub mod GatheredView
+pub mod Gathers
 pub mod GroupedItems
 pub mod Kept
 pub mod Kinds

@@ -9,6 +9,7 @@ mod conditions;
 mod entries;
 mod entry;
 mod forces;
+mod gather;
 mod gathered;
 mod grouped;
 mod keyed;
