@@ -15,7 +15,7 @@ use Rattle.kc_tree_model.specs.TreeLookup.{IsConsistent}
 use Rattle.kc_dotconfig_model.specs.Names.{is_prefix}
 use Rattle.kc_dotconfig.specs.Fragments.{FitsTree, users_of, notice_pair}
 use Rattle.kc_dotconfig.proofs.Fitting.{fragment_fits}
-use Rattle.kc_dotconfig.specs.Reads.{IsReadAs, IsRefused, IsCutShort, Tells}
+use Rattle.kc_dotconfig.specs.Reads.{MOST_READ, IsReadAs, IsRefused, IsCutShort, Tells}
 use Rattle.kc_dotconfig.specs.checker.Gathered.{Holds, Takes, EndsWell, EndsBadly, IsGathered, IsWholeOf, Rises, Below}
 use Rattle.kc_dotconfig_model.proofs.FirstFaults.{failed_reads}
 use Rattle.kc_dotconfig_model.proofs.FaultsAtCuts.{clean, told_newlines, nothing_told}
@@ -86,15 +86,19 @@ tells_refused prefix tree a c f f_after TooLarge number h = elim h [ inl e ↦ c
 tells_refused prefix tree a c f f_after Read number h = elim h [ inl e ↦ cc | inr r ↦ elim r.first [ inl whole ↦ absurd whole.1.comes | inr any ↦ absurd (any []).comes ] ]
 tells_refused prefix tree a c f f_after OutOfMemory number h = tt
 
-pub refused_in : (prefix : List ℕ) (tree : Whole) (a b c : Option (List ℕ)) (line : List ℕ) (g : Gathering) (size : ℕ) (block : List ℕ) (kind : LoadKind) (number : ℕ) → HasRead prefix tree a b line g size → Consumes b c block
+pub refused_in : (prefix : List ℕ) (tree : Whole) (a b c : Option (List ℕ)) (line : List ℕ) (g : Gathering) (size : ℕ) (block : List ℕ) (kind : LoadKind) (number : ℕ) → HasRead prefix tree a b line g size → Consumes b c block → length block ≤ MOST_READ
     → (kind ≡ OutOfMemory) ⊎ ((told rest : List ℕ) → Holds prefix tree told line g → length told ≡ size → IsFirstFault prefix tree complete (told ++ (block ++ rest)) kind number)
     → (kind ≡ OutOfMemory) ⊎ IsRefused prefix tree a c kind number
-refused_in prefix tree a b c line g size block kind number r consumed fault = elim fault [
+refused_in prefix tree a b c line g size block kind number r consumed short fault = elim fault [
   | inl e ↦ inl e
   | inr first ↦ inr (record {
     told = r.told ++ block;
     consumed = consumes_both a b c r.told block r.consumed consumed;
     first = inr (λ rest. subst (λ x. IsFirstFault prefix tree complete x kind number) (sym (append_assoc r.told block rest)) (first r.told rest r.holds r.counted));
+    soon = λ rest other byte n comes.
+        let late = clean prefix tree r.told line r.holds.0 r.holds.1 (block ++ rest) other byte n (subst (λ x. ComesAt prefix tree x other byte n) (append_assoc r.told block rest) comes) in
+        let sum = length-append r.told block in
+        omega (arith, late, sum, short);
   })
 ]
 
@@ -106,6 +110,7 @@ refused_at_end prefix tree a b c line g size kind number r consumed end fault = 
     told = r.told;
     consumed = subst (Consumes a c) (append-nil r.told) (consumes_both a b c r.told [] r.consumed consumed);
     first = inl (end, first r.told r.holds);
+    soon = λ rest other byte n comes. let late = clean prefix tree r.told line r.holds.0 r.holds.1 rest other byte n comes in omega (arith, late);
   })
 ]
 

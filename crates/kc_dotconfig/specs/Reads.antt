@@ -1,12 +1,12 @@
 -- What reading a configuration file answers, by the bytes that the reader told.
-use Rattle.std.specs.Prelude.{◌≡◌, ◌⊎◌, ℕ, ◌-◌, ◌^◌, ◌<◌, List, ◌++◌, Option, map}
+use Rattle.std.specs.Prelude.{◌≡◌, ◌⊎◌, ℕ, ◌+◌, ◌-◌, ◌^◌, ◌<◌, ◌≤◌, List, ◌++◌, Option, length, map}
 use Rattle.std.specs.Io.KnownBytes.{Consumes, IsAtEnd}
 use Rattle.kc_tree_model.specs.Trees.{Whole}
 use Rattle.kc_dotconfig_model.specs.declared.fault.LoadKind.{LoadKind}
 use Rattle.kc_dotconfig_model.specs.declared.fault.LoadKind.TheVariants.{Malformed, NotUtf8, LineTooLong, TooManyLines, Read, OutOfMemory, TooLarge}
 use Rattle.kc_dotconfig_model.specs.Lines.{Saying}
 use Rattle.kc_dotconfig_model.specs.Files.{FileSays, file_users, notices_from}
-use Rattle.kc_dotconfig_model.specs.LoadFaults.{complete, cut_short, IsFirstFault, IsAccepted}
+use Rattle.kc_dotconfig_model.specs.LoadFaults.{complete, cut_short, ComesAt, IsFirstFault, IsAccepted}
 use Rattle.kc_dotconfig.specs.declared.fragment.Fragment.{Fragment}
 use Rattle.kc_dotconfig.specs.Fragments.{users_of, notice_pair}
 
@@ -21,12 +21,19 @@ pub record IsReadAs (prefix : List ℕ) (tree : Whole) (before after : Option (L
   pub users : users_of tree f.assigns.items ≡ file_users tree sayings
   pub noted : map notice_pair f.notices.items ≡ notices_from 1 sayings
 
--- the first fault of the bytes told: they are the whole file, or it is the first whatever follows them
+-- the most bytes that are read at once
+abbrev pub MOST_READ : ℕ
+MOST_READ = 4096
+
+-- the first fault of the bytes told: they are the whole file, or it is the first whatever follows them; no fault stands
+-- before the bytes that were read last
 pub record IsRefused (prefix : List ℕ) (tree : Whole) (before after : Option (List ℕ)) (kind : LoadKind) (number : ℕ) : Type 0 where
   pub told : List ℕ
   pub consumed : Consumes before after told
   pub first : (IsAtEnd after × IsFirstFault prefix tree complete told kind number)
       ⊎ ((rest : List ℕ) → IsFirstFault prefix tree complete (told ++ rest) kind number)
+  pub soon : (rest : List ℕ) (other : LoadKind) (byte n : ℕ) → ComesAt prefix tree (told ++ rest) other byte n
+      → length told ≤ byte + MOST_READ
 
 -- a read failed behind the bytes told, and these hold no fault before it
 pub record IsCutShort (prefix : List ℕ) (tree : Whole) (before after : Option (List ℕ)) (number : ℕ) : Type 0 where

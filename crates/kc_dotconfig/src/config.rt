@@ -173,11 +173,6 @@ impl<'a> Config<'a> {
     pub fn missed(&self) -> Result<Vec<Sym>, AllocError>
         ensures { IfOk result (λ found. found.items ≡ missed (tree_in self.now) self.now.users self.now.values) }
     {
-        missed_symbols(
-            self.alloc,
-            self.settled.tree(),
-            self.session.users(),
-            self.session.values(),
-        )
+        missed_symbols(self.alloc, self.settled.tree(), self.users(), self.values())
     }
 }

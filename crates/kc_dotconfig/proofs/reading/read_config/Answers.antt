@@ -2,6 +2,7 @@ use Rattle.std.proofs.Common.{◌≡◌, ◌<◌, ◌≤◌, length, take, refl,
 use Rattle.kc_rules.specs.Told.{whole_of}
 use Rattle.kc_dotconfig_model.specs.LoadFaults.{MOST_LINES}
 use Rattle.kc_dotconfig_model.specs.checker.Prefixes.{text_of}
+use Rattle.kc_dotconfig.specs.Reads.{MOST_READ}
 use Rattle.kc_dotconfig.proofs.ReadingWhole.{has_read_none, has_read_more, tells_read, rises, tells_short, tells_refused, refused_in, block_fault, whole_read, whole_fits, end_fault}
 use Rattle.kc_dotconfig.proofs.reading.read_config.Goals as goal
 
@@ -35,8 +36,11 @@ returns-then-count-eq0-clause-fault g c =
 
 pub returns-in-Err-clause-fault : goal.returns-in-Err-clause-fault
 returns-in-Err-clause-fault g c =
+    let n : length (take c.in-Ok.count c.read_some.new.buf) ≡ c.in-Ok.count = sym c.in-Ok.ensures.bound.1 in
+    let most = c.in-Ok.ensures.bound.0 in
+    let short : length (take c.in-Ok.count c.read_some.new.buf) ≤ MOST_READ = omega arith in
     tells_refused (text_of c.args.prefix.now) (whole_of c.args.settled.now) (g.R.Source.left c.args.source.now) (g.R.Source.left c.read_some.new.self) _ _ c.fault_behind-in-Err.result.kind c.fault_behind-in-Err.result.line
-    (refused_in (text_of c.args.prefix.now) (whole_of c.args.settled.now) (g.R.Source.left c.args.source.now) (g.R.Source.left c.loop-size.source) (g.R.Source.left c.read_some.new.self) c.loop-size.cutter c.loop-size.gathered c.loop-size.size (take c.in-Ok.count c.read_some.new.buf) c.fault_behind-in-Err.result.kind c.fault_behind-in-Err.result.line c.loop-size.invariant.read c.in-Ok.ensures.bytes.0
+    (refused_in (text_of c.args.prefix.now) (whole_of c.args.settled.now) (g.R.Source.left c.args.source.now) (g.R.Source.left c.loop-size.source) (g.R.Source.left c.read_some.new.self) c.loop-size.cutter c.loop-size.gathered c.loop-size.size (take c.in-Ok.count c.read_some.new.buf) c.fault_behind-in-Err.result.kind c.fault_behind-in-Err.result.line c.loop-size.invariant.read c.in-Ok.ensures.bytes.0 short
     (block_fault (text_of c.args.prefix.now) (whole_of c.args.settled.now) c.loop-size.cutter c.loop-size.gathered (take c.in-Ok.count c.read_some.new.buf) c.loop-size.size c.in-Err.kind c.fault_behind-in-Err.result.kind c.take_block.new.gathered.lines c.fault_behind-in-Err.result.line c.fault_behind-in-Err.ensures.kind c.fault_behind-in-Err.ensures.line c.in-Err.ensures.err))
 
 pub loop-size-preserved : goal.loop-size-preserved
