@@ -1,5 +1,5 @@
 -- What is known of symbols.
-use Rattle.std.proofs.Common.{◌≡◌, inl, inr, ℕ, zero, suc, ◌+◌, ◌<◌, ◌≤◌, Bool, true, false, cond, List, [], ◌∷◌, ◌++◌, length, get_or, set, drop, map, reverse, filter, Option, Some, None, refl, ap, sym, subst, ◌∙◌, arith, append-nil}
+use Rattle.std.proofs.Common.{◌≡◌, ℕ, zero, suc, ◌+◌, ◌<◌, ◌≤◌, Bool, true, false, cond, List, [], ◌∷◌, ◌++◌, length, get_or, set, drop, map, filter, Option, Some, None, refl, ap, sym, ◌∙◌, arith, append-nil}
 use Rattle.std.specs.Prelude.{slice_get, filter_map, flat_map, bytes_eq, option_to_list}
 use Rattle.std.specs.List.{cons_option}
 use Rattle.std.specs.Option.{option_or}
@@ -11,13 +11,12 @@ use Rattle.kc_value.specs.declared.value.Kind.{Kind}
 use Rattle.kc_expr.specs.Arena.{Exprs}
 use Rattle.kc_statements.specs.Said.{attribute_in}
 use Rattle.kc_tree_model.specs.Statements.{config, name_of_head, type_of}
-use Rattle.kc_tree_model.specs.Blocks.{Group, Line, What, said, head_gives, name_of, open_blocks}
-use Rattle.kc_tree_model.specs.Conditions.{Placed, place, placed, said_in}
-use Rattle.kc_tree_model.specs.Contents.{Contents, contents_of, defines}
-use Rattle.kc_tree_model.specs.Limits.{names_defined, once}
-use Rattle.kc_tree_model.proofs.Consistency.Lists.{Has, has-at, same_text, text_same, Differ, Differ-once, at_most_once}
+use Rattle.kc_tree_model.specs.Blocks.{Line, said, head_gives, name_of}
+use Rattle.kc_tree_model.specs.Conditions.{Placed, said_in}
+use Rattle.kc_tree_model.specs.Contents.{Contents, defines}
+use Rattle.kc_tree_model.proofs.Consistency.Lists.{same_text, text_same, Differ, at_most_once}
 use Rattle.kc_listing.specs.declared.listing.Line.{Line as CodeLine}
-use Rattle.kc_tree.specs.checker.Summaries.{read_before, first_said, number_at, choices_at, choice_round, about_in, about_or, abouts, type_in}
+use Rattle.kc_tree.specs.checker.Summaries.{first_said, number_at, choices_at, choice_round, about_in, about_or, abouts, type_in}
 use Rattle.kc_tree.specs.declared.summary.About.{About}
 
 -- the first of two lists

@@ -1,5 +1,5 @@
 -- The first fault of a definition, of an attribute, and of lines.
-use Rattle.std.proofs.Common.{◌≡◌, ℕ, suc, ◌+◌, ◌<◌, ◌≤◌, Bool, true, false, cond, ◌&&◌, ◌||◌, not, List, [], ◌∷◌, ◌++◌, length, get_or, drop, map, Option, Some, None, refl, ap, sym, ◌∙◌, arith}
+use Rattle.std.proofs.Common.{◌≡◌, ℕ, suc, ◌+◌, ◌<◌, ◌≤◌, Bool, true, false, cond, ◌&&◌, ◌||◌, List, [], ◌∷◌, ◌++◌, length, get_or, drop, map, Option, Some, None, refl, ap, sym, ◌∙◌, arith}
 use Rattle.std.specs.Prelude.{slice_get, is_some, is_none, bytes_eq, option_map}
 use Rattle.std.specs.Option.{option_or}
 use Rattle.std.proofs.Math.Seq.{drop-cons}
@@ -14,7 +14,7 @@ use Rattle.kc_tree_model.specs.Statements.{Attribute, default_of, prompt_of}
 use Rattle.kc_tree_model.specs.Blocks.{Group, Line}
 use Rattle.kc_tree_model.specs.Conditions.{Placed}
 use Rattle.kc_tree_model.specs.Contents.{Contents, choice_of_symbol, is_first_definition, type_given}
-use Rattle.kc_tree_model.specs.TreeFaults.{when, definition_faults, attribute_faults, choice_faults, faults_at, faults_of_lines, is_no_member, is_wrong_force, second_prompt}
+use Rattle.kc_tree_model.specs.TreeFaults.{when, definition_faults, attribute_faults, choice_faults, faults_at, faults_of_lines, is_no_member, is_wrong_force}
 use Rattle.kc_statements.specs.Said.{attribute_in}
 use Rattle.kc_listing.specs.declared.listing.Line.{Line as CodeLine}
 use Rattle.kc_listing.specs.Shown.{line_in}
@@ -69,7 +69,7 @@ choice_is members prompted is_none a e = rw e (sym (first_of_two _ _ _ _))
 abbrev pub fault_of : Group → ℕ → TreeKind → TreeFault
 fault_of g line kind = record { file = Some g.at.file; line = line; kind = kind }
 
-first_mapped : {A B : Type 0} (f : A → B) (xs : List A) → slice_get (map f xs) 0 ≡ option_map f (slice_get xs 0)
+pub first_mapped : {A B : Type 0} (f : A → B) (xs : List A) → slice_get (map f xs) 0 ≡ option_map f (slice_get xs 0)
 first_mapped f [] = refl
 first_mapped f (x ∷ xs) = refl
 

@@ -10,8 +10,11 @@ pub mod GroupingLaw
 pub mod Growth
 pub mod Lookups
 pub mod Made
+pub mod Marked
+pub mod MemberLaw
 pub mod Named
 pub mod Rounds
+pub mod Searching
 pub mod Seen
 pub mod Wanting
 pub mod WantingLists
@@ -20,7 +23,6 @@ pub mod WalkSteps
 pub mod Symbols
 pub mod EntrySteps
 pub mod ChoiceRowSteps
-pub mod MemberLaw
 pub mod RowSteps
 pub mod UnitSteps
 pub mod GatherSteps

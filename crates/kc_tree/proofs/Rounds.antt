@@ -1,16 +1,16 @@
 -- The choices round what was read.
-use Rattle.std.proofs.Common.{◌≡◌, inl, inr, ℕ, zero, suc, ◌+◌, ◌-◌, ◌<◌, ◌≤◌, Bool, true, false, cond, List, [], ◌∷◌, ◌++◌, length, drop, map, reverse, Option, Some, None, refl, ap, sym, subst, ◌∙◌, arith, append_assoc, append-nil, length-append, filter}
-use Rattle.std.specs.Prelude.{option_and_then, option_map, slice_get, ◌==◌}
+use Rattle.std.proofs.Common.{◌≡◌, inl, inr, ℕ, suc, ◌+◌, ◌-◌, ◌<◌, Bool, true, false, cond, List, [], ◌∷◌, ◌++◌, length, drop, map, reverse, Option, Some, refl, ap, sym, subst, ◌∙◌, arith, append-nil, length-append, filter}
+use Rattle.std.specs.Prelude.{option_and_then, option_map, ◌==◌}
 use Rattle.std.proofs.lemmas.Bool.{eq-eqb, eqb-true}
 use Rattle.std.proofs.lemmas.List.{map-append}
 use Rattle.std.proofs.lemmas.List.Elements.{filter-append}
 use Rattle.kc_expr.specs.Arena.{Exprs}
-use Rattle.kc_tree_model.specs.Statements.{config, choice, menu, condition, comment, source, mainmenu, ends}
-use Rattle.kc_tree_model.specs.Blocks.{Group, What, said, file_end, Side, side_of, opening, closing, inside, open_blocks, opens_choice}
-use Rattle.kc_tree_model.specs.Conditions.{Context, context, within, within_what, Placed, place, placed}
+use Rattle.kc_tree_model.specs.Statements.{choice, menu, source}
+use Rattle.kc_tree_model.specs.Blocks.{Group, What, said, side_of, opening, closing, inside, open_blocks, opens_choice}
+use Rattle.kc_tree_model.specs.Conditions.{Context, context, within_what, Placed, place, placed}
 use Rattle.kc_tree_model.specs.Contents.{Contents, contents_of, choice_number, place_of_number}
 use Rattle.kc_tree_model.proofs.NestedTrees.OpenBlocks.{open_inside, popped, pushed}
-use Rattle.kc_tree_model.proofs.Consistency.Lists.{Has, has-append, filter-has, has-number, has-filter}
+use Rattle.kc_tree_model.proofs.Consistency.Lists.{Has, filter-has, has-number, has-filter}
 use Rattle.kc_tree_model.proofs.Consistency.Places.{choice_read, group-placed}
 use Rattle.kc_tree_model.proofs.Consistency.Units.{has_mapped, mapped_has}
 use Rattle.kc_listing.specs.declared.listing.What.{What as CodeWhat}

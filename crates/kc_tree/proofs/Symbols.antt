@@ -1,5 +1,5 @@
 -- The symbols of a listing, and what is known of them.
-use Rattle.std.proofs.Common.{◌≡◌, inl, inr, ℕ, zero, suc, ◌+◌, ◌<◌, Bool, true, false, cond, ◌||◌, not, List, [], ◌∷◌, ◌++◌, length, get_or, set, replicate, map, reverse, filter, Option, Some, None, refl, ap, sym, subst, ◌∙◌, arith, append-nil}
+use Rattle.std.proofs.Common.{◌≡◌, inl, inr, ℕ, ◌+◌, ◌<◌, Bool, true, false, cond, ◌||◌, not, List, [], ◌∷◌, ◌++◌, length, get_or, set, replicate, map, reverse, Option, Some, None, refl, ap, sym, subst, ◌∙◌, arith, append-nil}
 use Rattle.std.specs.Prelude.{slice_get, filter_map, flat_map, slice_range, is_some, option_and_then, option_map, option_to_list}
 use Rattle.std.specs.List.{cons_option}
 use Rattle.std.proofs.lemmas.Grind.{flat_map-append}
@@ -218,7 +218,7 @@ pub as_many_abouts : (c : Contents) (ps : List Placed) (symbols : List About) �
 as_many_abouts c ps symbols e = ap length e ∙ length-map c.names (about_in c ps)
 
 -- what one place more says
-said_by : {A : Type 0} (f : Placed → List A) (read : List Group) (i : ℕ) (m : Group) → read_before (i + 1) read ≡ m ∷ read_before i read
+pub said_by : {A : Type 0} (f : Placed → List A) (read : List Group) (i : ℕ) (m : Group) → read_before (i + 1) read ≡ m ∷ read_before i read
     → flat_map f (placed (read_before (i + 1) read)) ≡ flat_map f (placed (read_before i read)) ++ f (place (open_blocks 0 (read_before i read)) m)
 said_by f read i m now =
     let p : Placed = place (open_blocks 0 (read_before i read)) m in

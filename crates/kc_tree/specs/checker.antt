@@ -17,6 +17,7 @@ pub mod NameTable
 pub mod Numbered
 pub mod PartsView
 pub mod Places
+pub mod Searching
 pub mod Surface
 pub mod Rows
 pub mod Summaries

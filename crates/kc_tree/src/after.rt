@@ -20,7 +20,7 @@ use kc_tree_model::{TreeFault, TreeKind};
 use kc_value::Kind;
 
 /// A fault at a line of a file.
-fn fault_at(file: u32, line: u32, kind: TreeKind) -> TreeFault
+pub(crate) fn fault_at(file: u32, line: u32, kind: TreeKind) -> TreeFault
     ensures { result ≡ record { file = Some file; line = line; kind = kind } }
 {
     TreeFault {
@@ -56,7 +56,7 @@ fn of_symbol_line(
 }
 
 /// The first fault of the attributes of a symbol of this type.
-fn of_symbol_lines(
+pub(crate) fn of_symbol_lines(
     listing: &Listing,
     symbols: &[About],
     kind: Option<Kind>,
@@ -111,7 +111,7 @@ fn of_choice_line(
 }
 
 /// The first fault of the attributes of a choice whose members have this mark.
-fn of_choice_lines(
+pub(crate) fn of_choice_lines(
     listing: &Listing,
     marks: &[u32],
     mark: u32,

@@ -23,6 +23,7 @@ mod own_lines;
 mod parts;
 mod paths;
 mod rows;
+mod search;
 mod summary;
 mod symbol;
 mod tree;

@@ -5,9 +5,9 @@ ghost use Rattle.kc_tree.specs.checker.Marks.{WereMarked};
 use kc_tree_model::Sym;
 
 /// Gives these symbols a mark.
-pub(crate) fn mark_members(marks: &mut [u32], members: &[Sym], mark: u32)
-    requires { All (λ s. s < length marks.old) members.now }
-    ensures { WereMarked marks.old members.now mark marks.new }
+pub(crate) fn mark_members(marks: &mut Vec<u32>, members: &[Sym], mark: u32)
+    requires { All (λ s. s < length marks.old.items) members.now }
+    ensures { WereMarked marks.old.items members.now mark marks.new.items }
 {
     for member in members {
         marks[member.number() as usize] = mark;

@@ -134,7 +134,8 @@ impl Summary {
     /// What is known of what was read. An `Err` is want of memory, as 2^32 statements and more are.
     pub(crate) fn new(alloc: Global, listing: &Listing) -> Result<Summary, AllocError>
         requires { IsShown listing.now }
-        ensures { (read : List Read) → Shows listing.now read → IfOk result (IsSummary read) }
+        ensures summary { (read : List Read) → Shows listing.now read → IfOk result (IsSummary read) }
+        ensures few { IfOk result (λ s. length listing.now.groups.items < 2 ^ 32) }
     {
         if listing.groups.len() > u32::MAX as usize {
             return Err(AllocError);

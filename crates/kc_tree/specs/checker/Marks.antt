@@ -1,5 +1,5 @@
 -- The marks of the members of a choice.
-use Rattle.std.specs.Prelude.{◌≡◌, ℕ, ◌<◌, ◌==◌, Bool, true, false, List, length, slice_get, slice_index, is_some, Option, Some, None}
+use Rattle.std.specs.Prelude.{◌≡◌, ℕ, ◌<◌, ◌==◌, true, false, List, length, slice_get, slice_index, is_some, Some, None}
 use Rattle.std.specs.List.{list_any}
 use Rattle.kc_expr.specs.Lookup.{place_of}
 

@@ -1,5 +1,5 @@
 -- What is known of symbols and choices before conditions are joined.
-use Rattle.std.specs.Prelude.{◌≡◌, ℕ, Bool, true, false, ◌-◌, ◌+◌, ◌<◌, List, [], ◌∷◌, drop, length, map, filter, flat_map, slice_get, slice_index_or, slice_range, Option, Some, None, option_and_then, option_to_list, nat_lt, if◌then◌else◌}
+use Rattle.std.specs.Prelude.{◌≡◌, ℕ, Bool, true, false, ◌-◌, ◌+◌, ◌==◌, List, [], ◌∷◌, drop, length, map, filter, flat_map, slice_get, slice_index_or, slice_range, Option, Some, None, option_and_then, option_to_list, nat_lt, if◌then◌else◌}
 use Rattle.std.specs.Option.{option_or}
 use Rattle.kc_value.specs.declared.value.Kind.{Kind}
 use Rattle.kc_expr.specs.Arena.{Exprs}
@@ -128,3 +128,12 @@ pub record IsSummaryOf (c : Contents) (s : Summary) : Type 0 where
 
 unfoldable pub IsSummary : List Group → Summary → Type 0
 IsSummary read s = IsSummaryOf (contents_of read) s
+
+-- whether this is a group's number
+abbrev pub first_is : Option ℕ → ℕ → Bool
+first_is None i = false
+first_is (Some n) i = n == i
+
+-- what is known of a listing
+abbrev pub IsSummed : Listing → Summary → Type 0
+IsSummed l s = (read : List Group) → Shows l read → IsSummary read s

@@ -1,4 +1,4 @@
-use Rattle.std.proofs.Common.{◌≡◌, ℕ, List, drop, Bool, false}
+use Rattle.std.proofs.Common.{◌≡◌, ℕ, List, drop, false}
 use Rattle.std.specs.Prelude.{bytes_eq}
 use Rattle.kc_expr.specs.Expr.{modules as modules_name}
 use Rattle.kc_tree_model.specs.Blocks.{Group as Read}

@@ -1,10 +1,7 @@
-use Rattle.std.proofs.Common.{◌≡◌, ℕ, ◌+◌, ◌<◌, ◌≤◌, cond, [], ◌∷◌, ◌++◌, length, reverse, ap, sym, subst, ◌∙◌, arith}
+use Rattle.std.proofs.Common.{◌≡◌, ◌+◌, ◌<◌, cond, [], ◌∷◌, ◌++◌, length, reverse, ap, sym, ◌∙◌, arith}
 use Rattle.std.proofs.lemmas.List.{get_or_read}
-use Rattle.kc_tree_model.specs.Conditions.{placed}
-use Rattle.kc_tree_model.specs.Contents.{contents_of}
-use Rattle.std.specs.Prelude.{map}
 use Rattle.kc_listing.specs.Shown.{Shows}
-use Rattle.kc_tree.specs.checker.Summaries.{choice_round, innermost_choice, is_choice_code, no_group}
+use Rattle.kc_tree.specs.checker.Summaries.{innermost_choice, is_choice_code, no_group}
 use Rattle.kc_tree.proofs.Aligned.{count_is}
 use Rattle.kc_tree.proofs.Rounds.{all_round, round_more}
 use Rattle.kc_tree.proofs.around.choices_around.Goals as goal

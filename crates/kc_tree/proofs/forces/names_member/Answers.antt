@@ -1,4 +1,4 @@
-use Rattle.std.proofs.Common.{◌≡◌, ◌<◌, List, ℕ, true, Some, length, sym, ap, ◌∙◌, arith}
+use Rattle.std.proofs.Common.{◌≡◌, Some, sym, ap, ◌∙◌, arith}
 use Rattle.kc_expr.specs.Arena.{stands_for}
 use Rattle.kc_listing.specs.Shown.{Shows}
 use Rattle.kc_statements.specs.Said.{valued_in}

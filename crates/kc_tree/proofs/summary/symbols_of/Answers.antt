@@ -1,14 +1,13 @@
-use Rattle.std.proofs.Common.{◌≡◌, ℕ, ◌+◌, ◌<◌, None, Some, List, length, get_or, set, replicate, refl, map, sym, subst, ap, ◌∙◌, arith}
-use Rattle.std.specs.Prelude.{slice_get, filter_map, slice_range}
+use Rattle.std.proofs.Common.{◌≡◌, ◌<◌, None, Some, length, get_or, set, replicate, sym, ap, ◌∙◌, arith}
+use Rattle.std.specs.Prelude.{slice_get, filter_map}
 use Rattle.std.proofs.lemmas.List.{get_or_read, length-map}
-use Rattle.kc_tree_model.specs.Blocks.{Group as Read}
 use Rattle.kc_tree_model.specs.Conditions.{placed}
 use Rattle.kc_tree_model.specs.Contents.{contents_of}
 use Rattle.kc_tree_model.specs.Limits.{names_defined}
 use Rattle.kc_listing.proofs.NameLemmas.{as_many_names}
 use Rattle.kc_listing.specs.Shown.{Shows}
 use Rattle.kc_listing.specs.declared.listing.What.TheVariants as codes
-use Rattle.kc_tree.specs.checker.Summaries.{abouts, choice_round, group_at, no_group, own_lines, read_before, type_in}
+use Rattle.kc_tree.specs.checker.Summaries.{choice_round, group_at, no_group, own_lines, read_before, type_in}
 use Rattle.kc_tree.specs.declared.summary.About.{About}
 use Rattle.kc_tree.proofs.Aligned.{count_is, placed_count}
 use Rattle.kc_tree.proofs.Symbols.{all_abouts, as_many_abouts, no_abouts, none_known, symbol_there, symbols_kept, symbols_more}

@@ -1,12 +1,9 @@
-use Rattle.std.proofs.Common.{◌≡◌, ap, ◌∙◌}
-use Rattle.kc_tree_model.specs.Contents.{contents_of}
-use Rattle.kc_listing.specs.Shown.{Shows}
 use Rattle.kc_tree.specs.checker.Summaries.{IsSummary}
 use Rattle.kc_tree.proofs.summary.Summary.new.Goals as goal
 
-pub returns : goal.returns
+pub returns-clause-summary : goal.returns-clause-summary
 unfolding IsSummary
-returns c = λ read h. record {
+returns-clause-summary c = λ read h. record {
   symbols = c.in_ok-symbols.ensures read h;
   around = c.in_ok-around.ensures read h;
   choices = c.choice_count.ensures read h;
