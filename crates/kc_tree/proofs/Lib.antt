@@ -26,3 +26,6 @@ pub mod ChoiceRowSteps
 pub mod RowSteps
 pub mod UnitSteps
 pub mod GatherSteps
+pub mod GatherLaw
+pub mod GatherShown
+pub mod GatherAll

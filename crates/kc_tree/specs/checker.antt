@@ -4,6 +4,7 @@ pub mod Conditioned
 pub mod Conjunctions
 pub mod Conjuncts
 pub mod Entries
+pub mod Definitions
 pub mod Firsts
 pub mod GatheredAttributes
 pub mod GatheredFits

@@ -6,6 +6,7 @@ mod around;
 mod attribute;
 mod choice_rows;
 mod conditions;
+mod definitions;
 mod entries;
 mod entry;
 mod forces;

@@ -1,0 +1,53 @@
+use Rattle.std.proofs.Common.{◌≡◌, ◌<◌, ◌*◌, length, sym, ap, subst, ◌∙◌, arith}
+use Rattle.std.specs.Prelude.{All}
+use Rattle.std.proofs.lemmas.List.{get_or_read}
+use Rattle.kc_tree_model.specs.Limits.{names_defined}
+use Rattle.kc_listing.specs.Shown.{Shows, LineHeld}
+use Rattle.kc_tree.specs.checker.Summaries.{no_group}
+use Rattle.kc_tree.proofs.Aligned.{count_is}
+use Rattle.kc_tree.proofs.Conditioned.{conditions_count}
+use Rattle.kc_tree.proofs.GatherAll.{nothing_gathered, gathered_none, gathered_definition, gathered_other, gathered_whole, definition_many, group_count}
+use Rattle.kc_tree.proofs.definitions.gather_attributes.Goals as goal
+use Rattle.kc_tree.proofs.definitions.gather_attributes.Goals.{in-Config+in_ok-push_definition, in_default}
+
+pub conditions_of-own-requires-clause-here : goal.conditions_of-own-requires-clause-here
+conditions_of-own-requires-clause-here c = let n = group_count c.args.listing.now c.args.groups.now c.args.conditions.now c.requires.shown c.requires.conditions in omega arith
+
+pub dependency_of-dependency-requires : goal.dependency_of-dependency-requires
+dependency_of-dependency-requires c = let n = group_count c.args.listing.now c.args.groups.now c.args.conditions.now c.requires.shown c.requires.conditions in omega arith
+
+pub push_definition-requires-clause-many : goal.push_definition-requires-clause-many
+unfolding Shows
+push_definition-requires-clause-many c =
+    let l = c.args.listing.now in
+    let s = c.requires.shown in
+    let n = group_count l c.args.groups.now c.args.conditions.now s c.requires.conditions in
+    ap length c.conditions_of-own.ensures
+    ∙ definition_many l.names s.read s.shows.names l.texts.items l.lines.items l.groups.items c.args.groups.now c.args.conditions.now s.shows.groups_are (c.requires.conditions s.read s.shows) c.loop-i.i (omega arith) (omega arith)
+    ∙ sym (ap length c.lines_of-lines.ensures.lines)
+
+pub loop-i-preserved : goal.loop-i-preserved
+unfolding Shows
+loop-i-preserved c = λ read h.
+    let l = c.args.listing.now in
+    let n = group_count l c.args.groups.now c.args.conditions.now c.requires.shown c.requires.conditions in
+    let within : c.loop-i.i < length l.groups.items = omega arith in
+    let group = ap (λ g. g.what) (get_or_read l.groups.items _ _ within c.index.ensures no_group) in
+    let walked = c.requires.conditions read h in
+    elim c.match-index.branch [
+      | in-Config+in_ok-push_definition w ↦ (
+          let more = rw (w.lines_of-lines.ensures.lines, w.conditions_of-own.ensures, w.dependency_of-dependency.ensures) at w.in_ok-push_definition.ensures in
+          let held = subst (All (LineHeld l.names.arena)) w.lines_of-lines.ensures.lines w.lines_of-lines.ensures.held in
+          rw w.found-is (gathered_definition l.names read h.names l.texts.items l.lines.items l.groups.items c.args.groups.now c.args.conditions.now h.groups_are walked c.loop-i.i w.in-Config.s c.loop-i.found w.push_definition.new.found
+          within (omega arith) (sym group ∙ w.in-Config.is) held (c.loop-i.invariant read h) more)
+          )
+      | in_default w ↦ rw w.found-is (gathered_other l.names read h.names l.texts.items l.lines.items l.groups.items c.args.groups.now c.args.conditions.now h.groups_are walked c.loop-i.i c.loop-i.found
+          within (λ s a. w.in_default.not-Config s (group ∙ a)) (c.loop-i.invariant read h))
+    ]
+
+pub returns : goal.returns
+unfolding Shows
+returns c = λ read h.
+    let l = c.args.listing.now in
+    let n = count_is l.names.arena (names_defined read) l.texts.items l.lines.items l.groups.items read h.groups_are in
+    gathered_whole l.names.arena read c.loop-i.i c.loop-i.found (omega arith) (c.loop-i.invariant read h)

@@ -1,0 +1,103 @@
+//! What all definitions give symbols.
+ghost use Rattle.std.specs.Prelude.{◌≡◌, ◌<◌, [], List, All, IfOk, OnOk, length};
+ghost use Rattle.kc_tree_model.specs.Blocks.{Group as Read};
+ghost use Rattle.kc_tree_model.specs.Contents.{contents_of};
+ghost use Rattle.kc_listing.specs.Shown.{Shows, LineHeld};
+ghost use Rattle.kc_tree.specs.checker.Conditioned.{conditions_at};
+ghost use Rattle.kc_tree.specs.checker.Definitions.{HasDefinition, HaveConditions, AreAttributes};
+ghost use Rattle.kc_tree.specs.checker.Summaries.{IsShown};
+
+use super::gather::{Forcing, push_defaults, push_forces, push_prompts, push_ranges};
+use super::gathered::Attributes;
+use super::keyed::Keyed;
+use super::own_conditions::conditions_of;
+use super::own_lines::lines_of;
+use super::walk::GroupConditions;
+use kc_expr::ExprId;
+use kc_listing::{Line, Listing, Names, What};
+use std::alloc::{AllocError, Global};
+
+/// The dependency of a group.
+fn dependency_of(groups: &[GroupConditions], i: usize) -> ExprId
+    requires { i < length groups.now }
+    ensures { result ≡ (conditions_at groups.now i).dependency }
+{
+    groups[i].dependency
+}
+
+/// Nothing that symbols have. Takes no memory.
+fn no_attributes(alloc: Global) -> Attributes
+    ensures prompts { (result.prompts.keys.items ≡ []) × (result.prompts.items.items ≡ []) }
+    ensures defaults { (result.defaults.keys.items ≡ []) × (result.defaults.items.items ≡ []) }
+    ensures ranges { (result.ranges.keys.items ≡ []) × (result.ranges.items.items ≡ []) }
+    ensures selectors { (result.selectors.keys.items ≡ []) × (result.selectors.items.items ≡ []) }
+    ensures impliers { (result.impliers.keys.items ≡ []) × (result.impliers.items.items ≡ []) }
+    ensures direct { (result.direct.keys.items ≡ []) × (result.direct.items.items ≡ []) }
+{
+    Attributes {
+        prompts: Keyed::new(alloc),
+        defaults: Keyed::new(alloc),
+        ranges: Keyed::new(alloc),
+        selectors: Keyed::new(alloc),
+        impliers: Keyed::new(alloc),
+        direct: Keyed::new(alloc),
+    }
+}
+
+/// Puts what a definition gives symbols behind others.
+fn push_definition(
+    found: &mut Attributes,
+    names: &Names,
+    symbol: u32,
+    lines: &[Line],
+    conditions: &[ExprId],
+    dependency: ExprId,
+) -> Result<(), AllocError>
+    requires many { length conditions.now ≡ length lines.now }
+    requires held { All (LineHeld names.now.arena) lines.now }
+    ensures { OnOk result (HasDefinition names.now symbol found.old found.new lines.now conditions.now dependency) }
+{
+    push_prompts(&mut found.prompts, symbol, lines, conditions)?;
+    push_defaults(&mut found.defaults, symbol, lines, conditions)?;
+    push_ranges(&mut found.ranges, symbol, lines, conditions)?;
+    push_forces(
+        &mut found.selectors,
+        names,
+        Forcing::Select,
+        symbol,
+        lines,
+        conditions,
+    )?;
+    push_forces(
+        &mut found.impliers,
+        names,
+        Forcing::Imply,
+        symbol,
+        lines,
+        conditions,
+    )?;
+    found.direct.push(symbol, dependency)
+}
+
+/// What all definitions give symbols, by the conditions of groups and of their attributes. An `Err` is want of memory.
+pub(crate) fn gather_attributes(
+    alloc: Global,
+    listing: &Listing,
+    groups: &[GroupConditions],
+    conditions: &[ExprId],
+) -> Result<Attributes, AllocError>
+    requires shown { IsShown listing.now }
+    requires conditions { HaveConditions listing.now groups.now conditions.now }
+    ensures { (read : List Read) → Shows listing.now read → IfOk result (AreAttributes listing.now.names.arena (contents_of read)) }
+{
+    let mut found = no_attributes(alloc);
+    for i in 0..listing.groups.len() {
+        if let What::Config(s) = listing.groups[i].what {
+            let lines = lines_of(listing, i);
+            let own = conditions_of(groups, conditions, i);
+            let dependency = dependency_of(groups, i);
+            push_definition(&mut found, &listing.names, s, lines, own, dependency)?;
+        }
+    }
+    Ok(found)
+}
