@@ -137,7 +137,7 @@ module _ (l : Listing) (exprs : Exprs) (groups : List GroupConditions) (conditio
   abbrev pub AreRowsTo : ℕ → List ChoiceRow → Type 0
   AreRowsTo i rows = AreChoiceRows exprs (filter opens (placed (read_before i read))) rows
 
-  places_more : (i : ℕ) (h : i < length l.groups.items) (b : Bool) → is_choice_code (group_at l.groups.items i).what ≡ b
+  pub places_more : (i : ℕ) (h : i < length l.groups.items) (b : Bool) → is_choice_code (group_at l.groups.items i).what ≡ b
       → filter opens (placed (read_before (i + 1) read)) ≡ filter opens (placed (read_before i read)) ++ cond b (place (open_blocks 0 (read_before i read)) (both_at i h).group ∷ []) []
   places_more i h b e =
       let x = both_at i h in

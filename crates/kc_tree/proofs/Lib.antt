@@ -1,5 +1,6 @@
 pub mod Abouts
 pub mod Aligned
+pub mod ChoiceDefaultSteps
 pub mod Conditioned
 pub mod ConjunctionLemmas
 pub mod FaultKinds

@@ -1,5 +1,6 @@
 pub mod Attributes
 pub mod ChoiceRows
+pub mod ChoiceDefaults
 pub mod Conditioned
 pub mod Conjunctions
 pub mod Conjuncts

@@ -81,7 +81,7 @@ fn entry_of(
 }
 
 /// How many choices stand before the next group.
-fn count_choices(what: &What, choices: u32) -> u32
+pub(crate) fn count_choices(what: &What, choices: u32) -> u32
     requires { choices + 1 < 2 ^ 32 }
     ensures { result ≡ choices_behind what.now choices }
 {

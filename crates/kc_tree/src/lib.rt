@@ -4,6 +4,7 @@
 mod after;
 mod around;
 mod attribute;
+mod choice_defaults;
 mod choice_rows;
 mod conditions;
 mod definitions;

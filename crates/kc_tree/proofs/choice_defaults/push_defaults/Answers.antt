@@ -1,0 +1,17 @@
+use Rattle.std.proofs.Common.{◌≡◌, get_or, sym, ap, ◌∙◌, arith, ◌<◌, length}
+use Rattle.std.proofs.lemmas.List.{get_or_read}
+use Rattle.kc_tree.specs.checker.ChoiceDefaults.{member_kept}
+use Rattle.kc_tree.proofs.ChoiceDefaultSteps.{items_more, keys_more}
+use Rattle.kc_tree.proofs.choice_defaults.push_defaults.Goals as goal
+
+pub loop-i-preserved : goal.loop-i-preserved
+loop-i-preserved c =
+    let n = c.args.names.now in
+    let ls = c.args.lines.now in
+    let cs = c.args.conditions.now in
+    let i = c.loop-i.i in
+    let e = c.member_default.ensures ∙ ap (λ l. member_kept n l c.index-conditions-i.result) c.index-lines-i.is ∙ ap (member_kept n (get_or ls i c.index-lines-i.result)) c.index-conditions-i.is in
+    record {
+      keys = keys_more n c.args.choice ls cs i c.index-lines-i.result c.index-conditions-i.result _ _ _ c.member_default.result c.loop-i-test.true c.requires.many e c.loop-i.invariant.keys c.in_ok-push_default.ensures.keys;
+      items = items_more n ls cs i c.index-lines-i.result c.index-conditions-i.result _ _ _ c.member_default.result c.loop-i-test.true c.requires.many e c.loop-i.invariant.items c.in_ok-push_default.ensures.items;
+    }
