@@ -22,10 +22,11 @@ use Rattle.kc_listing.specs.Names.{HasNames}
 use Rattle.kc_listing.specs.Shown.{GroupsShown, WhatShown, LineHeld, line_in, Shows}
 use Rattle.kc_tree.specs.Told.{DefaultFits, RangeFits, HasOperands, ForceFits}
 use Rattle.kc_tree.specs.Told as told
+use Rattle.kc_tree.specs.checker.ChoiceDefaults.{IsWalkOf}
 use Rattle.kc_tree.specs.checker.Conditioned.{conditions_at, own_conditions}
-use Rattle.kc_tree.specs.checker.Definitions.{HasDefinition, HaveConditions, AreAttributes}
+use Rattle.kc_tree.specs.checker.Definitions.{HasDefinition, AreAttributes}
 use Rattle.kc_tree.specs.checker.Gathers.{prompt_kept, default_kept, range_kept, own_key, aimed_at, force_kept, said_pairs, HasMore}
-use Rattle.kc_tree.specs.checker.Summaries.{read_before, group_at, attributes_end, IsShown}
+use Rattle.kc_tree.specs.checker.Summaries.{read_before, group_at, attributes_end}
 use Rattle.kc_tree.specs.checker.Walked.{condition_at, ConditionsShown, AllConditionsShown}
 use Rattle.kc_tree.specs.declared.gather.Forcing.{Forcing}
 use Rattle.kc_tree.specs.declared.gather.Forcing.TheVariants.{Select, Imply}
@@ -222,8 +223,8 @@ pub gathered_whole : (e : Exprs) (read : List Group) (i : ℕ) (a : Attributes) 
 gathered_whole e read i a n g = all_gathered e read a (subst (λ ps. AreGathered e (names_defined read) ps a) (ap (λ k. placed (read_before k read)) n ∙ ap placed (all_before read)) g)
 
 -- each group has its conditions
-pub group_count : (l : Listing) (conditioned : List GroupConditions) (conditions : List ℕ) → IsShown l → HaveConditions l conditioned conditions → length conditioned ≡ length l.groups.items
+pub group_count : (l : Listing) (conditioned : List GroupConditions) (conditions : List ℕ) (read : List Group) → IsWalkOf l conditioned conditions read → length conditioned ≡ length l.groups.items
 unfolding Shows
-group_count l conditioned conditions s h =
-    conditions_count l.names.arena l.texts.items conditions conditioned s.read (h s.read s.shows)
-    ∙ sym (count_is l.names.arena (names_defined s.read) l.texts.items l.lines.items l.groups.items s.read s.shows.groups_are)
+group_count l conditioned conditions read w =
+    conditions_count l.names.arena l.texts.items conditions conditioned read w.shown
+    ∙ sym (count_is l.names.arena (names_defined read) l.texts.items l.lines.items l.groups.items read w.shows.groups_are)

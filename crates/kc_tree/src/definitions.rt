@@ -2,10 +2,10 @@
 ghost use Rattle.std.specs.Prelude.{◌≡◌, ◌<◌, [], List, All, IfOk, OnOk, length};
 ghost use Rattle.kc_tree_model.specs.Blocks.{Group as Read};
 ghost use Rattle.kc_tree_model.specs.Contents.{contents_of};
-ghost use Rattle.kc_listing.specs.Shown.{Shows, LineHeld};
+ghost use Rattle.kc_listing.specs.Shown.{LineHeld};
+ghost use Rattle.kc_tree.specs.checker.ChoiceDefaults.{IsWalkOf};
 ghost use Rattle.kc_tree.specs.checker.Conditioned.{conditions_at};
-ghost use Rattle.kc_tree.specs.checker.Definitions.{HasDefinition, HaveConditions, AreAttributes};
-ghost use Rattle.kc_tree.specs.checker.Summaries.{IsShown};
+ghost use Rattle.kc_tree.specs.checker.Definitions.{HasDefinition, AreAttributes};
 
 use super::gather::{Forcing, push_defaults, push_forces, push_prompts, push_ranges};
 use super::gathered::Attributes;
@@ -86,9 +86,8 @@ pub(crate) fn gather_attributes(
     groups: &[GroupConditions],
     conditions: &[ExprId],
 ) -> Result<Attributes, AllocError>
-    requires shown { IsShown listing.now }
-    requires conditions { HaveConditions listing.now groups.now conditions.now }
-    ensures { (read : List Read) → Shows listing.now read → IfOk result (AreAttributes listing.now.names.arena (contents_of read)) }
+    requires walked { (read : List Read) × IsWalkOf listing.now groups.now conditions.now read }
+    ensures { (read : List Read) → IsWalkOf listing.now groups.now conditions.now read → IfOk result (AreAttributes listing.now.names.arena (contents_of read)) }
 {
     let mut found = no_attributes(alloc);
     for i in 0..listing.groups.len() {

@@ -1,24 +1,15 @@
 -- What definitions give symbols, by the conditions of groups and of their attributes.
-use Rattle.std.specs.Prelude.{◌≡◌, ℕ, ◌<◌, List, [], ◌∷◌, ◌++◌, length, map, reverse, All, Some, slice_get}
+use Rattle.std.specs.Prelude.{◌≡◌, ℕ, ◌<◌, List, [], ◌∷◌, ◌++◌, length, map, All, Some, slice_get}
 use Rattle.kc_expr.specs.Arena.{Exprs, stands_for}
-use Rattle.kc_tree_model.specs.Blocks.{Group}
 use Rattle.kc_tree_model.specs.Contents.{Contents, symbol_of}
 use Rattle.kc_listing.specs.declared.listing.Line.{Line as CodeLine}
-use Rattle.kc_listing.specs.declared.listing.Listing.{Listing}
 use Rattle.kc_listing.specs.declared.listing.Names.{Names}
-use Rattle.kc_listing.specs.Shown.{Shows}
 use Rattle.kc_tree.specs.Told.{default_of, range_of, force_of, DefaultFits, RangeFits, HasOperands, ForceFits}
 use Rattle.kc_tree.specs.checker.GatheredAttributes.{HaveKeys}
 use Rattle.kc_tree.specs.checker.Gathers.{prompt_kept, default_kept, range_kept, own_key, aimed_at, force_kept, HasMore}
 use Rattle.kc_tree.specs.checker.GroupedItems.{items_of}
-use Rattle.kc_tree.specs.checker.Walked.{AllConditionsShown}
 use Rattle.kc_tree.specs.declared.gather.Forcing.TheVariants.{Select, Imply}
 use Rattle.kc_tree.specs.declared.gathered.Attributes.{Attributes}
-use Rattle.kc_tree.specs.declared.walk.GroupConditions.{GroupConditions}
-
--- the conditions of all that a listing shows
-abbrev pub HaveConditions : Listing → List GroupConditions → List ℕ → Type 0
-HaveConditions l groups conditions = (read : List Group) → Shows l read → AllConditionsShown l.names.arena l.texts.items conditions (length conditions) (reverse groups) read
 
 -- what a definition gives stands behind what was there
 pub record HasDefinition (names : Names) (s : ℕ) (old new : Attributes) (lines : List CodeLine) (conditions : List ℕ) (dependency : ℕ) : Type 0 where
