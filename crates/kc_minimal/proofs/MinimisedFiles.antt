@@ -1,0 +1,62 @@
+-- What is written for a file that was read.
+use Rattle.std.proofs.Common.{◌≡◌, ℕ, ◌<◌, ◌-◌, ◌^◌, true, List, Option, length, take, sym, subst}
+use Rattle.std.specs.Io.KnownBytes.{Appends}
+use Rattle.kc_tree_model.specs.Trees.{Whole}
+use Rattle.kc_system.specs.Solutions.{Gives}
+use Rattle.kc_rules_model.specs.declared.profile.Profile.{Profile}
+use Rattle.kc_rules_model.specs.declared.values.UnitValue.{UnitValue}
+use Rattle.kc_rules_model.specs.Rule.{rule}
+use Rattle.kc_rules_model.specs.SettledTrees.{IsSettledTree}
+use Rattle.kc_dotconfig_model.specs.Names.{is_prefix}
+use Rattle.kc_dotconfig_model.proofs.AcceptedLines.{accepted_utf8}
+use Rattle.kc_dotconfig.specs.declared.fragment.Fragment.{Fragment}
+use Rattle.kc_dotconfig.specs.Fragments.{users_of}
+use Rattle.kc_dotconfig.specs.Reads.{IsReadAs}
+use Rattle.kc_minimal_model.specs.MinimalText.{IsMinimalText}
+use Rattle.kc_minimal_model.specs.Headline.{MinimalFilesAreCanonical}
+use Rattle.kc_minimal_model.specs.FilesAssign.{FilesAssignTheLines}
+use Rattle.kc_minimal_model.specs.Loading.{Loads}
+use Rattle.kc_minimal.specs.Minimised.{IsCanonicalText, IsMinimised, IsCutOff}
+use Rattle.kc_minimal.proofs.CanonicalTexts.{canonical_text}
+
+module _ (canonical : MinimalFilesAreCanonical) (assign : FilesAssignTheLines) (prefix : List ℕ) (valid : is_prefix prefix ≡ true) (profile : Profile) (tree : Whole) (settled : IsSettledTree tree)
+    (before after : Option (List ℕ)) (f : Fragment) (read : IsReadAs prefix tree before after f) (values : List UnitValue) (text : List ℕ) (minimal : IsMinimalText prefix profile tree (users_of tree f.assigns.items) values text) where
+  abbrev loaded : Loads prefix profile tree read.told values
+  loaded = record {
+    accepted = read.accepted;
+    reads = record {
+      utf8 = accepted_utf8 prefix tree read.told valid read.accepted;
+      sayings = read.sayings;
+      says = read.says;
+      gives = subst (λ users. Gives (length tree.units) (rule profile tree) users values) read.users minimal.held;
+    };
+  }
+
+  -- written whole
+  pub minimised : (taken taken_after : Option (List ℕ)) → Appends taken taken_after text → IsMinimised prefix profile tree before after taken taken_after f.notices.items
+  minimised taken taken_after written = record {
+    told = read.told;
+    consumed = read.consumed;
+    ended = read.ended;
+    values = values;
+    loads = loaded;
+    noted = read.noted;
+    text = text;
+    written = written;
+    minimal = subst (λ users. IsMinimalText prefix profile tree users values text) read.users minimal;
+    canonical = subst (IsCanonicalText prefix profile tree values) (sym minimal.is) (canonical_text canonical assign prefix valid profile tree settled read.told values loaded);
+  }
+
+  -- and in part
+  pub cut_off : (taken taken_after : Option (List ℕ)) (failed failed_after written : ℕ) → written < length text → Appends taken taken_after (take written text) → (failed < 2 ^ 64 - 1 → failed < failed_after)
+      → IsCutOff prefix profile tree before after taken taken_after failed failed_after written
+  cut_off taken taken_after failed failed_after written part took rose = record {
+    told = read.told;
+    consumed = read.consumed;
+    ended = read.ended;
+    values = values;
+    loads = loaded;
+    part = subst (λ t. written < length t) minimal.is part;
+    took = subst (λ t. Appends taken taken_after (take written t)) minimal.is took;
+    rose = rose;
+  }

@@ -1,0 +1,7 @@
+use Rattle.std.proofs.lemmas.Result.{IfOk-weaker}
+use Rattle.kc_dotconfig_model.specs.checker.Prefixes.{text_of}
+use Rattle.kc_minimal.proofs.HeldTexts.{minimal_held}
+use Rattle.kc_minimal.proofs.texts.minimal_text.Goals as goal
+
+pub returns : goal.returns
+returns c = IfOk-weaker c.minimal_lines.result _ _ (λ text is. minimal_held (text_of c.args.prefix.now) c.args.prefix.now.valid c.args.config.now c.values.ensures.solved c.settled.result.now c.values.result.now c.settled.ensures c.values.ensures.values text.items c.minimal_texts_are_minimal.ensures is) c.minimal_lines.ensures

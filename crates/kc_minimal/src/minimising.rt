@@ -1,0 +1,83 @@
+//! Minimising a configuration file.
+ghost use Rattle.std.specs.Prelude.{◌≡◌, List, IfOk, IfErr, OnOk};
+ghost use Rattle.kc_rules_model.specs.declared.values.UnitValue.{UnitValue as Held};
+ghost use Rattle.kc_rules.specs.Told.{whole_of, profile_of};
+ghost use Rattle.kc_dotconfig_model.specs.checker.Prefixes.{text_of};
+ghost use Rattle.kc_dotconfig.specs.Fragments.{FitsTree, users_of};
+ghost use Rattle.kc_minimal_model.specs.MinimalText.{IsMinimalText};
+ghost use Rattle.kc_minimal.specs.Minimised.{IsMinimised, EndsWith};
+
+use crate::texts::minimal_text;
+use crate::writing::{WriteFault, write_out};
+use kc_dotconfig::{Config, Fragment, LoadFault, Notice, Prefix, read_config};
+use kc_minimal_model::{files_assign_the_lines, minimal_files_are_canonical};
+use kc_rules::Settled;
+use kc_value::{Sink, Source};
+use std::alloc::{AllocError, Global};
+use thiserror::Error;
+
+/// Why a file isn't minimised.
+#[derive(Clone, Copy, Debug, PartialEq, Eq, Error)]
+pub enum RunFault {
+    /// The file isn't read, and nothing is written.
+    #[error("{0}")]
+    Load(LoadFault),
+    /// Memory was refused, and nothing is written.
+    #[error("OutOfMemory")]
+    Memory,
+    /// The text isn't written whole.
+    #[error("{0}")]
+    Write(WriteFault),
+}
+
+/// The minimal file of what a fragment alone gives.
+fn minimal_of(
+    alloc: Global,
+    settled: &Settled,
+    prefix: &Prefix,
+    fragment: &Fragment,
+) -> Result<Vec<u8>, AllocError>
+    requires { FitsTree (whole_of settled.now) fragment.now.assigns.items }
+    ensures { IfOk result (λ text. (values : List Held) × IsMinimalText (text_of prefix.now) (profile_of settled.now) (whole_of settled.now) (users_of (whole_of settled.now) fragment.now.assigns.items) values text.items) }
+{
+    let mut config = Config::new(alloc, settled)?;
+    config.replace(fragment)?;
+    minimal_text(alloc, &config, prefix)
+}
+
+/// Reads a configuration file to its end, and writes the minimal file of its values: its canonical form. Answers the
+/// notices of its lines. A file that isn't accepted, and memory that is refused, end this before anything is written.
+///
+/// Two accepted files over one tree give every symbol the same value exactly if what is written for them is equal byte
+/// for byte. What is written gives the values back, is written again for itself, and gives some symbol another value
+/// without any one of its lines.
+pub fn minimise<R: Source, W: Sink>(
+    alloc: Global,
+    settled: &Settled,
+    prefix: &Prefix,
+    source: &mut R,
+    sink: &mut W,
+) -> Result<Vec<Notice>, RunFault>
+    ensures minimised { IfOk result (λ notices. IsMinimised (text_of prefix.now) (profile_of settled.now) (whole_of settled.now) (R.left source.old) (R.left source.new) (W.taken sink.old) (W.taken sink.new) notices.items) }
+    ensures unfailed { OnOk result (W.failures sink.new ≡ W.failures sink.old) }
+    ensures fault { IfErr result (EndsWith (text_of prefix.now) (profile_of settled.now) (whole_of settled.now) (R.left source.old) (R.left source.new) (R.failures source.old) (R.failures source.new) (W.taken sink.old) (W.taken sink.new) (W.failures sink.old) (W.failures sink.new)) }
+{
+    minimal_files_are_canonical();
+    files_assign_the_lines();
+    let _tree = settled.tree();
+    let fragment = match read_config(alloc, settled, prefix, source) {
+        Ok(fragment) => fragment,
+        Err(fault) => return Err(RunFault::Load(fault)),
+    };
+    let text = match minimal_of(alloc, settled, prefix, &fragment) {
+        Ok(text) => text,
+        Err(AllocError) => return Err(RunFault::Memory),
+    };
+    match write_out(sink, &text) {
+        Ok(()) => {
+            let Fragment { notices, .. } = fragment;
+            Ok(notices)
+        }
+        Err(fault) => Err(RunFault::Write(fault)),
+    }
+}
