@@ -30,3 +30,4 @@ pub mod GatherSteps
 pub mod GatherLaw
 pub mod GatherShown
 pub mod GatherAll
+pub mod AssemblySteps

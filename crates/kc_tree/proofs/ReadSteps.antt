@@ -10,7 +10,8 @@ use Rattle.kc_tree_model.specs.TreeFaults.{tree_faults, fault_told, fault_told_a
 use Rattle.kc_listing.specs.declared.listing.Listing.{Listing}
 use Rattle.kc_listing.specs.Shown.{Shows}
 use Rattle.kc_listing.specs.Told.{no_memory}
-use Rattle.kc_tree.specs.checker.Surface.{IsOfReading, IsOfTree}
+use Rattle.kc_tree.specs.checker.Summaries.{IsShown}
+use Rattle.kc_tree.specs.checker.Surface.{IsOfTree}
 use Rattle.kc_tree.specs.checker.Wanting.{is_absent}
 
 after_some : (o : Outcome) (f : TreeFault) → o.fault ≡ Some f → fault_told_after o ≡ Some f
@@ -46,8 +47,8 @@ module _ (files : Files) (root : List ℕ) (l : Listing) (given : Option TreeFau
   pub shown_of_reading : given ≡ None → Shows l (reading files root).read
   shown_of_reading e = shown_by e read
 
-  pub of_reading : given ≡ None → IsOfReading l
-  of_reading e = record { files = files; root = root; unfailed = unfailed_of e; shows = shown_of_reading e }
+  pub of_reading : given ≡ None → IsShown l
+  of_reading e = record { read = (reading files root).read; shows = shown_of_reading e }
 
   -- where reading met none, the first of the others
   pub told_behind : (o : Option TreeFault) → given ≡ None → o ≡ slice_get (tree_faults (reading files root).read) 0 → fault_told files root ≡ o

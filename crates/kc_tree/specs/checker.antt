@@ -1,3 +1,4 @@
+pub mod Assembly
 pub mod Attributes
 pub mod ChoiceRows
 pub mod ChoiceDefaults

@@ -1,0 +1,302 @@
+-- What was gathered stands for the whole.
+use Rattle.std.proofs.Common.{◌≡◌, ◌⊎◌, inl, inr, ℕ, zero, suc, ◌+◌, ◌<◌, ◌≤◌, ◌^◌, Bool, true, false, cond, List, [], ◌∷◌, ◌++◌, length, get_or, map, Option, Some, None, refl, ap, sym, subst, ◌∙◌, arith}
+use Rattle.std.specs.Prelude.{All, filter, filter_map, flat_map, slice_get, slice_index, option_map, option_to_list, option_and_then, unwrap_or}
+use Rattle.std.specs.List.{cons_option}
+use Rattle.std.proofs.lemmas.List.{length-map}
+use Rattle.std.proofs.lemmas.List.Elements.{All-append, All-cons, All-nil}
+use Rattle.std.proofs.lemmas.Option.{slice_get-get_or}
+use Rattle.kc_expr.specs.Arena.{Exprs, stands_for}
+use Rattle.kc_expr.specs.Lookup.{place_of}
+use Rattle.kc_tree_model.specs.Trees as tree
+use Rattle.kc_tree_model.specs.Trees.{Whole}
+use Rattle.kc_tree_model.specs.Files.{Files}
+use Rattle.kc_tree_model.specs.Blocks.{Group, name_of, opens_choice, head_gives}
+use Rattle.kc_tree_model.specs.Conditions.{Placed, placed}
+use Rattle.kc_tree_model.specs.Contents.{Contents, contents_of, symbol_of, choice_of, choice_number, member_names, place_of_number, whole_of, tree_of_files}
+use Rattle.kc_tree_model.specs.Limits.{names_defined}
+use Rattle.kc_tree_model.proofs.Consistency.Definitions.{IsSound, sound_contents, no_first}
+use Rattle.kc_tree_model.proofs.Consistency.Consistent.{tree_is_consistent}
+use Rattle.kc_tree_model.specs.TreeLookup.{IsConsistent}
+use Rattle.kc_tree_model.proofs.Consistency.NameLimits.{few_symbols as few_defined}
+use Rattle.kc_tree_model.proofs.Consistency.Places.{is_read}
+use Rattle.kc_tree_model.specs.declared.fault.TreeFault.{TreeFault}
+use Rattle.kc_tree_model.specs.Reading.{reading}
+use Rattle.kc_tree_model.specs.TreeFaults.{fault_told, tree_faults}
+use Rattle.kc_tree_model.proofs.Consistency.Lists.{get_below, place-get, number-get, map-get}
+use Rattle.kc_tree_model.proofs.Consistency.Units.{number_is}
+use Rattle.kc_listing.specs.declared.listing.Listing.{Listing}
+use Rattle.kc_listing.specs.Names.{word_in}
+use Rattle.kc_listing.specs.Shown.{Shows}
+use Rattle.kc_tree.specs.Held.{Held}
+use Rattle.kc_tree.specs.Told.{unit_told, member_default_of, MemberDefaultFits}
+use Rattle.kc_tree.specs.checker.Assembly.{AreSymbolParts, AreChoiceParts, IsGathering}
+use Rattle.kc_tree.specs.checker.ChoiceDefaults.{AreDefaultsOf, defaults_said}
+use Rattle.kc_tree.specs.checker.ChoiceRows.{opens, IsChoiceRow, AreChoiceRows}
+use Rattle.kc_tree.specs.checker.Definitions.{AreAttributes}
+use Rattle.kc_tree.specs.checker.GatheredAttributes.{AreKeys, HaveKeys}
+use Rattle.kc_tree.specs.checker.GatheredFits.{GatheredFit}
+use Rattle.kc_tree.specs.checker.GatheredView.{symbol_gathered, choice_gathered, whole_gathered}
+use Rattle.kc_tree.specs.checker.GroupedItems.{items_of}
+use Rattle.kc_tree.specs.checker.PartsView.{seen_from, entry_seen}
+use Rattle.kc_tree.specs.checker.Rows.{IsRowOf, AreRowsOf}
+use Rattle.kc_tree.specs.checker.Summaries.{IsSummary, IsSummaryOf, choice_round, member_in, members_at, member_key, member_keys_at}
+use Rattle.kc_tree.specs.checker.UnitList.{unit_read, units_read}
+use Rattle.kc_tree.specs.declared.builder.ChoiceParts.{ChoiceParts}
+use Rattle.kc_tree.specs.declared.builder.SymbolParts.{SymbolParts}
+use Rattle.kc_tree.specs.declared.gathered.Gathered.{Gathered}
+use Rattle.kc_tree.specs.declared.summary.Summary.{Summary}
+use Rattle.kc_tree.specs.declared.parts.ChoiceRow.{ChoiceRow}
+use Rattle.kc_tree.specs.declared.parts.SymbolRow.{SymbolRow}
+use Rattle.kc_tree.proofs.Aligned.{placed_count, count_is}
+use Rattle.kc_tree.proofs.MemberLaw.{members_are}
+
+-- symbols
+module _ (g : Gathered) (c : Contents) (a : AreAttributes g.arena c g.attributes) where
+  symbol_same : (s : ℕ) (name : List ℕ) (r : SymbolRow) → slice_get c.names s ≡ Some name → IsRowOf g.arena c name r → symbol_gathered g s r ≡ symbol_of c name
+  symbol_same s name r e h =
+      rw (h.name_is, h.kind_is, h.file_is, h.line_is, h.choice_is, a.prompts_are s name e, a.defaults_are s name e, a.ranges_are s name e, a.selectors_are s name e, a.impliers_are s name e, a.direct_are s name e) refl
+
+  symbols_from : (n : ℕ) (names : List (List ℕ)) (rows : List SymbolRow) → ((i : ℕ) (x : List ℕ) → slice_get names i ≡ Some x → slice_get c.names (n + i) ≡ Some x) → AreRowsOf g.arena c names rows
+      → seen_from (symbol_gathered g) n rows ≡ map (symbol_of c) names
+  symbols_from n [] [] at h = refl
+  symbols_from n [] (r ∷ rows) at h = absurd h
+  symbols_from n (x ∷ names) [] at h = absurd h
+  symbols_from n (x ∷ names) (r ∷ rows) at h =
+      let here : slice_get c.names n ≡ Some x = ap (slice_get c.names) (let e : n ≡ n + 0 = omega arith in e) ∙ at 0 x refl in
+      let rest = symbols_from (suc n) names rows (λ i y e. ap (slice_get c.names) (let m : suc n + i ≡ n + suc i = omega arith in m) ∙ at (suc i) y e) h.1 in
+      ap (λ k. k ∷ seen_from (symbol_gathered g) (suc n) rows) (symbol_same n x r here h.0) ∙ ap (λ ks. symbol_of c x ∷ ks) rest
+
+  pub symbols_are : (rows : List SymbolRow) → AreRowsOf g.arena c c.names rows → seen_from (symbol_gathered g) 0 rows ≡ map (symbol_of c) c.names
+  symbols_are rows h = symbols_from 0 c.names rows (λ i x e. ap (slice_get c.names) (let m : 0 + i ≡ i = omega arith in m) ∙ e) h
+
+as_many_rows : (e : Exprs) (c : Contents) (names : List (List ℕ)) (rows : List SymbolRow) → AreRowsOf e c names rows → length rows ≡ length names
+as_many_rows e c [] [] h = refl
+as_many_rows e c [] (r ∷ rows) h = absurd h
+as_many_rows e c (x ∷ names) [] h = absurd h
+as_many_rows e c (x ∷ names) (r ∷ rows) h = ap suc (as_many_rows e c names rows h.1)
+
+rows_held : (e : Exprs) (c : Contents) (names : List (List ℕ)) (rows : List SymbolRow) → AreRowsOf e c names rows → All (λ (r : SymbolRow). r.name < length e.names) rows
+rows_held e c [] [] h = All-nil (λ (r : SymbolRow). r.name < length e.names)
+rows_held e c [] (r ∷ rows) h = absurd h
+rows_held e c (x ∷ names) [] h = absurd h
+rows_held e c (x ∷ names) (r ∷ rows) h = All-cons (λ (r : SymbolRow). r.name < length e.names) r rows h.0.held (rows_held e c names rows h.1)
+
+-- choices
+module _ (g : Gathered) (c : Contents) (sound : IsSound c) (keys : g.members.keys.items ≡ flat_map (member_keys_at c) c.places) (items : g.members.items.items ≡ flat_map (members_at c) c.places)
+    (d : (k : ℕ) → map (member_default_of g.arena) (items_of k g.member_defaults.keys.items g.member_defaults.items.items) ≡ elim (slice_get (filter opens c.places) k) as (λ _. List tree.MemberDefault) [ None ↦ [] | Some p ↦ (choice_of c p).defaults ]) where
+  members_same : (k : ℕ) (p : Placed) → slice_get (filter opens c.places) k ≡ Some p → items_of k g.members.keys.items g.members.items.items ≡ (choice_of c p).members
+  members_same k p e =
+      let number : choice_number c p.group.number ≡ Some k = number_is c sound p.group.number k (ap (λ ns. slice_get ns k) sound.choices ∙ map-get (λ (q : Placed). q.group.number) (filter opens c.places) k p e) in
+      ap (λ ks. items_of k ks g.members.items.items) keys
+      ∙ ap (items_of k (flat_map (member_keys_at c) c.places)) items
+      ∙ members_are c k p.group.number number
+
+  choice_same : (k : ℕ) (p : Placed) (r : ChoiceRow) → slice_get (filter opens c.places) k ≡ Some p → IsChoiceRow g.arena p r → choice_gathered g k r ≡ choice_of c p
+  choice_same k p r e h =
+      let defaults : map (member_default_of g.arena) (items_of k g.member_defaults.keys.items g.member_defaults.items.items) ≡ (choice_of c p).defaults = d k ∙ ap (λ o. elim o as (λ _. List tree.MemberDefault) [ None ↦ [] | Some q ↦ (choice_of c q).defaults ]) e in
+      rw (h.file_is, h.line_is, h.prompt_is, members_same k p e, defaults) refl
+
+  choices_from : (n : ℕ) (ps : List Placed) (rows : List ChoiceRow) → ((i : ℕ) (p : Placed) → slice_get ps i ≡ Some p → slice_get (filter opens c.places) (n + i) ≡ Some p) → AreChoiceRows g.arena ps rows
+      → seen_from (choice_gathered g) n rows ≡ map (choice_of c) ps
+  choices_from n [] [] at h = refl
+  choices_from n [] (r ∷ rows) at h = absurd h
+  choices_from n (p ∷ ps) [] at h = absurd h
+  choices_from n (p ∷ ps) (r ∷ rows) at h =
+      let here : slice_get (filter opens c.places) n ≡ Some p = ap (slice_get (filter opens c.places)) (let e : n ≡ n + 0 = omega arith in e) ∙ at 0 p refl in
+      let rest = choices_from (suc n) ps rows (λ i y e. ap (slice_get (filter opens c.places)) (let m : suc n + i ≡ n + suc i = omega arith in m) ∙ at (suc i) y e) h.1 in
+      ap (λ k. k ∷ seen_from (choice_gathered g) (suc n) rows) (choice_same n p r here h.0) ∙ ap (λ ks. choice_of c p ∷ ks) rest
+
+  pub choices_are : (rows : List ChoiceRow) → AreChoiceRows g.arena (filter opens c.places) rows → seen_from (choice_gathered g) 0 rows ≡ map (choice_of c) (filter opens c.places)
+  choices_are rows h = choices_from 0 (filter opens c.places) rows (λ i p e. ap (slice_get (filter opens c.places)) (let m : 0 + i ≡ i = omega arith in m) ∙ e) h
+
+as_many_choices : (e : Exprs) (ps : List Placed) (rows : List ChoiceRow) → AreChoiceRows e ps rows → length rows ≡ length ps
+as_many_choices e [] [] h = refl
+as_many_choices e [] (r ∷ rows) h = absurd h
+as_many_choices e (p ∷ ps) [] h = absurd h
+as_many_choices e (p ∷ ps) (r ∷ rows) h = ap suc (as_many_choices e ps rows h.1)
+
+prompts_held : (e : Exprs) (ps : List Placed) (rows : List ChoiceRow) → AreChoiceRows e ps rows → (k i : ℕ) (r : ChoiceRow) → slice_get rows k ≡ Some r → r.prompt ≡ Some i → i < length e.nodes
+prompts_held e [] [] h k i r at is = cc
+prompts_held e [] (x ∷ rows) h k i r at is = absurd h
+prompts_held e (p ∷ ps) [] h k i r at is = absurd h
+prompts_held e (p ∷ ps) (x ∷ rows) h zero i r at is = let same : x ≡ r = cc in h.0.held i (ap (λ (y : ChoiceRow). y.prompt) same ∙ is)
+prompts_held e (p ∷ ps) (x ∷ rows) h (suc k) i r at is = prompts_held e ps rows h.1 k i r at is
+
+-- members are symbols under choices
+module _ (c : Contents) where
+  below_one : (m n : ℕ) → n < m → All (λ s. s < m) (n ∷ [])
+  below_one m n h = All-cons (λ s. s < m) n [] h (All-nil (λ s. s < m))
+
+  place_fits : (o : Option ℕ) → ((n : ℕ) → o ≡ Some n → n < length c.names) → All (λ s. s < length c.names) (option_to_list o)
+  place_fits None h = All-nil (λ s. s < length c.names)
+  place_fits (Some n) h = below_one (length c.names) n (h n refl)
+
+  named_fits : (x : Option (List ℕ)) (n : ℕ) → option_and_then (λ y. place_of y c.names) x ≡ Some n → n < length c.names
+  named_fits None n e = cc
+  named_fits (Some y) n e = get_below c.names n y (place-get y c.names n e)
+
+  members_fit_at : (o : Option ℕ) (x : Option (List ℕ)) → All (λ s. s < length c.names) (member_in c o x)
+  members_fit_at None x = All-nil (λ s. s < length c.names)
+  members_fit_at (Some k) x = place_fits (option_and_then (λ y. place_of y c.names) x) (named_fits x)
+
+  pub members_fit : (ps : List Placed) → All (λ s. s < length c.names) (flat_map (members_at c) ps)
+  members_fit [] = All-nil (λ s. s < length c.names)
+  members_fit (p ∷ ps) = All-append (λ s. s < length c.names) (members_at c p) (flat_map (members_at c) ps) (members_fit_at (choice_round c p) (name_of p.group)) (members_fit ps)
+
+  mapped_keys : (k : ℕ) (xs : List ℕ) → k < length c.choices → All (λ n. n < length c.choices) (map (λ _. k) xs)
+  mapped_keys k [] h = All-nil (λ n. n < length c.choices)
+  mapped_keys k (x ∷ xs) h = All-cons (λ n. n < length c.choices) k (map (λ _. k) xs) h (mapped_keys k xs h)
+
+  keys_fit_at : (o : Option ℕ) (x : Option (List ℕ)) → ((k : ℕ) → o ≡ Some k → k < length c.choices) → All (λ n. n < length c.choices) (map (λ _. elim o as (λ _. ℕ) [ None ↦ 0 | Some k ↦ k ]) (member_in c o x))
+  keys_fit_at None x h = All-nil (λ n. n < length c.choices)
+  keys_fit_at (Some k) x h = mapped_keys k (option_to_list (option_and_then (λ y. place_of y c.names) x)) (h k refl)
+
+  round_fits : (o : Option ℕ) (k : ℕ) → option_and_then (choice_number c) o ≡ Some k → k < length c.choices
+  round_fits None k e = cc
+  round_fits (Some n) k e = get_below c.choices k n (number-get n c.choices k e)
+
+  pub keys_fit : (ps : List Placed) → All (λ n. n < length c.choices) (flat_map (member_keys_at c) ps)
+  keys_fit [] = All-nil (λ n. n < length c.choices)
+  keys_fit (p ∷ ps) = All-append (λ n. n < length c.choices) (member_keys_at c p) (flat_map (member_keys_at c) ps) (keys_fit_at (choice_round c p) (name_of p.group) (round_fits p.around.choice)) (keys_fit ps)
+
+keys_of_all : (n : ℕ) (ks : List ℕ) → All (λ k. k < n) ks → AreKeys n ks
+keys_of_all n ks h i l = h i 0 l
+
+-- few of few
+few_filtered : {A : Type 0} (f : A → Bool) (xs : List A) → length (filter f xs) ≤ length xs
+few_filtered f [] = omega arith
+few_filtered f (x ∷ xs) = by (f x) (few_filtered f xs)
+  where
+    by : (b : Bool) → length (filter f xs) ≤ length xs → length (cond b (x ∷ filter f xs) (filter f xs)) ≤ suc (length xs)
+    by true h = omega (arith, h)
+    by false h = omega (arith, h)
+
+few_mapped : {A B : Type 0} (f : A → Option B) (xs : List A) → length (filter_map f xs) ≤ length xs
+few_mapped f [] = omega arith
+few_mapped {A = A} {B = B} f (x ∷ xs) = by (f x) (few_mapped f xs)
+  where
+    by : (o : Option B) → length (filter_map f xs) ≤ length xs → length (cons_option o (filter_map f xs)) ≤ suc (length xs)
+    by None h = omega (arith, h)
+    by (Some y) h = omega (arith, h)
+
+-- no fault is left
+after_by : (f : Option TreeFault) (x : Option TreeFault) → elim f as (λ _. Option TreeFault) [ None ↦ x | Some g ↦ Some g ] ≡ None → x ≡ None
+after_by None x e = e
+after_by (Some g) x e = cc
+
+pub faultless_of : (files : Files) (root : List ℕ) → fault_told files root ≡ None → tree_faults (reading files root).read ≡ []
+unfolding fault_told
+faultless_of files root h = no_first (tree_faults (reading files root).read) (after_by (reading files root).fault (slice_get (tree_faults (reading files root).read) 0) h)
+
+-- the whole, part by part
+module _ (files : Files) (root : List ℕ) (l : Listing) (symbols : SymbolParts) (choices : ChoiceParts) (summary : Summary) (g : Gathered)
+    (arena_is : g.arena ≡ l.names.arena) (symbols_is : g.symbols ≡ symbols.rows) (attributes_is : g.attributes ≡ symbols.attributes) (choices_is : g.choices ≡ choices.rows) (members_is : g.members ≡ summary.members)
+    (defaults_is : g.member_defaults ≡ choices.defaults) (entries_is : g.entries ≡ choices.entries) (titles_is : g.titles ≡ l.texts) (units_is : g.units ≡ symbols.units)
+    (shows : Shows l (reading files root).read) (s : AreSymbolParts l.names.arena (reading files root).read symbols) (k : AreChoiceParts l (reading files root).read choices)
+    (m : IsSummary (reading files root).read summary) (few : length l.groups.items < 2 ^ 32) where
+  abbrev read : List Group
+  read = (reading files root).read
+
+  abbrev c : Contents
+  c = contents_of (reading files root).read
+
+  sound : IsSound c
+  sound = sound_contents (reading files root).read (is_read files root)
+
+  rows : AreRowsOf g.arena c c.names g.symbols.items
+  rows = rw (arena_is, symbols_is) s.rows
+
+  attributes : AreAttributes g.arena c g.attributes
+  attributes = rw (arena_is, attributes_is) s.attributes
+
+  choice_rows : AreChoiceRows g.arena (filter opens c.places) g.choices.items
+  choice_rows = rw (arena_is, choices_is) k.rows
+
+  keys : g.members.keys.items ≡ flat_map (member_keys_at c) c.places
+  unfolding IsSummary
+  keys = ap (λ v. v.keys.items) members_is ∙ m.member_keys
+
+  items : g.members.items.items ≡ flat_map (members_at c) c.places
+  unfolding IsSummary
+  items = ap (λ v. v.items.items) members_is ∙ m.members
+
+  defaults_by : (o : Option Placed) → defaults_said c o ≡ elim o as (λ _. List tree.MemberDefault) [ None ↦ [] | Some p ↦ (choice_of c p).defaults ]
+  defaults_by None = refl
+  defaults_by (Some p) = refl
+
+  defaults : (j : ℕ) → map (member_default_of g.arena) (items_of j g.member_defaults.keys.items g.member_defaults.items.items) ≡ elim (slice_get (filter opens c.places) j) as (λ _. List tree.MemberDefault) [ None ↦ [] | Some p ↦ (choice_of c p).defaults ]
+  defaults j = rw (arena_is, defaults_is) (k.defaults.are j ∙ defaults_by (slice_get (filter opens c.places) j))
+
+  entries : map (entry_seen g.arena g.titles.items) g.entries.items ≡ (whole_of read).entries
+  entries = rw (arena_is, titles_is, entries_is) k.entries
+
+  units : map unit_told g.units.items ≡ units_read c
+  units = rw units_is s.units
+
+  pub whole : whole_gathered g ≡ whole_of read
+  unfolding whole_of
+  whole = rw (symbols_are g c attributes g.symbols.items rows, choices_are g c sound keys items defaults g.choices.items choice_rows, entries, units) refl
+
+  many_symbols : length g.symbols.items ≡ length c.names
+  many_symbols = as_many_rows g.arena c c.names g.symbols.items rows
+
+  many_choices : length g.choices.items ≡ length c.choices
+  many_choices = as_many_choices g.arena (filter opens c.places) g.choices.items choice_rows ∙ sym (length-map (filter opens c.places) (λ (p : Placed). p.group.number))
+
+  many_names : length l.names.symbols.items ≡ length c.names
+  unfolding Shows
+  many_names = sym (length-map l.names.symbols.items (word_in l.names.arena)) ∙ ap length shows.names.words
+
+  many_places : length c.places ≡ length l.groups.items
+  unfolding Shows
+  many_places = placed_count read ∙ sym (count_is l.names.arena (names_defined read) l.texts.items l.lines.items l.groups.items read shows.groups_are)
+
+  few_choices : length g.choices.items < 2 ^ 32
+  few_choices =
+      let a = few_filtered opens c.places in
+      omega (arith, a, many_places, few, as_many_choices g.arena (filter opens c.places) g.choices.items choice_rows)
+
+  few_units : length g.units.items < 2 ^ 32
+  few_units =
+      let a = few_mapped (unit_read c) c.places in
+      let n : length g.units.items ≡ length (units_read c) = sym (length-map g.units.items unit_told) ∙ ap length units in
+      omega (arith, a, many_places, few, n)
+
+  few_names : length c.names < 2 ^ 32
+  unfolding tree_of_files whole_of
+  few_names = let n = few_defined files root in omega (arith, n, length-map c.names (symbol_of c))
+
+  pub fits : GatheredFit g
+  fits = record {
+    few_symbols = omega (arith, many_symbols, few_names);
+    few_choices = few_choices;
+    few_units = few_units;
+    names = rows_held g.arena c c.names g.symbols.items rows;
+    keys = rw many_symbols attributes.keys;
+    member_keys = rw (many_choices, keys) (keys_of_all (length c.choices) (flat_map (member_keys_at c) c.places) (keys_fit c c.places));
+    member_default_keys = rw (many_choices, defaults_is) k.defaults.keys;
+    prompts = attributes.prompts_fit;
+    defaults = attributes.defaults_fit;
+    ranges = attributes.ranges_fit;
+    bounds = attributes.bounds_fit;
+    selectors = rw many_symbols attributes.selectors_fit;
+    impliers = rw many_symbols attributes.impliers_fit;
+    direct = attributes.direct_fit;
+    choice_prompts = λ j i r at is. prompts_held g.arena (filter opens c.places) g.choices.items choice_rows j i r at is;
+    members = rw (many_symbols, items) (members_fit c c.places);
+    member_defaults = rw (many_symbols, ← many_names, arena_is, defaults_is) k.defaults.fits;
+    entries = rw (many_symbols, ← many_names, many_choices, arena_is, titles_is, entries_is) k.entries_fit;
+  }
+
+  pub is_gathering : IsGathering (reading files root).read g
+  is_gathering = record { whole = whole; fits = fits }
+
+-- the tree is consistent
+pub consistent_of : (files : Files) (root : List ℕ) (g : Gathered) → fault_told files root ≡ None → IsGathering (reading files root).read g → IsConsistent (whole_gathered g)
+unfolding tree_of_files
+consistent_of files root g h k = subst IsConsistent (sym k.whole) (tree_is_consistent files root h)
+
+-- what a tree of it shows
+pub whole_is : (files : Files) (root : List ℕ) (g : Gathered) (t : Held) → IsGathering (reading files root).read g → t ≡ record { exprs = g.arena; whole = whole_gathered g } → t.whole ≡ tree_of_files files root
+unfolding tree_of_files
+whole_is files root g t k e = ap (λ (h : Held). h.whole) e ∙ k.whole

@@ -1,0 +1,28 @@
+use Rattle.std.proofs.Common.{◌≡◌}
+use Rattle.std.proofs.lemmas.Result.{IfOk-weaker}
+use Rattle.kc_tree_model.specs.Contents.{tree_of_files}
+use Rattle.kc_tree_model.specs.Reading.{reading}
+use Rattle.kc_tree.specs.Held.{Held}
+use Rattle.kc_tree.specs.checker.GatheredView.{whole_gathered}
+use Rattle.kc_tree.proofs.AssemblySteps.{consistent_of, whole_is}
+use Rattle.kc_tree.proofs.builder.tree_of.Goals as goal
+
+pub into_tree-requires-clause-fits : goal.into_tree-requires-clause-fits
+into_tree-requires-clause-fits c =
+    let r = c.requires in
+    let read = (reading r.files r.root).read in
+    (c.in_ok-gathered.ensures r.files r.root (record { walk = record { shows = c.in-Ok.ensures.shows read r.shows; shown = c.in-Ok.ensures.walked read r.shows }; untold = r.untold })).fits
+
+pub into_tree-requires-clause-consistent : goal.into_tree-requires-clause-consistent
+into_tree-requires-clause-consistent c =
+    let r = c.requires in
+    let read = (reading r.files r.root).read in
+    consistent_of r.files r.root c.in_ok-gathered.gathered r.untold
+    (c.in_ok-gathered.ensures r.files r.root (record { walk = record { shows = c.in-Ok.ensures.shows read r.shows; shown = c.in-Ok.ensures.walked read r.shows }; untold = r.untold }))
+
+pub returns : goal.returns
+returns c = λ files root untold shows.
+    let read = (reading files root).read in
+    let k = c.in_ok-gathered.ensures files root (record { walk = record { shows = c.in-Ok.ensures.shows read shows; shown = c.in-Ok.ensures.walked read shows }; untold = untold }) in
+    IfOk-weaker c.into_tree.result (λ (t : Held). t ≡ record { exprs = c.in_ok-gathered.gathered.arena; whole = whole_gathered c.in_ok-gathered.gathered }) (λ (t : Held). t.whole ≡ tree_of_files files root)
+    (λ t e. whole_is files root c.in_ok-gathered.gathered t k e) c.into_tree.ensures

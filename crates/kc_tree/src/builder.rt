@@ -1,0 +1,154 @@
+//! From what was read to the tree.
+ghost use Rattle.std.specs.Prelude.{◌≡◌, ◌<◌, ◌^◌, ℕ, List, None, IfOk, length};
+ghost use Rattle.kc_expr.specs.Lookup.{AreDistinct};
+ghost use Rattle.kc_tree_model.specs.Files.{Files};
+ghost use Rattle.kc_tree_model.specs.Blocks.{Group as Read};
+ghost use Rattle.kc_tree_model.specs.Contents.{whole_of, tree_of_files};
+ghost use Rattle.kc_tree_model.specs.Reading.{reading};
+ghost use Rattle.kc_tree_model.specs.TreeFaults.{fault_told};
+ghost use Rattle.kc_tree_model.specs.TreeLookup.{IsConsistent};
+ghost use Rattle.kc_listing.specs.Shown.{Shows};
+ghost use Rattle.kc_tree.specs.checker.Assembly.{IsWalk, AreFew, AreSymbolParts, AreChoiceParts, IsGathering};
+ghost use Rattle.kc_tree.specs.checker.GatheredFits.{GatheredFit};
+ghost use Rattle.kc_tree.specs.checker.GatheredView.{whole_gathered};
+ghost use Rattle.kc_tree.specs.checker.Summaries.{IsSummary};
+ghost use Rattle.kc_tree.specs.checker.Surface.{IsOfTree};
+
+use super::choice_defaults::member_defaults;
+use super::choice_rows::choice_rows;
+use super::definitions::gather_attributes;
+use super::entries::entries_of;
+use super::gathered::{Attributes, Gathered};
+use super::keyed::Keyed;
+use super::parts::{ChoiceRow, EntryRow, SymbolRow};
+use super::rows::symbol_rows;
+use super::summary::Summary;
+use super::symbol::MemberDefault;
+use super::tree::Tree;
+use super::unit_list::units_of;
+use super::walks::{Walked, walk_all};
+use kc_listing::{Listing, Names};
+use kc_tree_model::Unit;
+use std::alloc::{AllocError, Global};
+
+/// The symbols of a tree and their attributes, and its units.
+#[derive(Drop)]
+struct SymbolParts {
+    rows: Vec<SymbolRow>,
+    attributes: Attributes,
+    units: Vec<Unit>,
+}
+
+/// The choices of a tree with their defaults, and its entries.
+#[derive(Drop)]
+struct ChoiceParts {
+    rows: Vec<ChoiceRow>,
+    defaults: Keyed<MemberDefault>,
+    entries: Vec<EntryRow>,
+}
+
+/// The symbols and the units. An `Err` is want of memory.
+fn symbol_parts(
+    alloc: Global,
+    walked: &Walked,
+    summary: &Summary,
+) -> Result<SymbolParts, AllocError>
+    requires few { AreFew walked.now }
+    requires walk { (files : Files) × (root : List ℕ) × IsWalk walked.now files root }
+    requires summary { (read : List Read) → Shows walked.now.listing read → IsSummary read summary.now }
+    ensures { (files : Files) (root : List ℕ) → IsWalk walked.now files root → IfOk result (AreSymbolParts walked.now.listing.names.arena (reading files root).read) }
+{
+    Ok(SymbolParts {
+        rows: symbol_rows(alloc, &walked.listing, &summary.symbols)?,
+        attributes: gather_attributes(alloc, &walked.listing, &walked.groups, &walked.conditions)?,
+        units: units_of(alloc, &walked.listing, &summary.symbols)?,
+    })
+}
+
+/// The choices and the entries. An `Err` is want of memory.
+fn choice_parts(alloc: Global, walked: &Walked) -> Result<ChoiceParts, AllocError>
+    requires few { AreFew walked.now }
+    requires walk { (files : Files) × (root : List ℕ) × IsWalk walked.now files root }
+    ensures { (files : Files) (root : List ℕ) → IsWalk walked.now files root → IfOk result (AreChoiceParts walked.now.listing (reading files root).read) }
+{
+    Ok(ChoiceParts {
+        rows: choice_rows(alloc, &walked.listing, &walked.groups, &walked.conditions)?,
+        defaults: member_defaults(alloc, &walked.listing, &walked.groups, &walked.conditions)?,
+        entries: entries_of(alloc, &walked.listing, &walked.groups)?,
+    })
+}
+
+/// All parts together.
+fn gathered(
+    listing: Listing,
+    summary: Summary,
+    symbols: SymbolParts,
+    choices: ChoiceParts,
+) -> Gathered
+    ensures arena { result.arena ≡ listing.names.arena }
+    ensures symbols { result.symbols ≡ symbols.rows }
+    ensures attributes { result.attributes ≡ symbols.attributes }
+    ensures choices { result.choices ≡ choices.rows }
+    ensures members { result.members ≡ summary.members }
+    ensures member_defaults { result.member_defaults ≡ choices.defaults }
+    ensures entries { result.entries ≡ choices.entries }
+    ensures titles { result.titles ≡ listing.texts }
+    ensures units { result.units ≡ symbols.units }
+{
+    let Listing {
+        names,
+        texts,
+        groups: _groups,
+        lines: _lines,
+    } = listing;
+    let Names {
+        arena,
+        symbols: _names,
+        numbers: _numbers,
+    } = names;
+    let Summary {
+        symbols: _abouts,
+        around: _around,
+        choices: _count,
+        members,
+    } = summary;
+    Gathered {
+        arena,
+        symbols: symbols.rows,
+        attributes: symbols.attributes,
+        choices: choices.rows,
+        members,
+        member_defaults: choices.defaults,
+        entries: choices.entries,
+        titles: texts,
+        units: symbols.units,
+    }
+}
+
+/// What is gathered behind a walk. An `Err` is want of memory.
+fn gathered_of(alloc: Global, walked: Walked) -> Result<Gathered, AllocError>
+    requires walk { (files : Files) × (root : List ℕ) × IsWalk walked files root }
+    ensures { (files : Files) (root : List ℕ) → IsWalk walked files root → IfOk result (IsGathering (reading files root).read) }
+{
+    if walked.listing.groups.len() > u32::MAX as usize {
+        return Err(AllocError);
+    }
+    let summary = Summary::new(alloc, &walked.listing)?;
+    let symbols = symbol_parts(alloc, &walked, &summary)?;
+    let choices = choice_parts(alloc, &walked)?;
+    Ok(gathered(walked.listing, summary, symbols, choices))
+}
+
+/// The tree of what was read. An `Err` is want of memory.
+pub(crate) fn tree_of(alloc: Global, listing: Listing) -> Result<Tree, AllocError>
+    requires { IsOfTree listing }
+    ensures { (files : Files) (root : List ℕ) → fault_told files root ≡ None → Shows listing (reading files root).read
+        → IfOk result (λ t. t.whole ≡ tree_of_files files root) }
+{
+    let Ok(walked) = walk_all(alloc, listing) else {
+        return Err(AllocError);
+    };
+    let gathered = gathered_of(alloc, walked)?;
+    let _count = gathered.arena.name_count();
+    gathered.into_tree(alloc)
+}

@@ -1,0 +1,45 @@
+//! The tree of files.
+ghost use Rattle.std.specs.Prelude.{◌≡◌, ◌⊎◌, Some, None, IfOk, IfErr};
+ghost use Rattle.kc_tree_model.specs.Contents.{tree_of_files};
+ghost use Rattle.kc_tree_model.specs.TreeFaults.{fault_told};
+ghost use Rattle.kc_listing.specs.Told.{no_memory};
+
+use super::builder::tree_of;
+use super::lacking::out_of_memory;
+use super::search::first_fault;
+use super::tree::Tree;
+use kc_listing::read_files;
+use kc_tree_model::{Texts, TreeFault};
+use std::alloc::Global;
+
+/// The tree of files, from the one at the path `root` on.
+///
+/// `root` and the paths of `source` lines are looked up among `texts` byte for byte. The files are read in the order of
+/// the lines ("Menu entries" and "Menu structure" of kconfig-language.rst); each `source` stands for the lines of its
+/// file.
+///
+/// # Errors
+///
+/// The first fault, with its file and line: in reading order the first fault of a line, of a `source` or of a file's
+/// end, and where there is none the first of the faults that are looked for in all that was read, as a symbol without a
+/// type. Where memory runs out, `OutOfMemory` with no file.
+pub fn read_tree(alloc: Global, texts: &Texts, root: &str) -> Result<Tree, TreeFault>
+    ensures accepted { IfOk result (λ tree. fault_told texts.now root.now ≡ None) }
+    ensures tree { IfOk result (λ tree. tree.whole ≡ tree_of_files texts.now root.now) }
+    ensures fault { IfErr result (λ fault. (fault ≡ no_memory) ⊎ (fault_told texts.now root.now ≡ Some fault)) }
+{
+    let (listing, fault) = read_files(alloc, texts, root);
+    match fault {
+        Some(fault) => return Err(fault),
+        None => {}
+    }
+    match first_fault(alloc, &listing) {
+        Ok(None) => {}
+        Ok(Some(fault)) => return Err(fault),
+        Err(_) => return Err(out_of_memory()),
+    }
+    match tree_of(alloc, listing) {
+        Ok(tree) => Ok(tree),
+        Err(_) => Err(out_of_memory()),
+    }
+}
