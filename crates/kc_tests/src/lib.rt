@@ -23,6 +23,8 @@ mod minimal;
 #[cfg(test)]
 mod numbers;
 #[cfg(test)]
+mod reading;
+#[cfg(test)]
 mod streams;
 #[cfg(test)]
 mod sums;
