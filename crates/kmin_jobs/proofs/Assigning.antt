@@ -1,0 +1,80 @@
+-- Files, one after another.
+use Rattle.std.proofs.Common.{◌≡◌, ℕ, suc, ◌+◌, ◌<◌, List, [], ◌∷◌, ◌++◌, Option, Some, None, get_or, map, take, length, refl, sym, ap, ◌∙◌, arith}
+use Rattle.std.specs.Borrow.{Bor}
+use Rattle.std.proofs.lemmas.List.{map-append, append-nil}
+use Rattle.std.proofs.Math.Seq.{take-suc}
+use Rattle.std.specs.Io.KnownBytes.{Consumes, IsAtEnd}
+use Rattle.kc_tree_model.specs.Trees.{Whole}
+use Rattle.kc_system.specs.Solutions.{Gives}
+use Rattle.kc_rules.specs.declared.rules.Settled.{Settled}
+use Rattle.kc_rules.specs.Told.{whole_of, profile_of}
+use Rattle.kc_rules_model.specs.Rule.{rule}
+use Rattle.kc_rules_model.specs.declared.values.UserValue.{UserValue}
+use Rattle.kc_dotconfig_model.specs.Files.{file_users, laid_over, no_users}
+use Rattle.kc_dotconfig.specs.declared.fragment.Fragment.{Fragment}
+use Rattle.kc_dotconfig.specs.Configured.{Configured, IsSolved, tree_in}
+use Rattle.kc_dotconfig.specs.Fragments.{users_of}
+use Rattle.kc_dotconfig.specs.Reads.{IsReadAs}
+use Rattle.kc_minimal_model.specs.FullFile.{full_file}
+use Rattle.kmin_jobs.specs.Files.{Told, AreTold, OpensAs}
+use Rattle.kmin_jobs.specs.Answers.{Assign, none, file}
+use Rattle.kmin_jobs.specs.checker.Loaded.{IsAssignment}
+
+-- the paths up to one more
+pub taken_next : (paths : List (Bor (List ℕ))) (k : ℕ) (d : Bor (List ℕ)) → k < length paths
+    → map (λ (path : Bor (List ℕ)). path.now) (take (k + 1) paths) ≡ map (λ (path : Bor (List ℕ)). path.now) (take k paths) ++ ((get_or paths k d).now ∷ [])
+taken_next paths k d h =
+    let n : k + 1 ≡ suc k = omega arith in
+    rw n (ap (map (λ (path : Bor (List ℕ)). path.now)) (take-suc paths k d h) ∙ map-append (λ (path : Bor (List ℕ)). path.now) (take k paths) (get_or paths k d ∷ []))
+
+-- all of a text in memory
+whole_memory : (text : List ℕ) (after : Option (List ℕ)) (bytes : List ℕ) → Consumes (Some text) after bytes → IsAtEnd after → text ≡ bytes
+whole_memory text None bytes h e = absurd h
+whole_memory text (Some rest) bytes h e = h ∙ ap (λ z. bytes ++ z) e ∙ append-nil bytes
+
+-- all that a reader told is all that was told of its path
+pub whole_told : (told : Told) (before after : Option (List ℕ)) (bytes : List ℕ) → OpensAs told (Some before)
+    → Consumes before after bytes → IsAtEnd after → AreTold told bytes
+whole_told None before after bytes o h e = tt
+whole_told (Some None) before after bytes o h e = let f : Some before ≡ None = o in cc
+whole_told (Some (Some b)) before after bytes o h e =
+    let s : before ≡ Some b = cc in
+    sym (whole_memory b after bytes (rw s at h) e)
+
+-- a file that was opened and read
+pub assigned_by : (told : Told) (before after : Option (List ℕ)) (prefix : List ℕ) (tree : Whole) (f : Fragment) → OpensAs told (Some before)
+    → IsReadAs prefix tree before after f → IsAssignment told prefix tree f
+assigned_by told before after prefix tree f o r = record {
+  bytes = r.told;
+  sayings = r.sayings;
+  are = whole_told told before after r.told o r.consumed r.ended;
+  accepted = r.accepted;
+  says = r.says;
+  users = r.users;
+}
+
+-- one file more
+pub assign_next : (tells others : List ℕ → Told) (prefix : List ℕ) (tree : Whole) (paths all : List (List ℕ)) (path : List ℕ) (users after : List (Option UserValue)) (f : Fragment)
+    → Assign tells prefix tree paths users → ((p : List ℕ) → tells p ≡ others p) → IsAssignment (others path) prefix tree f
+    → all ≡ paths ++ path ∷ [] → after ≡ laid_over (users_of tree f.assigns.items) users
+    → Assign tells prefix tree all after
+assign_next tells others prefix tree paths all path users after f h same ok e u =
+    file paths all users after path ok.bytes ok.sayings h (rw (same path) ok.are) ok.accepted ok.says e (u ∙ ap (λ l. laid_over l users) ok.users)
+
+-- the one configuration of a bundle
+pub one_told : (text : List ℕ) (after : Option (List ℕ)) (prefix plain : List ℕ) (tree : Whole) (path : List ℕ) (none_yet users : List (Option UserValue)) (f : Fragment)
+    → prefix ≡ plain → IsReadAs prefix tree (Some text) after f
+    → none_yet ≡ no_users tree → users ≡ laid_over (users_of tree f.assigns.items) none_yet
+    → Assign (λ p. Some (Some text)) plain tree (path ∷ []) users
+one_told text after prefix plain tree path none_yet users f p ok n u =
+    rw (← p) (file [] (path ∷ []) (no_users tree) users path ok.told ok.sayings none (sym (whole_memory text after ok.told ok.consumed ok.ended)) ok.accepted ok.says refl
+    (u ∙ ap (λ l. laid_over l none_yet) ok.users ∙ ap (λ l. laid_over (file_users tree ok.sayings) l) n))
+
+-- the solution that a configuration of a known tree holds
+pub gives_over : (held : Configured) (settled : Settled) → held.system ≡ settled → IsSolved held
+    → Gives (length (whole_of settled).units) (rule (profile_of settled) (whole_of settled)) held.users held.values
+gives_over held settled e h = rw (← e) h.gives
+
+pub full_over : (held : Configured) (settled : Settled) (prefix plain text : List ℕ) → held.system ≡ settled → prefix ≡ plain
+    → text ≡ full_file prefix (tree_in held) held.values → text ≡ full_file plain (whole_of settled) held.values
+full_over held settled prefix plain text e p h = rw (← e, ← p) h

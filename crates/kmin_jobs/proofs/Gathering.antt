@@ -1,0 +1,81 @@
+-- The texts of a tree, as they come in.
+use Rattle.std.proofs.Common.{◌≡◌, ◌≤◌, ℕ, Bool, true, false, List, [], ◌∷◌, ◌++◌, Option, Some, None, Result, Ok, Err, Vec, length, take, ◌⊎◌, inl, inr, refl, sym, ap, ◌∙◌, Decides}
+use Rattle.std.proofs.lemmas.Slice.Eq.{bytes_eq-Decides}
+use Rattle.std.proofs.lemmas.List.{append-nil, take_all}
+use Rattle.std.proofs.Math.Seq.{take-append_seam}
+use Rattle.std.specs.Prelude.{bytes_eq, IfOk, IfSome, if◌then◌else◌}
+use Rattle.std.specs.Io.KnownBytes.{Consumes, IsAtEnd}
+use Rattle.std.specs.declared.alloc.Global.{Global}
+use Rattle.std.specs.declared.alloc.AllocError.{AllocError}
+use Rattle.kc_tree_model.specs.Files.{Files, file_at, with_file}
+use Rattle.kmin_jobs.specs.Files.{Told, OpensAs, BeginAsTold, AreTextsBelow, below}
+
+-- bytes that were read up to the end, or up to the limit, begin a file
+front_of : (b : List ℕ) (after : Option (List ℕ)) (bytes : List ℕ) → Consumes (Some b) after bytes → length bytes ≤ 67108865
+    → (length bytes ≡ 67108865) ⊎ IsAtEnd after → bytes ≡ take 67108865 b
+front_of b None bytes h l e = absurd h
+front_of b (Some ys) bytes h l (inl n) = sym (ap (λ k. take k b) (sym n) ∙ ap (take (length bytes)) h ∙ take-append_seam bytes ys)
+front_of b (Some ys) bytes h l (inr e) =
+    let whole : b ≡ bytes = h ∙ ap (λ z. bytes ++ z) e ∙ append-nil bytes in
+    sym (ap (take 67108865) whole ∙ take_all 67108865 bytes l)
+
+front_told : (told : Told) (before after : Option (List ℕ)) (bytes : List ℕ) → OpensAs told (Some before)
+    → Consumes before after bytes → length bytes ≤ 67108865 → (length bytes ≡ 67108865) ⊎ IsAtEnd after → BeginAsTold told bytes
+front_told None before after bytes o h l e = tt
+front_told (Some None) before after bytes o h l e = let f : Some before ≡ None = o in cc
+front_told (Some (Some b)) before after bytes o h l e =
+    let s : before ≡ Some b = cc in
+    let k : Consumes (Some b) after bytes = rw s at h in
+    front_of b after bytes k l e
+
+pub front_read : (told : Told) (before after : Option (List ℕ)) (r : Result (Option (Vec ℕ Global)) AllocError) → OpensAs told (Some before)
+    → IfOk r (λ found. IfSome found (λ bytes. Consumes before after bytes.items × (length bytes.items ≤ 67108865) × ((length bytes.items ≡ 67108865) ⊎ IsAtEnd after)))
+    → IfOk r (λ found. IfSome found (λ bytes. BeginAsTold told bytes.items))
+front_read told before after (Err e) o h = tt
+front_read told before after (Ok None) o h = tt
+front_read told before after (Ok (Some v)) o h = front_told told before after v.items o h.0 h.1 h.2
+
+-- what stands at a path after one was put in: the new bytes, or what stood there
+module _ (p b q c : List ℕ) where
+  on_new : (t : Bool) → Decides t (q ≡ p) → (if t then Some b else None) ≡ Some c → ((q ≡ p) × (b ≡ c)) ⊎ (None ≡ Some c)
+  on_new true d h = inl (d.0 refl, cc)
+  on_new false d h = inr h
+
+  on_same : (t : Bool) (old first : List ℕ) (rest : Option (List ℕ)) → Decides t (q ≡ first) → p ≡ first → (if t then Some b else rest) ≡ Some c
+      → ((q ≡ p) × (b ≡ c)) ⊎ ((if t then Some old else rest) ≡ Some c)
+  on_same true old first rest d e h = inl (d.0 refl ∙ sym e, cc)
+  on_same false old first rest d e h = inr h
+
+  on_other : (t : Bool) (old : List ℕ) (rest after : Option (List ℕ)) → (after ≡ Some c → ((q ≡ p) × (b ≡ c)) ⊎ (rest ≡ Some c)) → (if t then Some old else after) ≡ Some c
+      → ((q ≡ p) × (b ≡ c)) ⊎ ((if t then Some old else rest) ≡ Some c)
+  on_other true old rest after r h = inr h
+  on_other false old rest after r h = r h
+
+  on_path : (t : Bool) (f : List ℕ × List ℕ) (fs : Files) → Decides t (p ≡ f.0)
+      → (file_at (with_file fs p b) q ≡ Some c → ((q ≡ p) × (b ≡ c)) ⊎ (file_at fs q ≡ Some c))
+      → file_at (if t then (f.0, b) ∷ fs else f ∷ with_file fs p b) q ≡ Some c
+      → ((q ≡ p) × (b ≡ c)) ⊎ (file_at (f ∷ fs) q ≡ Some c)
+  on_path true f fs d r h = on_same (bytes_eq q f.0) f.1 f.0 (file_at fs q) (bytes_eq-Decides q f.0) (d.0 refl) h
+  on_path false f fs d r h = on_other (bytes_eq q f.0) f.1 (file_at fs q) (file_at (with_file fs p b) q) r h
+
+  at_inserted : (fs : Files) → file_at (with_file fs p b) q ≡ Some c → ((q ≡ p) × (b ≡ c)) ⊎ (file_at fs q ≡ Some c)
+  at_inserted [] h = on_new (bytes_eq q p) (bytes_eq-Decides q p) h
+  at_inserted (f ∷ fs) h = on_path (bytes_eq p f.0) f fs (bytes_eq-Decides p f.0) (at_inserted fs) h
+
+inserted_one : (tells : List ℕ → Told) (root p b q c : List ℕ) (texts : Files) → AreTextsBelow tells root texts → BeginAsTold (tells (below root p)) b
+    → ((q ≡ p) × (b ≡ c)) ⊎ (file_at texts q ≡ Some c) → BeginAsTold (tells (below root q)) c
+inserted_one tells root p b q c texts h k (inl e) = rw (e.0, ← e.1) k
+inserted_one tells root p b q c texts h k (inr e) = h q c e
+
+pub inserted : (tells : List ℕ → Told) (root p b : List ℕ) (texts : Files) → AreTextsBelow tells root texts → BeginAsTold (tells (below root p)) b
+    → AreTextsBelow tells root (with_file texts p b)
+inserted tells root p b texts h k = λ q c e. inserted_one tells root p b q c texts h k (at_inserted p b q c texts e)
+
+-- files that tell the same
+pub below_again : (tells others : List ℕ → Told) (root : List ℕ) (texts : Files) → ((path : List ℕ) → others path ≡ tells path)
+    → AreTextsBelow tells root texts → AreTextsBelow others root texts
+below_again tells others root texts same h = λ path bytes e. rw (same (below root path)) (h path bytes e)
+
+pub below_back : (tells others : List ℕ → Told) (root : List ℕ) (texts : Files) → ((path : List ℕ) → others path ≡ tells path)
+    → AreTextsBelow others root texts → AreTextsBelow tells root texts
+below_back tells others root texts same h = λ path bytes e. rw (← same (below root path)) (h path bytes e)

@@ -1,0 +1,9 @@
+pub mod Runs
+pub mod LineLaws
+pub mod Cutting
+pub mod Accepting
+pub mod Loads
+pub mod Gathering
+pub mod Assigning
+pub mod NamedLines
+pub mod Answering

@@ -1,0 +1,13 @@
+use Rattle.kmin_jobs.proofs.Cutting.{found, passed}
+use Rattle.kmin_jobs.proofs.bundle.cut.Goals as goal
+use Rattle.std.proofs.Common.{◌∙◌, sym}
+
+pub returns-then-eq : goal.returns-then-eq
+returns-then-eq c =
+    let i = c.loop-line.invariant in
+    found c.args.bundle.now i.0 c.loop-line.rest.now c.in-Some.line.now c.in-Some.after.now _ i.1 i.2 i.3 c.in-Some.ensures.parts c.in-Some.ensures.shorter (sym c.eq.ensures ∙ c.if-eq.true) c.split_at.ensures.front
+
+pub loop-line-preserved : goal.loop-line-preserved
+loop-line-preserved c =
+    let i = c.loop-line.invariant in
+    passed c.args.bundle.now i.0 c.loop-line.rest.now c.in-Some.line.now c.in-Some.after.now i.1 i.2 i.3 c.in-Some.ensures.parts c.in-Some.ensures.shorter c.in-Some.ensures.inline c.in-Some.ensures.line (sym c.eq.ensures ∙ c.if-eq.false)

@@ -1,0 +1,13 @@
+use Rattle.std.proofs.Common.{◌≡◌, ◌++◌, ◌∷◌, [], ℕ, List, ap, ◌∙◌, append_assoc}
+use Rattle.kmin_jobs.specs.Files.{OpensAs, below}
+use Rattle.kmin_jobs.proofs.Gathering.{front_read}
+use Rattle.kmin_jobs.proofs.gather.read_below.Goals as goal
+
+pub returns-in-Some-clause-bytes : goal.returns-in-Some-clause-bytes
+returns-in-Some-clause-bytes g c =
+    let at : c.deref.result.now ≡ below c.args.root.now c.args.path.now =
+    c.deref.ensures ∙ c.in_ok-push_str-2.ensures.bytes
+    ∙ ap (λ (z : List ℕ). z ++ c.args.path.now) (c.in_ok-push_str.ensures.bytes ∙ ap (λ (z : List ℕ). z ++ 47 ∷ []) c.in_ok-place.ensures.ok)
+    ∙ append_assoc c.args.root.now (47 ∷ []) c.args.path.now in
+    let opens : OpensAs (g.F.Files.tells c.args.files.now (below c.args.root.now c.args.path.now)) _ = rw at at c.in-Some.ensures.opens in
+    front_read (g.F.Files.tells c.args.files.now (below c.args.root.now c.args.path.now)) _ _ c.read_front.result opens c.read_front.ensures.bytes

@@ -1,0 +1,11 @@
+use Rattle.std.proofs.Common.{ap}
+use Rattle.kc_rules.specs.Told.{whole_of}
+use Rattle.kc_dotconfig.specs.Configured.{tree_in}
+use Rattle.kmin_jobs.proofs.NamedLines.{compared_text}
+use Rattle.kmin_jobs.proofs.verbs.compared.Goals as goal
+
+pub returns-clause-text : goal.returns-clause-text
+returns-clause-text c =
+    compared_text (tree_in c.args.left.now) (whole_of c.settled.result.now) c.args.left.now.values c.args.right.now.values c.values.result.now c.values-2.result.now
+    c.in_ok-found.found.items c.deref.result.now c.in_ok-text.text.items
+    (ap whole_of c.settled.ensures) c.values.ensures.values c.values-2.ensures.values c.deref.ensures.value c.in_ok-found.ensures.differences c.in_ok-text.ensures

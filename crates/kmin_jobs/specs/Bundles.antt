@@ -1,0 +1,35 @@
+-- Bundles: a tree, a line of just `%%` and a configuration.
+use Rattle.std.specs.Prelude.{◌≡◌, ℕ, Bool, not, List, [], ◌∷◌, ◌++◌, Option, IsTrue, ◌⊎◌, bytes_eq, ◌==◌}
+use Rattle.std.specs.List.{list_all}
+use Rattle.std.specs.Io.KnownBytes.{Consumes, IsAtEnd}
+use Rattle.kc_dotconfig_model.specs.Files.{file_lines}
+
+-- the line that ends the tree: `%%`
+abbrev pub marker : List ℕ
+marker = 37 ∷ 37 ∷ []
+
+-- any byte but a newline
+abbrev pub is_inline : ℕ → Bool
+is_inline c = not (c == 10)
+
+-- a text begins with a line, which has a newline or ends the text, and then comes the rest
+abbrev pub BeginsWithLine : (text line rest : List ℕ) → Type 0
+BeginsWithLine text line rest = (text ≡ line ++ 10 ∷ rest) ⊎ ((text ≡ line) × (rest ≡ []))
+
+-- a text of whole lines: empty, or with a newline at its end
+abbrev pub HasWholeLines : List ℕ → Type 0
+HasWholeLines text = (text ≡ []) ⊎ ((front : List ℕ) × (text ≡ front ++ 10 ∷ []))
+
+-- no line of a text is the marker
+abbrev pub has_no_marker : List ℕ → Bool
+has_no_marker text = list_all (λ line. not (bytes_eq line marker)) (file_lines text)
+
+-- A bundle is cut at its first line of just `%%`. Without such a line it is a tree, and the configuration is empty.
+pub data IsBundle (bundle tree configuration : List ℕ) : Type 0 where
+  parted : (behind : List ℕ) → IsTrue (has_no_marker tree) → HasWholeLines tree → bundle ≡ tree ++ behind → BeginsWithLine behind marker configuration
+      → IsBundle bundle tree configuration
+  unparted : IsTrue (has_no_marker tree) → bundle ≡ tree → configuration ≡ [] → IsBundle bundle tree configuration
+
+-- the bytes are all that a reader had left, where it tells them
+abbrev pub ReadsWhole : (before after : Option (List ℕ)) → List ℕ → Type 0
+ReadsWhole before after bytes = Consumes before after bytes × IsAtEnd after

@@ -1,0 +1,4 @@
+pub mod Readings
+pub mod Loaded
+pub mod Lines
+pub mod LineEnds

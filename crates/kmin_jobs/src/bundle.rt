@@ -1,0 +1,64 @@
+//! Bundles: a tree, a line of just `%%` and a configuration.
+ghost use Rattle.std.specs.Prelude.{◌≡◌, ◌≢◌, ◌<◌, ◌≤◌, ◌⊎◌, IfOk, IfErr, OnOk, ℕ, List, length};
+ghost use Rattle.std.specs.Io.KnownBytes.{Consumes};
+ghost use Rattle.kmin_jobs.specs.Bundles.{IsBundle, ReadsWhole};
+ghost use Rattle.kmin_jobs.specs.Bundled.{Rises};
+
+use crate::lines::first_line;
+use crate::output::tell;
+use crate::stop::Stop;
+use kc_value::{Sink, Source};
+use std::alloc::Global;
+
+/// The most bytes of a bundle.
+const MOST_BYTES: usize = 67_108_864;
+
+/// How many bytes are read at once.
+const BLOCK: usize = 8192;
+
+/// The line that ends the tree.
+const MARKER: &[u8] = b"%%";
+
+/// Reads all that a reader has left. Where a read fails, and where that is more than `MOST_BYTES` bytes, this is told.
+pub(crate) fn read_whole<S: Source, E: Sink>(
+    alloc: Global,
+    source: &mut S,
+    err: &mut E,
+) -> Result<Vec<u8>, Stop>
+    ensures ok { IfOk result (λ text. ReadsWhole (S.left source.old) (S.left source.new) text.items) }
+    ensures within { IfOk result (λ text. length text.items ≤ MOST_BYTES) }
+    ensures unfailed { OnOk result (S.failures source.new ≡ S.failures source.old) }
+    ensures tree { result ≢ Err Stop.Tree }
+    ensures large { result ≡ Err Stop.Configuration → (bytes : List ℕ) × Consumes (S.left source.old) (S.left source.new) bytes × (MOST_BYTES < length bytes) }
+    ensures failed { result ≡ Err Stop.Failed → Rises (S.failures source.old) (S.failures source.new) }
+{
+    let mut text = Vec::new(alloc);
+    let mut block = [0; BLOCK];
+    while text.len() <= MOST_BYTES {
+        let Ok(count) = source.read_some(&mut block) else {
+            tell(err, b"bundle:0: Read\n");
+            return Err(Stop::Failed);
+        };
+        if count == 0 {
+            return Ok(text);
+        }
+        text.extend_from_slice(&block[..count])?;
+    }
+    tell(err, b"bundle:0: TooLarge\n");
+    Err(Stop::Configuration)
+}
+
+/// The parts of a bundle: its tree, and its configuration.
+pub(crate) fn cut(bundle: &[u8]) -> (&[u8], &[u8])
+    ensures { IsBundle bundle.now result.0.now result.1.now }
+{
+    let mut rest = bundle;
+    while let Some((line, after)) = first_line(rest) {
+        if line == MARKER {
+            let (tree, _) = bundle.split_at(bundle.len() - rest.len());
+            return (tree, after);
+        }
+        rest = after;
+    }
+    (bundle, rest)
+}

@@ -1,0 +1,22 @@
+//! The files that a job names.
+ghost use Rattle.std.specs.Prelude.{◌≡◌, List, ℕ, option_map};
+ghost use Rattle.kmin_jobs.specs.Files.{OpensAs, Told};
+
+use kc_value::{Seed, Source};
+
+/// Opens files by their paths.
+pub trait Files {
+    /// The reader of an open file.
+    type File: Source + Drop;
+
+    /// What is told of each path.
+    ghost tells: { Self → List ℕ → Told };
+
+    /// The seed by which the paths and names of a tree are hashed; it changes no answer.
+    fn seed(&self) -> Seed;
+
+    /// A reader of the file's bytes, and nothing where it can't be opened.
+    fn reader_for(&mut self, path: &str) -> Option<Self::File>
+        ensures same { (other : List ℕ) → tells self.new other ≡ tells self.old other }
+        ensures opens { OpensAs (tells self.old path.now) (option_map Self.File.Source.left result) };
+}

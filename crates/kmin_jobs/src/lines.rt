@@ -1,0 +1,48 @@
+//! Texts cut into lines.
+ghost use Rattle.std.specs.Prelude.{◌≡◌, ◌<◌, ◌≤◌, ◌++◌, ◌∷◌, [], length, IsTrue, IfSome, IfNone};
+ghost use Rattle.std.specs.List.{list_all, prefix_len};
+ghost use Rattle.kc_dotconfig_model.specs.Files.{file_lines};
+ghost use Rattle.kmin_jobs.specs.Bundles.{BeginsWithLine, is_inline};
+ghost use Rattle.kmin_jobs.specs.checker.LineEnds.{begins_behind_line};
+
+/// How many bytes stand before the first newline.
+fn line_length(text: &[u8]) -> usize
+    ensures run { result ≡ prefix_len is_inline text.now }
+    ensures within { result ≤ length text.now }
+{
+    for (index, byte) in text.iter().enumerate() {
+        if *byte == b'\n' {
+            return index;
+        }
+    }
+    text.len()
+}
+
+/// Parts a text before its first newline.
+#[tactic(auto, using(crate::proofs::Runs::all_of_run, crate::proofs::Runs::run_stops))]
+fn split_line(text: &[u8]) -> (&[u8], &[u8])
+    ensures parts { text.now ≡ result.0.now ++ result.1.now }
+    ensures run { IsTrue (list_all is_inline result.0.now) }
+    ensures longest { IsTrue (begins_behind_line result.1.now) }
+{
+    text.split_at(line_length(text))
+}
+
+/// The first line, and what follows its newline.
+#[tactic(auto, using(crate::proofs::LineLaws::lines_of_run))]
+pub(crate) fn first_line(text: &[u8]) -> Option<(&[u8], &[u8])>
+    ensures parts { IfSome result (λ found. BeginsWithLine text.now found.0.now found.1.now) }
+    ensures shorter { IfSome result (λ found. length found.1.now < length text.now) }
+    ensures inline { IfSome result (λ found. IsTrue (list_all is_inline found.0.now)) }
+    ensures line { IfSome result (λ found. file_lines text.now ≡ found.0.now ∷ file_lines found.1.now) }
+    ensures none { IfNone result (text.now ≡ []) }
+{
+    if text.is_empty() {
+        return None;
+    }
+    let (line, rest) = split_line(text);
+    match rest.split_first() {
+        Some((_, after)) => Some((line, after)),
+        None => Some((line, rest)),
+    }
+}

@@ -1,0 +1,120 @@
+//! A job's answer.
+ghost use Rattle.std.specs.Prelude.{◌≡◌, ◌≢◌, ◌≤◌, ◌⊎◌, List, ℕ, length, IfOk};
+ghost use Rattle.std.specs.Io.KnownBytes.{Appends};
+ghost use Rattle.kc_tree_model.specs.Files as trees;
+ghost use Rattle.kc_rules.specs.Told.{whole_of, profile_of};
+ghost use Rattle.kmin_jobs.specs.Answers.{Answer, AreAccepted};
+ghost use Rattle.kmin_jobs.specs.Asked.{asked_of, paths_of};
+ghost use Rattle.kmin_jobs.specs.Files.{AreTextsBelow};
+ghost use Rattle.kmin_words.specs.declared.job.Verb.TheVariants.{Compare};
+
+use crate::files::Files;
+use crate::gather::{Gathered, gather};
+use crate::loading::configured;
+use crate::output::tell;
+use crate::stop::Stop;
+use crate::trees::settled_tree;
+use crate::verbs::{Answered, compared, text_of};
+use kc_minimal::write_out;
+use kc_rules::Settled;
+use kc_value::Sink;
+use kmin_words::{Job, Verb};
+use std::alloc::Global;
+
+/// Does a job over the files, and answers the exit status: 0 done or equal, 1 where a comparison found differences, 3
+/// tree refused, 4 configuration file refused, 5 a read or write failed, 6 want of memory.
+///
+/// The output is made whole before the first write. Standard error gets a line `FILE:LINE: KIND` for each notice and for
+/// the fault that ended the job; that it fails changes nothing. The caller owes two files for a comparison.
+pub fn serve<F: Files, O: Sink, E: Sink>(
+    alloc: Global,
+    job: &Job<'_>,
+    files: &mut F,
+    out: &mut O,
+    err: &mut E,
+) -> u8
+    requires two { job.now.verb ≡ Compare → length job.now.files.items ≡ 2 }
+    ensures status { result ≤ 6 }
+    ensures words { result ≢ 2 }
+
+    // The tree and the files are accepted, just the answer is written, and no write failed.
+    ensures done { (result ≡ 0) ⊎ (result ≡ 1) → (texts : trees.Files) × (text : List ℕ) × AreTextsBelow (F.tells files.old) job.now.root.now texts × Answer (F.tells files.old) (asked_of job.now) texts (paths_of job.now) text result × Appends (O.taken out.old) (O.taken out.new) text }
+    ensures unfailed { (result ≡ 0) ⊎ (result ≡ 1) → O.failures out.new ≡ O.failures out.old }
+
+    ensures unwritten { result ≢ 0 → result ≢ 1 → result ≢ 5 → O.taken out.new ≡ O.taken out.old }
+{
+    match answer_job(alloc, job, files, err) {
+        Ok(answer) => match write_out(out, &answer.text) {
+            Ok(()) => answer.status,
+            Err(_) => {
+                tell(err, b"output: Write\n");
+                Stop::Failed.status()
+            }
+        },
+        Err(stop) => {
+            if stop == Stop::Memory {
+                tell(err, b"out of memory\n");
+            }
+            stop.status()
+        }
+    }
+}
+
+/// What a job writes, made whole.
+fn answer_job<F: Files, E: Sink>(
+    alloc: Global,
+    job: &Job<'_>,
+    files: &mut F,
+    err: &mut E,
+) -> Result<Answered, Stop>
+    requires two { job.now.verb ≡ Compare → length job.now.files.items ≡ 2 }
+    ensures answer { IfOk result (λ answer. (texts : trees.Files) × AreTextsBelow (F.tells files.old) job.now.root.now texts × Answer (F.tells files.old) (asked_of job.now) texts (paths_of job.now) answer.text.items answer.status) }
+    ensures status { IfOk result (λ answer. answer.status ≤ 1) }
+{
+    let Gathered { texts, read } = gather(alloc, job.root, job.tree, files)?;
+    let settled = settled_tree(alloc, &texts, job.tree, read, job.profile, err)?;
+    drop(texts);
+    if job.verb == Verb::Compare {
+        answer_two(alloc, job, &settled, files, err)
+    } else {
+        answer_one(alloc, job, &settled, files, err)
+    }
+}
+
+/// What a job writes of the configuration of all its files.
+fn answer_one<F: Files, E: Sink>(
+    alloc: Global,
+    job: &Job<'_>,
+    settled: &Settled,
+    files: &mut F,
+    err: &mut E,
+) -> Result<Answered, Stop>
+    requires one { job.now.verb ≢ Compare }
+    requires profile { profile_of settled.now ≡ job.now.profile }
+    ensures answer { IfOk result (λ answer. (texts : trees.Files) → AreAccepted texts job.now.tree.now (whole_of settled.now) → Answer (F.tells files.old) (asked_of job.now) texts (paths_of job.now) answer.text.items answer.status) }
+    ensures status { IfOk result (λ answer. answer.status ≤ 1) }
+{
+    let config = configured(alloc, settled, &job.prefix, &job.files, files, err)?;
+    let text = text_of(alloc, job.verb, &config, &job.prefix)?;
+    Ok(Answered { text, status: 0 })
+}
+
+/// What a comparison writes of its two files, each alone.
+fn answer_two<F: Files, E: Sink>(
+    alloc: Global,
+    job: &Job<'_>,
+    settled: &Settled,
+    files: &mut F,
+    err: &mut E,
+) -> Result<Answered, Stop>
+    requires two { job.now.verb ≡ Compare }
+    requires files { length job.now.files.items ≡ 2 }
+    requires profile { profile_of settled.now ≡ job.now.profile }
+    ensures answer { IfOk result (λ answer. (texts : trees.Files) → AreAccepted texts job.now.tree.now (whole_of settled.now) → Answer (F.tells files.old) (asked_of job.now) texts (paths_of job.now) answer.text.items answer.status) }
+    ensures status { IfOk result (λ answer. answer.status ≤ 1) }
+{
+    let (left, right) = job.files.split_at(1);
+    let left = configured(alloc, settled, &job.prefix, left, files, err)?;
+    let right = configured(alloc, settled, &job.prefix, right, files, err)?;
+    Ok(compared(alloc, &left, &right)?)
+}
