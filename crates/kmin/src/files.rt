@@ -1,40 +1,46 @@
-//! The files that a job names.
-ghost use Rattle.std.specs.Prelude.{◌≡◌, List, None, ℕ, option_map};
-ghost use Rattle.kmin.specs.Files.{OpensAs, Told};
+//! The files of the system.
+ghost use Rattle.std.specs.Prelude.{None};
 
-use kc_value::{FromRead, Source};
+use kc_value::{FromRead, Seed};
+use kmin_jobs::Files;
 use std::fs::File;
+use std::random::RandomSource;
 
-/// Opens files by their paths.
-pub trait Files {
-    /// The reader of an open file.
-    type File: Source + Drop;
-
-    /// What is told of each path.
-    ghost tells: { Self → List ℕ → Told };
-
-    /// A reader of the file's bytes, and nothing where it can't be opened.
-    fn reader_for(&mut self, path: &str) -> Option<Self::File>
-        ensures same { (other : List ℕ) → tells self.new other ≡ tells self.old other }
-        ensures opens { OpensAs (tells self.old path.now) (option_map Self.File.Source.left result) };
-}
-
-/// The files of the system, of which nothing is told.
+/// The files of the system, of which nothing is told. Paths and names are hashed by a seed of this run's own.
 #[derive(Drop)]
-pub struct Disk<'a> {
+pub(crate) struct Disk<'a> {
     runtime: &'a HostRuntime,
+    seed: Seed,
 }
 
 impl<'a> Disk<'a> {
+    /// The files, with a new seed.
     pub(crate) fn new(runtime: &'a HostRuntime) -> Disk<'a> {
-        Disk { runtime }
+        Disk {
+            runtime,
+            seed: new_seed(runtime),
+        }
     }
+}
+
+/// A seed of random bytes, and the fixed one where the system gives none.
+fn new_seed(runtime: &HostRuntime) -> Seed {
+    let mut first = [0; 8];
+    let mut second = [0; 8];
+    if runtime.fill_bytes(&mut first).is_err() || runtime.fill_bytes(&mut second).is_err() {
+        return Seed::fixed();
+    }
+    Seed::of(u64::from_le_bytes(first), u64::from_le_bytes(second))
 }
 
 impl Files for Disk<'_> {
     type File = FromRead<File>;
 
     ghost tells = { λ _ _. None };
+
+    fn seed(&self) -> Seed {
+        self.seed
+    }
 
     fn reader_for(&mut self, path: &str) -> Option<FromRead<File>> {
         let file = File::open(self.runtime, path).ok()?;

@@ -1,28 +1,13 @@
 //! `kmin`: minimal configuration files.
 #![tactic(auto)]
 
-mod answer;
-mod bundle;
-mod bytes;
-mod configuration;
-mod entry;
-mod fault;
 mod files;
-mod full_file;
-mod lines;
-mod output;
-mod run;
-mod setting;
-mod statement;
 #[cfg(test)]
 mod tests;
-mod token;
-mod tree;
-mod values;
 
 use files::Disk;
 use kc_value::{FromRead, ToWrite};
-use run::run;
+use kmin_jobs::run;
 use std::process::ExitCode;
 use std::{env, io};
 

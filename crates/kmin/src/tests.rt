@@ -1,9 +1,8 @@
 //! Whole runs: bytes, standard error and status.
 ghost use Rattle.std.specs.Prelude.{◌<◌, IfOk, Some, None};
 
-use crate::files::Files;
-use crate::run::run;
-use kc_value::{Bounded, Script, Sink, Source, Then};
+use kc_value::{Bounded, Script, Seed, Sink, Source, Then};
+use kmin_jobs::{Files, run};
 use std::alloc::Global;
 use std::process::Abort;
 use std::test::Fail;
@@ -16,6 +15,10 @@ impl Files for NoFiles {
     type File = Script;
 
     ghost tells = { λ _ _. Some None };
+
+    fn seed(&self) -> Seed {
+        Seed::fixed()
+    }
 
     fn reader_for(&mut self, _path: &str) -> Option<Script> {
         None

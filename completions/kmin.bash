@@ -1,0 +1,30 @@
+# Completions of kmin for bash: source this file, or put it into the folder of completions as `kmin`.
+_kmin() {
+    local word=${COMP_WORDS[COMP_CWORD]} before=${COMP_WORDS[COMP_CWORD-1]} command= i
+    for ((i = 1; i < COMP_CWORD; i++)); do
+        case ${COMP_WORDS[i]} in
+            min|full|missed|check|compare|help) command=${COMP_WORDS[i]}; break ;;
+        esac
+    done
+    COMPREPLY=()
+    if [[ -z $command ]]; then
+        mapfile -t COMPREPLY < <(compgen -W "min full missed check compare help -h --help -V --version" -- "$word")
+        return
+    fi
+    if [[ $command == help ]]; then
+        mapfile -t COMPREPLY < <(compgen -W "min full missed check compare help" -- "$word")
+        return
+    fi
+    case $before in
+        --root) mapfile -t COMPREPLY < <(compgen -d -- "$word"); return ;;
+        --imply) mapfile -t COMPREPLY < <(compgen -W "present classic" -- "$word"); return ;;
+        --prefix) return ;;
+        --tree) mapfile -t COMPREPLY < <(compgen -f -- "$word"); return ;;
+    esac
+    if [[ $word == -* ]]; then
+        mapfile -t COMPREPLY < <(compgen -W "--root --tree --prefix --imply -h --help -V --version" -- "$word")
+    else
+        mapfile -t COMPREPLY < <(compgen -f -- "$word")
+    fi
+}
+complete -o filenames -F _kmin kmin

@@ -1,0 +1,32 @@
+#compdef kmin
+# Completions of kmin for zsh: put this file as `_kmin` into a folder of $fpath.
+
+_kmin_options() {
+    _arguments -S \
+        '--root=[folder in which the paths of the tree lie]:folder:_files -/' \
+        '--tree=[first file of the tree, below the folder]:file:_files' \
+        '--prefix=[what stands before each name in a FILE]:text:' \
+        '--imply=[how an implied value counts]:profile:(present classic)' \
+        '(- *)'{-h,--help}'[print help]' \
+        '(- *)'{-V,--version}'[print version]' \
+        "$@"
+}
+
+_kmin() {
+    local context state line
+    _arguments -C \
+        '(- *)'{-h,--help}'[print help]' \
+        '(- *)'{-V,--version}'[print version]' \
+        '1:command:((min\:"write the minimal file" full\:"write the full file" missed\:"list the symbols that do not have their assigned value" check\:"list the symbols that are selected against their dependencies" compare\:"list the symbols whose values differ between two files" help\:"print help"))' \
+        '*::word:->words'
+    case $state in
+        words)
+            case $line[1] in
+                min|full|missed|check) _kmin_options '*:file:_files' ;;
+                compare) _kmin_options '1:left file:_files' '2:right file:_files' ;;
+                help) _values command min full missed check compare help ;;
+            esac ;;
+    esac
+}
+
+_kmin "$@"

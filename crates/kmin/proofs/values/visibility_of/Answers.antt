@@ -1,9 +1,0 @@
-use Rattle.std.proofs.Common.{map, ap}
-use Rattle.kmin.specs.checker.Read.{attribute_of}
-use Rattle.kmin.proofs.Evaluating.{visible_from}
-use Rattle.kmin.proofs.values.visibility_of.Goals as goal
-
-pub returns : goal.returns
-returns c =
-    visible_from _ (map attribute_of c.args.entry.now.attributes.items) (map attribute_of c.deref.result.now) (map attribute_of c.deref-2.result.now) _ _ _
-    (ap (map attribute_of) c.deref.ensures.value) (ap (map attribute_of) c.deref-2.ensures.value) c.dependency_value-condition.ensures c.greatest_prompt.ensures c.promoted.ensures

@@ -1,4 +1,0 @@
-pub mod Evaluated
-pub mod Read
-pub mod Said
-pub mod Settings
