@@ -45,9 +45,14 @@ def help_text(rng):
         yield f"\t  {words}.\n"
 
 
+def kind_of(i):
+    """The type of a symbol."""
+    return random.Random(i).choices(["bool", "tristate", "int", "hex", "string"], [50, 40, 5, 2, 3])[0]
+
+
 def entry(i, count, rng):
     """One symbol; it names only symbols before it in what makes units depend on one another."""
-    kind = rng.choices(["bool", "tristate", "int", "hex", "string"], [50, 40, 5, 2, 3])[0]
+    kind = kind_of(i)
     yield f"config {name(i)}\n"
     prompt = f' "Option {i} of the board"' if rng.random() < 0.8 else ""
     yield f"\t{kind}{prompt}\n"
@@ -60,8 +65,9 @@ def entry(i, count, rng):
         yield "\trange 0 64\n"
     if kind in ("bool", "tristate"):
         for _ in range(rng.choice([0, 0, 0, 1, 2])):
-            if i + 1 < count:
-                yield f"\tselect {name(i + 1 + rng.randrange(min(count - i - 1, 40)))}\n" if rng.random() < 0.7 else ""
+            target = i + 1 + rng.randrange(40)
+            if target < count and kind_of(target) in ("bool", "tristate"):
+                yield f"\tselect {name(target)}\n"
     if rng.random() < 0.75:
         yield from help_text(rng)
     yield "\n"
