@@ -136,3 +136,90 @@ fn endless_bundle(rt: HostRuntime) -> Result<(), Fail> {
     assert_eq!(rt; ran.err.bytes(), b"bundle:0: TooLarge\n".as_slice());
     Ok(())
 }
+
+/// A tree and a configuration file, each opened once; nothing is told of them.
+#[derive(Drop)]
+struct TwoFiles {
+    tree: Option<Script>,
+    config: Option<Script>,
+}
+
+impl Files for TwoFiles {
+    type File = Script;
+
+    ghost tells = { λ _ _. None };
+
+    fn seed(&self) -> Seed {
+        Seed::of(1, 2)
+    }
+
+    fn reader_for(&mut self, path: &str) -> Option<Script> {
+        match path {
+            "./Kconfig" => self.tree.take(),
+            "config" => self.config.take(),
+            _ => None,
+        }
+    }
+}
+
+/// Runs `min` on a tree of one bool and a file that has these bytes, read so many at once, and then ends or fails.
+fn min_once(alloc: Global, config: &[u8], most: usize, then: Then) -> Result<Ran, Fail>
+    requires { 0 < most }
+{
+    let tree = twice!(Vec::from_slice(alloc, ONE_BOOL));
+    let config = twice!(Vec::from_slice(alloc, config));
+    let mut files = TwoFiles {
+        tree: Some(Script::new(tree, 7, Then::End)),
+        config: Some(Script::new(config, most, then)),
+    };
+    let mut input = Script::new(Vec::new(alloc), 1, Then::Fail);
+    let mut out = twice!(Bounded::new(alloc, 4096, true));
+    let mut err = twice!(Bounded::new(alloc, 4096, true));
+    let words = ["min", "config"];
+    let status = run(alloc, &words, &mut files, &mut input, &mut out, &mut err);
+    Ok(Ran { status, out, err })
+}
+
+/// The same, and again where memory is refused, with nothing written.
+fn min_on(
+    rt: &impl Abort,
+    alloc: Global,
+    config: &[u8],
+    most: usize,
+    then: Then,
+) -> Result<Ran, Fail>
+    requires { 0 < most }
+{
+    let ran = min_once(alloc, config, most, then)?;
+    if ran.status != 6 {
+        return Ok(ran);
+    }
+    assert_eq!(rt; ran.out.bytes(), b"".as_slice());
+    min_once(alloc, config, most, then)
+}
+
+#[test]
+fn a_configuration_is_read_in_pieces(rt: HostRuntime) -> Result<(), Fail> {
+    for most in [1, 2, 3, 1000] {
+        let ran = min_on(
+            &rt,
+            rt.alloc(),
+            b"CONFIG_FOO=y\nCONFIG_A=y",
+            most,
+            Then::End,
+        )?;
+        assert_eq!(rt; ran.status, 0);
+        assert_eq!(rt; ran.out.bytes(), b"CONFIG_A=y\n".as_slice());
+        assert_eq!(rt; ran.err.bytes(), b"config:1: UnknownSymbol\n".as_slice());
+    }
+    Ok(())
+}
+
+#[test]
+fn the_second_line_of_a_configuration_cannot_be_read(rt: HostRuntime) -> Result<(), Fail> {
+    let ran = min_on(&rt, rt.alloc(), b"CONFIG_A=y\nCONF", 5, Then::Fail)?;
+    assert_eq!(rt; ran.status, 5);
+    assert_eq!(rt; ran.out.bytes(), b"".as_slice());
+    assert_eq!(rt; ran.err.bytes(), b"config:2: Read\n".as_slice());
+    Ok(())
+}
