@@ -23,8 +23,6 @@ mod minimal;
 #[cfg(test)]
 mod numbers;
 #[cfg(test)]
-mod reading;
-#[cfg(test)]
 mod streams;
 #[cfg(test)]
 mod sums;
