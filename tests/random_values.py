@@ -1,0 +1,211 @@
+"""What trees give under configuration files, by the rules of docs/RULES.md, apart from the program.
+
+An expression is ("name", N), ("constant", LETTER), ("quoted", TEXT), ("relation", OP, A, B), ("not", E), ("and", A, B), ("or", A, B)
+or ("shown", CHOICE). A condition is a list of expressions that are joined."""
+import operator
+import re
+
+BOOL, TRISTATE, INT, HEX, STRING = "bool", "tristate", "int", "hex", "string"
+LETTERS = "nmy"
+RELATIONS = {"=": operator.eq, "!=": operator.ne, "<": operator.lt, "<=": operator.le, ">": operator.gt, ">=": operator.ge}
+
+
+class Symbol:
+    def __init__(self, name, rank, kind, choice):
+        self.name, self.rank, self.kind, self.choice = name, rank, kind, choice
+        self.direct, self.prompts, self.defaults, self.ranges, self.forces = [], [], [], [], []
+
+
+class Choice:
+    def __init__(self, rank):
+        self.rank, self.prompt, self.defaults, self.members = rank, None, [], []
+
+
+def quoted(text):
+    return '"' + text.replace("\\", "\\\\").replace('"', '\\"') + '"'
+
+
+def spelled(e):
+    form = e[0]
+    if form in ("name", "constant"):
+        return e[1]
+    if form == "quoted":
+        return quoted(e[1])
+    if form == "relation":
+        return f"{spelled(e[2])} {e[1]} {spelled(e[3])}"
+    if form == "not":
+        return f"!({spelled(e[1])})"
+    return f"({spelled(e[1])} {'&&' if form == 'and' else '||'} {spelled(e[2])})"
+
+
+def number_of(kind, text):
+    """The number of a text by the grammar of a type, or by that of texts without one."""
+    if len(text) > 64:
+        return None
+    if kind == INT and re.fullmatch(r"-?[0-9]+", text, re.A):
+        return int(text) if abs(int(text)) < 2 ** 63 else None
+    if kind == HEX and re.fullmatch(r"(0[xX])?[0-9a-fA-F]+", text):
+        return int(text, 16) if int(text, 16) < 2 ** 64 else None
+    if kind == STRING:
+        number = number_of(INT, text)
+        return number_of(HEX, text) if number is None and text[:2] in ("0x", "0X") else number
+    return None
+
+
+class Values:
+    """Values of units: of a symbol outside choices a tristate (0, 1, 2) or a text, of a choice a member or none."""
+
+    def __init__(self, symbols, choices, is_classic):
+        self.symbols, self.choices, self.is_classic = {it.name: it for it in symbols}, choices, is_classic
+        self.held = {}
+
+    def tristate(self, name):
+        it = self.symbols.get(name)
+        if not it or it.kind not in (BOOL, TRISTATE):
+            return 0
+        return 2 * (self.held[it.choice] is it) if it.choice else self.held[it]
+
+    def side(self, e):
+        """Whether an operand is string-typed, its number, and its text."""
+        if e[0] == "constant":
+            return False, LETTERS.index(e[1]), e[1]
+        if e[0] == "quoted":
+            return True, number_of(STRING, e[1]), e[1]
+        it = self.symbols.get(e[1])
+        if not it:
+            return False, number_of(STRING, e[1]), e[1]
+        if it.kind in (BOOL, TRISTATE):
+            return False, self.tristate(e[1]), LETTERS[self.tristate(e[1])]
+        return it.kind == STRING, number_of(it.kind, self.held[it]), self.held[it]
+
+    def value(self, e, is_condition=False):
+        """The value of an expression; in a condition `m` is `m && MODULES`."""
+        form = e[0]
+        if form == "name":
+            return self.tristate(e[1])
+        if form == "constant":
+            return min(1, self.tristate("MODULES")) if is_condition and e[1] == "m" else LETTERS.index(e[1])
+        if form == "quoted":
+            return 0
+        if form == "not":
+            return 2 - self.value(e[1], is_condition)
+        if form == "shown":
+            return 2 * (e[1].prompt is not None and self.all_of(e[1].prompt) > 0)
+        if form in ("and", "or"):
+            return (min if form == "and" else max)(self.value(e[1], is_condition), self.value(e[2], is_condition))
+        a, b = self.side(e[2]), self.side(e[3])
+        at = 2 if (a[0] and b[0]) or a[1] is None or b[1] is None else 1
+        return 2 * RELATIONS[e[1]](*((it[at].encode() if at == 2 else it[at]) for it in (a, b)))
+
+    def all_of(self, condition):
+        return min((self.value(e, True) for e in condition), default=2)
+
+    def promoted(self, it, value):
+        return 2 if value == 1 and (it.kind == BOOL or not self.tristate("MODULES")) else value
+
+    def visibility(self, it):
+        return self.promoted(it, max(map(self.all_of, it.prompts), default=0))
+
+    def forced(self, it, word):
+        return max((min(self.tristate(by.name), self.all_of(when)) for by in self.symbols.values() for w, name, when in by.forces if w == word and name == it.name and not it.choice), default=0)
+
+    def default(self, it):
+        """The value of the active default, and its condition's value."""
+        return next(((value, self.all_of(when)) for value, when in it.defaults if self.all_of(when)), None)
+
+    def of_tristate(self, it, user):
+        implied, direct, active = self.forced(it, "imply"), self.all_of(it.direct), self.default(it)
+        base = min(self.value(active[0]), active[1]) if active else 0
+        effect = implied if direct else 0
+        if user is not None and self.visibility(it):
+            base = min(user, self.visibility(it))
+        elif self.is_classic:
+            base = max(base, effect)
+        elif implied:
+            base = min(max(base, implied), direct)
+        value = self.promoted(it, max(base, self.forced(it, "select")))
+        return 2 if self.is_classic and value == 1 and effect == 2 else value
+
+    def of_text(self, it, user):
+        active = self.default(it)
+        text = self.side(active[0])[2] if active else ""
+        if it.kind == STRING:
+            return user if user is not None and self.visibility(it) else text
+        bounds = next(((low, high) for low, high, when in it.ranges if self.all_of(when)), None)
+        low, high = ((number_of(it.kind, self.side(e)[2]) or 0) for e in bounds) if bounds else (float("-inf"), float("inf"))
+        number = number_of(it.kind, user or "")
+        if number is not None and self.visibility(it) and low <= number <= high:
+            return user
+        if number_of(it.kind, text) is None:
+            text = ""
+        number = number_of(it.kind, text) or 0
+        spell = hex if it.kind == HEX else str
+        return spell(low) if number < low else spell(high) if high < number else text
+
+    def of_choice(self, choice, user):
+        if choice.prompt is None or not self.all_of(choice.prompt):
+            return None
+        asked = [self.symbols[name] for name, when in choice.defaults if self.all_of(when)]
+        return next((it for it in [user, *asked, *choice.members] if it and self.visibility(it)), None)
+
+    def rule(self, unit, user):
+        if isinstance(unit, Choice):
+            return self.of_choice(unit, user)
+        return (self.of_tristate if unit.kind in (BOOL, TRISTATE) else self.of_text)(unit, user)
+
+    def solve(self, users):
+        for unit in sorted([it for it in self.symbols.values() if not it.choice] + self.choices, key=lambda it: it.rank):
+            self.held[unit] = self.rule(unit, users.get(unit))
+
+    def is_written(self, it):
+        if self.visibility(it) or it.choice:
+            return self.visibility(it) > 0
+        active = self.default(it)
+        counts = active and (it.kind not in (BOOL, TRISTATE) or min(self.value(active[0]), active[1]))
+        return bool(counts or self.forced(it, "select") or (self.forced(it, "imply") and self.all_of(it.direct)))
+
+    def line(self, it):
+        if it.kind in (BOOL, TRISTATE):
+            value = self.tristate(it.name)
+            return f"CONFIG_{it.name}={LETTERS[value]}" if value else f"# CONFIG_{it.name} is not set"
+        return f"CONFIG_{it.name}={quoted(self.held[it]) if it.kind == STRING else self.held[it]}"
+
+
+def users_of(symbols, lines):
+    """What the lines of configuration files assign."""
+    named, users = {it.name: it for it in symbols}, {}
+    for line in lines:
+        unset = re.fullmatch(r"# CONFIG_(.*) is not set", line)
+        name, text = (unset[1], "n") if unset else line[len("CONFIG_"):].split("=", 1)
+        it = named[name]
+        if it.choice:
+            if text == "y":
+                users[it.choice] = it
+        elif it.kind in (BOOL, TRISTATE):
+            if text in LETTERS and (text != "m" or it.kind == TRISTATE):
+                users[it] = LETTERS.index(text)
+        elif it.kind == STRING and not unset:
+            users[it] = re.sub(r"\\(.)", r"\1", text[1:-1])
+        elif not unset and number_of(it.kind, text) is not None:
+            users[it] = text
+    return users
+
+
+def is_needed(values, users, it):
+    """Whether the minimal file has the symbol's line."""
+    unit = it.choice or it
+    return values.held[unit] is it and values.rule(unit, None) is not it if it.choice else values.rule(unit, None) != values.held[unit]
+
+
+def told(symbols, choices, lines, is_classic):
+    """The lines of the full and the minimal file, the names that are missed, and the lines of what is unmet."""
+    users = users_of(symbols, lines)
+    values = Values(symbols, choices, is_classic)
+    values.solve(users)
+    is_missed = lambda it: (users.get(it.choice) is it and values.held[it.choice] is not it) if it.choice else it in users and users[it] != values.held[it]
+    return {
+        "full": [values.line(it) for it in symbols if values.is_written(it)],
+        "min": [values.line(it) for it in symbols if is_needed(values, users, it)],
+        "missed": [it.name for it in symbols if is_missed(it)],
+        "check": [f"unmet {it.name}" for it in symbols if not it.choice and values.all_of(it.direct) < values.forced(it, "select")],
+    }
