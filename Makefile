@@ -18,6 +18,7 @@ build/kmin: $(SOURCES)
 test:
 	rt ci
 	tests/run_rows
+	tests/read_in_pieces
 	tests/check_texts
 	tests/refuse_allocations
 

@@ -9,8 +9,10 @@ Behind the name a part may have one word:
     repeated   each line is COUNT TEXT: TEXT, read as escaped, so many times, '{}' being its number from 0
     full       of stdout and stderr: a device on which no byte finds room, /dev/full
     closed     of stdout and stderr: it isn't open
+    endless    of stdin: zero bytes without an end, /dev/zero
 
-'-- status N' has the status, 0 without it. '-- large' says that the row is too large for its allocations to be refused in turn.
+'-- status N' has the status, 0 without it. '-- large' says that the row is too large for its allocations, reads and writes to be
+refused in turn.
 """
 import os
 import re
@@ -59,7 +61,7 @@ class Row:
             self.status = int(how)
         elif name == "large":
             self.is_large = True
-        elif how in ("full", "closed"):
+        elif how in ("full", "closed", "endless"):
             self.special[name] = how
         elif how == "escaped":
             self.parts[name] = unescaped("".join(text.splitlines()))
@@ -85,7 +87,11 @@ class Row:
                 if how == "closed":
                     number = 1 if name == "stdout" else 2
                     words = ["sh", "-c", f'exec "$@" {number}>&-', "", *words]
-            ran = subprocess.run(words, input=self.parts["stdin"], cwd=folder, timeout=SECONDS, **streams)
+            if "stdin" in self.special:
+                streams["stdin"] = open("/dev/zero", "rb")
+            else:
+                streams["input"] = self.parts["stdin"]
+            ran = subprocess.run(words, cwd=folder, timeout=SECONDS, **streams)
             return ran.returncode, ran.stdout or b"", ran.stderr or b""
 
     def wanted(self):
