@@ -18,6 +18,8 @@ build/kmin: $(SOURCES)
 test:
 	rt ci
 	tests/run_rows
+	tests/cut_trees
+	tests/random_trees
 	tests/read_in_pieces
 	tests/check_texts
 	tests/refuse_allocations
