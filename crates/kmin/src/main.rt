@@ -2,8 +2,6 @@
 #![tactic(auto)]
 
 mod files;
-#[cfg(test)]
-mod tests;
 
 use files::Disk;
 use kc_value::{FromRead, ToWrite};
