@@ -25,8 +25,6 @@ mod numbers;
 #[cfg(test)]
 mod streams;
 #[cfg(test)]
-mod sums;
-#[cfg(test)]
 mod systems;
 #[cfg(test)]
 mod texts;
