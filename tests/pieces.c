@@ -6,16 +6,20 @@
  *   ERROR       the number of the error that it fails with; a write with 0 takes nothing
  *   STAYS       if set, each later read of the same file fails too
  *
- * At the first failure it writes to file descriptor 9 the file descriptor, how many bytes of the file were read before, and
- * the file's path. It is preloaded for that program alone. */
+ * At the first failure it writes to the file that MARK names the file descriptor, how many bytes of the file were read
+ * before, and the file's path. It is preloaded for that program alone. */
 typedef unsigned long size_t;
 
 extern char *getenv(const char *name);
 extern int *__errno_location(void);
 extern long __read(int file, void *bytes, size_t count);
 extern long __write(int file, const void *bytes, size_t count);
+extern int open(const char *path, int how, ...);
+extern int close(int file);
 extern long lseek(int file, long offset, int whence);
 extern long readlink(const char *path, char *bytes, size_t count);
+
+enum { WRITE_CREATE = 0101 };
 
 static size_t piece, fail_read, fail_write, error;
 static int stays, is_read, is_failing;
@@ -64,7 +68,7 @@ static int is_same(const char *a, const char *b)
     return *a == *b;
 }
 
-static void tell_number(size_t number)
+static void tell_number(int mark, size_t number)
 {
     char digits[24];
     int first = 23;
@@ -72,19 +76,21 @@ static void tell_number(size_t number)
     do
         digits[--first] = (char)('0' + number % 10);
     while (number /= 10);
-    (void)__write(9, digits + first, (size_t)(24 - first));
+    (void)__write(mark, digits + first, (size_t)(24 - first));
 }
 
 static void tell(int file)
 {
     long offset = lseek(file, 0, 1);
+    int mark = open(getenv("MARK"), WRITE_CREATE, 0600);
     size_t length = 0;
     find_path(file, failing, sizeof failing);
     while (failing[length])
         length++;
-    tell_number((size_t)file);
-    tell_number(offset < 0 ? 0 : (size_t)offset);
-    (void)__write(9, failing, length);
+    tell_number(mark, (size_t)file);
+    tell_number(mark, offset < 0 ? 0 : (size_t)offset);
+    (void)__write(mark, failing, length);
+    (void)close(mark);
 }
 
 static long fail(void)

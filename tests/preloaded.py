@@ -23,15 +23,12 @@ def build(name, folder):
     return library
 
 
-def words_of(mark, words, library, environment):
-    """Words that run a program alone under the library and the environment, its file descriptor 9 being the mark."""
-    settings = {"LD_PRELOAD": library, **environment}
-    return ["sh", "-c", 'mark=$1; shift; exec "$@" 9>>"$mark"', "", mark, "env", *(f"{k}={v}" for k, v in settings.items()), *words]
-
-
-def marked(run, mark, library, environment):
-    """Runs by the words that `run` is given a wrapping of; answers its result and what the library left in the mark."""
-    open(mark, "wb").close()
-    result = run(lambda words: words_of(mark, words, library, environment))
+def marked(run, mark, library, settings):
+    """Runs by a call that is given settings of the environment; answers its result, and what the library left in the mark."""
+    result = run({"LD_PRELOAD": library, "MARK": mark, **settings})
+    if not os.path.exists(mark):
+        return result, None
     with open(mark, "rb") as it:
-        return result, it.read()
+        left = it.read()
+    os.remove(mark)
+    return result, left

@@ -72,27 +72,34 @@ class Row:
         else:
             raise ValueError(f"{self.name}: {name} has no form {how}")
 
-    def run(self, wrapped=lambda words: words):
-        """Runs the program in a new folder, by the words that `wrapped` makes of its own, and answers its status and what it wrote."""
-        with tempfile.TemporaryDirectory(prefix="kmin-row-") as folder:
-            for name, data in self.parts.items():
-                if name not in ("stdin", "stdout", "stderr"):
-                    os.makedirs(os.path.dirname(f"{folder}/{name}"), exist_ok=True)
-                    with open(f"{folder}/{name}", "wb") as it:
-                        it.write(data)
-            words, streams = wrapped([PROGRAM, *self.words]), {}
-            for name in ("stdout", "stderr"):
-                how = self.special.get(name)
-                streams[name] = open("/dev/full", "wb") if how == "full" else subprocess.PIPE
-                if how == "closed":
-                    number = 1 if name == "stdout" else 2
-                    words = ["sh", "-c", f'exec "$@" {number}>&-', "", *words]
-            if "stdin" in self.special:
-                streams["stdin"] = open("/dev/zero", "rb")
-            else:
-                streams["input"] = self.parts["stdin"]
-            ran = subprocess.run(words, cwd=folder, timeout=SECONDS, **streams)
-            return ran.returncode, ran.stdout or b"", ran.stderr or b""
+    def place(self, folder):
+        """Writes the files that lie where the program runs."""
+        for name, data in self.parts.items():
+            if name not in ("stdin", "stdout", "stderr"):
+                os.makedirs(os.path.dirname(f"{folder}/{name}"), exist_ok=True)
+                with open(f"{folder}/{name}", "wb") as it:
+                    it.write(data)
+
+    def run(self, folder=None, settings={}):
+        """Runs the program in a folder that has the row's files, or in a new one, with these settings in its environment, and
+        answers its status and what it wrote."""
+        if not folder:
+            with tempfile.TemporaryDirectory(prefix="kmin-row-") as made:
+                self.place(made)
+                return self.run(made, settings)
+        words, streams = [PROGRAM, *self.words], {"env": {**os.environ, **settings}}
+        for name, number in (("stdout", 1), ("stderr", 2)):
+            how = self.special.get(name)
+            streams[name] = open("/dev/full", "wb") if how == "full" else subprocess.PIPE
+            if how == "closed":
+                words = ["sh", "-c", f'exec "$@" {number}>&-', "", "env", *(f"{key}={value}" for key, value in settings.items()), *words]
+                streams["env"] = None
+        if "stdin" in self.special:
+            streams["stdin"] = open("/dev/zero", "rb")
+        else:
+            streams["input"] = self.parts["stdin"]
+        ran = subprocess.run(words, cwd=folder, timeout=SECONDS, **streams)
+        return ran.returncode, ran.stdout or b"", ran.stderr or b""
 
     def wanted(self):
         return self.status, self.parts["stdout"], self.parts["stderr"]
