@@ -3,13 +3,15 @@
 A line '== NAME' begins a row; lines '# ..' behind it say what it shows. A line '$ kmin WORD ..' has the words, quoted as in a
 shell; in a word, too, \\xNN stands for a byte. A line '-- NAME' begins a part: what follows up to the next such line are its
 bytes, as they stand. Parts are 'stdin', 'stdout', 'stderr', and any other name is a file that lies where the program runs.
-Behind the name a part may have one word:
+Behind the name a part may have a word:
 
     escaped    the lines are joined, and \\n, \\r, \\t, \\\\, \\" and \\xNN stand for bytes
     repeated   each line is COUNT TEXT: TEXT, read as escaped, so many times, '{}' being its number from 0
     full       of stdout and stderr: a device on which no byte finds room, /dev/full
     closed     of stdout and stderr: it isn't open
     endless    of stdin: zero bytes without an end, /dev/zero
+    unended    of stdin, alone or behind another word: the stream stays open behind these bytes, so that a program that asks
+               for more of it waits until its time is up
 
 '-- status N' has the status, 0 without it. '-- large' says that the row is too large for its allocations, reads and writes to be
 refused in turn.
@@ -19,6 +21,7 @@ import re
 import shlex
 import subprocess
 import tempfile
+import threading
 
 TOP = os.path.dirname(os.path.dirname(os.path.realpath(__file__)))
 PROGRAM = f"{TOP}/crates/kmin/out/kmin"
@@ -40,6 +43,16 @@ def repeated(lines):
     return b"".join(made)
 
 
+def feed(stream, data):
+    """Writes what is read of these bytes."""
+    rest = memoryview(data)
+    try:
+        while rest:
+            rest = rest[os.write(stream, rest) :]
+    except BrokenPipeError:
+        pass
+
+
 class Row:
     def __init__(self, text):
         self.words, self.status, self.is_large = [], 0, False
@@ -57,6 +70,9 @@ class Row:
 
     def take(self, title, text):
         name, how = title[0], title[1] if len(title) > 1 else ""
+        if title[1:] and title[-1] == "unended":
+            self.special[name] = title.pop()
+            return self.take(title, text)
         if name == "status":
             self.status = int(how)
         elif name == "large":
@@ -94,12 +110,29 @@ class Row:
             if how == "closed":
                 words = ["sh", "-c", f'exec "$@" {number}>&-', "", "env", *(f"{key}={value}" for key, value in settings.items()), *words]
                 streams["env"] = None
+        if self.special.get("stdin") == "unended":
+            return self.run_unended(words, cwd=folder, **streams)
         if "stdin" in self.special:
             streams["stdin"] = open("/dev/zero", "rb")
         else:
             streams["input"] = self.parts["stdin"]
         ran = subprocess.run(words, cwd=folder, timeout=SECONDS, **streams)
         return ran.returncode, ran.stdout or b"", ran.stderr or b""
+
+    def run_unended(self, words, **streams):
+        """Runs these words while standard input stays open behind its bytes."""
+        taker, giver = os.pipe()
+        with subprocess.Popen(words, stdin=taker, **streams) as ran:
+            os.close(taker)
+            feeding = threading.Thread(target=feed, args=(giver, self.parts["stdin"]))
+            feeding.start()
+            try:
+                out, err = ran.communicate(timeout=SECONDS)
+            finally:
+                ran.kill()
+                feeding.join()
+                os.close(giver)
+            return ran.returncode, out or b"", err or b""
 
     def wanted(self):
         return self.status, self.parts["stdout"], self.parts["stderr"]
