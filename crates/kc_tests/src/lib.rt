@@ -1,4 +1,4 @@
-//! Tests of the libraries' public calls: what no contract says, and worked rows.
+//! Tests of the libraries' public calls: what no contract and no run of the program says.
 //!
 //! They stand in a crate of their own, so that no library is proved a second time for its tests.
 #![tactic(auto)]
@@ -20,8 +20,6 @@ mod configurations;
 mod expressions;
 #[cfg(test)]
 mod minimal;
-#[cfg(test)]
-mod numbers;
 #[cfg(test)]
 mod streams;
 #[cfg(test)]
