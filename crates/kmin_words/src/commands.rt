@@ -8,20 +8,37 @@ static PROFILES: [&str; 2] = ["present", "classic"];
 
 /// The program with all its commands.
 pub(crate) fn program<'a>(alloc: Global) -> Result<Command<'a>, AllocError> {
-    let min = over_files(alloc, "min", texts::MIN)?
-        .long_about(texts::MIN_LONG)
-        .after_long_help(texts::MIN_AFTER);
-    let full = over_files(alloc, "full", texts::FULL)?
-        .long_about(texts::FULL_LONG)
-        .after_long_help(texts::FULL_AFTER);
-    let missed = over_files(alloc, "missed", texts::MISSED)?
-        .long_about(texts::MISSED_LONG)
-        .after_long_help(texts::MISSED_AFTER);
-    let check = over_files(alloc, "check", texts::CHECK)?
-        .long_about(texts::CHECK_LONG)
-        .after_long_help(texts::CHECK_AFTER);
-    Command::new(alloc, "kmin")
-        .bin_name("kmin")?
+    let program = named(alloc)?;
+    let program = with_files(
+        alloc,
+        program,
+        "min",
+        [texts::MIN, texts::MIN_LONG, texts::MIN_AFTER],
+    )?;
+    let program = with_files(
+        alloc,
+        program,
+        "full",
+        [texts::FULL, texts::FULL_LONG, texts::FULL_AFTER],
+    )?;
+    let program = with_files(
+        alloc,
+        program,
+        "missed",
+        [texts::MISSED, texts::MISSED_LONG, texts::MISSED_AFTER],
+    )?;
+    let program = with_files(
+        alloc,
+        program,
+        "check",
+        [texts::CHECK, texts::CHECK_LONG, texts::CHECK_AFTER],
+    )?;
+    with_compare(alloc, program)
+}
+
+/// The program without its commands.
+fn named<'a>(alloc: Global) -> Result<Command<'a>, AllocError> {
+    let program = Command::new(alloc, "kmin")
         .no_binary_name(true)
         .propagate_version(true)
         .version(texts::VERSION)
@@ -29,56 +46,74 @@ pub(crate) fn program<'a>(alloc: Global) -> Result<Command<'a>, AllocError> {
         .after_help(texts::AFTER)
         .after_long_help(texts::AFTER_LONG)
         .override_usage(texts::USAGE)
-        .subcommand_required(true)
-        .subcommand(min)?
-        .subcommand(full)?
-        .subcommand(missed)?
-        .subcommand(check)?
-        .subcommand(compare(alloc)?)
+        .subcommand_required(true);
+    program.bin_name("kmin")
+}
+
+/// With a command over any number of files: what it does, in a line and at length, and its example.
+fn with_files<'a>(
+    alloc: Global,
+    program: Command<'a>,
+    name: &'a str,
+    [about, long, example]: [&'a str; 3],
+) -> Result<Command<'a>, AllocError> {
+    let command = Command::new(alloc, name)
+        .about(about)
+        .long_about(long)
+        .after_long_help(example);
+    program.subcommand(over_files(alloc, command)?)
 }
 
 /// A command over any number of files.
-fn over_files<'a>(alloc: Global, name: &'a str, about: &'a str) -> Result<Command<'a>, AllocError> {
+fn over_files<'a>(alloc: Global, command: Command<'a>) -> Result<Command<'a>, AllocError> {
+    let command = with_options(alloc, command)?;
     let files = Arg::new(alloc, "FILE")
         .action(ArgAction::Append)
-        .num_args(0..)
-        .help(texts::FILES);
-    options(alloc, Command::new(alloc, name).about(about))?.arg(files)
+        .num_args(0..);
+    command.arg(files.help(texts::FILES))
 }
 
-/// The command that compares two files.
-fn compare<'a>(alloc: Global) -> Result<Command<'a>, AllocError> {
+/// With the command that compares two files.
+fn with_compare<'a>(alloc: Global, program: Command<'a>) -> Result<Command<'a>, AllocError> {
     let command = Command::new(alloc, "compare")
         .about(texts::COMPARE)
         .long_about(texts::COMPARE_LONG)
         .after_long_help(texts::COMPARE_AFTER);
-    options(alloc, command)?
-        .arg(Arg::new(alloc, "LEFT").required(true).help(texts::LEFT))?
-        .arg(Arg::new(alloc, "RIGHT").required(true).help(texts::RIGHT))
+    program.subcommand(over_two_files(alloc, command)?)
+}
+
+/// A command over two files, each of which has to be given.
+fn over_two_files<'a>(alloc: Global, command: Command<'a>) -> Result<Command<'a>, AllocError> {
+    let command = with_options(alloc, command)?;
+    let command = command.arg(required(alloc, "LEFT", texts::LEFT))?;
+    command.arg(required(alloc, "RIGHT", texts::RIGHT))
+}
+
+/// A word that has to be given.
+fn required<'a>(alloc: Global, name: &'a str, help: &'a str) -> Arg<'a> {
+    Arg::new(alloc, name).required(true).help(help)
 }
 
 /// A command with the options that all have.
-fn options<'a>(alloc: Global, command: Command<'a>) -> Result<Command<'a>, AllocError> {
-    let root = Arg::new(alloc, "root")
-        .long("root")
-        .value_name("DIR")
-        .default_value(".")
-        .help(texts::ROOT);
-    let tree = Arg::new(alloc, "tree")
-        .long("tree")
-        .value_name("PATH")
-        .default_value("Kconfig")
-        .help(texts::TREE);
-    let prefix = Arg::new(alloc, "prefix")
-        .long("prefix")
-        .value_name("TEXT")
-        .default_value("CONFIG_")
-        .help(texts::PREFIX);
-    let imply = Arg::new(alloc, "imply")
-        .long("imply")
-        .value_name("PROFILE")
-        .default_value("present")
-        .value_parser(PROFILES.as_slice())
-        .help(texts::IMPLY);
-    command.arg(root)?.arg(tree)?.arg(prefix)?.arg(imply)
+fn with_options<'a>(alloc: Global, command: Command<'a>) -> Result<Command<'a>, AllocError> {
+    let command = command.arg(option(alloc, "root", "DIR", ".", texts::ROOT))?;
+    let command = command.arg(option(alloc, "tree", "PATH", "Kconfig", texts::TREE))?;
+    let command = command.arg(option(alloc, "prefix", "TEXT", "CONFIG_", texts::PREFIX))?;
+    let imply = option(alloc, "imply", "PROFILE", "present", texts::IMPLY);
+    command.arg(imply.value_parser(PROFILES.as_slice()))
+}
+
+/// An option with a value.
+fn option<'a>(
+    alloc: Global,
+    name: &'a str,
+    value: &'a str,
+    default: &'a str,
+    help: &'a str,
+) -> Arg<'a> {
+    Arg::new(alloc, name)
+        .long(name)
+        .value_name(value)
+        .default_value(default)
+        .help(help)
 }
