@@ -1,6 +1,7 @@
 pub mod CutSteps
 pub mod Joining
 pub mod NameLemmas
+pub mod SymbolSteps
 pub mod Growing
 pub mod PutSteps
 pub mod StandSteps

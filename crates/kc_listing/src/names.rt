@@ -1,5 +1,5 @@
 //! The names of symbols.
-ghost use Rattle.std.specs.Prelude.{◌≡◌, ◌<◌, ◌≤◌, ◌++◌, ◌∷◌, ℕ, List, [], length, None, IfOk, IfErr, OnOk, slice_index};
+ghost use Rattle.std.specs.Prelude.{◌≡◌, ◌<◌, ◌≤◌, ◌++◌, ◌∷◌, ℕ, List, [], length, None, Some, IfOk, IfErr, OnOk, slice_index};
 ghost use Rattle.kc_tree_model.specs.declared.fault.TreeKind.TheVariants.{OutOfMemory};
 ghost use Rattle.kc_expr.specs.Arena.{Grows};
 ghost use Rattle.kc_expr.specs.Lookup.{place_of};
@@ -46,20 +46,18 @@ impl Names {
         number_at(self.numbers.as_slice(), id)
     }
 
-    /// The number of a new symbol.
-    pub(crate) fn define(&mut self, name: &str) -> Result<u32, TreeKind>
-        requires { length self.old.symbols.items < 1000000 }
-        ensures grows { Grows self.old.arena self.new.arena }
+    /// The number of a new symbol, whose name is held by the arena.
+    fn define(&mut self, id: NameId) -> Result<u32, TreeKind>
+        requires held { id < length self.old.arena.names }
+        requires few { length self.old.symbols.items < 1000000 }
+        ensures arena { self.new.arena ≡ self.old.arena }
         ensures number { IfOk result (λ n. n ≡ length self.old.symbols.items) }
-        ensures named { (names : List (List ℕ)) → HasNames self.old.arena self.old.symbols.items self.old.numbers.items names
-            → place_of name.now names ≡ None
-            → OnOk result (HasNames self.new.arena self.new.symbols.items self.new.numbers.items (names ++ name.now ∷ [])) }
+        ensures named { (name : List ℕ) (names : List (List ℕ)) → HasNames self.old.arena self.old.symbols.items self.old.numbers.items names
+            → place_of name self.old.arena.names ≡ Some id → place_of name names ≡ None
+            → OnOk result (HasNames self.new.arena self.new.symbols.items self.new.numbers.items (names ++ name ∷ [])) }
         ensures memory { IfErr result (λ k. k ≡ OutOfMemory) }
     {
         let number = self.symbols.len() as u32;
-        let Ok(id) = self.arena.intern(name) else {
-            return Err(TreeKind::OutOfMemory);
-        };
         let Ok(()) = pad(&mut self.numbers, self.arena.name_count()) else {
             return Err(TreeKind::OutOfMemory);
         };
@@ -77,12 +75,15 @@ impl Names {
         ensures told { (names : List (List ℕ)) → HasNames self.old.arena self.old.symbols.items self.old.numbers.items names
             → SymbolTold name.now names self.new result }
     {
-        if let Some(number) = self.number_of(name) {
+        let Ok(id) = self.arena.intern(name) else {
+            return Err(TreeKind::OutOfMemory);
+        };
+        if let Some(number) = number_at(self.numbers.as_slice(), id) {
             return Ok(number);
         }
         if self.symbols.len() >= MAX_SYMBOLS {
             return Err(TreeKind::TooMany);
         }
-        self.define(name)
+        self.define(id)
     }
 }
