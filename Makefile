@@ -18,6 +18,7 @@ build/kmin: $(SOURCES)
 test:
 	rt ci
 	tests/run_rows
+	tests/check_minimal_files
 	tests/cut_trees
 	tests/random_trees
 	tests/read_in_pieces
