@@ -15,74 +15,44 @@ use Rattle.kc_minimal_model.specs.FullFile.{heading, end_line, applies, pieces, 
 use Rattle.kc_minimal.specs.declared.full.Draft.{Draft}
 use Rattle.kc_minimal.specs.checker.Drafts.{IsDraft}
 
--- what a menu, its end or a comment writes where it applies
-menu_pieces : (prefix : List ℕ) (tree : Whole) (values : List UnitValue) (seen : List ℕ) (gap : Bool) (left : List Entry) (title : List ℕ) (dependency visible : Expr) → applies tree values dependency ≡ true → applies tree values visible ≡ true
-    → pieces prefix tree values seen gap (menu_begins title dependency visible ∷ left) ≡ heading prefix title ++ pieces prefix tree values seen false left
-menu_pieces prefix tree values seen gap left title dependency visible a b =
-    ap (λ t. cond (t && applies tree values visible) (heading prefix title ++ pieces prefix tree values seen false left) (pieces prefix tree values seen gap left)) a
-    ∙ ap (λ t. cond t (heading prefix title ++ pieces prefix tree values seen false left) (pieces prefix tree values seen gap left)) b
-
-end_pieces : (prefix : List ℕ) (tree : Whole) (values : List UnitValue) (seen : List ℕ) (gap : Bool) (left : List Entry) (title : List ℕ) (dependency visible : Expr) → applies tree values dependency ≡ true → applies tree values visible ≡ true
-    → pieces prefix tree values seen gap (menu_ends title dependency visible ∷ left) ≡ end_line title ++ pieces prefix tree values seen true left
-end_pieces prefix tree values seen gap left title dependency visible a b =
-    ap (λ t. cond (t && applies tree values visible) (end_line title ++ pieces prefix tree values seen true left) (pieces prefix tree values seen gap left)) a
-    ∙ ap (λ t. cond t (end_line title ++ pieces prefix tree values seen true left) (pieces prefix tree values seen gap left)) b
-
--- and where it doesn't
-menu_none : (prefix : List ℕ) (tree : Whole) (values : List UnitValue) (seen : List ℕ) (gap : Bool) (left : List Entry) (title : List ℕ) (dependency visible : Expr) → (applies tree values dependency && applies tree values visible) ≡ false
-    → pieces prefix tree values seen gap (menu_begins title dependency visible ∷ left) ≡ pieces prefix tree values seen gap left
-menu_none prefix tree values seen gap left title dependency visible e = ap (λ t. cond t (heading prefix title ++ pieces prefix tree values seen false left) (pieces prefix tree values seen gap left)) e
-
-end_none : (prefix : List ℕ) (tree : Whole) (values : List UnitValue) (seen : List ℕ) (gap : Bool) (left : List Entry) (title : List ℕ) (dependency visible : Expr) → (applies tree values dependency && applies tree values visible) ≡ false
-    → pieces prefix tree values seen gap (menu_ends title dependency visible ∷ left) ≡ pieces prefix tree values seen gap left
-end_none prefix tree values seen gap left title dependency visible e = ap (λ t. cond t (end_line title ++ pieces prefix tree values seen true left) (pieces prefix tree values seen gap left)) e
+-- what is written where it is shown, with whether an end line came last
+shown_or_not : (shown : Bool) (added : List ℕ) (rest : Bool → List ℕ) (behind before : Bool) → cond shown (added ++ rest behind) (rest before) ≡ cond shown added [] ++ rest (cond shown behind before)
+shown_or_not true added rest behind before = refl
+shown_or_not false added rest behind before = refl
 
 module _ (prefix : List ℕ) (tree : Whole) (values : List UnitValue) (left : List Entry) (old new : Draft) where
-  -- what an entry that defines no symbol appends
-  appended : (entry : Entry) (added : List ℕ) (gap : Bool) → ((seen : List ℕ) → pieces prefix tree values seen old.gap (entry ∷ left) ≡ added ++ pieces prefix tree values seen gap left)
-      → new.text.items ≡ old.text.items ++ added → new.defined.items ≡ old.defined.items → new.gap ≡ gap → IsDraft prefix tree values (entry ∷ left) old → IsDraft prefix tree values left new
-  appended entry added gap adds text defined behind d = record {
-    seen = d.seen;
-    marked = λ s b. ap (λ ds. slice_index_or ds s false) defined ∙ d.marked s b;
-    whole = ap (λ t. t ++ pieces prefix tree values d.seen new.gap left) text ∙ append_assoc old.text.items added (pieces prefix tree values d.seen new.gap left)
-        ∙ ap (λ g. old.text.items ++ (added ++ pieces prefix tree values d.seen g left)) behind ∙ sym (ap (λ p. old.text.items ++ p) (adds d.seen)) ∙ d.whole;
-  }
+  -- what an entry that defines no symbol appends, if it is shown
+  appended : (entry : Entry) (added : List ℕ) (gap shown : Bool)
+      → ((seen : List ℕ) → pieces prefix tree values seen old.gap (entry ∷ left) ≡ cond shown (added ++ pieces prefix tree values seen gap left) (pieces prefix tree values seen old.gap left))
+      → new.text.items ≡ old.text.items ++ cond shown added [] → new.gap ≡ cond shown gap old.gap → new.defined.items ≡ old.defined.items → IsDraft prefix tree values (entry ∷ left) old → IsDraft prefix tree values left new
+  appended entry added gap shown adds text behind defined d =
+      let written = cond shown added [] in
+      record {
+        seen = d.seen;
+        marked = λ s b. ap (λ ds. slice_index_or ds s false) defined ∙ d.marked s b;
+        whole = ap (λ t. t ++ pieces prefix tree values d.seen new.gap left) text ∙ append_assoc old.text.items written (pieces prefix tree values d.seen new.gap left)
+            ∙ ap (λ g. old.text.items ++ (written ++ pieces prefix tree values d.seen g left)) behind
+            ∙ sym (ap (λ p. old.text.items ++ p) (adds d.seen ∙ shown_or_not shown added (λ g. pieces prefix tree values d.seen g left) gap old.gap)) ∙ d.whole;
+      }
 
-  pub menu_begun : (title : List ℕ) (dependency visible : Expr) → applies tree values dependency ≡ true → applies tree values visible ≡ true
-      → new.text.items ≡ old.text.items ++ heading prefix title → new.defined.items ≡ old.defined.items → new.gap ≡ false → IsDraft prefix tree values (menu_begins title dependency visible ∷ left) old → IsDraft prefix tree values left new
-  menu_begun title dependency visible a b text defined behind = appended (menu_begins title dependency visible) (heading prefix title) false (λ seen. menu_pieces prefix tree values seen old.gap left title dependency visible a b) text defined behind
+  pub menu_begun : (title : List ℕ) (dependency visible : Expr) (shown : Bool) → shown ≡ (applies tree values dependency && applies tree values visible)
+      → new.text.items ≡ old.text.items ++ cond shown (heading prefix title) [] → new.gap ≡ cond shown false old.gap → new.defined.items ≡ old.defined.items → IsDraft prefix tree values (menu_begins title dependency visible ∷ left) old → IsDraft prefix tree values left new
+  menu_begun title dependency visible shown e = appended (menu_begins title dependency visible) (heading prefix title) false shown
+      (λ seen. sym (ap (λ t. cond t (heading prefix title ++ pieces prefix tree values seen false left) (pieces prefix tree values seen old.gap left)) e))
 
-  pub menu_ended : (title : List ℕ) (dependency visible : Expr) → applies tree values dependency ≡ true → applies tree values visible ≡ true
-      → new.text.items ≡ old.text.items ++ end_line title → new.defined.items ≡ old.defined.items → new.gap ≡ true → IsDraft prefix tree values (menu_ends title dependency visible ∷ left) old → IsDraft prefix tree values left new
-  menu_ended title dependency visible a b text defined behind = appended (menu_ends title dependency visible) (end_line title) true (λ seen. end_pieces prefix tree values seen old.gap left title dependency visible a b) text defined behind
+  pub menu_ended : (title : List ℕ) (dependency visible : Expr) (shown : Bool) → shown ≡ (applies tree values dependency && applies tree values visible)
+      → new.text.items ≡ old.text.items ++ cond shown (end_line title) [] → new.gap ≡ cond shown true old.gap → new.defined.items ≡ old.defined.items → IsDraft prefix tree values (menu_ends title dependency visible ∷ left) old → IsDraft prefix tree values left new
+  menu_ended title dependency visible shown e = appended (menu_ends title dependency visible) (end_line title) true shown
+      (λ seen. sym (ap (λ t. cond t (end_line title ++ pieces prefix tree values seen true left) (pieces prefix tree values seen old.gap left)) e))
 
-  pub commented : (title : List ℕ) (dependency : Expr) → applies tree values dependency ≡ true
-      → new.text.items ≡ old.text.items ++ heading prefix title → new.defined.items ≡ old.defined.items → new.gap ≡ false → IsDraft prefix tree values (comment title dependency ∷ left) old → IsDraft prefix tree values left new
-  commented title dependency a text defined behind = appended (comment title dependency) (heading prefix title) false (λ seen. ap (λ t. cond t (heading prefix title ++ pieces prefix tree values seen false left) (pieces prefix tree values seen old.gap left)) a) text defined behind
+  pub commented : (title : List ℕ) (dependency : Expr) (shown : Bool) → shown ≡ applies tree values dependency
+      → new.text.items ≡ old.text.items ++ cond shown (heading prefix title) [] → new.gap ≡ cond shown false old.gap → new.defined.items ≡ old.defined.items → IsDraft prefix tree values (comment title dependency ∷ left) old → IsDraft prefix tree values left new
+  commented title dependency shown e = appended (comment title dependency) (heading prefix title) false shown
+      (λ seen. sym (ap (λ t. cond t (heading prefix title ++ pieces prefix tree values seen false left) (pieces prefix tree values seen old.gap left)) e))
 
--- an entry that writes nothing
-passed : (prefix : List ℕ) (tree : Whole) (values : List UnitValue) (left : List Entry) (draft : Draft) (entry : Entry) → ((seen : List ℕ) → pieces prefix tree values seen draft.gap (entry ∷ left) ≡ pieces prefix tree values seen draft.gap left)
-    → IsDraft prefix tree values (entry ∷ left) draft → IsDraft prefix tree values left draft
-passed prefix tree values left draft entry none d = record {
-  seen = d.seen;
-  marked = d.marked;
-  whole = sym (ap (λ p. draft.text.items ++ p) (none d.seen)) ∙ d.whole;
-}
-
+-- a choice writes nothing
 pub choice_passed : (prefix : List ℕ) (tree : Whole) (values : List UnitValue) (left : List Entry) (draft : Draft) (c : ℕ) → IsDraft prefix tree values (choice_begins c ∷ left) draft → IsDraft prefix tree values left draft
-choice_passed prefix tree values left draft c = passed prefix tree values left draft (choice_begins c) (λ seen. refl)
-
-pub menu_passed : (prefix : List ℕ) (tree : Whole) (values : List UnitValue) (left : List Entry) (draft : Draft) (title : List ℕ) (dependency visible : Expr) → (applies tree values dependency && applies tree values visible) ≡ false
-    → IsDraft prefix tree values (menu_begins title dependency visible ∷ left) draft → IsDraft prefix tree values left draft
-menu_passed prefix tree values left draft title dependency visible e = passed prefix tree values left draft (menu_begins title dependency visible) (λ seen. menu_none prefix tree values seen draft.gap left title dependency visible e)
-
-pub end_passed : (prefix : List ℕ) (tree : Whole) (values : List UnitValue) (left : List Entry) (draft : Draft) (title : List ℕ) (dependency visible : Expr) → (applies tree values dependency && applies tree values visible) ≡ false
-    → IsDraft prefix tree values (menu_ends title dependency visible ∷ left) draft → IsDraft prefix tree values left draft
-end_passed prefix tree values left draft title dependency visible e = passed prefix tree values left draft (menu_ends title dependency visible) (λ seen. end_none prefix tree values seen draft.gap left title dependency visible e)
-
-pub comment_passed : (prefix : List ℕ) (tree : Whole) (values : List UnitValue) (left : List Entry) (draft : Draft) (title : List ℕ) (dependency : Expr) → applies tree values dependency ≡ false
-    → IsDraft prefix tree values (comment title dependency ∷ left) draft → IsDraft prefix tree values left draft
-comment_passed prefix tree values left draft title dependency e = passed prefix tree values left draft (comment title dependency) (λ seen. ap (λ t. cond t (heading prefix title ++ pieces prefix tree values seen false left) (pieces prefix tree values seen draft.gap left)) e)
+choice_passed prefix tree values left draft c d = record { seen = d.seen; marked = d.marked; whole = d.whole }
 
 -- one symbol more is marked
 marked_more : (n : ℕ) (xs : List Bool) (seen : List ℕ) (s : ℕ) → s < length xs → ((t : ℕ) → t < n → slice_index_or xs t false ≡ list_any (nat_eq t) seen)

@@ -1,5 +1,5 @@
 //! Full files.
-ghost use Rattle.std.specs.Prelude.{◌≡◌, ◌<◌, ◌++◌, ◌∷◌, ℕ, Bool, true, false, not, List, [], length, IfOk, OnOk, slice_index_or, slice_set, if◌then◌else◌};
+ghost use Rattle.std.specs.Prelude.{◌≡◌, ◌<◌, ◌++◌, ◌∷◌, ◌&&◌, ℕ, Bool, true, false, not, List, [], length, IfOk, OnOk, slice_index_or, slice_set, if◌then◌else◌};
 ghost use Rattle.kc_expr.specs.Arena.{stands_for};
 ghost use Rattle.kc_tree.specs.Told.{entry_of, EntryFits};
 ghost use Rattle.kc_tree_model.specs.Trees.{Entry as TreeEntry, definition};
@@ -57,6 +57,15 @@ fn applies(settled: &Settled, values: &[UnitValue], condition: ExprId) -> bool
     !is_n(settled.condition(condition, values))
 }
 
+/// Whether two conditions aren't `n`.
+fn both_apply(settled: &Settled, values: &[UnitValue], dependency: ExprId, visible: ExprId) -> bool
+    requires dependency { dependency < length (tree_of settled.now).exprs.nodes }
+    requires visible { visible < length (tree_of settled.now).exprs.nodes }
+    ensures { result ≡ (applies (whole_of settled.now) values.now (stands_for (tree_of settled.now).exprs dependency) && applies (whole_of settled.now) values.now (stands_for (tree_of settled.now).exprs visible)) }
+{
+    applies(settled, values, dependency) && applies(settled, values, visible)
+}
+
 /// Marks a symbol, and tells whether it wasn't marked.
 fn mark(defined: &mut Vec<bool>, s: Sym) -> bool
     requires { s < length defined.old.items }
@@ -112,6 +121,35 @@ fn push_definition(
     }
 }
 
+/// Appends what stands before a menu or for a comment, if it is shown.
+fn push_title(
+    draft: &mut Draft,
+    prefix: &Prefix,
+    title: &str,
+    shown: bool,
+) -> Result<(), AllocError>
+    ensures goes { OnOk result ((draft.new.text.items ≡ draft.old.text.items ++ (if shown then heading (text_of prefix.now) title.now else [])) × (draft.new.gap ≡ (if shown then false else draft.old.gap))) }
+    ensures marks { draft.new.defined.items ≡ draft.old.defined.items }
+{
+    if shown {
+        push_heading(&mut draft.text, prefix, title)?;
+        draft.gap = false;
+    }
+    Ok(())
+}
+
+/// Appends the line behind a menu, if it is shown.
+fn push_menu_end(draft: &mut Draft, title: &str, shown: bool) -> Result<(), AllocError>
+    ensures goes { OnOk result ((draft.new.text.items ≡ draft.old.text.items ++ (if shown then end_line title.now else [])) × (draft.new.gap ≡ (if shown then true else draft.old.gap))) }
+    ensures marks { draft.new.defined.items ≡ draft.old.defined.items }
+{
+    if shown {
+        push_end(&mut draft.text, title)?;
+        draft.gap = true;
+    }
+    Ok(())
+}
+
 /// Goes over an entry.
 fn push_entry(
     draft: &mut Draft,
@@ -132,36 +170,23 @@ fn push_entry(
             title,
             dependency,
             visible,
-        } => {
-            if applies(settled, values, dependency) && applies(settled, values, visible) {
-                push_heading(&mut draft.text, prefix, title)?;
-                draft.gap = false;
-                Ok(())
-            } else {
-                Ok(())
-            }
-        }
+        } => push_title(
+            draft,
+            prefix,
+            title,
+            both_apply(settled, values, dependency, visible),
+        ),
         Entry::MenuEnds {
             title,
             dependency,
             visible,
-        } => {
-            if applies(settled, values, dependency) && applies(settled, values, visible) {
-                push_end(&mut draft.text, title)?;
-                draft.gap = true;
-                Ok(())
-            } else {
-                Ok(())
-            }
-        }
+        } => push_menu_end(
+            draft,
+            title,
+            both_apply(settled, values, dependency, visible),
+        ),
         Entry::Comment { title, dependency } => {
-            if applies(settled, values, dependency) {
-                push_heading(&mut draft.text, prefix, title)?;
-                draft.gap = false;
-                Ok(())
-            } else {
-                Ok(())
-            }
+            push_title(draft, prefix, title, applies(settled, values, dependency))
         }
     }
 }
