@@ -10,7 +10,8 @@ use Rattle.std.proofs.lemmas.List.{set_comm}
 use Rattle.kc_system.specs.Changes.{changed_users}
 use Rattle.kc_rules_model.specs.declared.values.UserValue.{UserValue}
 use Rattle.kc_dotconfig.specs.Fragments.{changes_of, users_of, notice_pair}
-use Rattle.kc_dotconfig.specs.checker.Gathered.{Above, Rises, Below, IsGathered}
+use Rattle.kc_dotconfig.specs.checker.Gathered.{IsGathered}
+use Rattle.kc_dotconfig.specs.checker.Rising.{Above, Rises, Below}
 use Rattle.kc_tree_model.specs.Trees.{Whole}
 use Rattle.kc_dotconfig_model.specs.declared.notice.Notice.{Notice}
 use Rattle.kc_dotconfig_model.specs.declared.notice.NoticeKind.{NoticeKind}
@@ -93,16 +94,16 @@ notices_more n (notice kind ∷ a) b = ap (λ l. (n, kind) ∷ l) (notices_more 
 notices_more n (silent ∷ a) b = notices_more (n + 1) a b ∙ ap (λ m. notices_from (n + 1) a ++ notices_from m b) (let e : (n + 1) + length a ≡ n + suc (length a) = omega arith in e)
 
 -- one line more
-pub gathers_user : (tree : Whole) (sayings : List Saying) (g h : Gathering) (u : ℕ) (x : UserValue) → u < length tree.units → IsGathered tree sayings g → h.assigns.entries ≡ insert_entry nat_cmp g.assigns.entries u x → h.notices.items ≡ g.notices.items → h.lines ≡ g.lines + 1 → IsGathered tree (sayings ++ assigns u x ∷ []) h
+pub gathers_user : (tree : Whole) (sayings : List Saying) (g h : Gathering) (u : ℕ) (x : UserValue) → u < length tree.units → IsGathered tree sayings g → h.assigns ≡ insert_entry nat_cmp g.assigns u x → h.notices.items ≡ g.notices.items → h.lines ≡ g.lines + 1 → IsGathered tree (sayings ++ assigns u x ∷ []) h
 gathers_user tree sayings g h u x within is entries notices lines = record {
-  users = ap (users_of tree) entries ∙ insert_set g.assigns.entries u x (no_users tree) is.rises ∙ ap (λ l. slice_set l u (Some x)) is.users ∙ sym (over_more sayings (assigns u x) (no_users tree));
+  users = ap (users_of tree) entries ∙ insert_set g.assigns u x (no_users tree) is.rises ∙ ap (λ l. slice_set l u (Some x)) is.users ∙ sym (over_more sayings (assigns u x) (no_users tree));
   noted = ap (map notice_pair) notices ∙ is.noted ∙ sym (notices_more 1 sayings (assigns u x ∷ []) ∙ append-nil (notices_from 1 sayings));
   counted = (let e = is.counted in let n = length-append sayings (assigns u x ∷ []) in omega arith);
-  rises = subst Rises (sym entries) (rises_insert g.assigns.entries u x is.rises);
-  below = subst (Below (length tree.units)) (sym entries) (below_insert (length tree.units) g.assigns.entries u x within is.below);
+  rises = subst Rises (sym entries) (rises_insert g.assigns u x is.rises);
+  below = subst (Below (length tree.units)) (sym entries) (below_insert (length tree.units) g.assigns u x within is.below);
 }
 
-pub gathers_nothing : (tree : Whole) (sayings : List Saying) (g h : Gathering) → IsGathered tree sayings g → h.assigns.entries ≡ g.assigns.entries → h.notices.items ≡ g.notices.items → h.lines ≡ g.lines + 1 → IsGathered tree (sayings ++ silent ∷ []) h
+pub gathers_nothing : (tree : Whole) (sayings : List Saying) (g h : Gathering) → IsGathered tree sayings g → h.assigns ≡ g.assigns → h.notices.items ≡ g.notices.items → h.lines ≡ g.lines + 1 → IsGathered tree (sayings ++ silent ∷ []) h
 gathers_nothing tree sayings g h is entries notices lines = record {
   users = ap (users_of tree) entries ∙ is.users ∙ sym (over_more sayings silent (no_users tree));
   noted = ap (map notice_pair) notices ∙ is.noted ∙ sym (notices_more 1 sayings (silent ∷ []) ∙ append-nil (notices_from 1 sayings));
@@ -115,7 +116,7 @@ pairs_more : (a : List Notice) (b : Notice) → map notice_pair (a ++ b ∷ []) 
 pairs_more [] b = refl
 pairs_more (x ∷ a) b = ap (λ l. notice_pair x ∷ l) (pairs_more a b)
 
-pub gathers_notice : (tree : Whole) (sayings : List Saying) (g h : Gathering) (kind : NoticeKind) → IsGathered tree sayings g → h.assigns.entries ≡ g.assigns.entries → h.notices.items ≡ g.notices.items ++ record { line = g.lines + 1; kind = kind } ∷ [] → h.lines ≡ g.lines + 1 → IsGathered tree (sayings ++ notice kind ∷ []) h
+pub gathers_notice : (tree : Whole) (sayings : List Saying) (g h : Gathering) (kind : NoticeKind) → IsGathered tree sayings g → h.assigns ≡ g.assigns → h.notices.items ≡ g.notices.items ++ record { line = g.lines + 1; kind = kind } ∷ [] → h.lines ≡ g.lines + 1 → IsGathered tree (sayings ++ notice kind ∷ []) h
 gathers_notice tree sayings g h kind is entries notices lines = record {
   users = ap (users_of tree) entries ∙ is.users ∙ sym (over_more sayings (notice kind) (no_users tree));
   noted =

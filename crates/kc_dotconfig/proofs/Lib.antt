@@ -8,3 +8,4 @@ pub mod LineParts
 pub mod Holding
 pub mod FragmentFits
 pub mod Solving
+pub mod Rising

@@ -16,7 +16,8 @@ use Rattle.kc_dotconfig_model.specs.Names.{is_prefix}
 use Rattle.kc_dotconfig.specs.Fragments.{FitsTree, users_of, notice_pair}
 use Rattle.kc_dotconfig.proofs.Fitting.{fragment_fits}
 use Rattle.kc_dotconfig.specs.Reads.{MOST_READ, IsReadAs, IsRefused, IsCutShort, Tells}
-use Rattle.kc_dotconfig.specs.checker.Gathered.{Holds, Takes, EndsWell, EndsBadly, IsGathered, IsWholeOf, Rises, Below}
+use Rattle.kc_dotconfig.specs.checker.Gathered.{Holds, Takes, EndsWell, EndsBadly, IsGathered, IsWholeOf}
+use Rattle.kc_dotconfig.specs.checker.Rising.{Rises, Below}
 use Rattle.kc_dotconfig_model.proofs.FirstFaults.{failed_reads}
 use Rattle.kc_dotconfig_model.proofs.FaultsAtCuts.{clean, told_newlines, nothing_told}
 
@@ -135,7 +136,7 @@ fault_of prefix tree line g kind k lines n same is fault = elim fault [
   | inr bad ↦ inr (λ told holds. subst (λ m. IsFirstFault prefix tree complete told k m) (sym is) (subst (λ x. IsFirstFault prefix tree complete told x (lines + 1)) (sym same) (bad told holds)))
 ]
 
-pub ends_whole : (prefix : List ℕ) (tree : Whole) (line : List ℕ) (g h : Gathering) (f : Fragment) → EndsWell prefix tree line g h → (f.assigns.items ≡ h.assigns.entries) × (f.notices.items ≡ h.notices.items) → IsWholeOf prefix tree line g f
+pub ends_whole : (prefix : List ℕ) (tree : Whole) (line : List ℕ) (g h : Gathering) (f : Fragment) → EndsWell prefix tree line g h → (f.assigns.items ≡ h.assigns) × (f.notices.items ≡ h.notices.items) → IsWholeOf prefix tree line g f
 ends_whole prefix tree line g h f ends same told holds =
     let e = ends told holds in
     (e.0, e.1, e.2, ap (users_of tree) same.0 ∙ e.3.users, ap (map notice_pair) same.1 ∙ e.3.noted, subst Rises (sym same.0) e.3.rises, subst (Below (length tree.units)) (sym same.0) e.3.below)

@@ -17,17 +17,17 @@ use Rattle.kc_dotconfig.specs.checker.Gathered.{IsGathered}
 use Rattle.kc_dotconfig.proofs.Insertions.{gathers_user, gathers_nothing, gathers_notice}
 use Rattle.kc_dotconfig_model.proofs.LineLaws.{line_read}
 
-pub takes_user : {T E : Type 0} (r : Result T E) (g h : Gathering) (u : ℕ) (x : UserValue) (said : Said) → said ≡ Assigns u x → OnOk r (h.assigns.entries ≡ insert_entry nat_cmp g.assigns.entries u x) → OnOk r (h.notices.items ≡ g.notices.items) → OnOk r (h.lines ≡ g.lines + 1)
+pub takes_user : {T E : Type 0} (r : Result T E) (g h : Gathering) (u : ℕ) (x : UserValue) (said : Said) → said ≡ Assigns u x → OnOk r (h.assigns ≡ insert_entry nat_cmp g.assigns u x) → OnOk r (h.notices.items ≡ g.notices.items) → OnOk r (h.lines ≡ g.lines + 1)
     → OnOk r ((tree : Whole) (sayings : List Saying) → IsWithin (length tree.units) (saying_of said) → IsGathered tree sayings g → IsGathered tree (sayings ++ saying_of said ∷ []) h)
 takes_user (Ok y) g h u x said is entries notices lines = λ tree sayings within before. subst (λ s. IsGathered tree (sayings ++ saying_of s ∷ []) h) (sym is) (gathers_user tree sayings g h u x (subst (λ s. IsWithin (length tree.units) (saying_of s)) is within) before entries notices lines)
 takes_user (Err e) g h u x said is entries notices lines = tt
 
-pub takes_notice : {T E : Type 0} (r : Result T E) (g h : Gathering) (kind : NoticeKind) (said : Said) → said ≡ Noted kind → OnOk r (h.assigns.entries ≡ g.assigns.entries) → OnOk r (h.notices.items ≡ g.notices.items ++ record { line = g.lines + 1; kind = kind } ∷ []) → OnOk r (h.lines ≡ g.lines + 1)
+pub takes_notice : {T E : Type 0} (r : Result T E) (g h : Gathering) (kind : NoticeKind) (said : Said) → said ≡ Noted kind → OnOk r (h.assigns ≡ g.assigns) → OnOk r (h.notices.items ≡ g.notices.items ++ record { line = g.lines + 1; kind = kind } ∷ []) → OnOk r (h.lines ≡ g.lines + 1)
     → OnOk r ((tree : Whole) (sayings : List Saying) → IsWithin (length tree.units) (saying_of said) → IsGathered tree sayings g → IsGathered tree (sayings ++ saying_of said ∷ []) h)
 takes_notice (Ok y) g h kind said is entries notices lines = λ tree sayings within before. subst (λ s. IsGathered tree (sayings ++ saying_of s ∷ []) h) (sym is) (gathers_notice tree sayings g h kind before entries notices lines)
 takes_notice (Err e) g h kind said is entries notices lines = tt
 
-pub takes_nothing : (g h : Gathering) (said : Said) → said ≡ Nothing → h.assigns.entries ≡ g.assigns.entries → h.notices.items ≡ g.notices.items → h.lines ≡ g.lines + 1
+pub takes_nothing : (g h : Gathering) (said : Said) → said ≡ Nothing → h.assigns ≡ g.assigns → h.notices.items ≡ g.notices.items → h.lines ≡ g.lines + 1
     → (tree : Whole) (sayings : List Saying) → IsWithin (length tree.units) (saying_of said) → IsGathered tree sayings g → IsGathered tree (sayings ++ saying_of said ∷ []) h
 takes_nothing g h said is entries notices lines tree sayings within before = subst (λ s. IsGathered tree (sayings ++ saying_of s ∷ []) h) (sym is) (gathers_nothing tree sayings g h before entries notices lines)
 

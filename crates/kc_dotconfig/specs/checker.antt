@@ -1,3 +1,4 @@
 pub mod Sayings
 pub mod Gathered
 pub mod Configs
+pub mod Rising

@@ -1,6 +1,7 @@
 //! Configuration files read line by line, and a configuration that holds what files assign with its values.
 #![tactic(auto)]
 
+mod assigned;
 mod changes;
 mod config;
 mod cutting;

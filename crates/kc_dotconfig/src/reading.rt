@@ -168,7 +168,7 @@ fn finish(
         return Err(fault_behind(gathered.lines, kind));
     }
     let fault = fault_behind(gathered.lines, LoadKind::OutOfMemory);
-    match fragment_of(alloc, gathered) {
+    match fragment_of(gathered) {
         Ok(fragment) => Ok(fragment),
         Err(_) => Err(fault),
     }

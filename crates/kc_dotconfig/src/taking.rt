@@ -10,6 +10,7 @@ ghost use Rattle.std.specs.Ordering.{nat_cmp};
 ghost use Rattle.kc_dotconfig.specs.checker.Sayings.{saying_of, IsWithin};
 ghost use Rattle.kc_dotconfig.specs.checker.Gathered.{IsGathered};
 
+use super::assigned::Assigned;
 use super::fragment::Fragment;
 use super::gathering::Gathering;
 use super::said::{Said, line_said};
@@ -17,14 +18,13 @@ use kc_dotconfig_model::{LoadKind, Notice, NoticeKind, Prefix};
 use kc_rules::Settled;
 use kc_rules_model::UserValue;
 use std::alloc::{AllocError, Global};
-use std::collections::BTreeMap;
 
 /// Of no lines.
 pub(crate) fn no_lines(alloc: Global) -> Gathering
     ensures { (tree : Whole) → IsGathered tree [] result }
 {
     Gathering {
-        assigns: BTreeMap::new(alloc),
+        assigns: Assigned::new(alloc),
         notices: Vec::new(alloc),
         lines: 0,
     }
@@ -33,15 +33,12 @@ pub(crate) fn no_lines(alloc: Global) -> Gathering
 /// Takes a user value.
 fn assign(gathered: &mut Gathering, unit: u32, user: UserValue) -> Result<(), AllocError>
     requires { gathered.old.lines < 1048576 }
-    ensures entries { OnOk result (gathered.new.assigns.entries ≡ insert_entry nat_cmp gathered.old.assigns.entries unit user) }
+    ensures entries { OnOk result (gathered.new.assigns ≡ insert_entry nat_cmp gathered.old.assigns unit user) }
     ensures notices { OnOk result (gathered.new.notices.items ≡ gathered.old.notices.items) }
     ensures lines { OnOk result (gathered.new.lines ≡ gathered.old.lines + 1) }
     ensures err { OnErr result (gathered.new.lines ≡ gathered.old.lines) }
 {
-    match gathered.assigns.insert(unit, user) {
-        Ok(before) => drop(before),
-        Err(_) => return Err(AllocError),
-    }
+    gathered.assigns.insert(unit, user)?;
     gathered.lines += 1;
     Ok(())
 }
@@ -49,7 +46,7 @@ fn assign(gathered: &mut Gathering, unit: u32, user: UserValue) -> Result<(), Al
 /// Takes a notice.
 fn note(gathered: &mut Gathering, kind: NoticeKind) -> Result<(), AllocError>
     requires { gathered.old.lines < 1048576 }
-    ensures entries { OnOk result (gathered.new.assigns.entries ≡ gathered.old.assigns.entries) }
+    ensures entries { OnOk result (gathered.new.assigns ≡ gathered.old.assigns) }
     ensures notices { OnOk result (gathered.new.notices.items ≡ gathered.old.notices.items ++ record { line = gathered.old.lines + 1; kind = kind } ∷ []) }
     ensures lines { OnOk result (gathered.new.lines ≡ gathered.old.lines + 1) }
     ensures err { OnErr result (gathered.new.lines ≡ gathered.old.lines) }
@@ -107,14 +104,14 @@ pub(crate) fn take_line(
 }
 
 /// The assignment and the notices.
-pub(crate) fn fragment_of(alloc: Global, gathered: Gathering) -> Result<Fragment, AllocError>
-    ensures { IfOk result (λ f. (f.assigns.items ≡ gathered.assigns.entries) × (f.notices.items ≡ gathered.notices.items)) }
+pub(crate) fn fragment_of(gathered: Gathering) -> Result<Fragment, AllocError>
+    ensures { IfOk result (λ f. (f.assigns.items ≡ gathered.assigns) × (f.notices.items ≡ gathered.notices.items)) }
 {
     let Gathering {
         assigns,
         notices,
         lines: _,
     } = gathered;
-    let assigns = assigns.into_iter().collect(alloc)?;
+    let assigns = assigns.into_list()?;
     Ok(Fragment { assigns, notices })
 }

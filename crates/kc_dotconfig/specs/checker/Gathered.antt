@@ -1,5 +1,5 @@
 -- What is gathered of a file while it is read.
-use Rattle.std.specs.Prelude.{◌≡◌, ℕ, ◌+◌, ◌<◌, ◌≤◌, List, [], ◌∷◌, ◌++◌, length, map}
+use Rattle.std.specs.Prelude.{◌≡◌, ℕ, ◌+◌, ◌≤◌, List, ◌++◌, length, map}
 use Rattle.kc_tree_model.specs.Trees.{Whole}
 use Rattle.kc_rules_model.specs.declared.values.UserValue.{UserValue}
 use Rattle.kc_dotconfig_model.specs.declared.fault.LoadKind.{LoadKind}
@@ -10,28 +10,15 @@ use Rattle.kc_dotconfig_model.specs.checker.Cutting.{IsCut}
 use Rattle.kc_dotconfig.specs.declared.gathering.Gathering.{Gathering}
 use Rattle.kc_dotconfig.specs.declared.fragment.Fragment.{Fragment}
 use Rattle.kc_dotconfig.specs.Fragments.{users_of, notice_pair}
-
--- all units of a list are above this one, and the units ascend
-abbrev pub Above : ℕ → List (ℕ × UserValue) → Type 0
-Above u [] = Unit {0}
-Above u (e ∷ es) = (u < e.0) × Above u es
-
-abbrev pub Rises : List (ℕ × UserValue) → Type 0
-Rises [] = Unit {0}
-Rises (e ∷ es) = Above e.0 es × Rises es
-
--- all units of a list are below this number
-abbrev pub Below : ℕ → List (ℕ × UserValue) → Type 0
-Below n [] = Unit {0}
-Below n (e ∷ es) = (e.0 < n) × Below n es
+use Rattle.kc_dotconfig.specs.checker.Rising.{Rises, Below}
 
 -- the assignment, the notices and the number of lines that say this
 pub record IsGathered (tree : Whole) (sayings : List Saying) (g : Gathering) : Type 0 where
-  pub users : users_of tree g.assigns.entries ≡ file_users tree sayings
+  pub users : users_of tree g.assigns ≡ file_users tree sayings
   pub noted : map notice_pair g.notices.items ≡ notices_from 1 sayings
   pub counted : g.lines ≡ length sayings
-  pub rises : Rises g.assigns.entries
-  pub below : Below (length tree.units) g.assigns.entries
+  pub rises : Rises g.assigns
+  pub below : Below (length tree.units) g.assigns
 
 -- the line so far and what was gathered of a part of a file
 abbrev pub Holds : List ℕ → Whole → List ℕ → List ℕ → Gathering → Type 0
