@@ -1,6 +1,10 @@
 //! What the lines of a file source, told without reading the file: a guess that costs no more than a file opened in vain.
 use kc_tree::Texts;
+use memchr::{memchr, memmem};
 use std::alloc::{AllocError, Global};
+
+/// The word that a line begins with which sources a file.
+const SOURCE: &[u8] = b"source";
 
 /// How many bytes a file of the texts has, and the absent paths that its lines source; nothing behind the last file.
 pub(crate) fn sourced(
@@ -19,9 +23,8 @@ pub(crate) fn sourced(
 /// The absent paths that the lines of a file source.
 fn absent_paths(alloc: Global, texts: &Texts, bytes: &[u8]) -> Result<Vec<String>, AllocError> {
     let mut paths = Vec::new(alloc);
-    let text = std::str::from_utf8(bytes).unwrap_or("");
-    for line in text.lines() {
-        if let Some(path) = path_sourced(line) {
+    for place in memmem::find_iter(bytes, SOURCE) {
+        if let Some(path) = path_sourced(bytes, place) {
             if texts.get(path).is_none() {
                 paths.push(String::from_str(alloc, path)?)?;
             }
@@ -30,8 +33,28 @@ fn absent_paths(alloc: Global, texts: &Texts, bytes: &[u8]) -> Result<Vec<String
     Ok(paths)
 }
 
-/// The path that a line sources, in its common form.
-fn path_sourced(line: &str) -> Option<&str> {
-    let path = line.trim_start().strip_prefix("source")?;
+/// The path that a line sources which has the word at a place, in its common form.
+fn path_sourced(bytes: &[u8], place: usize) -> Option<&str> {
+    let (before, rest) = bytes.split_at_checked(place)?;
+    if !begins_line(before) {
+        return None;
+    }
+    let line = match memchr(b'\n', rest) {
+        Some(end) => rest.get(..end)?,
+        None => rest,
+    };
+    let path = std::str::from_utf8(line).ok()?.strip_prefix("source")?;
     Some(path.trim().trim_matches('"'))
+}
+
+/// Whether just spaces and tabs stand between these bytes' last newline and their end.
+fn begins_line(before: &[u8]) -> bool {
+    for byte in before.iter().rev() {
+        match *byte {
+            b'\n' => return true,
+            b' ' | b'\t' => {}
+            _ => return false,
+        }
+    }
+    true
 }
