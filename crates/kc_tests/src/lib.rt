@@ -21,6 +21,8 @@ mod expressions;
 #[cfg(test)]
 mod minimal;
 #[cfg(test)]
+mod rules;
+#[cfg(test)]
 mod streams;
 #[cfg(test)]
 mod systems;

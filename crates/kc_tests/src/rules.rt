@@ -1,0 +1,125 @@
+//! Values of a tree: those that a session holds after many changes, and those that solving anew gives.
+use kc_dotconfig::{Config, Prefix, read_config};
+use kc_rules::{Profile, Settled, Steps, settle};
+use kc_system::{System, solve};
+use kc_tree::{Texts, read_tree};
+use kc_value::FromRead;
+use std::alloc::{AllocError, Global};
+use std::test::Fail;
+
+const TREE: &[u8] = b"choice
+    prompt \"c\" if A
+    default F if B
+config E
+    bool \"e\"
+config F
+    bool \"f\" if MODULES
+endchoice
+config N
+    int \"n\" if E
+    range LOW 9 if B != n
+    default 1
+config C
+    tristate \"c\" if S != \"s\" || N > 5
+    depends on B
+    default m if F
+config B
+    tristate \"b\"
+    imply C
+    select D if A
+config D
+    tristate \"d\" if A
+    depends on A && S = \"s\"
+config A
+    bool \"a\"
+    default y if MODULES
+config S
+    string \"s\" if A
+    default \"s\" if LOW < 3
+config LOW
+    int \"l\"
+    default 4
+config MODULES
+    bool \"m\"
+    default y
+";
+
+const LINES: [&str; 16] = [
+    "CONFIG_A=y\n",
+    "CONFIG_A=n\n",
+    "CONFIG_B=y\n",
+    "CONFIG_B=m\n",
+    "# CONFIG_B is not set\n",
+    "CONFIG_C=y\n",
+    "CONFIG_C=m\n",
+    "CONFIG_D=m\n",
+    "CONFIG_E=y\n",
+    "CONFIG_F=y\n",
+    "CONFIG_N=7\n",
+    "CONFIG_N=010\n",
+    "CONFIG_S=\"s\"\n",
+    "CONFIG_S=\"t\"\n",
+    "CONFIG_LOW=2\n",
+    "# CONFIG_MODULES is not set\n",
+];
+
+/// The tree, settled.
+fn settled(alloc: Global, profile: Profile) -> Result<Settled, AllocError> {
+    let mut texts = Texts::new(alloc);
+    texts.insert("Kconfig", TREE)?;
+    let Ok(tree) = read_tree(alloc, &texts, "Kconfig") else {
+        return Err(AllocError);
+    };
+    match settle(alloc, tree, profile) {
+        Ok(settled) => Ok(settled),
+        Err(_) => Err(AllocError),
+    }
+}
+
+/// Lays a file over what is held.
+fn lay(alloc: Global, config: &mut Config<'_>, file: &str) -> Result<(), AllocError> {
+    let mut source = FromRead::new(file.as_bytes());
+    match read_config(alloc, config.settled(), &Prefix::plain(), &mut source) {
+        Ok(fragment) => {
+            config.merge(&fragment)?;
+            Ok(())
+        }
+        Err(_) => Err(AllocError),
+    }
+}
+
+/// Whether solving anew what is held gives the values held.
+fn is_solved(alloc: Global, config: &Config<'_>) -> Result<bool, AllocError> {
+    let tree = config.settled();
+    let values = solve(alloc, tree, tree.order(), config.users(), &mut Steps::new())?;
+    let held = config.values();
+    for u in 0..held.len() {
+        if u >= values.len() || !Settled::same(&values[u], &held[u]) {
+            return Ok(false);
+        }
+    }
+    Ok(true)
+}
+
+/// Whether the values held stay those that solving anew gives, through many changes.
+fn stays_solved(alloc: Global, tree: &Settled) -> Result<bool, AllocError> {
+    let mut config = Config::new(alloc, tree)?;
+    let mut seed: u32 = 1;
+    for _ in 0..40 {
+        seed = seed.wrapping_mul(1_664_525).wrapping_add(1_013_904_223);
+        lay(alloc, &mut config, LINES[(seed >> 28) as usize % 16])?;
+        if !is_solved(alloc, &config)? {
+            return Ok(false);
+        }
+    }
+    Ok(true)
+}
+
+#[test]
+fn changes_give_what_solving_anew_gives(rt: HostRuntime) -> Result<(), Fail> {
+    for profile in [Profile::Present, Profile::Classic] {
+        let tree = twice!(settled(rt.alloc(), profile));
+        assert!(rt; twice!(stays_solved(rt.alloc(), &tree)));
+    }
+    Ok(())
+}
