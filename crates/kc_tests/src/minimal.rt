@@ -1,43 +1,12 @@
-//! Minimal and full files, comparisons, writing texts out, and the texts of faults.
-ghost use Rattle.std.specs.Prelude.{◌≡◌, IfOk};
-
-use kc_dotconfig::{Config, Prefix, read_config};
+//! Files that are minimised from a reader to a writer, which the program doesn't do, and the texts of faults.
+use kc_dotconfig::Prefix;
 use kc_dotconfig_model::{LoadFault, LoadKind};
-use kc_minimal::{RunFault, WriteFault, compare, full_text, minimise, write_out};
+use kc_minimal::{RunFault, WriteFault, minimise};
 use kc_rules::{Profile, Settled, settle};
 use kc_tree::{Texts, read_tree};
 use kc_value::{Bounded, FromRead};
-use std::alloc::{AllocError, Global};
+use std::alloc::Global;
 use std::test::Fail;
-
-/// What writing to a writer of so much room answers, and what it took.
-fn writes(
-    alloc: Global,
-    room: usize,
-    fails: bool,
-) -> Result<(Result<(), WriteFault>, bool), AllocError> {
-    let mut sink = Bounded::new(alloc, room, fails)?;
-    let answer = write_out(&mut sink, b"CONFIG_A=y\n");
-    let took = sink.bytes() == &b"CONFIG_A=y\n"[..room.min(11)];
-    Ok((answer, took))
-}
-
-#[test]
-fn a_text_is_written_whole_or_up_to_the_first_refusal(rt: HostRuntime) -> Result<(), Fail> {
-    for (room, fails, answer) in [
-        (11, true, Ok(())),
-        (20, false, Ok(())),
-        (10, true, Err(WriteFault { written: 10 })),
-        (4, false, Err(WriteFault { written: 4 })),
-        (0, true, Err(WriteFault { written: 0 })),
-        (0, false, Err(WriteFault { written: 0 })),
-    ] {
-        let (found, took) = twice!(writes(rt.alloc(), room, fails));
-        assert_eq!(rt; found, answer);
-        assert!(rt; took);
-    }
-    Ok(())
-}
 
 #[test]
 fn faults_are_printed_as_what_failed(rt: HostRuntime) -> Result<(), Fail> {
@@ -120,93 +89,6 @@ fn files_are_minimised(rt: HostRuntime) -> Result<(), Fail> {
         ),
     ] {
         assert!(rt; twice!(is_minimised(rt.alloc(), TREE, file, wanted)));
-    }
-    Ok(())
-}
-
-/// A configuration that holds what a file assigns.
-fn holding<'a>(alloc: Global, settled: &'a Settled, file: &str) -> Result<Config<'a>, &'static str>
-    ensures { IfOk result (λ config. config.system ≡ settled.now) }
-{
-    let mut source = FromRead::new(file.as_bytes());
-    let fragment = match read_config(alloc, settled, &Prefix::plain(), &mut source) {
-        Ok(fragment) => fragment,
-        Err(_) => return Err("not read"),
-    };
-    let mut config = match Config::new(alloc, settled) {
-        Ok(config) => config,
-        Err(_) => return Err("no memory"),
-    };
-    match config.replace(&fragment) {
-        Ok(_) => Ok(config),
-        Err(_) => Err("no memory"),
-    }
-}
-
-/// Whether the full file of what a file gives has these bytes.
-fn is_full(alloc: Global, tree: &str, file: &str, wanted: &str) -> Result<bool, &'static str> {
-    let settled = settled_of(alloc, tree)?;
-    let config = holding(alloc, &settled, file)?;
-    match full_text(alloc, &config, &Prefix::plain()) {
-        Ok(text) => Ok(text.as_slice() == wanted.as_bytes()),
-        Err(_) => Err("no memory"),
-    }
-}
-
-/// How many symbols differ between what two files give.
-fn count_differing(
-    alloc: Global,
-    tree: &str,
-    left: &str,
-    right: &str,
-) -> Result<usize, &'static str> {
-    let settled = settled_of(alloc, tree)?;
-    let a = holding(alloc, &settled, left)?;
-    let b = holding(alloc, &settled, right)?;
-    match compare(alloc, &a, &b) {
-        Ok(found) => Ok(found.len()),
-        Err(_) => Err("no memory"),
-    }
-}
-
-const MENU: &str = "menu \"CONFIG_M\"
-config B
-    bool \"b\"
-endmenu
-config D
-    bool \"d\"
-";
-
-#[test]
-fn full_files_are_written(rt: HostRuntime) -> Result<(), Fail> {
-    for (tree, file, wanted) in [
-        (
-            TREE,
-            "CONFIG_Z=y\n",
-            "CONFIG_A=y\nCONFIG_N=10\nCONFIG_S=\"\"\n# CONFIG_X is not set\nCONFIG_Z=y\n",
-        ),
-        (
-            MENU,
-            "",
-            "\n#\n#  CONFIG_M\n#\n# CONFIG_B is not set\n# end of CONFIG_M\n\n# CONFIG_D is not set\n",
-        ),
-    ] {
-        assert!(rt; twice!(is_full(rt.alloc(), tree, file, wanted)));
-    }
-    Ok(())
-}
-
-#[test]
-fn configurations_are_compared_by_their_values(rt: HostRuntime) -> Result<(), Fail> {
-    for (left, right, count) in [
-        ("", "CONFIG_A=y\n", 0),
-        ("", "CONFIG_N=010\n", 1),
-        ("CONFIG_X=y\n", "CONFIG_Z=y\n", 2),
-    ] {
-        assert_eq!(rt;
-            twice!(count_differing(rt.alloc(), TREE, left, right)),
-            count
-        );
     }
     Ok(())
 }
