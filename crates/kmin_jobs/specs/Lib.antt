@@ -5,4 +5,5 @@ pub mod Answers
 pub mod Stops
 pub mod Refused
 pub mod Bundled
+pub mod Parts
 pub mod checker

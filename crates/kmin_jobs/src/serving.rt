@@ -6,6 +6,7 @@ ghost use Rattle.kc_rules.specs.Told.{whole_of, profile_of};
 ghost use Rattle.kmin_jobs.specs.Answers.{Answer, AreAccepted};
 ghost use Rattle.kmin_jobs.specs.Asked.{asked_of, paths_of};
 ghost use Rattle.kmin_jobs.specs.Files.{AreTextsBelow};
+ghost use Rattle.kmin_jobs.specs.Parts.{AnswersInPart};
 ghost use Rattle.kmin_words.specs.declared.job.Verb.TheVariants.{Compare};
 
 use crate::files::Files;
@@ -41,12 +42,15 @@ pub fn serve<F: Files, O: Sink, E: Sink>(
     ensures done { (result ≡ 0) ⊎ (result ≡ 1) → (texts : trees.Files) × (text : List ℕ) × AreTextsBelow (F.tells files.old) job.now.root.now texts × Answer (F.tells files.old) (asked_of job.now) texts (paths_of job.now) text result × Appends (O.taken out.old) (O.taken out.new) text }
     ensures unfailed { (result ≡ 0) ⊎ (result ≡ 1) → O.failures out.new ≡ O.failures out.old }
 
+    // On status 5 the writer took the first bytes of the answer, or nothing.
+    ensures part { result ≡ 5 → (O.taken out.new ≡ O.taken out.old) ⊎ AnswersInPart (F.tells files.old) job.now.root.now (asked_of job.now) (paths_of job.now) (O.taken out.old) (O.taken out.new) }
+
     ensures unwritten { result ≢ 0 → result ≢ 1 → result ≢ 5 → O.taken out.new ≡ O.taken out.old }
 {
     match answer_job(alloc, job, files, err) {
         Ok(answer) => match write_out(out, &answer.text) {
             Ok(()) => answer.status,
-            Err(_) => {
+            Err(fault) => {
                 tell(err, b"output: Write\n");
                 Stop::Failed.status()
             }
