@@ -3,6 +3,7 @@ ghost use Rattle.std.specs.Prelude.{◌≡◌, ◌<◌, ◌++◌, ◌∷◌, ◌
 ghost use Rattle.kc_expr.specs.Arena.{stands_for};
 ghost use Rattle.kc_tree.specs.Told.{entry_of, EntryFits};
 ghost use Rattle.kc_tree_model.specs.Trees.{Entry as TreeEntry, definition};
+ghost use Rattle.kc_rules_model.specs.Reports.{is_written};
 ghost use Rattle.kc_rules.specs.Told.{whole_of, tree_of};
 ghost use Rattle.kc_dotconfig_model.specs.checker.Prefixes.{text_of};
 ghost use Rattle.kc_minimal_model.specs.Spelling.{ended_line};
@@ -98,6 +99,18 @@ fn push_behind(
     }
 }
 
+/// Whether a symbol's line stands at a definition, which may be its first one.
+fn stands_here(settled: &Settled, values: &[UnitValue], s: Sym, fresh: bool) -> bool
+    requires { s < length (whole_of settled.now).symbols }
+    ensures { result ≡ (is_written (whole_of settled.now) values.now s && fresh) }
+{
+    if fresh {
+        settled.written(s, values)
+    } else {
+        false
+    }
+}
+
 /// Goes over a definition: at its first one a symbol is written if a full file has it.
 fn push_definition(
     draft: &mut Draft,
@@ -112,7 +125,7 @@ fn push_definition(
     ensures goes { OnOk result ((left : List TreeEntry) → IsDraft (text_of prefix.now) (whole_of settled.now) values.now (definition s ∷ left) draft.old → IsDraft (text_of prefix.now) (whole_of settled.now) values.now left draft.new) }
 {
     let fresh = mark(&mut draft.defined, s);
-    if settled.written(s, values) && fresh {
+    if stands_here(settled, values, s, fresh) {
         push_behind(&mut draft.text, draft.gap, settled, prefix, values, s)?;
         draft.gap = false;
         Ok(())

@@ -1,6 +1,4 @@
-use Rattle.std.proofs.Common.{false, not, sym, ◌∙◌, refl}
-use Rattle.std.specs.Prelude.{slice_index_or}
-use Rattle.std.proofs.lemmas.Bool.{and_from}
+use Rattle.std.proofs.Common.{false, sym, ◌∙◌, refl, ap, ◌&&◌}
 use Rattle.kc_rules_model.specs.Reports.{is_written}
 use Rattle.kc_rules.specs.Told.{whole_of}
 use Rattle.kc_dotconfig_model.specs.checker.Prefixes.{text_of}
@@ -14,5 +12,5 @@ returns-in_ok-push_behind-clause-goes c = λ left d.
     let tree = whole_of c.args.settled.now in
     let new : Draft = record { text = c.push_behind.new.out; defined = c.mark-fresh.new.defined; gap = false } in
     symbol_written (text_of c.args.prefix.now) tree c.args.values.now left old new c.args.s c.requires.symbol c.requires.marks c.mark-fresh.ensures.marked
-    (and_from (is_written tree c.args.values.now c.args.s) (not (slice_index_or old.defined.items c.args.s false)) (sym c.written.ensures ∙ c.if-written.true) (sym c.mark-fresh.ensures.fresh ∙ c.if-fresh.true))
+    (sym (ap (λ b. is_written tree c.args.values.now c.args.s && b) c.mark-fresh.ensures.fresh) ∙ sym c.stands_here.ensures ∙ c.if-stands_here.true)
     c.in_ok-push_behind.ensures refl d
