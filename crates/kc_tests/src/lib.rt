@@ -19,6 +19,8 @@ mod configurations;
 #[cfg(test)]
 mod expressions;
 #[cfg(test)]
+mod loads;
+#[cfg(test)]
 mod minimal;
 #[cfg(test)]
 mod rules;
