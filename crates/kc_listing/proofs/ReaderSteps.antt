@@ -1,10 +1,10 @@
 -- Steps of the reading of a file.
-use Rattle.std.proofs.Common.{◌≡◌, ◌⊎◌, inl, inr, ℕ, suc, zero, ◌+◌, ◌≤◌, ◌<◌, ◌-◌, Bool, true, false, List, length, drop, refl, ap, sym, subst, ◌∙◌, arith, cond, Option, Some, None, Result, Ok, Err}
+use Rattle.std.proofs.Common.{◌≡◌, ◌⊎◌, inl, inr, ℕ, suc, zero, ◌+◌, ◌≤◌, ◌<◌, ◌-◌, Bool, true, false, List, [], ◌∷◌, length, drop, refl, ap, sym, subst, ◌∙◌, arith, cond, Option, Some, None, Result, Ok, Err}
 use Rattle.std.proofs.Math.Seq.{drop-length}
 use Rattle.kc_tree_model.specs.declared.fault.TreeFault.{TreeFault}
 use Rattle.kc_tree_model.specs.declared.fault.TreeKind.{TreeKind}
 use Rattle.kc_tree_model.specs.declared.fault.TreeKind.TheVariants.{OutOfMemory}
-use Rattle.kc_tree_model.specs.Lines.{Logical, logical, physical_lines, begins_help, lines_of, help_len}
+use Rattle.kc_tree_model.specs.Lines.{Logical, logical, physical_lines, begins_help, lines_of, help_len, first_indentation}
 use Rattle.kc_tree_model.specs.Statements.{Block, head, source}
 use Rattle.kc_tree_model.specs.Blocks.{Group, file_end, innermost}
 use Rattle.kc_tree_model.specs.Limits.{Origin, source_fault, bytes_in}
@@ -17,13 +17,16 @@ use Rattle.kc_listing.specs.checker.Faults.{IsMemory, fault_in}
 use Rattle.kc_listing.specs.checker.Steps.{line_here, IsSaid, IsSource, LineRead, IsEnded, FileRead, HelpRead, Sourced, IsAfter, EndRead, IsSourceRead, SourceRead, left_from, IsOneRead, IsLeft}
 use Rattle.kc_listing.proofs.Joining.{logical_step, help_step}
 use Rattle.std.proofs.lemmas.Bool.Decides.{nat_tests}
-use Rattle.std.specs.Prelude.{nat_lt, nat_le, is_some, sum_by, slice_range}
+use Rattle.std.specs.Prelude.{nat_lt, nat_le, is_some, sum_by, slice_range, take_while}
+use Rattle.std.proofs.lemmas.List.Sums.{take_while-cons}
+use Rattle.std.proofs.Math.Dec.{eqb-suc-zero}
 use Rattle.std.specs.Str.{is_utf8, IsUtf8}
 use Rattle.std.proofs.lemmas.Str.{is_utf8-from_IsUtf8, IsUtf8-from_is_utf8}
 use Rattle.kc_tree_model.specs.Limits.{most_line_bytes, is_among, open_files, files_read, size_in, most_open_files, most_files, most_bytes}
 use Rattle.kc_tree_model.specs.declared.fault.TreeKind.TheVariants.{LineTooLong, NotUtf8, SourceLoop, MissingFile, TooDeep, TooMany}
 use Rattle.kc_listing.specs.declared.lines.Physical.{Physical}
-use Rattle.kc_listing.specs.checker.Steps.{IsHelpLeft}
+use Rattle.kc_listing.specs.checker.Cut.{is_of_help, line_of}
+use Rattle.kc_listing.specs.checker.Steps.{indented, IsIndentedLeft}
 
 -- an outcome that is another one
 pub ended_as : (r : Origin) (o p : Outcome) (new : Progress) (f : TreeFault) → o ≡ p → IsEnded r p new f → IsEnded r o new f
@@ -182,15 +185,75 @@ help_one sub r read file bytes begin n (suc k) p h l e u =
     ∙ ap (behind_line sub (read_lines sub r file (logical 0 k (n + 1) (physical_lines (drop p.next bytes)))) r (at_line file n) read) (help_says read n (slice_range bytes begin p.end) e u)
     ∙ ap (λ j. read_lines sub r file (logical 0 j (n + 1) (physical_lines (drop p.next bytes))) read) (omega arith)
 
-pub help_more : (file : ℕ) (bytes : List ℕ) (at number count begin lines left : ℕ) (p : Physical) → IsHelpLeft file bytes at number count begin lines left → 0 < left → IsLineAt bytes begin p
-    → nat_lt most_line_bytes (length (slice_range bytes begin p.end)) ≡ false → is_utf8 (slice_range bytes begin p.end) ≡ true
-    → IsHelpLeft file bytes at number count p.next (lines + 1) (left - 1)
-help_more file bytes at number count begin lines left p h z l e u = record {
-  is = λ sub r read. h.is sub r read ∙ help_one sub r read file bytes begin (number + lines) left p z l e u ∙ ap (λ n. read_lines sub r file (logical 0 (left - 1) n (physical_lines (drop p.next bytes))) read) (omega arith);
-  later = omega arith;
-  within = l.within;
-  few = omega arith;
-}
+-- so many lines are indented so far
+indented_one : (columns : ℕ) (bytes : List ℕ) (begin : ℕ) (p : Physical) → IsLineAt bytes begin p → is_of_help columns (line_of bytes begin p) ≡ true → indented columns bytes begin ≡ suc (indented columns bytes p.next)
+indented_one columns bytes begin p l e =
+    ap (λ ls. length (take_while (is_of_help columns) ls)) l.lines
+    ∙ ap length (take_while-cons (is_of_help columns) (line_of bytes begin p) (physical_lines (drop p.next bytes)))
+    ∙ ap (λ (t : Bool). length (cond t (line_of bytes begin p ∷ take_while (is_of_help columns) (physical_lines (drop p.next bytes))) [])) e
+
+indented_none : (columns : ℕ) (bytes : List ℕ) (begin : ℕ) (p : Physical) → IsLineAt bytes begin p → is_of_help columns (line_of bytes begin p) ≡ false → indented columns bytes begin ≡ 0
+indented_none columns bytes begin p l e = rw (l.lines, e) refl
+
+indented_end : (columns : ℕ) (bytes : List ℕ) (begin : ℕ) → length bytes ≤ begin → begin ≤ length bytes → indented columns bytes begin ≡ 0
+indented_end columns bytes begin a b = let e : begin ≡ length bytes = omega arith in rw (e, drop-length bytes) refl
+
+module _ (file : ℕ) (bytes : List ℕ) (at number columns begin lines : ℕ) (h : IsIndentedLeft file bytes at number columns begin lines) where
+  -- no line is left
+  help_done : indented columns bytes begin ≡ 0 → HelpRead file bytes at number (indented columns bytes at) (Ok (begin, lines))
+  help_done e = (
+    λ sub r read. h.is sub r read ∙ ap (λ n. read_lines sub r file (logical 0 n (number + lines) (physical_lines (drop begin bytes))) read) e,
+    h.later,
+    h.within,
+    h.few,
+  )
+
+  pub help_at_end : length bytes ≤ begin → HelpRead file bytes at number (indented columns bytes at) (Ok (begin, lines))
+  help_at_end a = help_done (indented_end columns bytes begin a h.within)
+
+  module _ (p : Physical) (l : IsLineAt bytes begin p) where
+    pub help_stops : is_of_help columns (line_of bytes begin p) ≡ false → HelpRead file bytes at number (indented columns bytes at) (Ok (begin, lines))
+    help_stops e = help_done (indented_none columns bytes begin p l e)
+
+    pub indented_more : is_of_help columns (line_of bytes begin p) ≡ true → nat_lt most_line_bytes (length (slice_range bytes begin p.end)) ≡ false → is_utf8 (slice_range bytes begin p.end) ≡ true
+        → IsIndentedLeft file bytes at number columns p.next (lines + 1)
+    indented_more i e u =
+        let n = indented_one columns bytes begin p l i in
+        record {
+          is = λ sub r read. h.is sub r read ∙ help_one sub r read file bytes begin (number + lines) (indented columns bytes begin) p (omega (arith, n)) l e u
+              ∙ ap (λ k. read_lines sub r file (logical 0 k (number + lines + 1) (physical_lines (drop p.next bytes))) read) (omega (arith, n))
+              ∙ ap (λ k. read_lines sub r file (logical 0 (indented columns bytes p.next) k (physical_lines (drop p.next bytes))) read) (omega arith);
+          later = let f = l.forward in let g = h.later in omega (arith, l.start, l.end);
+          within = l.within;
+          few = let f = l.forward in let g = h.few in omega arith;
+        }
+
+    pub help_faulty : (kind : TreeKind) (f : TreeFault) → is_of_help columns (line_of bytes begin p) ≡ true → ((read : List Group) → line_says read (record { number = number + lines; text = slice_range bytes begin p.end; help = true }) ≡ Err kind)
+        → f ≡ fault_in file (number + lines) kind → HelpRead file bytes at number (indented columns bytes at) (Err f)
+    help_faulty kind f i says e = inr (λ sub r read.
+        h.is sub r read
+        ∙ ap (λ k. read_lines sub r file (logical 0 k (number + lines) (physical_lines (drop begin bytes))) read) (indented_one columns bytes begin p l i)
+        ∙ ap (λ ls. read_lines sub r file ls read) (help_step bytes begin (number + lines) (indented columns bytes p.next) p l)
+        ∙ ap (behind_line sub (read_lines sub r file (logical 0 (indented columns bytes p.next) (number + lines + 1) (physical_lines (drop p.next bytes)))) r (at_line file (number + lines)) read) (says read)
+        ∙ ap (λ t. record { read = read; fault = Some t }) (sym e))
+
+-- a whole help text by its indentation
+help_as : (file : ℕ) (bytes : List ℕ) (at number count other : ℕ) (result : Result (ℕ × ℕ) TreeFault) → count ≡ other → HelpRead file bytes at number count result → HelpRead file bytes at number other result
+help_as file bytes at number count other result e h = let P : ℕ → Type 0 = λ n. HelpRead file bytes at number n result in subst P e h
+
+no_indentation : (bytes : List ℕ) (at : ℕ) → first_indentation (physical_lines (drop at bytes)) ≡ 0 → help_len (physical_lines (drop at bytes)) ≡ 0
+no_indentation bytes at e = rw e refl
+
+an_indentation : (bytes : List ℕ) (at columns : ℕ) → columns ≡ first_indentation (physical_lines (drop at bytes)) → (columns ≡ 0 → ⊥) → indented columns bytes at ≡ help_len (physical_lines (drop at bytes))
+an_indentation bytes at zero e h = absurd (h refl)
+an_indentation bytes at (suc k) e h = rw (← e, eqb-suc-zero k) refl
+
+pub help_nothing : (file : ℕ) (bytes : List ℕ) (at number : ℕ) → at ≤ length bytes → first_indentation (physical_lines (drop at bytes)) ≡ 0 → HelpRead file bytes at number (help_len (physical_lines (drop at bytes))) (Ok (at, 0))
+help_nothing file bytes at number w e = help_as file bytes at number 0 (help_len (physical_lines (drop at bytes))) (Ok (at, 0)) (sym (no_indentation bytes at e)) (λ sub r read. ap (λ n. read_lines sub r file (logical 0 0 n (physical_lines (drop at bytes))) read) (omega arith), omega arith, w, omega arith)
+
+pub help_by : (file : ℕ) (bytes : List ℕ) (at number columns : ℕ) (result : Result (ℕ × ℕ) TreeFault) → columns ≡ first_indentation (physical_lines (drop at bytes)) → (columns ≡ 0 → ⊥)
+    → HelpRead file bytes at number (indented columns bytes at) result → HelpRead file bytes at number (help_len (physical_lines (drop at bytes))) result
+help_by file bytes at number columns result e n h = help_as file bytes at number (indented columns bytes at) (help_len (physical_lines (drop at bytes))) result (an_indentation bytes at columns e n) h
 
 pub utf8_holds : (bs : List ℕ) → IsUtf8 bs → is_utf8 bs ≡ true
 utf8_holds bs h = is_utf8-from_IsUtf8 bs h

@@ -4,6 +4,7 @@ use Rattle.std.proofs.lemmas.List.{append-nil}
 use Rattle.std.specs.Str.{is_utf8}
 use Rattle.std.specs.Prelude.{length, nat_lt}
 use Rattle.kc_expr.specs.Arena.{Exprs, Grows}
+use Rattle.kc_expr.specs.Answers.{with_front}
 use Rattle.kc_expr.specs.Token.{Piece, lexed}
 use Rattle.kc_expr.specs.declared.fault.ExprFault.{ExprFault}
 use Rattle.kc_expr.specs.declared.fault.ExprKind.TheVariants as expr_kinds
@@ -156,6 +157,11 @@ help_known t (u ∷ ts) k e = refl
 pub given_by_word : (r : Origin) (file line : ℕ) (before : List Group) (t : Piece) (ts : List Piece) (k : Keyword) (new : Progress) (result : Result Step TreeKind) → keyword_of t ≡ Some k
     → Given r file line (said_with before k ts) (begins_with k ts) before new result → Given r file line (said_by before (t ∷ ts)) (is_help (t ∷ ts)) before new result
 given_by_word r file line before t ts k new result e g = rw (word_known before t ts k e, help_known t ts k e) g
+
+-- tokens behind none
+pub behind_none : {E : Type 0} (read : Result (List Piece) E) → with_front [] read ≡ read
+behind_none (Ok ts) = refl
+behind_none (Err e) = refl
 
 -- the line
 says_tokens : (before : List Group) (line : ℕ) (text : List ℕ) → nat_lt most_line_bytes (length text) ≡ false → is_utf8 text ≡ true → line_says before (line_here line text) ≡ said_by_tokens before (lexed 0 0 text)

@@ -1,4 +1,5 @@
 //! What a line says.
+ghost use Rattle.std.specs.Cow.{cow_slice_items};
 ghost use Rattle.std.specs.Prelude.{◌≡◌, List, Some};
 ghost use Rattle.kc_expr.specs.Token.{pieces_of};
 ghost use Rattle.kc_tree_model.specs.Blocks.{Group};
@@ -14,9 +15,10 @@ use super::placement::fault_before_form;
 use super::progress::{Progress, Step, Supply};
 use super::statements::put_statement;
 use super::text::text_of;
-use kc_expr::{Token, tokens};
+use kc_expr::{Token, push_tokens};
 use kc_statements::{Keyword, keyword_of, kind_of, statement_of};
 use kc_tree_model::TreeKind;
+use std::borrow::CowSlice;
 
 /// Whether a keyword begins a help text.
 fn is_help_keyword(keyword: Keyword) -> bool
@@ -70,8 +72,30 @@ fn read_tokens(
     read_form(read, file, line, keyword, rest)
 }
 
-/// Reads a line that isn't of a help text.
-pub(crate) fn read_line(
+/// Reads a line that isn't of a help text, with a list of tokens that is kept from line to line.
+pub(crate) fn read_line<'a>(
+    read: &mut Progress,
+    from: Supply<'_>,
+    file: u32,
+    line: u32,
+    bytes: &'a [u8],
+    found: &mut Vec<Token<'a>>,
+) -> Result<Step, TreeKind>
+    ensures { (before : List Group) → Describes (origin_of from.entry) read.old before → LineRead (origin_of from.entry) file line bytes.now before read.new result }
+{
+    let text = match text_of(bytes) {
+        Ok(text) => text,
+        Err(kind) => return Err(kind),
+    };
+    found.clear();
+    match push_tokens(text, found) {
+        Ok(()) => read_tokens(read, file, line, found.as_slice()),
+        Err(fault) => Err(kind_of(fault.kind)),
+    }
+}
+
+/// Reads a line that is joined of several, which has a list of tokens of its own.
+fn read_joined(
     read: &mut Progress,
     from: Supply<'_>,
     file: u32,
@@ -80,13 +104,23 @@ pub(crate) fn read_line(
 ) -> Result<Step, TreeKind>
     ensures { (before : List Group) → Describes (origin_of from.entry) read.old before → LineRead (origin_of from.entry) file line bytes.now before read.new result }
 {
-    let text = match text_of(bytes) {
-        Ok(text) => text,
-        Err(kind) => return Err(kind),
-    };
-    let found = match tokens(read.alloc, text) {
-        Ok(found) => found,
-        Err(fault) => return Err(kind_of(fault.kind)),
-    };
-    read_tokens(read, file, line, found.as_slice())
+    let mut found = Vec::new(read.alloc);
+    read_line(read, from, file, line, bytes, &mut found)
+}
+
+/// Reads a logical line that isn't of a help text.
+pub(crate) fn read_logical<'a>(
+    read: &mut Progress,
+    from: Supply<'_>,
+    file: u32,
+    line: u32,
+    text: &CowSlice<'a, u8>,
+    found: &mut Vec<Token<'a>>,
+) -> Result<Step, TreeKind>
+    ensures { (before : List Group) → Describes (origin_of from.entry) read.old before → LineRead (origin_of from.entry) file line (cow_slice_items text.now) before read.new result }
+{
+    match text {
+        CowSlice::Borrowed(bytes) => read_line(read, from, file, line, bytes, found),
+        CowSlice::Owned(bytes) => read_joined(read, from, file, line, bytes.as_slice()),
+    }
 }

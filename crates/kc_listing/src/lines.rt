@@ -1,5 +1,5 @@
 //! From the bytes of a file to its lines.
-ghost use Rattle.std.specs.Prelude.{◌≡◌, ◌<◌, ◌≤◌, ◌+◌, ◌-◌, ◌^◌, ◌∷◌, ◌↔◌, ◌&&◌, IsTrue, IfSome, IfNone, IfOk, length, drop, take, slice_index, slice_range, take_while};
+ghost use Rattle.std.specs.Prelude.{◌≡◌, ◌<◌, ◌≤◌, ◌+◌, ◌-◌, ◌^◌, ◌∷◌, ◌↔◌, ◌&&◌, ◌||◌, nat_le, IsTrue, IfSome, IfNone, IfOk, length, drop, take, slice_index, slice_range, take_while};
 ghost use Rattle.std.specs.List.{list_all};
 ghost use Rattle.std.specs.Cow.{cow_slice_items};
 ghost use Rattle.kc_tree_model.specs.Lines.{physical_lines, goes_on, is_blank, indentation, first_indentation, help_len, joined, lines_joined, column_from};
@@ -84,7 +84,7 @@ fn columns_of(text: &[u8]) -> usize
 }
 
 /// The indentation of the first line from a place on that isn't blank.
-fn first_columns(bytes: &[u8], at: usize) -> usize
+pub(crate) fn first_columns(bytes: &[u8], at: usize) -> usize
     requires within { at ≤ length bytes.now }
     requires small { length bytes.now < 2 ^ 60 }
     ensures { result ≡ first_indentation (physical_lines (drop at bytes.now)) }
@@ -101,37 +101,12 @@ fn first_columns(bytes: &[u8], at: usize) -> usize
     0
 }
 
-/// How many lines the help text at a place has.
-pub(crate) fn help_lines(bytes: &[u8], at: usize) -> usize
-    requires within { at ≤ length bytes.now }
-    requires small { length bytes.now < 2 ^ 60 }
-    ensures { result ≡ help_len (physical_lines (drop at bytes.now)) }
+/// Whether a line of this text belongs to a help text that is indented so far.
+pub(crate) fn is_of_help(text: &[u8], columns: usize) -> bool
+    requires { length text.now < 2 ^ 60 }
+    ensures { result ≡ (list_all is_white_byte text.now || nat_le columns (column_from 0 text.now)) }
 {
-    let columns = first_columns(bytes, at);
-    if columns == 0 {
-        return 0;
-    }
-    lines_behind(bytes, at, columns)
-}
-
-/// How many lines at a place are blank or indented so far.
-fn lines_behind(bytes: &[u8], at: usize, columns: usize) -> usize
-    requires within { at ≤ length bytes.now }
-    requires small { length bytes.now < 2 ^ 60 }
-    ensures { result ≡ length (take_while (is_of_help columns) (physical_lines (drop at bytes.now))) }
-{
-    let mut begin = at;
-    let mut count = 0;
-    while begin < bytes.len() {
-        let line = physical_at(bytes, begin);
-        let text = &bytes[begin..line.end];
-        if columns_of(text) < columns && !is_white_line(text) {
-            return count;
-        }
-        begin = line.next;
-        count += 1;
-    }
-    count
+    columns_of(text) >= columns || is_white_line(text)
 }
 
 /// A logical line: its bytes, where the next one begins, and how many lines it takes.

@@ -1,47 +1,64 @@
 //! Reading the files of a tree.
 ghost use Rattle.std.specs.Prelude.{◌≡◌, ◌<◌, ◌≤◌, ◌+◌, ◌-◌, ◌^◌, ◌∷◌, ℕ, List, length, drop, IfOk, IfErr, Ok};
 ghost use Rattle.kc_tree_model.specs.Blocks.{Group};
-ghost use Rattle.kc_tree_model.specs.Lines.{physical_lines, lines_of, logical};
+ghost use Rattle.kc_tree_model.specs.Lines.{physical_lines, lines_of, logical, help_len};
 ghost use Rattle.kc_tree_model.specs.Limits.{Origin};
 ghost use Rattle.kc_tree_model.specs.Reading.{read_lines, read_file};
 ghost use Rattle.kc_tree_model.specs.declared.fault.TreeKind.TheVariants.{OutOfMemory};
 ghost use Rattle.kc_listing.specs.checker.Progress.{Describes, origin_of};
-ghost use Rattle.kc_listing.specs.checker.Steps.{LineRead, HelpRead, SourceRead, OneRead, IsForward, FileOfRead, IsText};
+ghost use Rattle.kc_listing.specs.checker.Steps.{LineRead, HelpRead, indented, SourceRead, OneRead, IsForward, FileOfRead, IsText};
 
 use super::fault::{fault_at, out_of_memory, told_at};
-use super::line::read_line;
-use super::lines::{help_lines, logical_at, physical_at};
+use super::line::read_logical;
+use super::lines::{first_columns, is_of_help, logical_at, physical_at};
 use super::progress::{Opened, Progress, Step, Supply};
 use super::sources::{close_source, end_of_file, open_source};
 use super::text::text_of;
+use kc_expr::Token;
 use kc_tree_model::TreeFault;
 use kc_value::Text;
 
-/// Reads the lines of a help text; answers the place behind it, and how many lines it has.
-fn read_help(
+/// Reads the lines of a help text that is indented so far; answers the place behind it, and how many lines it has.
+fn read_indented(
     file: Opened<'_>,
     at: usize,
     number: u32,
-    count: usize,
+    columns: usize,
 ) -> Result<(usize, u32), TreeFault>
     requires within { at ≤ length file.bytes.now }
     requires few { number ≤ at + 1 }
     requires small { length file.bytes.now < 2 ^ 31 }
-    ensures { HelpRead file.entry.number file.entry.bytes.now at number count result }
+    ensures { HelpRead file.entry.number file.entry.bytes.now at number (indented columns file.entry.bytes.now at) result }
 {
     let mut begin = at;
     let mut lines = 0;
-    let mut left = count;
-    'help: while left > 0 && begin < file.bytes.len() {
+    'help: while begin < file.bytes.len() {
         let line = physical_at(file.bytes, begin);
-        if let Err(kind) = text_of(&file.bytes[begin..line.end]) {
+        let text = &file.bytes[begin..line.end];
+        if !is_of_help(text, columns) {
+            return Ok((begin, lines));
+        }
+        if let Err(kind) = text_of(text) {
             return Err(fault_at(file.number, number + lines, kind));
         }
         begin = line.next;
         lines += 1;
-        left -= 1;
     }
     Ok((begin, lines))
+}
+
+/// Reads the lines of a help text; answers the place behind it, and how many lines it has.
+fn read_help(file: Opened<'_>, at: usize, number: u32) -> Result<(usize, u32), TreeFault>
+    requires within { at ≤ length file.bytes.now }
+    requires few { number ≤ at + 1 }
+    requires small { length file.bytes.now < 2 ^ 31 }
+    ensures { HelpRead file.entry.number file.entry.bytes.now at number (help_len (physical_lines (drop at file.entry.bytes.now))) result }
+{
+    let columns = first_columns(file.bytes, at);
+    if columns == 0 {
+        return Ok((at, 0));
+    }
+    read_indented(file, at, number, columns)
 }
 
 /// Reads the file of a `source` and its end, where so many more may stand open within each other.
@@ -63,11 +80,12 @@ fn read_sourced(
 
 /// Reads a logical line and what it leads to; answers the place behind it, and how many lines these are.
 #[cycle(files)]
-fn read_one(
+fn read_one<'a>(
     read: &mut Progress,
     from: Supply<'_>,
     depth: usize,
-    file: Opened<'_>,
+    file: Opened<'a>,
+    found: &mut Vec<Token<'a>>,
     at: usize,
     number: u32,
 ) -> Result<(usize, u32), TreeFault>
@@ -82,12 +100,11 @@ fn read_one(
     };
     let next = line.next;
     let lines = line.lines as u32;
-    match read_line(read, from, file.number, number, line.text.as_slice()) {
+    match read_logical(read, from, file.number, number, &line.text, found) {
         Err(kind) => Err(told_at(file.number, number, kind)),
         Ok(Step::Next) => Ok((next, lines)),
         Ok(Step::Help) => {
-            let count = help_lines(file.bytes, next);
-            let (behind, more) = read_help(file, next, number + lines, count)?;
+            let (behind, more) = read_help(file, next, number + lines)?;
             Ok((behind, lines + more))
         }
         Ok(Step::Source(path)) => {
@@ -112,10 +129,11 @@ pub(crate) fn read_opened(
     if depth == 0 {
         return Ok(());
     }
+    let mut found = Vec::new(read.alloc);
     let mut at = 0;
     let mut number = 1;
     'lines: while at < file.bytes.len() {
-        let (next, lines) = read_one(read, from, depth - 1, file, at, number)?;
+        let (next, lines) = read_one(read, from, depth - 1, file, &mut found, at, number)?;
         at = next;
         number += lines;
     }

@@ -1,5 +1,5 @@
 -- What the parts of the reader do.
-use Rattle.std.specs.Prelude.{◌≡◌, ◌⊎◌, ℕ, ◌+◌, ◌<◌, ◌≤◌, Bool, true, false, List, length, drop, Option, Some, None, is_some, Result, Ok, Err, nat_lt, if◌then◌else◌}
+use Rattle.std.specs.Prelude.{◌≡◌, ◌⊎◌, ℕ, ◌+◌, ◌<◌, ◌≤◌, Bool, true, false, List, length, drop, take_while, Option, Some, None, is_some, Result, Ok, Err, nat_lt, if◌then◌else◌}
 use Rattle.std.specs.Str.{is_utf8}
 use denote.Bor.{Bor}
 use Rattle.kc_tree_model.specs.Limits.{most_line_bytes}
@@ -12,6 +12,7 @@ use Rattle.kc_tree_model.specs.Blocks.{Group, said, file_end, innermost}
 use Rattle.kc_tree_model.specs.Limits.{Origin, source_fault, bytes_in, is_too_deep, is_too_many}
 use Rattle.kc_tree_model.specs.Reading.{Outcome, read_lines, read_file, line_says, after_line, with_group, with_attribute, path_said, ended, behind_statement}
 use Rattle.kc_listing.specs.Shown.{Shows}
+use Rattle.kc_listing.specs.checker.Cut.{is_of_help}
 use Rattle.kc_listing.specs.checker.Faults.{IsMemory}
 use Rattle.kc_listing.specs.checker.Progress.{Describes, at_line}
 use Rattle.kc_listing.specs.declared.progress.Progress.{Progress}
@@ -132,9 +133,13 @@ abbrev pub IsText : List ℕ → Result (Bor (List ℕ)) TreeKind → Type 0
 IsText bytes (Ok t) = (nat_lt most_line_bytes (length bytes) ≡ false) × (is_utf8 bytes ≡ true) × (t.now ≡ bytes)
 IsText bytes (Err k) = (r : List Group) → (number : ℕ) → (help : Bool) → line_says r (record { number = number; text = bytes; help = help }) ≡ Err k
 
--- a help text is left from a place on
-pub record IsHelpLeft (file : ℕ) (bytes : List ℕ) (at number count begin lines left : ℕ) : Type 0 where
-  pub is : (sub : List ℕ → List Group → Outcome) (r : Origin) (read : List Group) → read_lines sub r file (logical 0 count number (physical_lines (drop at bytes))) read ≡ read_lines sub r file (logical 0 left (number + lines) (physical_lines (drop begin bytes))) read
+-- how many lines from a place on are of a help text that is indented so far
+abbrev pub indented : ℕ → List ℕ → ℕ → ℕ
+indented columns bytes at = length (take_while (is_of_help columns) (physical_lines (drop at bytes)))
+
+-- a help text that is indented so far is left from a place on
+pub record IsIndentedLeft (file : ℕ) (bytes : List ℕ) (at number columns begin lines : ℕ) : Type 0 where
+  pub is : (sub : List ℕ → List Group → Outcome) (r : Origin) (read : List Group) → read_lines sub r file (logical 0 (indented columns bytes at) number (physical_lines (drop at bytes))) read ≡ read_lines sub r file (logical 0 (indented columns bytes begin) (number + lines) (physical_lines (drop begin bytes))) read
   pub later : at ≤ begin
   pub within : begin ≤ length bytes
   pub few : at + lines ≤ begin

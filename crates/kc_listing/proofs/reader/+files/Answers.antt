@@ -1,4 +1,4 @@
-use Rattle.std.proofs.Common.{arith, ◌-◌}
+use Rattle.std.proofs.Common.{arith, refl, ◌-◌}
 use Rattle.std.proofs.lemmas.Result.{err_from_is_err_and}
 use Rattle.kc_listing.specs.checker.Progress.{origin_of}
 use Rattle.kc_tree_model.specs.Reading.{read_file}
@@ -7,31 +7,31 @@ use Rattle.kc_listing.proofs.reader.+files.Goals as goal
 
 pub read_one-returns-in-Err-clause-read : goal.read_one-returns-in-Err-clause-read
 read_one-returns-in-Err-clause-read t c = λ before d.
-    one_faulty (origin_of c.args.from) (read_file c.args.depth (origin_of c.args.from)) c.args.file.number c.args.file.bytes.now c.args.at c.args.number before _ _ _ c.requires.here (rw (← c.as_slice.ensures.value) at c.in-Ok.ensures) c.read_line.new.read c.in-Err.kind _ (c.in-Err.ensures before d) c.told_at.ensures.memory c.told_at.ensures.told
+    one_faulty (origin_of c.args.from) (read_file c.args.depth (origin_of c.args.from)) c.args.file.number c.args.file.bytes.now c.args.at c.args.number before _ _ _ c.requires.here c.in-Ok.ensures c.read_logical.new.read c.in-Err.kind _ (c.in-Err.ensures before d) c.told_at.ensures.memory c.told_at.ensures.told
 
 pub read_one-returns-in-Ok-Next-clause-read : goal.read_one-returns-in-Ok-Next-clause-read
 read_one-returns-in-Ok-Next-clause-read t c = λ before d.
-    one_next (origin_of c.args.from) (read_file c.args.depth (origin_of c.args.from)) c.args.file.number c.args.file.bytes.now c.args.at c.args.number before _ _ _ c.requires.here (rw (← c.as_slice.ensures.value) at c.in-Ok.ensures) c.read_line.new.read (rw c.in-Ok-Next.field-0-is at (c.in-Ok-Next.ensures before d))
+    one_next (origin_of c.args.from) (read_file c.args.depth (origin_of c.args.from)) c.args.file.number c.args.file.bytes.now c.args.at c.args.number before _ _ _ c.requires.here c.in-Ok.ensures c.read_logical.new.read (rw c.in-Ok-Next.field-0-is at (c.in-Ok-Next.ensures before d))
 
 pub read_one-returns-in_err-behind-in-Ok-Help-clause-read : goal.read_one-returns-in_err-behind-in-Ok-Help-clause-read
 read_one-returns-in_err-behind-in-Ok-Help-clause-read t c = λ before d.
     let p = err_from_is_err_and c.from_residual.result c.from_residual.ensures.1 in
-    rw (p.1, p.2) (one_help_faulty (origin_of c.args.from) (read_file c.args.depth (origin_of c.args.from)) c.args.file.number c.args.file.bytes.now c.args.at c.args.number before _ _ _ c.requires.here (rw (← c.as_slice.ensures.value) at c.in-Ok.ensures) c.read_line.new.read _ _ (rw c.in-Ok-Help.field-0-is at (c.in-Ok-Help.ensures before d)) c.help_lines-count.ensures c.in_err-behind-in-Ok-Help.ensures)
+    rw (p.1, p.2) (one_help_faulty (origin_of c.args.from) (read_file c.args.depth (origin_of c.args.from)) c.args.file.number c.args.file.bytes.now c.args.at c.args.number before _ _ _ c.requires.here c.in-Ok.ensures c.read_logical.new.read _ _ (rw c.in-Ok-Help.field-0-is at (c.in-Ok-Help.ensures before d)) refl c.in_err-behind-in-Ok-Help.ensures)
 
 pub read_one-returns-in-Ok-Help-clause-read : goal.read_one-returns-in-Ok-Help-clause-read
 read_one-returns-in-Ok-Help-clause-read t c = λ before d.
-    one_help (origin_of c.args.from) (read_file c.args.depth (origin_of c.args.from)) c.args.file.number c.args.file.bytes.now c.args.at c.args.number before _ _ _ c.requires.here (rw (← c.as_slice.ensures.value) at c.in-Ok.ensures) c.read_line.new.read _ _ (rw c.in-Ok-Help.field-0-is at (c.in-Ok-Help.ensures before d)) c.help_lines-count.ensures c.in_ok-behind-in-Ok-Help.ensures
+    one_help (origin_of c.args.from) (read_file c.args.depth (origin_of c.args.from)) c.args.file.number c.args.file.bytes.now c.args.at c.args.number before _ _ _ c.requires.here c.in-Ok.ensures c.read_logical.new.read _ _ (rw c.in-Ok-Help.field-0-is at (c.in-Ok-Help.ensures before d)) refl c.in_ok-behind-in-Ok-Help.ensures
 
 pub read_one-returns-in_err-read_sourced-in-Ok-Source-clause-read : goal.read_one-returns-in_err-read_sourced-in-Ok-Source-clause-read
 read_one-returns-in_err-read_sourced-in-Ok-Source-clause-read t c = λ before d.
     let s = rw c.in-Ok-Source.field-0-is at (c.in-Ok-Source.ensures before d) in
     let p = err_from_is_err_and c.from_residual-in_err-read_sourced-in-Ok-Source.result c.from_residual-in_err-read_sourced-in-Ok-Source.ensures.1 in
-    rw (p.1, p.2) (one_source_faulty (origin_of c.args.from) (read_file c.args.depth (origin_of c.args.from)) c.args.file.number c.args.file.bytes.now c.args.at c.args.number before _ _ _ c.requires.here (rw (← c.as_slice.ensures.value) at c.in-Ok.ensures) c.in-Ok-Source.path c.read_line.new.read c.read_sourced.new.read _ s (c.in_err-read_sourced-in-Ok-Source.ensures before s.describes))
+    rw (p.1, p.2) (one_source_faulty (origin_of c.args.from) (read_file c.args.depth (origin_of c.args.from)) c.args.file.number c.args.file.bytes.now c.args.at c.args.number before _ _ _ c.requires.here c.in-Ok.ensures c.in-Ok-Source.path c.read_logical.new.read c.read_sourced.new.read _ s (c.in_err-read_sourced-in-Ok-Source.ensures before s.describes))
 
 pub read_one-returns-clause-read : goal.read_one-returns-clause-read
 read_one-returns-clause-read t c = λ before d.
     let s = rw c.in-Ok-Source.field-0-is at (c.in-Ok-Source.ensures before d) in
-    one_source (origin_of c.args.from) (read_file c.args.depth (origin_of c.args.from)) c.args.file.number c.args.file.bytes.now c.args.at c.args.number before _ _ _ c.requires.here (rw (← c.as_slice.ensures.value) at c.in-Ok.ensures) c.in-Ok-Source.path c.read_line.new.read c.read_sourced.new.read s (c.in_ok-read_sourced-in-Ok-Source.ensures before s.describes)
+    one_source (origin_of c.args.from) (read_file c.args.depth (origin_of c.args.from)) c.args.file.number c.args.file.bytes.now c.args.at c.args.number before _ _ _ c.requires.here c.in-Ok.ensures c.in-Ok-Source.path c.read_logical.new.read c.read_sourced.new.read s (c.in_ok-read_sourced-in-Ok-Source.ensures before s.describes)
 
 pub read_opened-lines-init : goal.read_opened-lines-init
 read_opened-lines-init t c = record {

@@ -1,5 +1,9 @@
-use Rattle.kc_listing.proofs.ReaderSteps.{help_more}
+use Rattle.std.proofs.Common.{sym, ◌∙◌}
+use Rattle.kc_listing.proofs.ReaderSteps.{help_nothing, help_by}
 use Rattle.kc_listing.proofs.reader.read_help.Goals as goal
 
-pub help-preserved : goal.help-preserved
-help-preserved c = help_more c.args.file.number c.args.file.bytes.now c.args.at c.args.number c.args.count c.help.begin c.help.lines c.help.left c.physical_at-line.result c.help.invariant c.help-test.true c.physical_at-line.ensures c.in_default.ensures.0 c.in_default.ensures.1
+pub returns-then-columns-eq0 : goal.returns-then-columns-eq0
+returns-then-columns-eq0 c = help_nothing c.args.file.number c.args.file.bytes.now c.args.at c.args.number c.requires.within (sym c.first_columns-columns.ensures ∙ c.if-columns-eq0.true)
+
+pub returns : goal.returns
+returns c = help_by c.args.file.number c.args.file.bytes.now c.args.at c.args.number c.first_columns-columns.result c.read_indented.result c.first_columns-columns.ensures c.if-columns-eq0.false c.read_indented.ensures
