@@ -1,18 +1,16 @@
 -- What was gathered stands for the whole.
-use Rattle.std.proofs.Common.{◌≡◌, ◌⊎◌, inl, inr, ℕ, zero, suc, ◌+◌, ◌<◌, ◌≤◌, ◌^◌, Bool, true, false, cond, List, [], ◌∷◌, ◌++◌, length, get_or, map, Option, Some, None, refl, ap, sym, subst, ◌∙◌, arith}
-use Rattle.std.specs.Prelude.{All, filter, filter_map, flat_map, slice_get, slice_index, option_map, option_to_list, option_and_then, unwrap_or}
+use Rattle.std.proofs.Common.{◌≡◌, ℕ, zero, suc, ◌+◌, ◌<◌, ◌≤◌, ◌^◌, Bool, true, false, cond, List, [], ◌∷◌, length, map, Option, Some, None, refl, ap, sym, subst, ◌∙◌, arith}
+use Rattle.std.specs.Prelude.{All, filter, filter_map, flat_map, slice_get, option_to_list, option_and_then}
 use Rattle.std.specs.List.{cons_option}
 use Rattle.std.proofs.lemmas.List.{length-map}
 use Rattle.std.proofs.lemmas.List.Elements.{All-append, All-cons, All-nil}
-use Rattle.std.proofs.lemmas.Option.{slice_get-get_or}
-use Rattle.kc_expr.specs.Arena.{Exprs, stands_for}
+use Rattle.kc_expr.specs.Arena.{Exprs}
 use Rattle.kc_expr.specs.Lookup.{place_of}
 use Rattle.kc_tree_model.specs.Trees as tree
-use Rattle.kc_tree_model.specs.Trees.{Whole}
 use Rattle.kc_tree_model.specs.Files.{Files}
-use Rattle.kc_tree_model.specs.Blocks.{Group, name_of, opens_choice, head_gives}
-use Rattle.kc_tree_model.specs.Conditions.{Placed, placed}
-use Rattle.kc_tree_model.specs.Contents.{Contents, contents_of, symbol_of, choice_of, choice_number, member_names, place_of_number, whole_of, tree_of_files}
+use Rattle.kc_tree_model.specs.Blocks.{Group, name_of}
+use Rattle.kc_tree_model.specs.Conditions.{Placed}
+use Rattle.kc_tree_model.specs.Contents.{Contents, contents_of, symbol_of, choice_of, choice_number, whole_of, tree_of_files}
 use Rattle.kc_tree_model.specs.Limits.{names_defined}
 use Rattle.kc_tree_model.proofs.Consistency.Definitions.{IsSound, sound_contents, no_first}
 use Rattle.kc_tree_model.proofs.Consistency.Consistent.{tree_is_consistent}
@@ -28,18 +26,18 @@ use Rattle.kc_listing.specs.declared.listing.Listing.{Listing}
 use Rattle.kc_listing.specs.Names.{word_in}
 use Rattle.kc_listing.specs.Shown.{Shows}
 use Rattle.kc_tree.specs.Held.{Held}
-use Rattle.kc_tree.specs.Told.{unit_told, member_default_of, MemberDefaultFits}
+use Rattle.kc_tree.specs.Told.{unit_told, member_default_of}
 use Rattle.kc_tree.specs.checker.Assembly.{AreSymbolParts, AreChoiceParts, IsGathering}
-use Rattle.kc_tree.specs.checker.ChoiceDefaults.{AreDefaultsOf, defaults_said}
+use Rattle.kc_tree.specs.checker.ChoiceDefaults.{defaults_said}
 use Rattle.kc_tree.specs.checker.ChoiceRows.{opens, IsChoiceRow, AreChoiceRows}
 use Rattle.kc_tree.specs.checker.Definitions.{AreAttributes}
-use Rattle.kc_tree.specs.checker.GatheredAttributes.{AreKeys, HaveKeys}
+use Rattle.kc_tree.specs.checker.GatheredAttributes.{AreKeys}
 use Rattle.kc_tree.specs.checker.GatheredFits.{GatheredFit}
 use Rattle.kc_tree.specs.checker.GatheredView.{symbol_gathered, choice_gathered, whole_gathered}
 use Rattle.kc_tree.specs.checker.GroupedItems.{items_of}
 use Rattle.kc_tree.specs.checker.PartsView.{seen_from, entry_seen}
 use Rattle.kc_tree.specs.checker.Rows.{IsRowOf, AreRowsOf}
-use Rattle.kc_tree.specs.checker.Summaries.{IsSummary, IsSummaryOf, choice_round, member_in, members_at, member_key, member_keys_at}
+use Rattle.kc_tree.specs.checker.Summaries.{IsSummary, choice_round, member_in, members_at, member_keys_at}
 use Rattle.kc_tree.specs.checker.UnitList.{unit_read, units_read}
 use Rattle.kc_tree.specs.declared.builder.ChoiceParts.{ChoiceParts}
 use Rattle.kc_tree.specs.declared.builder.SymbolParts.{SymbolParts}

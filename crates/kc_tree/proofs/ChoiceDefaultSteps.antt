@@ -1,12 +1,12 @@
 -- The defaults of choices, as they are gathered.
-use Rattle.std.proofs.Common.{◌≡◌, ℕ, zero, suc, ◌+◌, ◌-◌, ◌<◌, ◌≤◌, ◌==◌, Bool, true, false, cond, List, [], ◌∷◌, ◌++◌, length, get_or, take, drop, map, Option, Some, None, refl, ap, sym, subst, ◌∙◌, arith, append_assoc, append-nil, length-append, inl, inr}
-use Rattle.std.specs.Prelude.{All, slice_get, slice_index, slice_range, option_map, option_and_then, option_to_list, filter, filter_map, flat_map, is_none, is_some}
+use Rattle.std.proofs.Common.{◌≡◌, ℕ, zero, suc, ◌+◌, ◌<◌, ◌≤◌, ◌==◌, Bool, true, false, cond, List, [], ◌∷◌, ◌++◌, length, get_or, take, map, Option, Some, None, refl, ap, sym, subst, ◌∙◌, arith, append_assoc, append-nil}
+use Rattle.std.specs.Prelude.{All, slice_get, slice_index, option_map, option_and_then, option_to_list, filter, filter_map, flat_map, is_none}
 use Rattle.std.specs.List.{cons_option}
 use Rattle.std.proofs.lemmas.Bool.{eq-eqb, eqb-true, false≢true}
-use Rattle.std.proofs.lemmas.List.{map-append, length-map, take_all, take_more}
+use Rattle.std.proofs.lemmas.List.{map-append, length-map}
 use Rattle.std.proofs.lemmas.Option.{slice_get_within, slice_get_past}
 use Rattle.std.proofs.lemmas.List.Concat.{flat_map-cons}
-use Rattle.std.proofs.lemmas.List.Elements.{All-append, All-cons, All-nil, filter-append}
+use Rattle.std.proofs.lemmas.List.Elements.{All-append, All-cons, All-nil}
 use Rattle.kc_expr.specs.Arena.{Exprs, stands_for}
 use Rattle.kc_expr.specs.Expr.{Expr}
 use Rattle.kc_expr.specs.Lookup.{place_of}
@@ -17,7 +17,7 @@ use Rattle.kc_statements.specs.declared.statement.Attribute.TheVariants as attri
 use Rattle.kc_listing.specs.declared.listing.Line.{Line as CodeLine}
 use Rattle.kc_listing.specs.declared.listing.Names.{Names}
 use Rattle.kc_listing.specs.Names.{number_in, HasNames}
-use Rattle.kc_listing.specs.Shown.{line_in, LineHeld, Shows, WhatShown}
+use Rattle.kc_listing.specs.Shown.{line_in, Shows, WhatShown}
 use Rattle.kc_listing.specs.declared.listing.Listing.{Listing}
 use Rattle.kc_listing.specs.declared.listing.What.{What as CodeWhat}
 use Rattle.kc_listing.specs.declared.listing.What.TheVariants as codes
@@ -26,10 +26,9 @@ use Rattle.kc_tree_model.specs.Limits.{names_defined}
 use Rattle.kc_tree_model.specs.Trees as tree
 use Rattle.kc_tree_model.specs.declared.fault.TreeKind.{TreeKind}
 use Rattle.kc_tree_model.specs.declared.fault.TreeKind.TheVariants.{ChoiceDefault}
-use Rattle.kc_tree_model.specs.declared.fault.TreeFault.{TreeFault}
-use Rattle.kc_tree_model.specs.Statements.{Attribute, Valued, default_of, choice}
-use Rattle.kc_tree_model.specs.Blocks.{Group, Line, said, opens_choice, open_blocks}
-use Rattle.kc_tree_model.specs.Conditions.{all_of, dependencies_of, Placed, place, placed, said_in, attribute_condition}
+use Rattle.kc_tree_model.specs.Statements.{Valued, default_of, choice}
+use Rattle.kc_tree_model.specs.Blocks.{Group, Line, said, open_blocks}
+use Rattle.kc_tree_model.specs.Conditions.{Placed, place, placed, attribute_condition}
 use Rattle.kc_tree_model.specs.Contents.{Contents, contents_of, bare_name, member_named, member_names, member_default, name_among}
 use Rattle.kc_tree_model.proofs.Consistency.Lists.{place-get}
 use Rattle.kc_tree_model.specs.TreeFaults.{when, second_prompt, choice_faults, is_no_member, faults_at, faults_of_lines, faults_of_group, tree_faults}
@@ -46,7 +45,7 @@ use Rattle.kc_tree.proofs.ChoiceRowSteps.{as_many_conditions, as_long, both_at, 
 use Rattle.kc_tree.proofs.Rounds.{numbers_of_choices, all_counted}
 use Rattle.kc_tree.specs.checker.GatheredAttributes.{AreKeys}
 use Rattle.kc_tree.specs.checker.GroupedItems.{items_of}
-use Rattle.kc_tree.specs.checker.Walked.{condition_among, condition_at}
+use Rattle.kc_tree.specs.checker.Walked.{condition_at}
 use Rattle.kc_tree.specs.declared.symbol.MemberDefault.{MemberDefault}
 use Rattle.kc_tree.proofs.Symbols.{bare_is}
 

@@ -1,6 +1,6 @@
 -- The rows of choices, group by group.
-use Rattle.std.proofs.Common.{◌≡◌, ℕ, zero, suc, ◌+◌, ◌<◌, ◌≤◌, Bool, true, false, cond, List, [], ◌∷◌, ◌++◌, length, get_or, drop, map, reverse, Option, Some, None, refl, ap, sym, subst, ◌∙◌, arith, append-nil}
-use Rattle.std.specs.Prelude.{All, filter, filter_map, slice_get, option_map, option_to_list}
+use Rattle.std.proofs.Common.{◌≡◌, ℕ, suc, ◌+◌, ◌<◌, Bool, true, false, cond, List, [], ◌∷◌, ◌++◌, length, map, reverse, Some, refl, ap, sym, subst, ◌∙◌, arith, append-nil}
+use Rattle.std.specs.Prelude.{All, filter, filter_map, slice_get, option_map}
 use Rattle.std.proofs.lemmas.List.{length-map}
 use Rattle.std.proofs.lemmas.List.Elements.{filter-append}
 use Rattle.kc_expr.specs.Arena.{Exprs, stands_for}
@@ -9,9 +9,8 @@ use Rattle.kc_statements.specs.Said.{attribute_in}
 use Rattle.kc_statements.specs.declared.statement.Attribute.{Attribute as CodeAttribute}
 use Rattle.kc_statements.specs.declared.statement.Attribute.TheVariants as attributes
 use Rattle.kc_tree_model.specs.Statements.{prompt_of}
-use Rattle.kc_tree_model.specs.Blocks.{Group, Line, open_blocks, opens_choice}
+use Rattle.kc_tree_model.specs.Blocks.{Group, Line, open_blocks}
 use Rattle.kc_tree_model.specs.Conditions.{Placed, place, placed, prompt_condition, prompts_of}
-use Rattle.kc_listing.specs.declared.listing.Group.{Group as CodeGroup}
 use Rattle.kc_listing.specs.declared.listing.Line.{Line as CodeLine}
 use Rattle.kc_listing.specs.declared.listing.Listing.{Listing}
 use Rattle.kc_listing.specs.Shown.{Shows, line_in, GroupShown}
@@ -24,8 +23,8 @@ use Rattle.kc_tree.specs.checker.Summaries.{read_before, group_at, own_lines, is
 use Rattle.kc_tree.specs.checker.Walked.{condition_at, ConditionsShown, AllConditionsShown}
 use Rattle.kc_tree.specs.declared.parts.ChoiceRow.{ChoiceRow}
 use Rattle.kc_tree.specs.declared.walk.GroupConditions.{GroupConditions}
-use Rattle.kc_tree.proofs.Aligned.{IsShownAt, shown_at, placed_more, none_before, all_before, count_is}
-use Rattle.kc_tree.proofs.Conditioned.{IsConditionedAt, conditioned_at, conditions_count}
+use Rattle.kc_tree.proofs.Aligned.{shown_at, placed_more, none_before, all_before, count_is}
+use Rattle.kc_tree.proofs.Conditioned.{conditioned_at, conditions_count}
 use Rattle.kc_tree.proofs.Rounds.{begins_is}
 
 pub shown_of : (l : Listing) (groups : List GroupConditions) (conditions : List ℕ) → IsGoneThrough l groups conditions → IsShown l

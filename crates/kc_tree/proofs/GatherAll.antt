@@ -1,16 +1,15 @@
 -- What all definitions give symbols.
-use Rattle.std.proofs.Common.{◌≡◌, inl, inr, ℕ, suc, ◌+◌, ◌-◌, ◌<◌, ◌≤◌, List, [], ◌∷◌, ◌++◌, length, map, reverse, Option, Some, None, refl, ap, sym, ◌∙◌, subst, arith}
-use Rattle.std.specs.Prelude.{slice_get, slice_range, filter_map, option_map, unwrap_or, All, IfSome}
+use Rattle.std.proofs.Common.{◌≡◌, inl, inr, ℕ, ◌+◌, ◌<◌, List, [], ◌∷◌, ◌++◌, length, map, reverse, Option, Some, None, ap, sym, ◌∙◌, subst}
+use Rattle.std.specs.Prelude.{slice_range, filter_map, option_map, unwrap_or, All, IfSome}
 use Rattle.std.proofs.lemmas.List.{length-map}
 use Rattle.std.proofs.lemmas.List.Elements.{All-nil, All-cons}
 use Rattle.kc_expr.specs.Arena.{Exprs, Stands, stands_for}
 use Rattle.kc_expr.specs.Expr.{Expr}
 use Rattle.kc_tree_model.specs.Trees as tree
-use Rattle.kc_tree_model.specs.Trees.{Force}
-use Rattle.kc_tree_model.specs.Statements.{Attribute, Valued, Bounded, Aimed, config, name_of_head, prompt_of, default_of, range_of}
-use Rattle.kc_tree_model.specs.Blocks.{Group, Line, What, said, head_gives, name_of, open_blocks, side_of, closing, inside}
+use Rattle.kc_tree_model.specs.Statements.{Attribute, Valued, Bounded, config, name_of_head, prompt_of, default_of, range_of}
+use Rattle.kc_tree_model.specs.Blocks.{Group, What, said, head_gives, name_of, open_blocks, side_of, closing, inside}
 use Rattle.kc_tree_model.specs.Conditions.{Placed, place, placed, prompt_condition, attribute_condition, dependency_of}
-use Rattle.kc_tree_model.specs.Contents.{Contents, contents_of}
+use Rattle.kc_tree_model.specs.Contents.{contents_of}
 use Rattle.kc_tree_model.specs.Limits.{names_defined}
 use Rattle.kc_tree_model.proofs.Consistency.Lists.{Differ-once, get_below}
 use Rattle.kc_listing.specs.declared.listing.Group.{Group as CodeGroup}
@@ -20,7 +19,7 @@ use Rattle.kc_listing.specs.declared.listing.Names.{Names}
 use Rattle.kc_listing.specs.declared.listing.What.TheVariants as codes
 use Rattle.kc_listing.specs.Names.{HasNames}
 use Rattle.kc_listing.specs.Shown.{GroupsShown, WhatShown, LineHeld, line_in, Shows}
-use Rattle.kc_tree.specs.Told.{DefaultFits, RangeFits, HasOperands, ForceFits}
+use Rattle.kc_tree.specs.Told.{DefaultFits, ForceFits}
 use Rattle.kc_tree.specs.Told as told
 use Rattle.kc_tree.specs.checker.ChoiceDefaults.{IsWalkOf}
 use Rattle.kc_tree.specs.checker.Conditioned.{conditions_at, own_conditions}

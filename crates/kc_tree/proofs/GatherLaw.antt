@@ -1,10 +1,10 @@
 -- What places give symbols, each under its number, is what the symbols have.
-use Rattle.std.proofs.Common.{◌≡◌, inl, inr, ℕ, suc, ◌+◌, ◌<◌, Bool, true, false, cond, ◌==◌, List, [], ◌∷◌, ◌++◌, length, map, filter, Option, Some, None, refl, ap, sym, ◌∙◌, subst, arith, append-nil}
-use Rattle.std.specs.Prelude.{slice_get, filter_map, flat_map, option_map, option_and_then, unwrap_or, bytes_eq, All, IfSome}
+use Rattle.std.proofs.Common.{◌≡◌, inl, inr, ℕ, suc, ◌<◌, Bool, true, false, cond, ◌==◌, List, [], ◌∷◌, ◌++◌, length, map, filter, Option, Some, None, refl, ap, sym, ◌∙◌, subst, arith, append-nil}
+use Rattle.std.specs.Prelude.{slice_get, filter_map, flat_map, option_map, option_and_then, unwrap_or, bytes_eq, All}
 use Rattle.std.specs.List.{cons_option}
 use Rattle.std.proofs.lemmas.Bool.{eqb-true, eq-eqb}
 use Rattle.std.proofs.lemmas.List.{map-append}
-use Rattle.std.proofs.lemmas.List.Elements.{All-nil, All-cons, All-append}
+use Rattle.std.proofs.lemmas.List.Elements.{All-nil, All-append}
 use Rattle.std.proofs.lemmas.Grind.{flat_map-append}
 use Rattle.kc_expr.specs.Lookup.{place_of}
 use Rattle.kc_tree_model.specs.Trees.{Force}
@@ -15,7 +15,6 @@ use Rattle.kc_tree_model.specs.Contents.{Contents, contents_of, defines, definit
 use Rattle.kc_tree_model.specs.Limits.{names_defined}
 use Rattle.kc_tree_model.proofs.Consistency.Lists.{Has, has-at, has-place, place-get, same_text, text_same, Differ, Differ-once, at_most_once}
 use Rattle.kc_tree.specs.checker.GroupedItems.{items_of}
-use Rattle.kc_tree.specs.declared.keyed.Keyed.{Keyed}
 use Rattle.kc_tree.proofs.Symbols.{named_there}
 
 -- what a definition gives, by its name; others give nothing

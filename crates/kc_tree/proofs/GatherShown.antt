@@ -1,20 +1,19 @@
 -- What attributes give stands for what the definition of a tree has there.
-use Rattle.std.proofs.Common.{◌≡◌, ℕ, suc, ◌+◌, ◌<◌, ◌≤◌, Bool, true, false, cond, List, [], ◌∷◌, ◌++◌, length, map, Option, Some, None, refl, ap, sym, ◌∙◌, subst, arith}
-use Rattle.std.specs.Prelude.{slice_get, filter_map, option_map, option_and_then, option_to_list, unwrap_or, All, IfSome, is_some}
+use Rattle.std.proofs.Common.{◌≡◌, ℕ, suc, ◌<◌, Bool, true, false, cond, List, [], ◌∷◌, length, map, Option, Some, None, refl, ap, sym, ◌∙◌, subst, arith}
+use Rattle.std.specs.Prelude.{filter_map, option_map, option_and_then, All, IfSome, is_some}
 use Rattle.std.specs.List.{cons_option}
-use Rattle.std.proofs.lemmas.List.{length-map}
 use Rattle.std.proofs.lemmas.List.Elements.{All-nil, All-cons}
 use Rattle.kc_expr.specs.Arena.{Exprs, stands_for}
-use Rattle.kc_expr.specs.Expr.{Expr, Operand, alone}
+use Rattle.kc_expr.specs.Expr.{Expr, Operand}
 use Rattle.kc_expr.specs.Lookup.{place_of}
 use Rattle.kc_expr.specs.Operand.{operand_alone}
 use Rattle.kc_statements.specs.declared.statement.Attribute.{Attribute as CodeAttribute}
 use Rattle.kc_statements.specs.declared.statement.Attribute.TheVariants as attributes
-use Rattle.kc_statements.specs.Said.{attribute_in, AttributeHeld, operand_of_expr}
+use Rattle.kc_statements.specs.Said.{attribute_in, AttributeHeld}
 use Rattle.kc_statements.specs.Said as said
 use Rattle.kc_tree_model.specs.Trees as tree
 use Rattle.kc_tree_model.specs.Statements.{Attribute, Valued, Bounded, Aimed, prompt_of, default_of, range_of, select_of, imply_of}
-use Rattle.kc_tree_model.specs.Blocks.{Group, Line}
+use Rattle.kc_tree_model.specs.Blocks.{Line}
 use Rattle.kc_tree_model.specs.Conditions.{Placed, prompt_condition, attribute_condition}
 use Rattle.kc_tree_model.proofs.Consistency.Lists.{get_below, place-get}
 use Rattle.kc_listing.specs.declared.listing.Line.{Line as CodeLine}
@@ -28,7 +27,6 @@ use Rattle.kc_tree.specs.checker.Gathers.{prompt_kept, default_kept, range_kept,
 use Rattle.kc_tree.specs.checker.Walked.{condition_at}
 use Rattle.kc_tree.specs.declared.gather.Forcing.{Forcing}
 use Rattle.kc_tree.specs.declared.gather.Forcing.TheVariants.{Select, Imply}
-use Rattle.kc_tree.specs.declared.symbol.Default.{Default}
 use Rattle.kc_tree.specs.declared.symbol.Range.{Range}
 use Rattle.kc_tree.specs.declared.symbol.Force.{Force}
 use Rattle.kc_tree.proofs.GatherLaw.{number_of, own_key_of, own_item_of, force_key_of, force_item_of, force_by}

@@ -1,19 +1,19 @@
 -- The units of what was read, group by group.
-use Rattle.std.proofs.Common.{◌≡◌, ℕ, zero, suc, ◌+◌, ◌-◌, ◌<◌, ◌≤◌, Bool, true, false, cond, ◌&&◌, List, [], ◌∷◌, ◌++◌, length, drop, map, reverse, Option, Some, None, refl, ap, sym, subst, ◌∙◌, arith, append-nil}
+use Rattle.std.proofs.Common.{◌≡◌, ℕ, ◌+◌, ◌-◌, ◌<◌, Bool, true, false, cond, ◌&&◌, List, [], ◌∷◌, ◌++◌, length, map, reverse, Option, Some, None, refl, ap, sym, subst, ◌∙◌}
 use Rattle.std.specs.Prelude.{slice_get, filter_map, flat_map, option_map, option_to_list, is_none, ◌==◌}
 use Rattle.std.specs.List.{cons_option}
 use Rattle.std.proofs.lemmas.List.{map-append}
 use Rattle.kc_expr.specs.Arena.{Exprs}
 use Rattle.kc_expr.specs.Lookup.{place_of}
 use Rattle.kc_tree_model.specs.declared.ids.Unit.{Unit as ToldUnit}
-use Rattle.kc_tree_model.specs.declared.ids.Unit.TheVariants.{Symbol as SymbolUnit, Choice as ChoiceUnit}
-use Rattle.kc_tree_model.specs.Trees.{TreeUnit, of_symbol, of_choice}
-use Rattle.kc_tree_model.specs.Statements.{config, choice, menu, condition, comment, source, mainmenu, ends}
-use Rattle.kc_tree_model.specs.Blocks.{Group, What, said, file_end, head_gives, open_blocks, name_of, opens_choice}
+use Rattle.kc_tree_model.specs.declared.ids.Unit.TheVariants.{Symbol as SymbolUnit}
+use Rattle.kc_tree_model.specs.Trees.{of_symbol, of_choice}
+use Rattle.kc_tree_model.specs.Statements.{config}
+use Rattle.kc_tree_model.specs.Blocks.{Group, head_gives, open_blocks, name_of, opens_choice}
 use Rattle.kc_tree_model.specs.Conditions.{Placed, place, placed}
-use Rattle.kc_tree_model.specs.Contents.{Contents, contents_of, defines, definitions_of, first_definition, is_first_definition, choice_of_symbol, choice_number, unit_of_head}
+use Rattle.kc_tree_model.specs.Contents.{Contents, contents_of, definitions_of, is_first_definition, choice_of_symbol, choice_number, unit_of_head}
 use Rattle.kc_tree_model.specs.Limits.{names_defined}
-use Rattle.kc_tree_model.proofs.Consistency.Lists.{Has, has-at, has-place, place-get, map-get, Differ, Differ-once, at_most_once}
+use Rattle.kc_tree_model.proofs.Consistency.Lists.{has-at, has-place, place-get, map-get, Differ, Differ-once, at_most_once}
 use Rattle.kc_listing.specs.declared.listing.Group.{Group as CodeGroup}
 use Rattle.kc_listing.specs.declared.listing.Line.{Line as CodeLine}
 use Rattle.kc_listing.specs.declared.listing.What.{What as CodeWhat}
@@ -23,8 +23,8 @@ use Rattle.kc_tree.specs.Told.{unit_told}
 use Rattle.kc_tree.specs.checker.Summaries.{read_before, group_at, is_choice_code, about_in, abouts, number_at}
 use Rattle.kc_tree.specs.checker.UnitList.{is_number, is_unit_at, unit_got, unit_kept, unit_read, units_read}
 use Rattle.kc_tree.specs.declared.summary.About.{About}
-use Rattle.kc_tree.proofs.Aligned.{AreNumbers, all_before, are_numbers, none_before, numbers_before, placed_more, shown_at}
-use Rattle.kc_tree.proofs.Rounds.{numbers_of_choices, begins_is, number_counts, choices_more, choices_same, count_more}
+use Rattle.kc_tree.proofs.Aligned.{all_before, are_numbers, none_before, numbers_before, placed_more, shown_at}
+use Rattle.kc_tree.proofs.Rounds.{numbers_of_choices, begins_is, number_counts, choices_same, count_more}
 use Rattle.kc_tree.proofs.Symbols.{choice_is}
 
 -- the place of a name that is defined

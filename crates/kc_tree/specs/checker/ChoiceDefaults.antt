@@ -1,5 +1,5 @@
 -- The defaults of choices, as they are gathered.
-use Rattle.std.specs.Prelude.{◌≡◌, ◌≤◌, ℕ, ◌<◌, List, [], ◌∷◌, All, length, map, filter, filter_map, reverse, slice_get, Option, Some, None, option_map, option_and_then, if◌then◌else◌}
+use Rattle.std.specs.Prelude.{◌≡◌, ℕ, List, [], ◌∷◌, All, length, map, filter, filter_map, reverse, slice_get, Option, Some, None, option_map, option_and_then, if◌then◌else◌}
 use Rattle.std.specs.List.{cons_option}
 use Rattle.kc_expr.specs.Arena.{stands_for}
 use Rattle.kc_expr.specs.Names.{name_alone}
@@ -14,8 +14,8 @@ use Rattle.kc_listing.specs.Shown.{Shows}
 use Rattle.kc_tree_model.specs.Trees as tree
 use Rattle.kc_tree_model.specs.Statements.{default_of}
 use Rattle.kc_tree_model.specs.Blocks.{Group, opens_choice}
-use Rattle.kc_tree_model.specs.Conditions.{Placed, placed, said_in}
-use Rattle.kc_tree_model.specs.Contents.{Contents, contents_of, member_default}
+use Rattle.kc_tree_model.specs.Conditions.{Placed, said_in}
+use Rattle.kc_tree_model.specs.Contents.{Contents, member_default}
 use Rattle.kc_tree.specs.Told.{member_default_of, MemberDefaultFits}
 use Rattle.kc_tree.specs.checker.GatheredAttributes.{AreKeys}
 use Rattle.kc_tree.specs.checker.GroupedItems.{items_of}

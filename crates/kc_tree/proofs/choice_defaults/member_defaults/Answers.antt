@@ -1,10 +1,8 @@
-use Rattle.std.proofs.Common.{◌≡◌, ◌<◌, ◌≤◌, ◌+◌, length, ap, sym, ◌∙◌, arith}
+use Rattle.std.proofs.Common.{◌≡◌, ◌<◌, length, ap, sym, ◌∙◌, arith}
 use Rattle.std.proofs.lemmas.List.{get_or_read}
 use Rattle.kc_tree_model.specs.Limits.{names_defined}
 use Rattle.kc_listing.specs.Shown.{Shows}
-use Rattle.kc_tree.specs.checker.Summaries.{no_group, group_at, is_choice_code, own_lines}
-use Rattle.kc_tree.specs.checker.Conditioned.{own_conditions}
-use Rattle.kc_tree.specs.checker.ChoiceDefaults.{group_kept}
+use Rattle.kc_tree.specs.checker.Summaries.{no_group}
 use Rattle.kc_tree.specs.checker.Entries.{choices_behind}
 use Rattle.kc_tree.proofs.Rounds.{none_counted, one_counted}
 use Rattle.kc_tree.proofs.ChoiceDefaultSteps.{as_many, as_long_own, no_defaults, one_more, all_gathered, choices_by, choices_few}

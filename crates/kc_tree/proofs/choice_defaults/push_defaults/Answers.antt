@@ -1,5 +1,4 @@
-use Rattle.std.proofs.Common.{◌≡◌, get_or, sym, ap, ◌∙◌, arith, ◌<◌, length}
-use Rattle.std.proofs.lemmas.List.{get_or_read}
+use Rattle.std.proofs.Common.{get_or, ap, ◌∙◌}
 use Rattle.kc_tree.specs.checker.ChoiceDefaults.{member_kept}
 use Rattle.kc_tree.proofs.ChoiceDefaultSteps.{items_more, keys_more}
 use Rattle.kc_tree.proofs.choice_defaults.push_defaults.Goals as goal

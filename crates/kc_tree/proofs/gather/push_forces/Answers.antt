@@ -1,4 +1,4 @@
-use Rattle.std.proofs.Common.{◌≡◌, ◌<◌, ℕ, [], ◌∷◌, ◌++◌, Some, None, length, get_or, ◌∙◌, sym, ap, arith, append-nil}
+use Rattle.std.proofs.Common.{◌≡◌, ℕ, [], ◌∷◌, ◌++◌, get_or, ◌∙◌, sym, ap, arith, append-nil}
 use Rattle.std.specs.Prelude.{option_map, option_to_list}
 use Rattle.kc_tree.specs.checker.Gathers.{target_kept, aimed_at, force_kept}
 use Rattle.kc_tree.specs.declared.symbol.Force.{Force}

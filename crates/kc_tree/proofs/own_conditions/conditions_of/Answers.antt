@@ -1,7 +1,7 @@
 use Rattle.std.proofs.Common.{◌≡◌, ◌≤◌, get_or, length, sym, subst, ap, ◌∙◌}
 use Rattle.std.specs.Prelude.{slice_range}
 use Rattle.std.proofs.lemmas.List.{get_or_read}
-use Rattle.kc_tree.specs.checker.Conditioned.{no_conditions, conditions_at, conditions_end}
+use Rattle.kc_tree.specs.checker.Conditioned.{no_conditions, conditions_at}
 use Rattle.kc_tree.specs.declared.walk.GroupConditions.{GroupConditions}
 use Rattle.kc_tree.proofs.Conditioned.{conditioned_at}
 use Rattle.kc_tree.proofs.own_conditions.conditions_of.Goals as goal

@@ -1,5 +1,5 @@
-use Rattle.std.proofs.Common.{◌≡◌, inr, sym, Some, None}
-use Rattle.kc_tree.proofs.ReadSteps.{told_of_reading, unfailed_of, shown_of_reading, of_reading, told_behind, of_tree}
+use Rattle.std.proofs.Common.{inr, Some, None}
+use Rattle.kc_tree.proofs.ReadSteps.{told_of_reading, shown_of_reading, of_reading, told_behind, of_tree}
 use Rattle.kc_tree_model.specs.Reading.{reading}
 use Rattle.kc_tree.proofs.read.read_tree.Goals as goal
 

@@ -1,4 +1,4 @@
-use Rattle.std.proofs.Common.{◌≡◌, ◌<◌, ◌≤◌, length, get_or, [], ◌∷◌, ◌++◌, None, ap, sym, ◌∙◌, arith, rules, refl}
+use Rattle.std.proofs.Common.{length, get_or, [], ◌∷◌, ◌++◌, None, ap, ◌∙◌, arith}
 use Rattle.kc_listing.specs.Shown.{Shows}
 use Rattle.kc_tree.specs.checker.Rows.{row_kept}
 use Rattle.kc_tree.specs.declared.summary.About.{About}
