@@ -1,6 +1,6 @@
 -- What a rule gives fits its unit, over a consistent tree.
-use Rattle.std.proofs.Common.{◌≡◌, inl, inr, ℕ, zero, suc, ◌<◌, ◌^◌, Bool, true, false, not, ◌&&◌, ◌||◌, ◌==◌, cond, IsTrue, IfSome, List, [], ◌∷◌, Option, Some, None, ℤ, pos, find, length, unwrap_or, int_lt, refl, sym, ◌∙◌, ap, subst, arith}
-use Rattle.std.specs.Prelude.{slice_get, is_some, unsigned_abs, neg_ℤ, nat_lt, ◌≤ℤ◌, ◌<ℤ◌}
+use Rattle.std.proofs.Common.{◌≡◌, inl, inr, ℕ, zero, ◌<◌, Bool, true, false, not, ◌&&◌, ◌||◌, ◌==◌, cond, IsTrue, IfSome, List, [], ◌∷◌, Option, Some, None, ℤ, pos, find, length, unwrap_or, int_lt, refl, sym, ◌∙◌, ap, arith}
+use Rattle.std.specs.Prelude.{slice_get, is_some, nat_lt}
 use Rattle.std.specs.Option.{option_map, option_and_then}
 use Rattle.std.specs.List.{list_any, list_all}
 use Rattle.std.proofs.lemmas.Bool.{eq-eqb, false≢true, and_parts, and_from, or_cases, or_left, or_right, eqb-true, ltb-true}
@@ -8,15 +8,11 @@ use Rattle.std.proofs.lemmas.Str.{IsUtf8-nil, is_utf8-from_IsUtf8}
 use Rattle.std.specs.Str.{IsUtf8, is_utf8}
 use Rattle.kc_value.proofs.UnquotedUtf8.{ascii_then}
 use Rattle.std.proofs.lemmas.Option.{slice_get-get_or}
-use Rattle.std.proofs.lemmas.Int.{ints}
 use Rattle.kc_value.specs.declared.tri.Tri.{Tri}
 use Rattle.kc_value.specs.declared.tri.Tri.TheVariants.{N, M, Y}
 use Rattle.kc_value.specs.declared.value.Kind.{Kind}
 use Rattle.kc_value.specs.declared.value.Kind.TheVariants.{Bool as Boolean, Tristate, Text, Int, Hex}
 use Rattle.kc_value.specs.Number.{number_of_text, number_spelling, IsPrintable}
-use Rattle.kc_value.specs.NumberGrammar.{IsInt, IsHex, decimal, negative, bare, prefixed}
-use Rattle.kc_value.proofs.NumberLaws.{int_sound}
-use Rattle.kc_value.proofs.HexLaws.{hex_sound}
 use Rattle.kc_value.proofs.NumberSpelling.{spelling_read_back}
 use Rattle.kc_expr.specs.Expr.{Expr, alone, related, negated, both, either, shown, constant, named, quoted, Seen, letter, text_seen, operand_text}
 use Rattle.kc_tree_model.specs.Trees.{Whole, Symbol, Choice, Default, Range, MemberDefault, TreeUnit, of_symbol, of_choice}
@@ -36,6 +32,7 @@ use Rattle.kc_rules_model.specs.Laws.{RulesFit}
 use Rattle.kc_rules_model.proofs.Lookups.{inside, unit_is}
 use Rattle.kc_rules_model.proofs.Ink.{is_ink, isn't}
 use Rattle.kc_rules_model.proofs.Numbers.{number_ink}
+use Rattle.kc_rules_model.proofs.PrintableBounds.{int_bound, hex_bound}
 
 -- bytes below 128 are UTF-8
 low_utf8 : (text : List ℕ) → list_all (λ b. nat_lt b 128) text ≡ true → IsUtf8 text
@@ -80,26 +77,13 @@ found_passes p q (y ∷ xs) x all e = let parts = and_parts (q y) (list_all q xs
   go true here e next = let same : y ≡ x = cc in ap q (sym same) ∙ here
   go false here e next = next e
 
-int_printable : (text : List ℕ) (z : ℤ) → IsInt text z → unsigned_abs z < 2 ^ 63
-int_printable text z (decimal n writes below is len) = subst (λ k. unsigned_abs k < 2 ^ 63) (sym is) below
-int_printable text z (negative digits n parts writes below is len) = subst (λ k. unsigned_abs k < 2 ^ 63) (sym is) (size n below) where
-  size : (n : ℕ) → n < 2 ^ 63 → unsigned_abs (neg_ℤ (pos n)) < 2 ^ 63
-  size zero below = below
-  size (suc n) below = below
-
-hex_printable : (text : List ℕ) (z : ℤ) → IsHex text z → (pos 0 ≤ℤ z) × (z <ℤ pos (2 ^ 64))
-hex_printable text z (bare n writes below is len) = subst (λ k. (pos 0 ≤ℤ k) × (k <ℤ pos (2 ^ 64))) (sym is) (omega (arith, ints), omega (arith, ints))
-hex_printable text z (prefixed digits n parts writes below is len) = subst (λ k. (pos 0 ≤ℤ k) × (k <ℤ pos (2 ^ 64))) (sym is) (omega (arith, ints), omega (arith, ints))
-
 -- a bound can be printed
 bound_printable : (kind : Kind) (text : List ℕ) (o : Option ℤ) → is_tri_kind kind ≡ false → (kind ≡ Text → ⊥) → number_of_text kind text ≡ o → IsPrintable kind (unwrap_or o (pos 0))
 bound_printable Boolean text o large other e = absurd (false≢true (sym large))
 bound_printable Tristate text o large other e = absurd (false≢true (sym large))
 bound_printable Text text o large other e = absurd (other refl)
-bound_printable Int text None large other e = omega arith
-bound_printable Int text (Some z) large other e = int_printable text z (int_sound text z e)
-bound_printable Hex text None large other e = (omega (arith, ints), omega (arith, ints))
-bound_printable Hex text (Some z) large other e = hex_printable text z (hex_sound text z e)
+bound_printable Int text o large other e = int_bound text o e
+bound_printable Hex text o large other e = hex_bound text o e
 
 module _ (tree : Whole) (sound : IsConsistent tree) (values : List UnitValue) (fitting : FitsValues (length tree.units) (λ u v. IsTrue (value_fits tree u v)) values) where
   held_one_line : (s : ℕ) (symbol : Symbol) → slice_get tree.symbols s ≡ Some symbol → symbol.choice ≡ None → is_line (text_of (slice_get values (unit_of tree s))) ≡ true

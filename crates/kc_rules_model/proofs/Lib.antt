@@ -1,6 +1,7 @@
 pub mod Lookups
 pub mod Ink
 pub mod Numbers
+pub mod PrintableBounds
 pub mod FittingValues
 pub mod OrderedTrees
 pub mod SolutionsFit
