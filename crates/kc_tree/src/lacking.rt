@@ -1,5 +1,6 @@
 //! The files that a tree lacks.
-ghost use Rattle.std.specs.Prelude.{◌≡◌, ◌≢◌, ◌⊎◌, ◌∷◌, ◌++◌, [], false, List, Ok, Err, Some, IfOk, IfErr, OnOk, filter, filter_map, map, option_map, string_bytes};
+ghost use Rattle.std.specs.Prelude.{◌≡◌, ◌≢◌, ◌⊎◌, ◌∷◌, ◌++◌, [], false, true, List, Ok, Err, Some, IfOk, IfErr, OnOk, filter, filter_map, map, option_map, string_bytes};
+ghost use Rattle.kc_tree_model.specs.declared.fault.TreeKind.TheVariants.{OutOfMemory};
 ghost use Rattle.kc_tree_model.specs.Blocks.{Group, source_of};
 ghost use Rattle.kc_tree_model.specs.Limits.{once};
 ghost use Rattle.kc_tree_model.specs.Reading.{full_reading, paths_or_fault, files_wanted};
@@ -26,7 +27,8 @@ pub(crate) fn out_of_memory() -> TreeFault
 
 /// Whether reading ended for want of memory.
 fn is_want_of_memory(fault: Option<TreeFault>) -> bool
-    ensures { result ≡ false → fault ≢ Some no_memory }
+    ensures other { result ≡ false → fault ≢ Some no_memory }
+    ensures memory { result ≡ true → option_map (λ f. f.kind) fault ≡ Some OutOfMemory }
 {
     match fault {
         Some(fault) => fault.kind == TreeKind::OutOfMemory,

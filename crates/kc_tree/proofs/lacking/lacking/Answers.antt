@@ -7,7 +7,7 @@ use Rattle.kc_tree.proofs.ReadSteps.{wanted_is}
 use Rattle.kc_tree.proofs.lacking.lacking.Goals as goal
 
 pub returns-in-Ok-clause-paths : goal.returns-in-Ok-clause-paths
-returns-in-Ok-clause-paths c = subst (λ (w : Result (List (List ℕ)) TreeFault). IfOk c.told.result (λ list. w ≡ Ok (map string_bytes list.items))) (wanted_is c.args.texts.now c.args.root.now c.args.listing.now c.args.fault (c.is_want_of_memory.ensures c.if-is_want_of_memory.false) (paths_in c.in-Ok.paths) c.requires.fault c.requires.read c.in-Ok.ensures) c.told.ensures.paths
+returns-in-Ok-clause-paths c = subst (λ (w : Result (List (List ℕ)) TreeFault). IfOk c.told.result (λ list. w ≡ Ok (map string_bytes list.items))) (wanted_is c.args.texts.now c.args.root.now c.args.listing.now c.args.fault (c.is_want_of_memory.ensures.other c.if-is_want_of_memory.false) (paths_in c.in-Ok.paths) c.requires.fault c.requires.read c.in-Ok.ensures) c.told.ensures.paths
 
 pub returns-in-Ok-clause-fault : goal.returns-in-Ok-clause-fault
-returns-in-Ok-clause-fault c = subst (λ (w : Result (List (List ℕ)) TreeFault). IfErr c.told.result (λ f. (f ≡ no_memory) ⊎ (w ≡ Err f))) (wanted_is c.args.texts.now c.args.root.now c.args.listing.now c.args.fault (c.is_want_of_memory.ensures c.if-is_want_of_memory.false) (paths_in c.in-Ok.paths) c.requires.fault c.requires.read c.in-Ok.ensures) c.told.ensures.fault
+returns-in-Ok-clause-fault c = subst (λ (w : Result (List (List ℕ)) TreeFault). IfErr c.told.result (λ f. (f ≡ no_memory) ⊎ (w ≡ Err f))) (wanted_is c.args.texts.now c.args.root.now c.args.listing.now c.args.fault (c.is_want_of_memory.ensures.other c.if-is_want_of_memory.false) (paths_in c.in-Ok.paths) c.requires.fault c.requires.read c.in-Ok.ensures) c.told.ensures.fault
