@@ -17,7 +17,7 @@ use Rattle.kc_system.specs.Solutions.{user_of}
 use Rattle.kc_rules_model.specs.declared.values.UserValue.{UserValue}
 use Rattle.kc_rules_model.specs.declared.values.UserValue.TheVariants.{Tri as TriUser, Text as TextUser}
 use Rattle.kc_rules_model.specs.Kinds.{is_tri_kind}
-use Rattle.kc_rules_model.proofs.Lookups.{unit_is}
+use Rattle.kc_tree_model.proofs.Lookups.{unit_is}
 use Rattle.kc_dotconfig_model.specs.Lines.{Saying, assigns, notice, silent, unset_saying, ValueSays, tri, chosen, not_chosen, quoted, number, no_int, no_hex, no_tri, no_text, no_number, Says, value, unset, unknown_value, unknown_unset, empty, comment, without_white_end}
 use Rattle.kc_dotconfig_model.specs.Files.{assigned_over}
 

@@ -23,7 +23,7 @@ use Rattle.kc_rules_model.specs.declared.values.UserValue.TheVariants.{Tri as Tr
 use Rattle.kc_rules_model.specs.Kinds.{is_m, is_tri_kind}
 use Rattle.kc_value.specs.Number.{number_of_text}
 use Rattle.kc_rules_model.specs.Shapes.{user_fits, unit_user_fits, symbol_user_fits, is_member, tri_fits, user_text_fits}
-use Rattle.kc_rules_model.proofs.Lookups.{unit_is}
+use Rattle.kc_tree_model.proofs.Lookups.{unit_is}
 use Rattle.kc_dotconfig_model.specs.Names.{lacks}
 use Rattle.kc_dotconfig_model.specs.Lines.{Saying, assigns, notice, silent, tri_meant, ValueSays, tri, chosen, not_chosen, quoted, number, no_int, no_hex, no_tri, no_text, no_number, unset_saying, Says, value, unset, unknown_value, unknown_unset, empty, comment, without_white_end}
 use Rattle.kc_dotconfig_model.specs.Files.{file_lines, assigned_over, no_users}

@@ -22,7 +22,7 @@ use Rattle.kc_rules_model.specs.Shapes.{value_fits, unit_value_fits, symbol_valu
 use Rattle.kc_rules_model.specs.Equality.{same_tri}
 use Rattle.kc_rules_model.specs.checker.EqualityLaws.{values_decided}
 use Rattle.kc_rules_model.specs.Reports.{symbol_numbers}
-use Rattle.kc_rules_model.proofs.Lookups.{inside, place_is, unit_is}
+use Rattle.kc_tree_model.proofs.Lookups.{inside, place_is, unit_is}
 use Rattle.kc_minimal_model.specs.Differences.{Difference, same_seen, difference_at, differences}
 use Rattle.kc_minimal_model.proofs.KeptLines.{tri_kind}
 use Rattle.kc_minimal_model.specs.Laws.{DifferencesTell}

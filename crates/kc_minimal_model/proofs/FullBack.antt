@@ -24,7 +24,7 @@ use Rattle.kc_rules_model.specs.Dependencies.{dependencies}
 use Rattle.kc_rules_model.specs.Shapes.{user_fits, is_line}
 use Rattle.kc_rules_model.specs.Reports.{is_written, is_written_symbol, symbol_numbers}
 use Rattle.kc_rules_model.specs.checker.FrameLaw.{rules_frame}
-use Rattle.kc_rules_model.proofs.Lookups.{inside, place_is, unit_is}
+use Rattle.kc_tree_model.proofs.Lookups.{inside, place_is, unit_is}
 use Rattle.kc_dotconfig_model.specs.Lines.{Saying, assigns, notice, silent}
 use Rattle.kc_dotconfig_model.specs.Files.{assigned_over, file_users, no_users}
 use Rattle.kc_dotconfig_model.proofs.FittingFiles.{file_fits}

@@ -25,7 +25,7 @@ use Rattle.kc_dotconfig_model.specs.Lines.{Saying, assigns, silent, Says}
 use Rattle.kc_minimal_model.specs.Spelling.{symbol_line, line_if_seen, line_with}
 use Rattle.kc_minimal_model.specs.MinimalFile.{is_kept, has_line, may_have_line, stands_for_its_unit}
 use Rattle.kc_minimal_model.specs.Laws.{IsReadAsItsAssignment}
-use Rattle.kc_rules_model.proofs.Lookups.{inside, place_is, unit_is}
+use Rattle.kc_tree_model.proofs.Lookups.{inside, place_is, unit_is}
 use Rattle.kc_minimal_model.proofs.LineReads.{IsLine, tri_line, text_line, member_line}
 use Rattle.kc_minimal_model.proofs.KeptUnits.{KeptUnit, kept_unit}
 

@@ -27,7 +27,7 @@ use Rattle.kc_minimal_model.specs.Spelling.{symbol_line, ended_line}
 use Rattle.kc_minimal_model.specs.MinimalFile.{is_kept, has_line, may_have_line, stands_for_its_unit, minimal_symbols}
 use Rattle.kc_minimal_model.specs.Laws.{IsReadAsLeast}
 use Rattle.kc_minimal_model.proofs.Bytes.{first_line}
-use Rattle.kc_rules_model.proofs.Lookups.{inside, place_is, unit_is}
+use Rattle.kc_tree_model.proofs.Lookups.{inside, place_is, unit_is}
 use Rattle.kc_minimal_model.proofs.KeptUnits.{KeptUnit, kept_unit, kept_passes, others_fail}
 use Rattle.kc_minimal_model.proofs.KeptLines.{line_reads, meant, user_meant, saying_of_user, value_of_member}
 

@@ -26,7 +26,7 @@ use Rattle.kc_value.proofs.QuotedUtf8.{quoted_utf8}
 use Rattle.kc_dotconfig_model.proofs.TrimmedLines.{low_utf8, name_utf8}
 use Rattle.kc_rules_model.proofs.Ink.{is_ink, all_weaker}
 use Rattle.kc_rules_model.proofs.Numbers.{IsInk, number_ink}
-use Rattle.kc_rules_model.proofs.Lookups.{found_by_name}
+use Rattle.kc_tree_model.proofs.Lookups.{found_by_name}
 
 -- the escaped text is what stands between the quotes of a text
 body_of : (text : List ℕ) → IsBody 34 (flat_map escaped_byte text) text

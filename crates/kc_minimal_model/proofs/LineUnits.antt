@@ -16,7 +16,7 @@ use Rattle.kc_rules_model.specs.SymbolValues.{symbol_seen, seen_in, member_of, t
 use Rattle.kc_rules_model.specs.Rule.{rule, as_user}
 use Rattle.kc_rules_model.specs.Shapes.{user_fits, unit_user_fits, choice_user_fits}
 use Rattle.kc_minimal_model.specs.MinimalFile.{is_kept, has_line, may_have_line, stands_for_its_unit}
-use Rattle.kc_rules_model.proofs.Lookups.{inside, place_is, unit_is}
+use Rattle.kc_tree_model.proofs.Lookups.{inside, place_is, unit_is}
 use Rattle.kc_minimal_model.proofs.KeptUnits.{kept_unit}
 use Rattle.kc_minimal_model.proofs.KeptLines.{user_meant, value_of_member}
 

@@ -24,7 +24,7 @@ use Rattle.kc_rules_model.specs.SymbolValues.{symbol_seen, seen_in, seen_as_tri,
 use Rattle.kc_rules_model.specs.Rule.{as_user}
 use Rattle.kc_rules_model.specs.Shapes.{user_fits, unit_user_fits, symbol_user_fits}
 use Rattle.kc_rules_model.specs.Reports.{symbol_numbers}
-use Rattle.kc_rules_model.proofs.Lookups.{inside, unit_is}
+use Rattle.kc_tree_model.proofs.Lookups.{inside, unit_is}
 use Rattle.kc_dotconfig_model.specs.Names.{is_prefix}
 use Rattle.kc_dotconfig_model.specs.Lines.{without_white_end}
 use Rattle.kc_dotconfig_model.specs.Files.{file_lines, file_users, no_users}

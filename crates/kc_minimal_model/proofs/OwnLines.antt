@@ -22,7 +22,7 @@ use Rattle.kc_rules_model.specs.Kinds.{is_tri_kind}
 use Rattle.kc_rules_model.specs.SymbolValues.{seen_in, seen_as_tri, tri_of, text_of, member_of, tri_if_chosen}
 use Rattle.kc_rules_model.specs.Rule.{as_user}
 use Rattle.kc_rules_model.specs.Shapes.{value_fits, unit_value_fits, symbol_value_fits, text_fits, user_text_fits}
-use Rattle.kc_rules_model.proofs.Lookups.{inside, found_by_name, place_is, unit_is}
+use Rattle.kc_tree_model.proofs.Lookups.{inside, found_by_name, place_is, unit_is}
 use Rattle.kc_dotconfig_model.specs.Names.{is_prefix}
 use Rattle.kc_dotconfig_model.specs.Lines.{Saying, assigns, notice, silent, value, unset_saying, ValueSays, no_int, no_hex, without_white_end}
 use Rattle.kc_minimal_model.specs.Spelling.{symbol_line, line_if_seen, line_with, value_line, unset_line}

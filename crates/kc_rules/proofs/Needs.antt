@@ -27,7 +27,7 @@ use Rattle.kc_tree_model.specs.Trees.{Whole, Symbol, Choice, Default, Range, For
 use Rattle.kc_tree_model.specs.TreeLookup.{IsConsistent, unit_of, symbol_named, found_at}
 use Rattle.kc_rules_model.specs.Dependencies.{units_named, units_of_forces, needed_by, needed_by_symbol, needed_by_choice, needed_by_symbol_at, needed_by_choice_at, prompt_names, prompts_of, prompts_at}
 use Rattle.kc_rules_model.specs.Kinds.{is_tristate}
-use Rattle.kc_rules_model.proofs.Lookups.{inside}
+use Rattle.kc_tree_model.proofs.Lookups.{inside}
 use Rattle.kc_rules.specs.checker.ModulesSymbol.{modules_symbol}
 use Rattle.kc_rules.specs.checker.Links.{has, is_at, is_of, mentions, some_name, in_exprs, in_defaults, in_ranges, in_forces, in_symbol, in_member_defaults, in_members, in_prompt, in_choice, forced_by, by_modules}
 use Rattle.kc_rules.proofs.Pushes.{any_same, any_map, any_flat, any_told, operand_mention, nothing_more}

@@ -29,7 +29,7 @@ use Rattle.kc_rules_model.specs.Rule.{rule, rule_of_unit, rule_of_symbol, rule_o
 use Rattle.kc_rules_model.specs.Shapes.{user_fits, value_fits, unit_user_fits, unit_value_fits, symbol_user_fits, symbol_value_fits, choice_user_fits, choice_value_fits, user_text_fits, text_fits, is_line}
 use Rattle.kc_rules_model.specs.checker.RestoreLaw.{fits_promoted}
 use Rattle.kc_rules_model.specs.Laws.{RulesFit}
-use Rattle.kc_rules_model.proofs.Lookups.{inside, unit_is}
+use Rattle.kc_tree_model.proofs.Lookups.{inside, unit_is}
 use Rattle.kc_rules_model.proofs.Ink.{is_ink, isn't}
 use Rattle.kc_rules_model.proofs.Numbers.{number_ink}
 use Rattle.kc_rules_model.proofs.PrintableBounds.{int_bound, hex_bound}

@@ -1,4 +1,3 @@
-pub mod Lookups
 pub mod Ink
 pub mod Numbers
 pub mod PrintableBounds

@@ -12,7 +12,7 @@ use Rattle.kc_tree.specs.checker.Numbered.{AreNumbered, own_or_choice}
 use Rattle.kc_tree.specs.checker.Units.{HasUnits}
 use Rattle.kc_tree.specs.declared.parts.SymbolRow.{SymbolRow}
 use Rattle.kc_tree.specs.declared.gathered.Gathered.{Gathered}
-use Rattle.kc_tree.proofs.Lookups.{place_is, unit_is}
+use Rattle.kc_tree_model.proofs.Lookups.{place_is, unit_is}
 use Rattle.kc_tree.proofs.Seen.{seen_get, seen_length}
 
 -- what stands inside a list

@@ -9,7 +9,6 @@ pub mod GroupedLemmas
 pub mod Grouping
 pub mod GroupingLaw
 pub mod Growth
-pub mod Lookups
 pub mod Made
 pub mod Marked
 pub mod MemberLaw

@@ -32,7 +32,7 @@ use Rattle.kc_tree.specs.declared.gathered.Attributes.{Attributes}
 use Rattle.kc_tree.specs.declared.gathered.GroupedAttributes.{GroupedAttributes}
 use Rattle.kc_tree.specs.declared.gathered.Gathered.{Gathered}
 use Rattle.kc_tree.proofs.Gathering.{got, all_got, symbol_at, symbols_count, choices_count, symbols_there, choices_there}
-use Rattle.kc_tree.proofs.Lookups.{found_by_name}
+use Rattle.kc_tree_model.proofs.Lookups.{found_by_name}
 use Rattle.kc_tree.proofs.Named.{named_there}
 
 seen_same : {A B : Type 0} (f h : ℕ → A → B) (n : ℕ) (xs : List A) → ((s : ℕ) (r : A) → s < n + length xs → f s r ≡ h s r) → seen_from f n xs ≡ seen_from h n xs

@@ -1,3 +1,4 @@
+pub mod Lookups
 pub mod TextsLemmas
 mod Rows
 pub mod NestedTrees
