@@ -1,6 +1,6 @@
 -- A reader's bytes, a block at a time.
 use Rattle.std.proofs.Common.{true, ◌≡◌, ◌⊎◌, inl, inr, ℕ, ◌+◌, ◌-◌, ◌^◌, ◌<◌, ◌≤◌, map, List, [], ◌∷◌, ◌++◌, length, take, refl, sym, ◌∙◌, ap, subst, append_assoc, length-append, arith}
-use Rattle.std.specs.Prelude.{Option, Some, None, Result, Ok, Err, IfOk, IfErr}
+use Rattle.std.specs.Prelude.{Option, Some, None, Result, Ok, Err, IfOk, IfErr, OnOk}
 use Rattle.kc_dotconfig_model.specs.declared.fault.LoadFault.{LoadFault}
 use Rattle.std.specs.Io.KnownBytes.{Consumes, Keeps, IsAtEnd}
 use Rattle.std.proofs.lemmas.List.{append-nil}
@@ -76,6 +76,19 @@ tells_read prefix tree a b c line g size lines r kept is =
 
 pub rises : (n m k : ℕ) → m ≡ n → k ≡ one_more m → n < 2 ^ 64 - 1 → n < k
 rises n m k same is less = omega arith
+
+-- one read that fails, and no other
+pub one_read : (n m k : ℕ) → m ≡ n → k ≡ one_more m → k ≤ n + 1
+one_read n m k same is = omega arith
+
+-- what holds whatever is answered
+pub on_any_ok : {T E P : Type 0} (r : Result T E) → P → OnOk r P
+on_any_ok (Ok x) p = p
+on_any_ok (Err e) p = tt
+
+pub if_any_err : {T E : Type 0} (r : Result T E) (P : E → Type 0) → ((e : E) → P e) → IfErr r P
+if_any_err (Ok x) P p = tt
+if_any_err (Err e) P p = p e
 
 -- a fault of a block, or of the end, is that of the file
 pub tells_refused : (prefix : List ℕ) (tree : Whole) (a c : Option (List ℕ)) (f f_after : ℕ) (kind : LoadKind) (number : ℕ) → (kind ≡ OutOfMemory) ⊎ IsRefused prefix tree a c kind number → Tells prefix tree a c f f_after kind number

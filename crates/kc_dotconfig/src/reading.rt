@@ -181,7 +181,8 @@ fn finish(
 /// 67,108,864, `TooManyLines` at the first byte of line 1,048,577, `LineTooLong` at the first byte of a line past 65,536,
 /// `NotUtf8` and `Malformed` at a line's end, `Read` where the reader failed behind lines without a fault. Then no file
 /// that begins with the bytes read is accepted, but where the file ends there or a read failed. `OutOfMemory` is want of
-/// memory, and says nothing of the file. A refused reader is left at an unstated place.
+/// memory, and says nothing of the file. A refused reader is left at an unstated place. The first read that fails ends the
+/// reading: none is made again.
 pub fn read_config<R: Source>(
     alloc: Global,
     settled: &Settled,
@@ -190,7 +191,10 @@ pub fn read_config<R: Source>(
 ) -> Result<Fragment, LoadFault>
     ensures ok { IfOk result (IsReadAs (text_of prefix.now) (whole_of settled.now) (R.left source.old) (R.left source.new)) }
     ensures fits { IfOk result (λ f. FitsTree (whole_of settled.now) f.assigns.items) }
+    ensures unfailed { OnOk result (R.failures source.new ≡ R.failures source.old) }
     ensures fault { IfErr result (λ fault. Tells (text_of prefix.now) (whole_of settled.now) (R.left source.old) (R.left source.new) (R.failures source.old) (R.failures source.new) fault.kind fault.line) }
+    ensures failed { IfErr result (λ fault. (fault.kind ≡ LoadKind.Read) ⊎ (R.failures source.new ≡ R.failures source.old)) }
+    ensures once { R.failures source.new ≤ R.failures source.old + 1 }
 {
     let _ = settled.tree();
     let mut cutter = LineCutter::new(alloc);

@@ -1,5 +1,5 @@
 //! Minimising a configuration file.
-ghost use Rattle.std.specs.Prelude.{◌≡◌, List, IfOk, IfErr, OnOk};
+ghost use Rattle.std.specs.Prelude.{◌≡◌, ◌≤◌, ◌+◌, List, IfOk, IfErr, OnOk};
 ghost use Rattle.kc_rules_model.specs.declared.values.UnitValue.{UnitValue as Held};
 ghost use Rattle.kc_rules.specs.Told.{whole_of, profile_of};
 ghost use Rattle.kc_dotconfig_model.specs.checker.Prefixes.{text_of};
@@ -60,6 +60,9 @@ pub fn minimise<R: Source, W: Sink>(
 ) -> Result<Vec<Notice>, RunFault>
     ensures minimised { IfOk result (λ notices. IsMinimised (text_of prefix.now) (profile_of settled.now) (whole_of settled.now) (R.left source.old) (R.left source.new) (W.taken sink.old) (W.taken sink.new) notices.items) }
     ensures unfailed { OnOk result (W.failures sink.new ≡ W.failures sink.old) }
+    ensures reads_unfailed { OnOk result (R.failures source.new ≡ R.failures source.old) }
+    ensures one_read { R.failures source.new ≤ R.failures source.old + 1 }
+    ensures one_write { W.failures sink.new ≤ W.failures sink.old + 1 }
     ensures fault { IfErr result (EndsWith (text_of prefix.now) (profile_of settled.now) (whole_of settled.now) (R.left source.old) (R.left source.new) (R.failures source.old) (R.failures source.new) (W.taken sink.old) (W.taken sink.new) (W.failures sink.old) (W.failures sink.new)) }
 {
     minimal_files_are_canonical();

@@ -1,5 +1,5 @@
 //! Writing a text out.
-ghost use Rattle.std.specs.Prelude.{◌≡◌, ◌<◌, ◌-◌, ◌^◌, length, take, IfErr, OnOk};
+ghost use Rattle.std.specs.Prelude.{◌≡◌, ◌<◌, ◌≤◌, ◌+◌, ◌-◌, ◌^◌, length, take, IfErr, OnOk};
 ghost use Rattle.std.specs.Io.KnownBytes.{Appends};
 
 use kc_value::Sink;
@@ -12,12 +12,14 @@ pub struct WriteFault {
     pub written: usize,
 }
 
-/// Writes a text whole. An `Err` is the first write that fails or takes nothing; it ends the writing. Takes no memory.
+/// Writes a text whole. An `Err` is the first write that fails or takes nothing; it ends the writing, and none is made
+/// again. Takes no memory.
 pub fn write_out<W: Sink>(sink: &mut W, text: &[u8]) -> Result<(), WriteFault>
     ensures whole { OnOk result (Appends (W.taken sink.old) (W.taken sink.new) text.now) }
     ensures unfailed { OnOk result (W.failures sink.new ≡ W.failures sink.old) }
     ensures part { IfErr result (λ fault. (fault.written < length text.now) × Appends (W.taken sink.old) (W.taken sink.new) (take fault.written text.now)) }
     ensures failed { IfErr result (λ fault. W.failures sink.old < 2 ^ 64 - 1 → W.failures sink.old < W.failures sink.new) }
+    ensures once { W.failures sink.new ≤ W.failures sink.old + 1 }
 {
     let mut written = 0;
     while written < text.len() {

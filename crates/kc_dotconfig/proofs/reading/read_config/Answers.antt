@@ -1,9 +1,9 @@
-use Rattle.std.proofs.Common.{◌≡◌, ◌<◌, ◌≤◌, length, take, refl, ◌∙◌, sym, arith}
+use Rattle.std.proofs.Common.{inl, inr, ◌≡◌, ◌<◌, ◌≤◌, length, take, refl, ◌∙◌, sym, arith}
 use Rattle.kc_rules.specs.Told.{whole_of}
 use Rattle.kc_dotconfig_model.specs.LoadFaults.{MOST_LINES}
 use Rattle.kc_dotconfig_model.specs.checker.Prefixes.{text_of}
 use Rattle.kc_dotconfig.specs.Reads.{MOST_READ}
-use Rattle.kc_dotconfig.proofs.ReadingWhole.{has_read_none, has_read_more, tells_read, rises, tells_short, tells_refused, refused_in, block_fault, whole_read, whole_fits, end_fault}
+use Rattle.kc_dotconfig.proofs.ReadingWhole.{has_read_none, has_read_more, tells_read, rises, one_read, on_any_ok, if_any_err, tells_short, tells_refused, refused_in, block_fault, whole_read, whole_fits, end_fault}
 use Rattle.kc_dotconfig.proofs.reading.read_config.Goals as goal
 
 pub loop-size-init : goal.loop-size-init
@@ -57,3 +57,12 @@ loop-size-preserved g c =
 pub returns-then-count-eq0-clause-fits : goal.returns-then-count-eq0-clause-fits
 returns-then-count-eq0-clause-fits g c =
     whole_fits c.finish.result (text_of c.args.prefix.now) (whole_of c.args.settled.now) (g.R.Source.left c.args.source.now) (g.R.Source.left c.loop-size.source) c.loop-size.cutter c.loop-size.gathered c.loop-size.size c.args.prefix.now.valid c.tree.ensures.settled.consistent c.loop-size.invariant.read c.finish.ensures.ok
+
+pub returns-then-count-eq0-clause-unfailed : goal.returns-then-count-eq0-clause-unfailed
+returns-then-count-eq0-clause-unfailed g c = on_any_ok c.finish.result (c.in-Ok.ensures.failures ∙ c.loop-size.invariant.unfailed)
+
+pub returns-then-count-eq0-clause-failed : goal.returns-then-count-eq0-clause-failed
+returns-then-count-eq0-clause-failed g c = if_any_err c.finish.result _ (λ e. inr (c.in-Ok.ensures.failures ∙ c.loop-size.invariant.unfailed))
+
+pub returns-in_default-clause-once : goal.returns-in_default-clause-once
+returns-in_default-clause-once g c = one_read (g.R.Source.failures c.args.source.now) (g.R.Source.failures c.loop-size.source) (g.R.Source.failures c.read_some.new.self) c.loop-size.invariant.unfailed c.in_default.ensures.failures
