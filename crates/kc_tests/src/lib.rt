@@ -25,6 +25,8 @@ mod minimal;
 #[cfg(test)]
 mod rules;
 #[cfg(test)]
+mod settling;
+#[cfg(test)]
 mod streams;
 #[cfg(test)]
 mod systems;

@@ -1,7 +1,7 @@
 //! Configurations that hold what files assign.
+use super::settling::settled;
 use kc_dotconfig::{Config, Prefix, read_config};
-use kc_rules::{Profile, Settled, settle};
-use kc_tree::{Texts, read_tree};
+use kc_rules::{Profile, Settled};
 use kc_value::FromRead;
 use std::alloc::{AllocError, Global};
 use std::test::Fail;
@@ -21,16 +21,8 @@ fn text(alloc: Global) -> Result<String, AllocError> {
 }
 
 /// The tree, settled.
-fn settled(alloc: Global) -> Result<Settled, AllocError> {
-    let mut texts = Texts::new(alloc);
-    texts.insert("Kconfig", text(alloc)?.as_bytes())?;
-    let Ok(tree) = read_tree(alloc, &texts, "Kconfig") else {
-        return Err(AllocError);
-    };
-    match settle(alloc, tree, Profile::Present) {
-        Ok(settled) => Ok(settled),
-        Err(_) => Err(AllocError),
-    }
+fn large_tree(alloc: Global) -> Result<Settled, AllocError> {
+    settled(alloc, text(alloc)?.as_bytes(), Profile::Present)
 }
 
 /// Whether a file, laid over what is held or in its place, changes the values of these units, so many being evaluated.
@@ -101,7 +93,7 @@ fn holds_from_the_start(alloc: Global, tree: &Settled) -> Result<bool, &'static 
 
 #[test]
 fn a_configuration_holds_what_files_assign(rt: HostRuntime) -> Result<(), Fail> {
-    let tree = twice!(settled(rt.alloc()));
+    let tree = twice!(large_tree(rt.alloc()));
     assert!(rt; twice!(holds_from_the_start(rt.alloc(), &tree)));
     Ok(())
 }

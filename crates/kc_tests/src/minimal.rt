@@ -1,9 +1,9 @@
 //! Files that are minimised from a reader to a writer, which the program doesn't do, and the texts of faults.
+use super::settling::settled;
 use kc_dotconfig::Prefix;
 use kc_dotconfig_model::{LoadFault, LoadKind};
 use kc_minimal::{RunFault, WriteFault, minimise};
-use kc_rules::{Profile, Settled, settle};
-use kc_tree::{Texts, read_tree};
+use kc_rules::Profile;
 use kc_value::{Bounded, FromRead};
 use std::alloc::Global;
 use std::test::Fail;
@@ -28,25 +28,11 @@ fn faults_are_printed_as_what_failed(rt: HostRuntime) -> Result<(), Fail> {
     Ok(())
 }
 
-/// The tree of one file, settled.
-fn settled_of(alloc: Global, text: &str) -> Result<Settled, &'static str> {
-    let mut texts = Texts::new(alloc);
-    if texts.insert("Kconfig", text.as_bytes()).is_err() {
-        return Err("no memory");
-    }
-    let tree = match read_tree(alloc, &texts, "Kconfig") {
-        Ok(tree) => tree,
-        Err(_) => return Err("not read"),
-    };
-    match settle(alloc, tree, Profile::Present) {
-        Ok(settled) => Ok(settled),
-        Err(_) => Err("not settled"),
-    }
-}
-
 /// Whether a file is minimised to these bytes.
 fn is_minimised(alloc: Global, tree: &str, file: &str, wanted: &str) -> Result<bool, &'static str> {
-    let settled = settled_of(alloc, tree)?;
+    let Ok(settled) = settled(alloc, tree.as_bytes(), Profile::Present) else {
+        return Err("not settled");
+    };
     let mut source = FromRead::new(file.as_bytes());
     let mut sink = match Bounded::new(alloc, 256, true) {
         Ok(sink) => sink,

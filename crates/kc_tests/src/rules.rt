@@ -1,8 +1,8 @@
 //! Values of a tree: those that a session holds after many changes, and those that solving anew gives.
+use super::settling::settled;
 use kc_dotconfig::{Config, Prefix, read_config};
-use kc_rules::{Profile, Settled, Steps, settle};
+use kc_rules::{Profile, Settled, Steps};
 use kc_system::{System, solve};
-use kc_tree::{Texts, read_tree};
 use kc_value::FromRead;
 use std::alloc::{AllocError, Global};
 use std::test::Fail;
@@ -63,19 +63,6 @@ const LINES: [&str; 16] = [
     "# CONFIG_MODULES is not set\n",
 ];
 
-/// The tree, settled.
-fn settled(alloc: Global, profile: Profile) -> Result<Settled, AllocError> {
-    let mut texts = Texts::new(alloc);
-    texts.insert("Kconfig", TREE)?;
-    let Ok(tree) = read_tree(alloc, &texts, "Kconfig") else {
-        return Err(AllocError);
-    };
-    match settle(alloc, tree, profile) {
-        Ok(settled) => Ok(settled),
-        Err(_) => Err(AllocError),
-    }
-}
-
 /// Lays a file over what is held.
 fn lay(alloc: Global, config: &mut Config<'_>, file: &str) -> Result<(), AllocError> {
     let mut source = FromRead::new(file.as_bytes());
@@ -118,7 +105,7 @@ fn stays_solved(alloc: Global, tree: &Settled) -> Result<bool, AllocError> {
 #[test]
 fn changes_give_what_solving_anew_gives(rt: HostRuntime) -> Result<(), Fail> {
     for profile in [Profile::Present, Profile::Classic] {
-        let tree = twice!(settled(rt.alloc(), profile));
+        let tree = twice!(settled(rt.alloc(), TREE, profile));
         assert!(rt; twice!(stays_solved(rt.alloc(), &tree)));
     }
     Ok(())
