@@ -20,6 +20,7 @@ test:
 	tests/run_rows
 	tests/check_minimal_files
 	tests/cut_trees
+	tests/cut_configurations
 	tests/random_trees
 	tests/read_in_pieces
 	tests/check_texts
