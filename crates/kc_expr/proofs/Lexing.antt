@@ -1,10 +1,10 @@
 -- Steps of reading a line.
 use Rattle.std.proofs.Common.{◌≡◌, ℕ, suc, zero, ◌+◌, ◌≤◌, ◌<◌, Bool, true, false, List, [], ◌∷◌, ◌++◌, length, drop, take, refl, ap, sym, ◌∙◌, arith, cond, Result, Ok, Err, get_or, ◌-◌, append_assoc, sub-one, add-suc, add-one, get_or-drop, drop-drop, length-drop}
 use Rattle.std.proofs.Math.ListN.{drop_of_length-le}
-use Rattle.std.proofs.lemmas.List.{drop_more, take-append-drop}
+use Rattle.std.proofs.lemmas.List.{drop_more}
 use Rattle.std.proofs.lemmas.Str.{IsCharBoundary-after_ascii}
 use Rattle.std.specs.Prelude.{IsUtf8}
-use Rattle.std.proofs.Math.Seq.{take-length, take-append_seam}
+use Rattle.std.proofs.Math.Seq.{take-length}
 use Rattle.std.proofs.lemmas.List.Sums.{take_while-cons}
 use Rattle.std.specs.Prelude.{take_while, IsCharBoundary}
 use Rattle.kc_expr.specs.Token.{lexed, lead_of, Piece, is_word_byte, pieces_of, piece_of}
@@ -103,12 +103,6 @@ pieces_more ts t = map-append piece_of ts (t ∷ [])
 
 pub text_is : (line : List ℕ) (at len : ℕ) (text : List ℕ) → text ≡ take ((at + len) - at) (drop at line) → text ≡ take len (drop at line)
 text_is line at len text e = e ∙ ap (λ n. take n (drop at line)) (omega arith)
-
--- what stands in front of a list stands in front of a longer one
-pub kept_behind : {X : Type 0} (old xs : List X) (x : X) → take (length old) xs ≡ old → take (length old) (xs ++ x ∷ []) ≡ old
-kept_behind old xs x e =
-    let parts : xs ≡ old ++ drop (length old) xs = sym (take-append-drop (length old) xs) ∙ ap (λ ys. ys ++ drop (length old) xs) e in
-    ap (take (length old)) (ap (λ ys. ys ++ x ∷ []) parts ∙ append_assoc old (drop (length old) xs) (x ∷ [])) ∙ take-append_seam old (drop (length old) xs ++ x ∷ [])
 
 pub fault_alone : {X E : Type 0} (xs : List X) (r : Result (List X) E) (e : E) → with_front xs r ≡ Err e → r ≡ Err e
 fault_alone xs (Ok ys) e h = cc

@@ -1,6 +1,7 @@
 pub mod CutLaws
 pub mod GrammarComplete
 pub mod GrammarLaws
+pub mod KeptLists
 pub mod LeafLemmas
 pub mod Lexing
 pub mod MentionedLemmas
@@ -16,4 +17,5 @@ pub mod TokenLaws
 pub mod TokenPlaces
 pub mod TokenTexts
 mod Vectors
+pub mod WalkLemmas
 pub mod WordBytes

@@ -9,5 +9,6 @@ pub mod Operand
 pub mod Reading
 pub mod Token
 pub mod TokenGrammar
+pub mod Walked
 pub mod Words
 pub mod checker

@@ -3,3 +3,4 @@ pub mod ExprCode
 pub mod Nodes
 pub mod Parsing
 pub mod Store
+pub mod Walking

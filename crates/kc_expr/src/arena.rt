@@ -1,5 +1,5 @@
 //! Expressions that share their parts.
-ghost use Rattle.std.specs.Prelude.{◌≡◌, ◌<◌, ◌≤◌, ◌⊎◌, ◌↔◌, ◌++◌, ◌^◌, ℕ, length, map, [], All, Contains, IfOk, IfErr, IfSome, OnOk, OnErr, Some, option_map, slice_index_or};
+ghost use Rattle.std.specs.Prelude.{◌≡◌, ◌<◌, ◌≤◌, ◌⊎◌, ◌↔◌, ◌++◌, ◌||◌, ◌^◌, ℕ, Bool, List, false, true, length, map, [], All, Contains, IfOk, IfErr, IfSome, OnOk, OnErr, Some, option_map, slice_index_or};
 ghost use Rattle.std.specs.List.Sorted.{IsStrictlyIncreasing};
 ghost use Rattle.kc_expr.specs.declared.fault.ExprKind.TheVariants.{OutOfMemory};
 
@@ -7,12 +7,13 @@ use super::evaluate::value_at;
 use super::fault::ExprFault;
 use super::ids::{ExprId, NameId};
 use super::lookup::Lookup;
-use super::mentioned::push_names;
+use super::mentioned::{push_names, push_new_names};
 use super::node::{Leaf, Node};
 use super::operand::Operand;
 use super::parse::extent_len;
 use super::store::Store;
 use super::token::Token;
+use super::walks::Walk;
 use kc_value::{Seed, Tri};
 use std::alloc::{AllocError, Global};
 use std::marker::Model;
@@ -50,6 +51,7 @@ impl Arena {
     ghost use Rattle.kc_expr.specs.Reading.{expr_at, expr_end, IsRead, IsNotRead};
     ghost use Rattle.kc_expr.specs.Token.{pieces_of};
     ghost use Rattle.kc_expr.specs.Words.{words};
+    ghost use Rattle.kc_expr.specs.Walked.{is_walked, mentions, some_name, HasFound};
 
     /// No names and no nodes. Takes no memory. Names are hashed with the same seed in each run.
     pub fn new(alloc: Global) -> Arena
@@ -233,14 +235,61 @@ impl Arena {
         }
     }
 
-    /// Puts the names in an expression behind others, some perhaps more than once. An `Err` is want of memory.
+    /// Puts the names in an expression behind others, some perhaps more than once. An `Err` is want of memory, and
+    /// leaves the others alone.
     pub fn push_names(&self, id: ExprId, found: &mut Vec<NameId>) -> Result<(), AllocError>
         requires { id < length self.now.nodes }
         ensures words { OnOk result (map (λ i. slice_index_or self.now.names i []) found.new.items
             ≡ map (λ i. slice_index_or self.now.names i []) found.old.items ++ words (stands_for self.now id)) }
         ensures held { OnOk result (All (λ i. i < length self.now.names) found.old.items → All (λ i. i < length self.now.names) found.new.items) }
+        ensures err { OnErr result (found.new.items ≡ found.old.items) }
     {
-        push_names(&self.store, id.index(), found)
+        let kept = found.len();
+        match push_names(&self.store, id.index(), found) {
+            Ok(()) => Ok(()),
+            Err(fault) => {
+                found.truncate(kept);
+                Err(fault)
+            }
+        }
+    }
+
+    /// A walk over the expressions held: none was walked yet. An `Err` is want of memory.
+    pub fn walk(&self) -> Result<Walk, AllocError>
+        ensures room { IfOk result (λ walk. length walk ≡ length self.now.nodes) }
+        ensures none { IfOk result (λ walk. (node : ℕ) → is_walked walk node ≡ false) }
+    {
+        Walk::new(self.store.alloc(), self.node_count())
+    }
+
+    /// Puts the names in an expression behind others, some perhaps more than once, and walks it. The expressions in it
+    /// that were walked in this turn are passed over, since their names are there. An `Err` is want of memory: it leaves
+    /// the others alone, and none was walked.
+    pub fn push_new_names(
+        &self,
+        id: ExprId,
+        walk: &mut Walk,
+        found: &mut Vec<NameId>,
+    ) -> Result<(), AllocError>
+        requires there { id < length self.now.nodes }
+        requires found { HasFound self.now walk.old found.old.items }
+        ensures names { (p : List ℕ → Bool) → OnOk result (some_name self.now p found.new.items ≡ (some_name self.now p found.old.items || mentions p (stands_for self.now id))) }
+        ensures held { OnOk result (All (λ i. i < length self.now.names) found.old.items → All (λ i. i < length self.now.names) found.new.items) }
+        ensures found { OnOk result (HasFound self.now walk.new found.new.items) }
+        ensures walked { OnOk result (is_walked walk.new id ≡ true) }
+        ensures kept { (node : ℕ) → OnOk result (is_walked walk.old node ≡ true → is_walked walk.new node ≡ true) }
+        ensures err { OnErr result (found.new.items ≡ found.old.items) }
+        ensures none { (node : ℕ) → OnErr result (is_walked walk.new node ≡ false) }
+    {
+        let others = found.len();
+        match push_new_names(&self.store, id.index(), walk, found) {
+            Ok(()) => Ok(()),
+            Err(fault) => {
+                found.truncate(others);
+                walk.begin();
+                Err(fault)
+            }
+        }
     }
 
     /// The names in an expression, ascending, each once. An `Err` is want of memory.

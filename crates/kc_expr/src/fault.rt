@@ -37,7 +37,7 @@ impl<T: Drop> From<AllocFailed<T>> for ExprFault {
     ghost use Rattle.std.specs.Prelude.{◌≡◌};
     ghost use Rattle.kc_expr.specs.declared.fault.ExprKind.TheVariants.{OutOfMemory};
 
-    ghost from_gives = { λ _ e. e.kind ≡ OutOfMemory };
+    ghost from_gives = { λ _ e. (e.kind ≡ OutOfMemory) × (e.offset ≡ 0) };
 
     fn from(_: AllocFailed<T>) -> ExprFault {
         ExprFault {
@@ -51,7 +51,7 @@ impl From<AllocError> for ExprFault {
     ghost use Rattle.std.specs.Prelude.{◌≡◌};
     ghost use Rattle.kc_expr.specs.declared.fault.ExprKind.TheVariants.{OutOfMemory};
 
-    ghost from_gives = { λ _ e. e.kind ≡ OutOfMemory };
+    ghost from_gives = { λ _ e. (e.kind ≡ OutOfMemory) × (e.offset ≡ 0) };
 
     fn from(_: AllocError) -> ExprFault {
         ExprFault {

@@ -15,6 +15,7 @@ mod parse;
 mod quoted;
 mod store;
 mod token;
+mod walks;
 
 pub use arena::Arena;
 pub use fault::{ExprFault, ExprKind};
@@ -24,3 +25,4 @@ pub use lookup::{Looked, Lookup};
 pub use operand::Operand;
 pub use quoted::quoted_text;
 pub use token::{Relop, Token, TokenKind, push_tokens, tokens};
+pub use walks::Walk;

@@ -1,11 +1,10 @@
 -- What is met on the way to a unit's dependencies is what the unit needs.
-use Rattle.std.proofs.Common.{◌≡◌, inl, inr, ℕ, suc, ◌<◌, Bool, true, false, ◌||◌, ◌==◌, cond, List, [], ◌∷◌, ◌++◌, length, map, get_or, Option, Some, None, IsSome, refl, sym, ap, subst, ◌∙◌, arith}
+use Rattle.std.proofs.Common.{◌≡◌, inl, inr, ℕ, suc, ◌<◌, Bool, true, false, ◌||◌, ◌==◌, cond, List, [], ◌∷◌, ◌++◌, length, map, get_or, Option, Some, None, refl, sym, ap, subst, ◌∙◌, arith}
 use Rattle.std.specs.Prelude.{All, slice_get, slice_index_or, bytes_eq}
 use Rattle.std.specs.Option.{option_map, option_and_then}
 use Rattle.std.specs.List.{flat_map, list_any, position_or_len}
 use Rattle.std.proofs.Math.Bool.{or-true}
 use Rattle.std.proofs.lemmas.Bool.{cases_lt, cases_Bool, le-ltb}
-use Rattle.std.proofs.lemmas.List.Elements.{All-get_or}
 use Rattle.std.proofs.lemmas.List.Folds.{list_any-append}
 use Rattle.std.proofs.lemmas.List.Sums.{position_or_len_is}
 use Rattle.std.proofs.lemmas.List.{get_or_past}
@@ -14,7 +13,7 @@ use Rattle.std.proofs.lemmas.Slice.Eq.{bytes_eq-Decides}
 use Rattle.kc_value.specs.declared.value.Kind.{Kind}
 use Rattle.kc_value.specs.declared.value.Kind.TheVariants.{Bool as Boolean, Tristate, Text, Int, Hex}
 use Rattle.kc_expr.specs.Arena.{Exprs, stands_for}
-use Rattle.kc_expr.specs.Expr.{Expr, modules}
+use Rattle.kc_expr.specs.Expr.{modules}
 use Rattle.kc_expr.specs.Mentioned.{names_in, operand_names}
 use Rattle.kc_tree.specs.Told.{symbol_of, choice_of, default_of, range_of, force_of, member_default_of, operand_in, name_told, HasOperands}
 use Rattle.kc_tree.specs.declared.symbol.Default.{Default as KeptDefault}
@@ -29,7 +28,8 @@ use Rattle.kc_rules_model.specs.Dependencies.{units_named, units_of_forces, need
 use Rattle.kc_rules_model.specs.Kinds.{is_tristate}
 use Rattle.kc_tree_model.proofs.Lookups.{inside}
 use Rattle.kc_rules.specs.checker.ModulesSymbol.{modules_symbol}
-use Rattle.kc_rules.specs.checker.Links.{has, is_at, is_of, mentions, some_name, in_exprs, in_defaults, in_ranges, in_forces, in_symbol, in_member_defaults, in_members, in_prompt, in_choice, forced_by, by_modules}
+use Rattle.kc_expr.specs.Walked.{mentions, some_name}
+use Rattle.kc_rules.specs.checker.Links.{has, is_of, in_exprs, in_defaults, in_ranges, in_forces, in_symbol, in_member_defaults, in_prompt, in_choice, forced_by, by_modules}
 use Rattle.kc_rules.proofs.Pushes.{any_same, any_map, any_flat, any_told, operand_mention, nothing_more}
 
 -- no symbol has the empty name

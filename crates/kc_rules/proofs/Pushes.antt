@@ -1,19 +1,17 @@
 -- Tests over lists: what walks put behind a list so far.
 use Rattle.std.proofs.Common.{◌≡◌, ℕ, ◌+◌, ◌<◌, Bool, true, false, ◌||◌, ◌==◌, List, [], ◌∷◌, ◌++◌, length, map, get_or, take, Option, Some, None, IsSome, subst, refl, sym, ap, ◌∙◌}
 use Rattle.std.specs.List.{flat_map, filter_map, list_any, cons_option}
-use Rattle.std.specs.Prelude.{slice_index_or}
-use Rattle.std.proofs.Math.Bool.{or_assoc, or_comm}
+use Rattle.std.proofs.Math.Bool.{or_assoc}
 use Rattle.std.proofs.lemmas.List.Elements.{All-append, All-cons, All-nil}
 use Rattle.std.proofs.lemmas.Bool.{false≢true}
 use Rattle.std.proofs.lemmas.List.Folds.{list_any-append, list_any_more}
-use Rattle.kc_expr.specs.Arena.{Exprs}
 use Rattle.kc_expr.specs.Expr.{Expr, alone, related, negated, both, either, shown}
-use Rattle.kc_expr.specs.Mentioned.{names_in, operand_names}
+use Rattle.kc_expr.specs.Mentioned.{operand_names}
 use Rattle.kc_expr.specs.Operand.{operand_alone}
-use Rattle.kc_expr.specs.Words.{words}
 use Rattle.kc_tree.specs.Told.{operand_in}
 use Rattle.kc_tree_model.specs.Trees.{Whole}
-use Rattle.kc_rules.specs.checker.Links.{is_at, some_name, mentions, has, AreUnits}
+use Rattle.kc_expr.specs.Walked.{mentions}
+use Rattle.kc_rules.specs.checker.Links.{is_at, has, AreUnits}
 
 -- one more element
 pub any_pushed : {X : Type 0} (m : X → Bool) (xs : List X) (i : ℕ) (x : X) (start old new : Bool) → i < length xs → x ≡ get_or xs i x → new ≡ (old || m x) → old ≡ (start || list_any m (take i xs)) → new ≡ (start || list_any m (take (i + 1) xs))
@@ -39,20 +37,6 @@ any_cons d (Some u) us = refl
 pub any_told : {X : Type 0} (h : X → Option ℕ) (d : ℕ) (xs : List X) → list_any (λ e. e == d) (filter_map h xs) ≡ list_any (λ x. is_at d (h x)) xs
 any_told h d [] = refl
 any_told h d (x ∷ xs) = any_cons d (h x) (filter_map h xs) ∙ ap (λ t. is_at d (h x) || t) (any_told h d xs)
-
--- the names are the same from either side
-pub words_mention : (p : List ℕ → Bool) (e : Expr) → list_any p (words e) ≡ mentions p e
-words_mention p (alone a) = refl
-words_mention p (related op a b) = refl
-words_mention p (negated e) = words_mention p e
-words_mention p (shown e) = words_mention p e
-words_mention p (both a b) = list_any-append p (words b) (words a) ∙ ap (λ t. t || list_any p (words a)) (words_mention p b) ∙ ap (λ t. mentions p b || t) (words_mention p a) ∙ or_comm (mentions p b) (mentions p a) ∙ sym (list_any-append p (names_in a) (names_in b))
-words_mention p (either a b) = list_any-append p (words b) (words a) ∙ ap (λ t. t || list_any p (words a)) (words_mention p b) ∙ ap (λ t. mentions p b || t) (words_mention p a) ∙ or_comm (mentions p b) (mentions p a) ∙ sym (list_any-append p (names_in a) (names_in b))
-
-pub expr_pushed : (exprs : Exprs) (p : List ℕ → Bool) (e : Expr) (old new : List ℕ) → map (λ i. slice_index_or exprs.names i []) new ≡ map (λ i. slice_index_or exprs.names i []) old ++ words e → some_name exprs p new ≡ (some_name exprs p old || mentions p e)
-expr_pushed exprs p e old new h =
-    let w : List ℕ → List (List ℕ) = map (λ i. slice_index_or exprs.names i []) in
-    ap (list_any p) h ∙ list_any-append p (w old) (words e) ∙ ap (λ t. list_any p (w old) || t) (words_mention p e)
 
 -- a bound is an operand
 pub operand_mention : (p : List ℕ → Bool) (e : Expr) → IsSome (operand_alone e) → list_any p (operand_names (operand_in e)) ≡ mentions p e

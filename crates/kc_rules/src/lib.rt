@@ -9,6 +9,7 @@ mod fitting;
 mod graphs;
 mod linking;
 mod modules;
+mod names;
 mod reading;
 mod reports;
 mod rules;

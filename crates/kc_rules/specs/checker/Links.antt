@@ -1,11 +1,10 @@
 -- The dependencies as they are kept, and what is met on the way to them.
-use Rattle.std.specs.Prelude.{◌≡◌, ℕ, ◌+◌, ◌-◌, ◌<◌, ◌≤◌, Bool, false, ◌&&◌, ◌||◌, ◌==◌, List, [], length, map, take, drop, All, Option, Some, None, slice_get, slice_index, slice_index_or}
+use Rattle.std.specs.Prelude.{◌≡◌, ℕ, ◌+◌, ◌-◌, ◌<◌, ◌≤◌, Bool, false, ◌&&◌, ◌||◌, ◌==◌, List, length, take, drop, All, Option, Some, None, slice_index}
 use Rattle.std.specs.List.{list_any}
 use Rattle.std.specs.Option.{option_map}
 use Rattle.kc_value.specs.declared.value.Kind.{Kind}
 use Rattle.kc_expr.specs.Arena.{Exprs, stands_for}
-use Rattle.kc_expr.specs.Expr.{Expr}
-use Rattle.kc_expr.specs.Mentioned.{names_in}
+use Rattle.kc_expr.specs.Walked.{mentions}
 use Rattle.kc_tree.specs.declared.symbol.Default.{Default as KeptDefault}
 use Rattle.kc_tree.specs.declared.symbol.Range.{Range as KeptRange}
 use Rattle.kc_tree.specs.declared.symbol.Force.{Force as KeptForce}
@@ -46,15 +45,7 @@ is_at d (Some u) = u == d
 abbrev pub is_of : Whole → ℕ → List ℕ → Bool
 is_of tree d name = is_at d (option_map (unit_of tree) (symbol_named tree name))
 
--- whether the test passes a name in an expression
-abbrev pub mentions : (List ℕ → Bool) → Expr → Bool
-mentions p e = list_any p (names_in e)
-
--- whether the test passes one of the names of these numbers
-abbrev pub some_name : Exprs → (List ℕ → Bool) → List ℕ → Bool
-some_name exprs p ids = list_any p (map (λ i. slice_index_or exprs.names i []) ids)
-
--- the same of the names in some expressions, defaults, ranges, conditions of selects and implies
+-- whether the test passes a name in some expressions, defaults, ranges, conditions of selects and implies
 abbrev pub in_exprs : Exprs → (List ℕ → Bool) → List ℕ → Bool
 in_exprs exprs p ids = list_any (λ i. mentions p (stands_for exprs i)) ids
 

@@ -5,6 +5,7 @@ use Rattle.kc_expr.specs.Mentioned.{operand_names}
 use Rattle.kc_expr.specs.checker.Nodes.{operand_of}
 use Rattle.kc_expr.specs.checker.Store.{names_held}
 use Rattle.kc_expr.specs.Words.{words}
+use Rattle.kc_expr.proofs.KeptLists.{kept_through}
 use Rattle.kc_expr.proofs.MentionedLemmas.{met_both}
 use Rattle.kc_expr.proofs.StoreLemmas.{node_of, fits_at}
 use Rattle.kc_expr.proofs.mentioned.+push_names.Goals as goal
@@ -29,13 +30,13 @@ pub down-preserved-in-Negated : goal.down-preserved-in-Negated
 down-preserved-in-Negated t c =
     let e = ap words (node_of c.args.store.now c.down.at _ _ c.requires.sound (omega arith) c.node.ensures c.in-Negated.is) in
     let f = fits_at c.args.store.now c.down.at _ _ c.requires.sound (omega arith) c.node.ensures c.in-Negated.is in
-    record { below = omega (arith, f); words = ap (λ ws. map (λ i. slice_index_or (names_held c.args.store.now) i []) c.down.found.items ++ ws) (sym e) ∙ c.down.invariant.words; held = c.down.invariant.held }
+    record { below = omega (arith, f); words = ap (λ ws. map (λ i. slice_index_or (names_held c.args.store.now) i []) c.down.found.items ++ ws) (sym e) ∙ c.down.invariant.words; held = c.down.invariant.held; kept = c.down.invariant.kept }
 
 pub down-preserved-in-Shown : goal.down-preserved-in-Shown
 down-preserved-in-Shown t c =
     let e = ap words (node_of c.args.store.now c.down.at _ _ c.requires.sound (omega arith) c.node.ensures c.in-Shown.is) in
     let f = fits_at c.args.store.now c.down.at _ _ c.requires.sound (omega arith) c.node.ensures c.in-Shown.is in
-    record { below = omega (arith, f); words = ap (λ ws. map (λ i. slice_index_or (names_held c.args.store.now) i []) c.down.found.items ++ ws) (sym e) ∙ c.down.invariant.words; held = c.down.invariant.held }
+    record { below = omega (arith, f); words = ap (λ ws. map (λ i. slice_index_or (names_held c.args.store.now) i []) c.down.found.items ++ ws) (sym e) ∙ c.down.invariant.words; held = c.down.invariant.held; kept = c.down.invariant.kept }
 
 pub down-preserved-in-Both : goal.down-preserved-in-Both
 down-preserved-in-Both t c =
@@ -45,6 +46,7 @@ down-preserved-in-Both t c =
       below = omega (arith, f);
       words = met_both (map (λ i. slice_index_or (names_held c.args.store.now) i []) c.down.found.items) _ _ _ _ c.in_ok-push_names-in-Both.ensures.words (ap (λ ws. map (λ i. slice_index_or (names_held c.args.store.now) i []) c.down.found.items ++ ws) (sym e) ∙ c.down.invariant.words);
       held = λ all. c.in_ok-push_names-in-Both.ensures.held (c.down.invariant.held all);
+      kept = kept_through c.args.found.now.items c.down.found.items _ c.down.invariant.kept c.in_ok-push_names-in-Both.ensures.kept;
     }
 
 pub down-preserved : goal.down-preserved
@@ -55,4 +57,13 @@ down-preserved t c =
       below = omega (arith, f);
       words = met_both (map (λ i. slice_index_or (names_held c.args.store.now) i []) c.down.found.items) _ _ _ _ c.in_ok-push_names-in-Either.ensures.words (ap (λ ws. map (λ i. slice_index_or (names_held c.args.store.now) i []) c.down.found.items ++ ws) (sym e) ∙ c.down.invariant.words);
       held = λ all. c.in_ok-push_names-in-Either.ensures.held (c.down.invariant.held all);
+      kept = kept_through c.args.found.now.items c.down.found.items _ c.down.invariant.kept c.in_ok-push_names-in-Either.ensures.kept;
     }
+
+pub returns-in-Alone-clause-kept : goal.returns-in-Alone-clause-kept
+returns-in-Alone-clause-kept t c = kept_through c.args.found.now.items c.down.found.items _ c.down.invariant.kept c.push_name.ensures.kept
+
+pub returns-in-Related-clause-kept : goal.returns-in-Related-clause-kept
+returns-in-Related-clause-kept t c =
+    let first = kept_through c.args.found.now.items c.down.found.items _ c.down.invariant.kept c.push_name-in-Related.ensures.kept in
+    kept_through c.args.found.now.items c.push_name-in-Related.new.found.items _ first c.push_name-in-Related-2.ensures.kept

@@ -1,4 +1,4 @@
-use Rattle.std.proofs.Common.{◌≡◌, ℕ, ◌<◌, ◌≤◌, ◌++◌, [], length, map}
+use Rattle.std.proofs.Common.{◌≡◌, ℕ, ◌<◌, ◌≤◌, ◌++◌, [], length, map, take}
 use Rattle.std.specs.Prelude.{All, slice_index_or}
 use Rattle.kc_expr.specs.Arena.{stands_for}
 use Rattle.kc_expr.specs.checker.Store.{names_held, exprs_in}
@@ -14,6 +14,7 @@ invariant-down l = record {
   words : map (λ i. slice_index_or (names_held l.store) i []) l.found.items ++ words (stands_for (exprs_in l.store) l.at)
       ≡ map (λ i. slice_index_or (names_held l.store) i []) l.fn.found.items ++ words (stands_for (exprs_in l.store) l.index);
   held : All (λ (i : ℕ). i < length (names_held l.store)) l.fn.found.items → All (λ (i : ℕ). i < length (names_held l.store)) l.found.items;
+  kept : take (length l.fn.found.items) l.found.items ≡ l.fn.found.items;
 }
 
 abbrev pub decreases-down : goal.decreases-down

@@ -3,7 +3,8 @@ use Rattle.std.proofs.Math.Seq.{take-length}
 use Rattle.kc_expr.specs.Answers.{with_front}
 use Rattle.std.proofs.lemmas.Str.{IsCharBoundary-start}
 use Rattle.kc_expr.specs.Token.{lexed, pieces_of}
-use Rattle.kc_expr.proofs.Lexing.{step_white, step_token_of, cut_after_token, rest_is, pieces_more, text_is, kept_behind}
+use Rattle.kc_expr.proofs.KeptLists.{kept_behind}
+use Rattle.kc_expr.proofs.Lexing.{step_white, step_token_of, cut_after_token, rest_is, pieces_more, text_is}
 use Rattle.kc_expr.proofs.token.cut.Goals as goal
 
 pub loop-at-init : goal.loop-at-init

@@ -1,4 +1,4 @@
-use Rattle.std.proofs.Common.{◌+◌, refl, ap, ◌∙◌, arith, zero-add}
+use Rattle.std.proofs.Common.{refl, ap, ◌∙◌, arith, zero-add}
 use Rattle.kc_expr.specs.declared.token.TheConstants.{WORD_BYTES}
 use Rattle.kc_expr.specs.Token.{is_word_byte}
 use Rattle.kc_expr.proofs.WordBytes.{says_all, entry_says}

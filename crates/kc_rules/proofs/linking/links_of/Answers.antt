@@ -1,6 +1,9 @@
-use Rattle.std.proofs.Common.{◌∙◌, sym, subst, ap}
+use Rattle.std.proofs.Common.{◌∙◌}
 use Rattle.kc_rules.proofs.Chains.{linked}
 use Rattle.kc_rules.proofs.linking.links_of.Goals as goal
 
 pub loop-u-preserved : goal.loop-u-preserved
-loop-u-preserved c = linked c.args.tree.now.whole c.loop-u.u c.loop-u.made.starts.items c.loop-u.made.links.items c.as_slice.result.now c.link.new.links.starts.items c.link.new.links.links.items c.loop-u.invariant (c.as_slice.ensures.value ∙ c.in_ok-needed.ensures) c.in_ok-link.ensures.links c.in_ok-link.ensures.starts
+loop-u-preserved c = record {
+  links = linked c.args.tree.now.whole c.loop-u.u c.loop-u.made.starts.items c.loop-u.made.links.items c.as_slice.result.now c.link.new.links.starts.items c.link.new.links.links.items c.loop-u.invariant.links (c.as_slice.ensures.value ∙ c.in_ok-needed.ensures.needed) c.in_ok-link.ensures.links c.in_ok-link.ensures.starts;
+  room = c.in_ok-needed.ensures.room;
+}

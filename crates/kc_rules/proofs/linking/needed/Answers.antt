@@ -3,8 +3,8 @@ use Rattle.std.proofs.lemmas.List.Filters.{dedup_is}
 use Rattle.kc_rules.proofs.Chains.{sorted_needs}
 use Rattle.kc_rules.proofs.linking.needed.Goals as goal
 
-pub returns : goal.returns
-returns c =
+pub returns-clause-needed : goal.returns-clause-needed
+returns-clause-needed c =
     let found = c.push_needed.new.units.items in
     let sorted = c.sort_unstable.new.self.items in
     let last = c.dedup.new.self.items in

@@ -1,6 +1,7 @@
 use Rattle.std.proofs.Common.{ap}
 use Rattle.std.proofs.lemmas.Result.{on_ok_weaker}
-use Rattle.kc_rules.specs.checker.Links.{has, is_of, some_name}
+use Rattle.kc_expr.specs.Walked.{some_name}
+use Rattle.kc_rules.specs.checker.Links.{has, is_of}
 use Rattle.kc_rules.proofs.Needs.{names_met, choice_met}
 use Rattle.kc_rules.proofs.linking.push_choice_needs.Goals as goal
 
@@ -8,5 +9,5 @@ pub returns-clause-units : goal.returns-clause-units
 returns-clause-units c = λ d.
     on_ok_weaker c.push_units.result
     (choice_met c.args.tree.now.whole c.args.tree.now.exprs d c.args.choice.now _ _ _ _ (ap (λ us. has us d) c.requires.no_units) (ap (some_name c.args.tree.now.exprs (is_of c.args.tree.now.whole d)) c.requires.no_names)
-    (names_met c.args.tree.now.exprs (is_of c.args.tree.now.whole d) c.as_slice.result.now c.push_choice.new.names.items _ c.as_slice.ensures.value (c.in_ok-push_choice.ensures (is_of c.args.tree.now.whole d))))
+    (names_met c.args.tree.now.exprs (is_of c.args.tree.now.whole d) c.as_slice.result.now c.push_choice.new.names.items _ c.as_slice.ensures.value (c.in_ok-push_choice.ensures.names (is_of c.args.tree.now.whole d))))
     (c.push_units.ensures.units d)

@@ -1,6 +1,7 @@
 use Rattle.std.proofs.Common.{ap}
 use Rattle.std.proofs.lemmas.Result.{on_ok_weaker}
-use Rattle.kc_rules.specs.checker.Links.{has, is_of, some_name}
+use Rattle.kc_expr.specs.Walked.{some_name}
+use Rattle.kc_rules.specs.checker.Links.{has, is_of}
 use Rattle.kc_rules.proofs.Needs.{names_met, symbol_met}
 use Rattle.kc_rules.proofs.linking.push_symbol_needs.Goals as goal
 
@@ -10,5 +11,5 @@ returns-clause-units c = λ d.
     (symbol_met c.args.tree.now.whole c.args.tree.now.exprs d c.args.symbol.now c.args.modules.now c.requires.fits.bounds c.requires.modules _ _ _ _ _ _ _
     (ap (λ us. has us d) c.requires.no_units) (c.in_ok-push_forces.ensures.units d) (c.in_ok-push_forces-2.ensures.units d) (c.in_ok-push_modules.ensures.units d)
     (ap (some_name c.args.tree.now.exprs (is_of c.args.tree.now.whole d)) c.requires.no_names)
-    (names_met c.args.tree.now.exprs (is_of c.args.tree.now.whole d) c.as_slice.result.now c.push_symbol.new.names.items _ c.as_slice.ensures.value (c.in_ok-push_symbol.ensures (is_of c.args.tree.now.whole d))))
+    (names_met c.args.tree.now.exprs (is_of c.args.tree.now.whole d) c.as_slice.result.now c.push_symbol.new.names.items _ c.as_slice.ensures.value (c.in_ok-push_symbol.ensures.names (is_of c.args.tree.now.whole d))))
     (c.push_units.ensures.units d)

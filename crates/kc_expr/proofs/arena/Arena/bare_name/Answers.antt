@@ -1,9 +1,7 @@
-use Rattle.std.proofs.Common.{◌≡◌, [], get_or, Some, None, ap, sym, ◌∙◌}
-use Rattle.kc_expr.specs.Arena.{Exprs, stands_for}
-use Rattle.kc_expr.specs.Expr.{named}
-use Rattle.kc_expr.specs.Names.{name_of_operand, name_alone}
+use Rattle.std.proofs.Common.{[], get_or, Some, ap, sym, ◌∙◌}
+use Rattle.kc_expr.specs.Arena.{Exprs}
+use Rattle.kc_expr.specs.Names.{name_of_operand}
 use Rattle.kc_expr.specs.checker.Nodes.{operand_of}
-use Rattle.kc_expr.specs.Operand.{operand_alone}
 use Rattle.kc_expr.specs.checker.Store.{names_held}
 use Rattle.std.specs.Prelude.{option_and_then}
 use Rattle.kc_expr.proofs.MentionedLemmas.{operand_is, operand_none}

@@ -128,3 +128,138 @@ parse_ands-parse_factor-requires-in-ands t c = (search rules, (next_within c.arg
 
 pub parse_ors-parse_ands-requires-in-ors : goal.parse_ors-parse_ands-requires-in-ors
 parse_ors-parse_ands-requires-in-ors t c = (search rules, (next_within c.args.tokens.now c.ors.next Or (c.stands_at.ensures.0 c.ors-test.true), c.ors.invariant.sound))
+
+pub parse_ands-returns-in_err-left-clause-sound : goal.parse_ands-returns-in_err-left-clause-sound
+parse_ands-returns-in_err-left-clause-sound t c = c.parse_factor.ensures.sound
+
+pub parse_ands-returns-in_err-left-clause-extends : goal.parse_ands-returns-in_err-left-clause-extends
+parse_ands-returns-in_err-left-clause-extends t c = c.parse_factor.ensures.extends
+
+pub parse_ands-returns-in_err-right-clause-sound : goal.parse_ands-returns-in_err-right-clause-sound
+parse_ands-returns-in_err-right-clause-sound t c = c.parse_factor-in-ands.ensures.sound
+
+pub parse_ands-returns-in_err-right-clause-extends : goal.parse_ands-returns-in_err-right-clause-extends
+parse_ands-returns-in_err-right-clause-extends t c = extends_on c.args.self.now c.ands.self c.parse_factor-in-ands.new.self c.ands.invariant.extends c.parse_factor-in-ands.ensures.extends
+
+pub parse_ands-push-requires-clause-sound : goal.parse_ands-push-requires-clause-sound
+parse_ands-push-requires-clause-sound t c = c.parse_factor-in-ands.ensures.sound
+
+pub parse_ands-returns-in_err-left-2-clause-sound : goal.parse_ands-returns-in_err-left-2-clause-sound
+parse_ands-returns-in_err-left-2-clause-sound t c = c.push.ensures.sound
+
+pub parse_ands-returns-in_err-left-2-clause-extends : goal.parse_ands-returns-in_err-left-2-clause-extends
+parse_ands-returns-in_err-left-2-clause-extends t c = extends_on c.args.self.now c.parse_factor-in-ands.new.self c.push.new.self (extends_on c.args.self.now c.ands.self c.parse_factor-in-ands.new.self c.ands.invariant.extends c.parse_factor-in-ands.ensures.extends) c.push.ensures.extends
+
+pub parse_ands-returns-in_err-left-2-clause-parses : goal.parse_ands-returns-in_err-left-2-clause-parses
+parse_ands-returns-in_err-left-2-clause-parses t c =
+    let p = err_from_is_err_and c.from_residual-in_err-left-2.result c.from_residual-in_err-left-2.ensures.1 in
+    rw (p.1, p.2) (inl c.in_err-left-2.ensures.memory)
+
+pub parse_ands-returns-clause-sound : goal.parse_ands-returns-clause-sound
+parse_ands-returns-clause-sound t c = c.ands.invariant.sound
+
+pub parse_ands-returns-clause-extends : goal.parse_ands-returns-clause-extends
+parse_ands-returns-clause-extends t c = c.ands.invariant.extends
+
+pub parse_ands-returns-clause-names : goal.parse_ands-returns-clause-names
+parse_ands-returns-clause-names t c = c.ands.invariant.names
+
+pub parse_ors-returns-in_err-left-clause-sound : goal.parse_ors-returns-in_err-left-clause-sound
+parse_ors-returns-in_err-left-clause-sound t c = c.parse_ands.ensures.sound
+
+pub parse_ors-returns-in_err-left-clause-extends : goal.parse_ors-returns-in_err-left-clause-extends
+parse_ors-returns-in_err-left-clause-extends t c = c.parse_ands.ensures.extends
+
+pub parse_ors-returns-in_err-right-clause-sound : goal.parse_ors-returns-in_err-right-clause-sound
+parse_ors-returns-in_err-right-clause-sound t c = c.parse_ands-in-ors.ensures.sound
+
+pub parse_ors-returns-in_err-right-clause-extends : goal.parse_ors-returns-in_err-right-clause-extends
+parse_ors-returns-in_err-right-clause-extends t c = extends_on c.args.self.now c.ors.self c.parse_ands-in-ors.new.self c.ors.invariant.extends c.parse_ands-in-ors.ensures.extends
+
+pub parse_ors-push-requires-clause-sound : goal.parse_ors-push-requires-clause-sound
+parse_ors-push-requires-clause-sound t c = c.parse_ands-in-ors.ensures.sound
+
+pub parse_ors-returns-in_err-left-2-clause-sound : goal.parse_ors-returns-in_err-left-2-clause-sound
+parse_ors-returns-in_err-left-2-clause-sound t c = c.push.ensures.sound
+
+pub parse_ors-returns-in_err-left-2-clause-extends : goal.parse_ors-returns-in_err-left-2-clause-extends
+parse_ors-returns-in_err-left-2-clause-extends t c = extends_on c.args.self.now c.parse_ands-in-ors.new.self c.push.new.self (extends_on c.args.self.now c.ors.self c.parse_ands-in-ors.new.self c.ors.invariant.extends c.parse_ands-in-ors.ensures.extends) c.push.ensures.extends
+
+pub parse_ors-returns-in_err-left-2-clause-parses : goal.parse_ors-returns-in_err-left-2-clause-parses
+parse_ors-returns-in_err-left-2-clause-parses t c =
+    let p = err_from_is_err_and c.from_residual-in_err-left-2.result c.from_residual-in_err-left-2.ensures.1 in
+    rw (p.1, p.2) (inl c.in_err-left-2.ensures.memory)
+
+pub parse_ors-returns-clause-sound : goal.parse_ors-returns-clause-sound
+parse_ors-returns-clause-sound t c = c.ors.invariant.sound
+
+pub parse_ors-returns-clause-extends : goal.parse_ors-returns-clause-extends
+parse_ors-returns-clause-extends t c = c.ors.invariant.extends
+
+pub parse_ors-returns-clause-names : goal.parse_ors-returns-clause-names
+parse_ors-returns-clause-names t c = c.ors.invariant.names
+
+pub parse_factor-parse_relation-requires-clause-within : goal.parse_factor-parse_relation-requires-clause-within
+parse_factor-parse_relation-requires-clause-within t c = c.requires.within
+
+pub parse_factor-parse_relation-requires-clause-sound : goal.parse_factor-parse_relation-requires-clause-sound
+parse_factor-parse_relation-requires-clause-sound t c = c.requires.sound
+
+pub parse_factor-returns-then-not-stands_at-clause-sound : goal.parse_factor-returns-then-not-stands_at-clause-sound
+parse_factor-returns-then-not-stands_at-clause-sound t c = c.parse_relation.ensures.sound
+
+pub parse_factor-returns-then-not-stands_at-clause-extends : goal.parse_factor-returns-then-not-stands_at-clause-extends
+parse_factor-returns-then-not-stands_at-clause-extends t c = c.parse_relation.ensures.extends
+
+pub parse_factor-returns-then-not-stands_at-clause-names : goal.parse_factor-returns-then-not-stands_at-clause-names
+parse_factor-returns-then-not-stands_at-clause-names t c = c.parse_relation.ensures.names
+
+pub parse_factor-returns-then-depth-eq0-clause-sound : goal.parse_factor-returns-then-depth-eq0-clause-sound
+parse_factor-returns-then-depth-eq0-clause-sound t c = c.requires.sound
+
+pub parse_factor-returns-in_err-part-clause-sound : goal.parse_factor-returns-in_err-part-clause-sound
+parse_factor-returns-in_err-part-clause-sound t c = c.parse_factor.ensures.sound
+
+pub parse_factor-returns-in_err-part-clause-extends : goal.parse_factor-returns-in_err-part-clause-extends
+parse_factor-returns-in_err-part-clause-extends t c = c.parse_factor.ensures.extends
+
+pub parse_factor-push-requires-clause-sound : goal.parse_factor-push-requires-clause-sound
+parse_factor-push-requires-clause-sound t c = c.parse_factor.ensures.sound
+
+pub parse_factor-returns-in_err-push-clause-sound : goal.parse_factor-returns-in_err-push-clause-sound
+parse_factor-returns-in_err-push-clause-sound t c = c.push.ensures.sound
+
+pub parse_factor-returns-in_err-push-clause-extends : goal.parse_factor-returns-in_err-push-clause-extends
+parse_factor-returns-in_err-push-clause-extends t c = extends_on c.args.self.now c.parse_factor.new.self c.push.new.self c.parse_factor.ensures.extends c.push.ensures.extends
+
+pub parse_factor-returns-in_err-push-clause-parses : goal.parse_factor-returns-in_err-push-clause-parses
+parse_factor-returns-in_err-push-clause-parses t c =
+    let p = err_from_is_err_and c.from_residual-in_err-push.result c.from_residual-in_err-push.ensures.1 in
+    rw (p.1, p.2) (inl c.in_err-push.ensures.memory)
+
+pub parse_factor-returns-then-negated-clause-sound : goal.parse_factor-returns-then-negated-clause-sound
+parse_factor-returns-then-negated-clause-sound t c = c.push.ensures.sound
+
+pub parse_factor-returns-then-negated-clause-extends : goal.parse_factor-returns-then-negated-clause-extends
+parse_factor-returns-then-negated-clause-extends t c = extends_on c.args.self.now c.parse_factor.new.self c.push.new.self c.parse_factor.ensures.extends c.push.ensures.extends
+
+pub parse_factor-returns-in_err-inside-clause-sound : goal.parse_factor-returns-in_err-inside-clause-sound
+parse_factor-returns-in_err-inside-clause-sound t c = c.parse_ors.ensures.sound
+
+pub parse_factor-returns-in_err-inside-clause-extends : goal.parse_factor-returns-in_err-inside-clause-extends
+parse_factor-returns-in_err-inside-clause-extends t c = c.parse_ors.ensures.extends
+
+pub parse_factor-returns-then-stands_at-clause-sound : goal.parse_factor-returns-then-stands_at-clause-sound
+parse_factor-returns-then-stands_at-clause-sound t c = c.parse_ors.ensures.sound
+
+pub parse_factor-returns-then-stands_at-clause-extends : goal.parse_factor-returns-then-stands_at-clause-extends
+parse_factor-returns-then-stands_at-clause-extends t c = c.parse_ors.ensures.extends
+
+pub parse_factor-returns-then-stands_at-clause-names : goal.parse_factor-returns-then-stands_at-clause-names
+parse_factor-returns-then-stands_at-clause-names t c = c.in_ok-inside.ensures.names
+
+pub parse_factor-returns-else-stands_at-clause-sound : goal.parse_factor-returns-else-stands_at-clause-sound
+parse_factor-returns-else-stands_at-clause-sound t c = c.parse_ors.ensures.sound
+
+pub parse_factor-returns-else-stands_at-clause-extends : goal.parse_factor-returns-else-stands_at-clause-extends
+parse_factor-returns-else-stands_at-clause-extends t c = c.parse_ors.ensures.extends

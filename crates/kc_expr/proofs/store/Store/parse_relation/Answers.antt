@@ -1,10 +1,11 @@
-use Rattle.std.proofs.Common.{sym, ◌∙◌}
+use Rattle.std.proofs.Common.{sym, ◌∙◌, inl}
 use Rattle.kc_expr.specs.checker.Nodes.{operand_of}
 use Rattle.kc_expr.specs.checker.Store.{names_held}
 use Rattle.kc_expr.specs.Token.{pieces_of}
 use Rattle.kc_expr.proofs.NamesRead.{read_alone, read_related}
 use Rattle.kc_expr.proofs.ParseSteps.{relation_missing, relation_alone, relation_unfinished, relation_whole}
-use Rattle.kc_expr.proofs.StoreLemmas.{operand_on}
+use Rattle.kc_expr.proofs.StoreLemmas.{operand_on, extends_on}
+use Rattle.std.proofs.lemmas.Result.{err_from_is_err_and}
 use Rattle.kc_expr.proofs.store.Store.parse_relation.Goals as goal
 
 pub returns-in_default-clause-parses : goal.returns-in_default-clause-parses
@@ -35,3 +36,86 @@ pub returns-clause-names : goal.returns-clause-names
 returns-clause-names c =
     read_related c.args.self.now c.push.new.self _ c.leaf_at.new.self c.leaf_at-2.new.self _ _ _ _ (rw c.in-Some.is at c.in_ok-left.ensures.names) (rw c.in-Some-2.is at c.in_ok-right.ensures.names) c.push.ensures.names
     (operand_on c.leaf_at.new.self c.leaf_at-2.new.self c.in-Some.left c.leaf_at-2.ensures.extends (rw c.in-Some.is at c.in_ok-left.ensures.fits)) c.in_ok-push.ensures.stands
+
+pub leaf_at-requires : goal.leaf_at-requires
+leaf_at-requires c = c.requires.sound
+
+pub returns-in_err-left-clause-sound : goal.returns-in_err-left-clause-sound
+returns-in_err-left-clause-sound c = c.leaf_at.ensures.sound
+
+pub returns-in_err-left-clause-extends : goal.returns-in_err-left-clause-extends
+returns-in_err-left-clause-extends c = c.leaf_at.ensures.extends
+
+pub returns-in_err-left-clause-parses : goal.returns-in_err-left-clause-parses
+returns-in_err-left-clause-parses c =
+    let p = err_from_is_err_and c.from_residual.result c.from_residual.ensures.1 in
+    rw (p.1, p.2) (inl c.in_err-left.ensures.memory)
+
+pub returns-in_default-clause-sound : goal.returns-in_default-clause-sound
+returns-in_default-clause-sound c = c.leaf_at.ensures.sound
+
+pub returns-in_default-clause-extends : goal.returns-in_default-clause-extends
+returns-in_default-clause-extends c = c.leaf_at.ensures.extends
+
+pub push_alone-requires-clause-sound : goal.push_alone-requires-clause-sound
+push_alone-requires-clause-sound c = c.leaf_at.ensures.sound
+
+pub push_alone-requires-clause-fits : goal.push_alone-requires-clause-fits
+push_alone-requires-clause-fits c = rw c.in-Some.is at c.in_ok-left.ensures.fits
+
+pub returns-in_err-push_alone-clause-sound : goal.returns-in_err-push_alone-clause-sound
+returns-in_err-push_alone-clause-sound c = c.push_alone.ensures.sound
+
+pub returns-in_err-push_alone-clause-extends : goal.returns-in_err-push_alone-clause-extends
+returns-in_err-push_alone-clause-extends c = extends_on c.args.self.now c.leaf_at.new.self c.push_alone.new.self c.leaf_at.ensures.extends c.push_alone.ensures.extends
+
+pub returns-in_err-push_alone-clause-parses : goal.returns-in_err-push_alone-clause-parses
+returns-in_err-push_alone-clause-parses c =
+    let p = err_from_is_err_and c.from_residual-in_err-push_alone.result c.from_residual-in_err-push_alone.ensures.1 in
+    rw (p.1, p.2) (inl c.in_err-push_alone.ensures.memory)
+
+pub returns-in_default-relation_at-clause-sound : goal.returns-in_default-relation_at-clause-sound
+returns-in_default-relation_at-clause-sound c = c.push_alone.ensures.sound
+
+pub returns-in_default-relation_at-clause-extends : goal.returns-in_default-relation_at-clause-extends
+returns-in_default-relation_at-clause-extends c = extends_on c.args.self.now c.leaf_at.new.self c.push_alone.new.self c.leaf_at.ensures.extends c.push_alone.ensures.extends
+
+pub leaf_at-requires-2 : goal.leaf_at-requires-2
+leaf_at-requires-2 c = c.leaf_at.ensures.sound
+
+pub returns-in_err-right-clause-sound : goal.returns-in_err-right-clause-sound
+returns-in_err-right-clause-sound c = c.leaf_at-2.ensures.sound
+
+pub returns-in_err-right-clause-extends : goal.returns-in_err-right-clause-extends
+returns-in_err-right-clause-extends c = extends_on c.args.self.now c.leaf_at.new.self c.leaf_at-2.new.self c.leaf_at.ensures.extends c.leaf_at-2.ensures.extends
+
+pub returns-in_err-right-clause-parses : goal.returns-in_err-right-clause-parses
+returns-in_err-right-clause-parses c =
+    let p = err_from_is_err_and c.from_residual-in_err-right.result c.from_residual-in_err-right.ensures.1 in
+    rw (p.1, p.2) (inl c.in_err-right.ensures.memory)
+
+pub returns-in_default-2-clause-sound : goal.returns-in_default-2-clause-sound
+returns-in_default-2-clause-sound c = c.leaf_at-2.ensures.sound
+
+pub returns-in_default-2-clause-extends : goal.returns-in_default-2-clause-extends
+returns-in_default-2-clause-extends c = extends_on c.args.self.now c.leaf_at.new.self c.leaf_at-2.new.self c.leaf_at.ensures.extends c.leaf_at-2.ensures.extends
+
+pub push-requires-clause-sound : goal.push-requires-clause-sound
+push-requires-clause-sound c = c.leaf_at-2.ensures.sound
+
+pub returns-in_err-push-clause-sound : goal.returns-in_err-push-clause-sound
+returns-in_err-push-clause-sound c = c.push.ensures.sound
+
+pub returns-in_err-push-clause-extends : goal.returns-in_err-push-clause-extends
+returns-in_err-push-clause-extends c = extends_on c.args.self.now c.leaf_at-2.new.self c.push.new.self (extends_on c.args.self.now c.leaf_at.new.self c.leaf_at-2.new.self c.leaf_at.ensures.extends c.leaf_at-2.ensures.extends) c.push.ensures.extends
+
+pub returns-in_err-push-clause-parses : goal.returns-in_err-push-clause-parses
+returns-in_err-push-clause-parses c =
+    let p = err_from_is_err_and c.from_residual-in_err-push.result c.from_residual-in_err-push.ensures.1 in
+    rw (p.1, p.2) (inl c.in_err-push.ensures.memory)
+
+pub returns-clause-sound : goal.returns-clause-sound
+returns-clause-sound c = c.push.ensures.sound
+
+pub returns-clause-extends : goal.returns-clause-extends
+returns-clause-extends c = extends_on c.args.self.now c.leaf_at-2.new.self c.push.new.self (extends_on c.args.self.now c.leaf_at.new.self c.leaf_at-2.new.self c.leaf_at.ensures.extends c.leaf_at-2.ensures.extends) c.push.ensures.extends

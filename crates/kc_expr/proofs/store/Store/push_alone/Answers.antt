@@ -22,3 +22,51 @@ returns-clause-stands c =
     let right : stands_for (exprs_in c.push-2.new.self) c.in_ok-name.name ≡ alone (named modules) = c.in_ok-name.ensures.stands.is ∙ ap (λ x. alone (named x)) c.in_ok-modules.ensures.name in
     let whole = ap (λ e. both e (stands_for (exprs_in c.push-2.new.self) c.in_ok-name.name)) left ∙ ap (both (alone (constant M))) right ∙ sym (m_condition c.args.condition c.args.leaf (names_held c.args.self.now) c.args.self.now.texts.items c.if-not-condition.false m) in
     IfOk-weaker c.push-3.result _ _ (λ i s. subst (Stands (exprs_in c.push-3.new.self) i) whole s) c.push-3.ensures.stands
+
+pub push-requires-clause-sound : goal.push-requires-clause-sound
+push-requires-clause-sound c = c.requires.sound
+
+pub push-requires-clause-fits : goal.push-requires-clause-fits
+push-requires-clause-fits c = c.requires.fits
+
+pub returns-in_err-id-clause-sound : goal.returns-in_err-id-clause-sound
+returns-in_err-id-clause-sound c = c.push.ensures.sound
+
+pub returns-in_err-id-clause-extends : goal.returns-in_err-id-clause-extends
+returns-in_err-id-clause-extends c = c.push.ensures.extends
+
+pub returns-then-not-condition-clause-sound : goal.returns-then-not-condition-clause-sound
+returns-then-not-condition-clause-sound c = c.push.ensures.sound
+
+pub returns-then-not-condition-clause-extends : goal.returns-then-not-condition-clause-extends
+returns-then-not-condition-clause-extends c = c.push.ensures.extends
+
+pub intern-requires : goal.intern-requires
+intern-requires c = c.push.ensures.sound
+
+pub returns-in_err-modules-clause-sound : goal.returns-in_err-modules-clause-sound
+returns-in_err-modules-clause-sound c = c.intern.ensures.sound
+
+pub returns-in_err-modules-clause-extends : goal.returns-in_err-modules-clause-extends
+returns-in_err-modules-clause-extends c = extends_on c.args.self.now c.push.new.self c.intern.new.self c.push.ensures.extends c.intern.ensures.extends
+
+pub push-requires-2-clause-sound : goal.push-requires-2-clause-sound
+push-requires-2-clause-sound c = c.intern.ensures.sound
+
+pub push-requires-2-clause-fits : goal.push-requires-2-clause-fits
+push-requires-2-clause-fits c = c.in_ok-modules.ensures.within
+
+pub returns-in_err-name-clause-sound : goal.returns-in_err-name-clause-sound
+returns-in_err-name-clause-sound c = c.push-2.ensures.sound
+
+pub returns-in_err-name-clause-extends : goal.returns-in_err-name-clause-extends
+returns-in_err-name-clause-extends c = extends_on c.args.self.now c.intern.new.self c.push-2.new.self (extends_on c.args.self.now c.push.new.self c.intern.new.self c.push.ensures.extends c.intern.ensures.extends) c.push-2.ensures.extends
+
+pub push-requires-3-clause-sound : goal.push-requires-3-clause-sound
+push-requires-3-clause-sound c = c.push-2.ensures.sound
+
+pub returns-clause-sound : goal.returns-clause-sound
+returns-clause-sound c = c.push-3.ensures.sound
+
+pub returns-clause-extends : goal.returns-clause-extends
+returns-clause-extends c = extends_on c.args.self.now c.push-2.new.self c.push-3.new.self (extends_on c.args.self.now c.intern.new.self c.push-2.new.self (extends_on c.args.self.now c.push.new.self c.intern.new.self c.push.ensures.extends c.intern.ensures.extends) c.push-2.ensures.extends) c.push-3.ensures.extends

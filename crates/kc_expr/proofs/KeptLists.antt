@@ -1,0 +1,16 @@
+-- A list that stands in front of another.
+use Rattle.std.proofs.Common.{◌≡◌, ◌≤◌, ◌++◌, List, [], ◌∷◌, length, take, drop, ap, sym, ◌∙◌, append_assoc, arith}
+use Rattle.std.proofs.lemmas.List.{length-take, take-append-drop, take-take}
+use Rattle.std.proofs.Math.Seq.{take-append_seam}
+
+-- what stands in front of a list stands in front of a longer one
+pub kept_behind : {X : Type 0} (old xs : List X) (x : X) → take (length old) xs ≡ old → take (length old) (xs ++ x ∷ []) ≡ old
+kept_behind old xs x e =
+    let parts : xs ≡ old ++ drop (length old) xs = sym (take-append-drop (length old) xs) ∙ ap (λ ys. ys ++ drop (length old) xs) e in
+    ap (take (length old)) (ap (λ ys. ys ++ x ∷ []) parts ∙ append_assoc old (drop (length old) xs) (x ∷ [])) ∙ take-append_seam old (drop (length old) xs ++ x ∷ [])
+
+-- what is kept of what was kept
+pub kept_through : {X : Type 0} (old mid xs : List X) → take (length old) mid ≡ old → take (length mid) xs ≡ mid → take (length old) xs ≡ old
+kept_through old mid xs e f =
+    let shorter : length old ≤ length mid = omega (arith, ap length e, length-take (length old) mid) in
+    sym (take-take (length old) (length mid) xs shorter) ∙ ap (take (length old)) f ∙ e

@@ -1,0 +1,9 @@
+use Rattle.std.proofs.Common.{◌≡◌, ◌<◌, replicate, arith}
+use Rattle.std.proofs.lemmas.List.Elements.{All-replicate}
+use Rattle.kc_expr.proofs.WalkLemmas.{none_stamped}
+use Rattle.kc_expr.proofs.walks.Walk.new.Goals as goal
+
+pub returns-clause-none : goal.returns-clause-none
+returns-clause-none c =
+    let zeros : c.in_ok-vec.field-0.items ≡ replicate c.args.count 0 = c.in_ok-vec.ensures.items_if_clones_equal (λ y h. h) in
+    none_stamped 1 c.in_ok-vec.field-0.items (rw zeros (All-replicate (λ s. s < 1) c.args.count 0 (omega arith)))

@@ -1,0 +1,7 @@
+use Rattle.std.proofs.Common.{true, ap, ◌∙◌}
+use Rattle.std.specs.Prelude.{slice_set}
+use Rattle.kc_expr.proofs.WalkLemmas.{stamped_set}
+use Rattle.kc_expr.proofs.walks.Walk.stamp.Goals as goal
+
+pub returns : goal.returns
+returns c = stamped_set c.self.inside.turn c.self.inside.stamps.items c.args.index ∙ ap (λ w. slice_set w c.args.index true) c.self.view_is

@@ -1,6 +1,0 @@
-use Rattle.std.proofs.Common.{◌≡◌, ℕ, Bool, ◌||◌, List, take}
-use Rattle.kc_rules.specs.checker.Links.{some_name, in_defaults}
-use Rattle.kc_rules.proofs.linking.push_defaults.Given as goal
-
-abbrev pub invariant-loop-default : goal.invariant-loop-default
-invariant-loop-default l = (p : List ℕ → Bool) → some_name l.tree.exprs p l.names.items ≡ (some_name l.tree.exprs p l.initial.names.items || in_defaults l.tree.exprs p (take l.default-index l.defaults))

@@ -1,9 +1,0 @@
-use Rattle.std.proofs.Common.{ℕ, Bool, ◌||◌, arith}
-use Rattle.std.specs.List.{list_any}
-use Rattle.kc_expr.specs.Arena.{stands_for}
-use Rattle.kc_rules.specs.checker.Links.{mentions}
-use Rattle.kc_rules.proofs.Pushes.{any_pushed, two_pushed}
-use Rattle.kc_rules.proofs.linking.push_exprs.Goals as goal
-
-pub loop-id-preserved : goal.loop-id-preserved
-loop-id-preserved c = λ p. any_pushed (λ (i : ℕ). mentions p (stands_for c.args.tree.now.exprs i)) c.args.ids.now c.loop-id.id-index c.id-item.result _ _ _ (omega arith) c.id-item.is (c.in_ok-push_expr.ensures p) (c.loop-id.invariant p)

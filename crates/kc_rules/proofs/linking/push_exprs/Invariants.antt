@@ -1,6 +1,0 @@
-use Rattle.std.proofs.Common.{◌≡◌, ℕ, Bool, ◌||◌, List, take}
-use Rattle.kc_rules.specs.checker.Links.{some_name, in_exprs}
-use Rattle.kc_rules.proofs.linking.push_exprs.Given as goal
-
-abbrev pub invariant-loop-id : goal.invariant-loop-id
-invariant-loop-id l = (p : List ℕ → Bool) → some_name l.tree.exprs p l.names.items ≡ (some_name l.tree.exprs p l.initial.names.items || in_exprs l.tree.exprs p (take l.id-index l.ids))
