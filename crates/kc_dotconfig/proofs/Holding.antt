@@ -5,7 +5,9 @@ use Rattle.std.proofs.lemmas.Bool.{cases_eq}
 use Rattle.std.proofs.lemmas.List.{get_or-set_other, length-set}
 use Rattle.kc_tree_model.specs.Trees.{Whole}
 use Rattle.kc_system.specs.Changes.{changed_users, FitsChanges}
-use Rattle.kc_system.specs.Solutions.{user_of}
+use Rattle.kc_system.specs.Solutions.{user_of, FitsUsers}
+use Rattle.kc_system.proofs.Lists.{none_fits}
+use Rattle.kc_system.proofs.UserChanges.{changed_fits}
 use Rattle.kc_rules_model.specs.declared.values.UserValue.{UserValue}
 use Rattle.kc_rules_model.specs.Shapes.{user_fits}
 use Rattle.kc_dotconfig_model.specs.Files.{no_users, laid_over}
@@ -15,6 +17,11 @@ use Rattle.kc_dotconfig.specs.checker.Configs.{clears_of, units_of}
 pub changed_both : (a b : List (ℕ × Option UserValue)) (users : List (Option UserValue)) → changed_users (a ++ b) users ≡ changed_users b (changed_users a users)
 changed_both [] b users = refl
 changed_both (c ∷ a) b users = changed_both a b (slice_set users c.0 c.1)
+
+-- one more user value
+pub assigned_push : (es : List (ℕ × UserValue)) (a : ℕ × UserValue) (users : List (Option UserValue)) → changed_users (changes_of (es ++ a ∷ [])) users ≡ slice_set (changed_users (changes_of es) users) a.0 (Some a.1)
+assigned_push [] a users = refl
+assigned_push (e ∷ es) a users = assigned_push es a (slice_set users e.0 (Some e.1))
 
 -- a list's first element, and those behind it
 pub first_in : (x : ℕ) (xs : List ℕ) → Contains (x ∷ xs) x
@@ -99,6 +106,10 @@ lies_over tree es users same =
     ap (changed_users (changes_of es)) (sym (none_over users) ∙ ap (λ n. laid_over (replicate n None) users) same)
     ∙ changes_over es (no_users tree) users (none_length (length tree.units) ∙ sym same)
 
+-- the assignment of user values and no others lies over that of none
+pub lies_alone : (tree : Whole) (es : List (ℕ × UserValue)) → users_of tree es ≡ laid_over (users_of tree es) (no_users tree)
+lies_alone tree es = lies_over tree es (no_users tree) (none_length (length tree.units))
+
 -- fitting user values are fitting changes
 same_pair : (p q : ℕ × Option UserValue) → Some p ≡ Some q → p ≡ q
 same_pair p q e = cc
@@ -117,6 +128,12 @@ fits_changes tree es f k u x e =
     let at = at_of es k u x e in
     let each = f.each k u at.0 at.1 in
     (each.0, subst (λ o. IfSome o (λ y. IsTrue (user_fits tree u y))) (sym at.2) each.1)
+
+-- an assignment of fitting user values fits
+pub users_fit : (tree : Whole) (es : List (ℕ × UserValue)) → FitsTree tree es → FitsUsers (length tree.units) (λ u x. IsTrue (user_fits tree u x)) (users_of tree es)
+users_fit tree es f =
+    changed_fits (length tree.units) (λ u x. IsTrue (user_fits tree u x)) (changes_of es) (no_users tree) (fits_changes tree es f)
+    (none_fits (λ u x. IsTrue (user_fits tree u x)) (no_users tree) (length tree.units) (length tree.units) refl refl)
 
 -- clearing units of the tree, and then fitting changes
 pub fits_both : (size : ℕ) (fits : ℕ → UserValue → Type 0) (units : List ℕ) (b : List (ℕ × Option UserValue)) → ((u : ℕ) → Contains units u → u < size) → FitsChanges size fits b → FitsChanges size fits (clears_of units ++ b)

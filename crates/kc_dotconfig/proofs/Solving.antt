@@ -51,20 +51,26 @@ merged_kept settled old new held more es kept fits solved same users is = record
     | inr fresh ↦ units_within (tree_in old) es fits u (of_filter (λ u. is_none (user_of old.users u)) (units_of es) u fresh)
   ]
 
+-- the units kept where just these user values are held
+pub held_kept : (settled : Settled) (new : Configured) (more : List ℕ) (es : List (ℕ × UserValue)) → FitsTree (whole_of settled) es → IsSolved new → new.system ≡ settled
+    → new.users ≡ users_of (whole_of settled) es → more ≡ units_of es → IsKept settled new more
+held_kept settled new more es fits solved same users is = record {
+  same = same;
+  solved = solved;
+  covers = λ u x e. subst (λ l. Contains l u) (sym is) (covers u x (ap (λ l. user_of l u) (sym users) ∙ e));
+  within = λ u c. subst (λ s. u < length (whole_of s).units) (sym same) (units_within (whole_of settled) es fits u (subst (λ l. Contains l u) is c));
+} where
+  covers : (u : ℕ) (x : UserValue) → user_of (users_of (whole_of settled) es) u ≡ Some x → Contains (units_of es) u
+  covers u x e = elim (given_or_had es (replicate (length (whole_of settled).units) None) u x e) [
+    | inl given ↦ given
+    | inr had ↦ absurd (none_held (length (whole_of settled).units) u had.0 had.1)
+  ]
+
 -- and after they took the place of those held
 pub replaced_kept : (settled : Settled) (old new : Configured) (held more : List ℕ) (es : List (ℕ × UserValue)) → IsKept settled old held → FitsTree (tree_in old) es → IsSolved new → new.system ≡ old.system
     → new.users ≡ users_of (tree_in old) es → more ≡ units_of es → IsKept settled new more
-replaced_kept settled old new held more es kept fits solved same users is = record {
-  same = same ∙ kept.same;
-  solved = solved;
-  covers = λ u x e. subst (λ l. Contains l u) (sym is) (covers u x (ap (λ l. user_of l u) (sym users) ∙ e));
-  within = λ u c. subst (λ s. u < length (whole_of s).units) (sym same) (units_within (tree_in old) es fits u (subst (λ l. Contains l u) is c));
-} where
-  covers : (u : ℕ) (x : UserValue) → user_of (users_of (tree_in old) es) u ≡ Some x → Contains (units_of es) u
-  covers u x e = elim (given_or_had es (replicate (length (tree_in old).units) None) u x e) [
-    | inl given ↦ given
-    | inr had ↦ absurd (none_held (length (tree_in old).units) u had.0 had.1)
-  ]
+replaced_kept settled old new held more es kept fits solved same users is =
+    held_kept settled new more es (subst (λ s. FitsTree (whole_of s) es) kept.same fits) solved (same ∙ kept.same) (users ∙ ap (λ s. users_of (whole_of s) es) kept.same) is
 
 pub replaced_users : (settled : Settled) (old : Configured) (held : List ℕ) (es : List (ℕ × UserValue)) (users : List (Option UserValue)) → IsKept settled old held
     → users ≡ changed_users (clears_of held ++ changes_of es) old.users → users ≡ users_of (tree_in old) es

@@ -1,5 +1,6 @@
 //! Changes of an assignment, and the units that they give user values.
-ghost use Rattle.std.specs.Prelude.{◌≡◌, ◌++◌, ℕ, List, Option, None, IfOk, OnOk, length, map, take, filter, is_none};
+ghost use Rattle.std.specs.Prelude.{◌≡◌, ◌<◌, ◌++◌, ℕ, List, Option, Some, None, IfOk, OnOk, length, map, take, filter, is_none, replicate, slice_get};
+ghost use Rattle.kc_system.specs.Changes.{changed_users};
 ghost use Rattle.kc_system.specs.Solutions.{user_of};
 ghost use Rattle.kc_dotconfig.specs.Fragments.{changes_of};
 ghost use Rattle.kc_dotconfig.specs.checker.Configs.{clears_of, units_of};
@@ -49,6 +50,34 @@ pub(crate) fn units_assigned(
         units.push(*unit)?;
     }
     Ok(units)
+}
+
+/// No user value for each of so many units.
+fn blank_users(alloc: Global, size: u32) -> Result<Vec<Option<UserValue>>, AllocError>
+    ensures { IfOk result (λ users. users.items ≡ replicate size None) }
+{
+    let mut users = Vec::with_capacity(alloc, size as usize)?;
+    for _unit in 0..size {
+        users.push(None)?;
+    }
+    Ok(users)
+}
+
+/// The assignment of user values and no others, over so many units.
+pub(crate) fn users_assigned(
+    alloc: Global,
+    size: u32,
+    assigns: &[(u32, UserValue)],
+) -> Result<Vec<Option<UserValue>>, AllocError>
+    requires { (k u : ℕ) (x : UserValue) → slice_get assigns.now k ≡ Some (u, x) → u < size }
+    ensures { IfOk result (λ users. users.items ≡ changed_users (changes_of assigns.now) (replicate size None)) }
+{
+    let mut users = blank_users(alloc, size)?;
+    for (unit, user) in assigns {
+        let copy = Settled::copy_user(alloc, user)?;
+        users[*unit as usize] = Some(copy);
+    }
+    Ok(users)
 }
 
 /// Puts the units of user values behind those held, but for those that have one.

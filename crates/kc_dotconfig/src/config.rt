@@ -11,12 +11,12 @@ ghost use Rattle.kc_dotconfig_model.specs.Missed.{missed};
 ghost use Rattle.kc_dotconfig.specs.Fragments.{FitsTree, users_of};
 ghost use Rattle.kc_dotconfig.specs.Configured.{tree_in, IsSolved};
 
-use super::changes::{hold, push_cleared, push_users, units_assigned};
+use super::changes::{hold, push_cleared, push_users, units_assigned, users_assigned};
 use super::fragment::Fragment;
 use super::missing::missed_symbols;
 use kc_rules::{Settled, Steps};
 use kc_rules_model::{UnitValue, UserValue};
-use kc_system::{Report, Session};
+use kc_system::{Graph, Report, Session};
 use kc_tree::Sym;
 use kc_value::ValueRef;
 use std::alloc::{AllocError, Global};
@@ -66,6 +66,33 @@ impl<'a> Config<'a> {
             settled,
             session,
             held: Vec::new(alloc),
+            meter,
+        })
+    }
+
+    /// A configuration that holds what a fragment assigns and nothing else, or want of memory. The caller owes a
+    /// fragment that fits.
+    pub fn of(
+        alloc: Global,
+        settled: &'a Settled,
+        fragment: &Fragment,
+    ) -> Result<Config<'a>, AllocError>
+        requires { FitsTree (whole_of settled.now) fragment.now.assigns.items }
+        ensures settled { IfOk result (λ c. c.system ≡ settled.now) }
+        ensures users { IfOk result (λ c. c.users ≡ users_of (whole_of settled.now) fragment.now.assigns.items) }
+        ensures solved { IfOk result (λ c. IsSolved c) }
+    {
+        let _ = settled.tree();
+        let held = units_assigned(alloc, &fragment.assigns)?;
+        let users = users_assigned(alloc, settled.len(), &fragment.assigns)?;
+        let mut meter = Steps::new();
+        let session = Session::holding(alloc, settled, settled.order(), users, &mut meter)?;
+        let _ = session.values();
+        Ok(Config {
+            alloc,
+            settled,
+            session,
+            held,
             meter,
         })
     }

@@ -40,8 +40,7 @@ fn minimal_of(
     requires { FitsTree (whole_of settled.now) fragment.now.assigns.items }
     ensures { IfOk result (λ text. (values : List Held) × IsMinimalText (text_of prefix.now) (profile_of settled.now) (whole_of settled.now) (users_of (whole_of settled.now) fragment.now.assigns.items) values text.items) }
 {
-    let mut config = Config::new(alloc, settled)?;
-    config.replace(fragment)?;
+    let config = Config::of(alloc, settled, fragment)?;
     minimal_text(alloc, &config, prefix)
 }
 

@@ -19,10 +19,10 @@ use Rattle.kmin_jobs.specs.declared.stop.Stop.{Stop}
 use Rattle.kmin_jobs.specs.declared.verbs.Answered.{Answered}
 use Rattle.kmin_jobs.specs.Files.{Told, AreTextsBelow}
 use Rattle.kmin_jobs.specs.Asked.{Asked, bundle_asks}
-use Rattle.kmin_jobs.specs.Answers.{AreAccepted, Assign, none, file, Resolve, Answer, one, two, text_of_verb, difference_line, status_of_differences}
+use Rattle.kmin_jobs.specs.Answers.{AreAccepted, Assign, Resolve, Answer, one, two, text_of_verb, difference_line, status_of_differences}
 use Rattle.kmin_jobs.specs.Bundles.{IsBundle}
 use Rattle.kmin_jobs.specs.Bundled.{texts_of, AnswersBundle, RefusesTree, RefusesConfiguration}
-use Rattle.kmin_jobs.proofs.Assigning.{gives_over}
+use Rattle.kmin_jobs.proofs.Assigning.{assign_again, gives_over}
 
 -- what all verbs but one answer
 pub answers_one : (tells : List ℕ → Told) (asked : Asked) (texts : Files) (paths given : List (List ℕ)) (held : Configured) (rules : Settled) (text : List ℕ) (status : ℕ)
@@ -33,13 +33,6 @@ pub answers_one : (tells : List ℕ → Told) (asked : Asked) (texts : Files) (p
 answers_one tells asked texts paths given held rules text status e accepted verb profile same assign holds is_text is_status =
     one (whole_of rules) held.users held.values accepted verb
     (record { assign = rw (← e) assign; gives = rw (← profile) (gives_over held rules same holds) }) (rw (← same) is_text) is_status
-
--- an assignment by files that tell the same
-pub assign_again : (tells others : List ℕ → Told) (prefix : List ℕ) (tree : Whole) (paths : List (List ℕ)) (users : List (Option UserValue))
-    → ((path : List ℕ) → others path ≡ tells path) → Assign others prefix tree paths users → Assign tells prefix tree paths users
-assign_again tells others prefix tree paths users same none = none
-assign_again tells others prefix tree paths users same (file before all earlier after path bytes sayings h t a s e f) =
-    file before paths earlier users path bytes sayings (assign_again tells others prefix tree before earlier same h) (rw (← same path) t) a s e f
 
 -- the two paths of a comparison
 pub two_paths : (files : List (Bor (List ℕ))) → length files ≡ 2

@@ -1,7 +1,7 @@
 -- Files, one after another.
-use Rattle.std.proofs.Common.{◌≡◌, ℕ, suc, ◌+◌, ◌<◌, List, [], ◌∷◌, ◌++◌, Option, Some, None, get_or, map, take, length, refl, sym, ap, ◌∙◌, arith}
+use Rattle.std.proofs.Common.{◌≡◌, ℕ, suc, ◌+◌, ◌<◌, List, [], ◌∷◌, ◌++◌, Option, Some, None, Result, Ok, Err, IfOk, get_or, map, take, length, refl, sym, ap, ◌∙◌, arith}
 use Rattle.std.specs.Borrow.{Bor}
-use Rattle.std.proofs.lemmas.List.{map-append, append-nil}
+use Rattle.std.proofs.lemmas.List.{map-append, append-nil, nil_from_length}
 use Rattle.std.proofs.Math.Seq.{take-suc}
 use Rattle.std.specs.Io.KnownBytes.{Consumes, IsAtEnd}
 use Rattle.kc_tree_model.specs.Trees.{Whole}
@@ -16,6 +16,7 @@ use Rattle.kc_dotconfig.specs.Configured.{Configured, IsSolved, tree_in}
 use Rattle.kc_dotconfig.specs.Fragments.{users_of}
 use Rattle.kc_dotconfig.specs.Reads.{IsReadAs}
 use Rattle.kc_minimal_model.specs.FullFile.{full_file}
+use Rattle.kmin_jobs.specs.declared.stop.Stop.{Stop}
 use Rattle.kmin_jobs.specs.Files.{Told, AreTold, OpensAs}
 use Rattle.kmin_jobs.specs.Answers.{Assign, none, file}
 use Rattle.kmin_jobs.specs.checker.Loaded.{IsAssignment}
@@ -60,6 +61,27 @@ pub assign_next : (tells others : List ℕ → Told) (prefix : List ℕ) (tree :
     → Assign tells prefix tree all after
 assign_next tells others prefix tree paths all path users after f h same ok e u =
     file paths all users after path ok.bytes ok.sayings h (rw (same path) ok.are) ok.accepted ok.says e (u ∙ ap (λ l. laid_over l users) ok.users)
+
+-- an assignment by files that tell the same
+pub assign_again : (tells others : List ℕ → Told) (prefix : List ℕ) (tree : Whole) (paths : List (List ℕ)) (users : List (Option UserValue))
+    → ((path : List ℕ) → others path ≡ tells path) → Assign others prefix tree paths users → Assign tells prefix tree paths users
+assign_again tells others prefix tree paths users same none = none
+assign_again tells others prefix tree paths users same (file before all earlier after path bytes sayings h t a s e f) =
+    file before paths earlier users path bytes sayings (assign_again tells others prefix tree before earlier same h) (rw (← same path) t) a s e f
+
+-- the assignment of no file
+pub assign_none : (tells : List ℕ → Told) (prefix : List ℕ) (tree : Whole) (paths : List (Bor (List ℕ))) (users : List (Option UserValue))
+    → length paths ≡ 0 → users ≡ no_users tree → Assign tells prefix tree (map (λ (path : Bor (List ℕ)). path.now) paths) users
+assign_none tells prefix tree paths users n u = rw (nil_from_length paths n, u) none
+
+-- the first file, and the others over it
+pub assign_rest : (tells others : List ℕ → Told) (prefix : List ℕ) (tree : Whole) (paths rest : List (Bor (List ℕ))) (first : Bor (List ℕ)) (users : List (Option UserValue)) (r : Result Configured Stop)
+    → ((path : List ℕ) → others path ≡ tells path) → paths ≡ first ∷ rest → Assign tells prefix tree (first.now ∷ []) users
+    → IfOk r (λ config. (before : List (List ℕ)) → Assign others prefix tree before users → Assign others prefix tree (before ++ map (λ (path : Bor (List ℕ)). path.now) rest) config.users)
+    → IfOk r (λ config. Assign tells prefix tree (map (λ (path : Bor (List ℕ)). path.now) paths) config.users)
+assign_rest tells others prefix tree paths rest first users (Err stop) same e a h = tt
+assign_rest tells others prefix tree paths rest first users (Ok config) same e a h =
+    rw e (assign_again tells others prefix tree (first.now ∷ map (λ (path : Bor (List ℕ)). path.now) rest) config.users same (h (first.now ∷ []) (assign_again others tells prefix tree (first.now ∷ []) users (λ path. sym (same path)) a)))
 
 -- the one configuration of a bundle
 pub one_told : (text : List ℕ) (after : Option (List ℕ)) (prefix plain : List ℕ) (tree : Whole) (path : List ℕ) (none_yet users : List (Option UserValue)) (f : Fragment)

@@ -1,5 +1,5 @@
 //! Configuration files over a settled tree.
-ghost use Rattle.std.specs.Prelude.{◌≡◌, ◌⊎◌, List, ℕ, map, IfOk, IfErr, OnOk};
+ghost use Rattle.std.specs.Prelude.{◌≡◌, ◌⊎◌, ◌∷◌, ◌++◌, [], List, ℕ, map, IfOk, IfErr, OnOk};
 ghost use Rattle.std.specs.Borrow.{Bor};
 ghost use Rattle.kc_rules.specs.Told.{whole_of};
 ghost use Rattle.kc_dotconfig_model.specs.checker.Prefixes.{text_of};
@@ -90,6 +90,49 @@ fn load_path<F: Files, E: Sink>(
     }
 }
 
+/// The configuration of one file.
+fn configured_by<'a, F: Files, E: Sink>(
+    alloc: Global,
+    settled: &'a Settled,
+    prefix: &Prefix,
+    path: &str,
+    files: &mut F,
+    err: &mut E,
+) -> Result<Config<'a>, Stop>
+    ensures same { (other : List ℕ) → F.tells files.new other ≡ F.tells files.old other }
+    ensures settled { IfOk result (λ config. config.system ≡ settled.now) }
+    ensures solved { IfOk result (λ config. IsSolved config) }
+    ensures assign { IfOk result (λ config. Assign (F.tells files.old) (text_of prefix.now) (whole_of settled.now) (path.now ∷ []) config.users) }
+{
+    let fragment = load_path(alloc, settled, prefix, path, files, err)?;
+    Ok(Config::of(alloc, settled, &fragment)?)
+}
+
+/// A configuration with the files of some paths laid over it, one after another.
+fn overlaid<'a, F: Files, E: Sink>(
+    alloc: Global,
+    settled: &'a Settled,
+    begun: Config<'a>,
+    prefix: &Prefix,
+    paths: &[&str],
+    files: &mut F,
+    err: &mut E,
+) -> Result<Config<'a>, Stop>
+    requires settled { begun.system ≡ settled.now }
+    requires solved { IsSolved begun }
+    ensures same { (other : List ℕ) → F.tells files.new other ≡ F.tells files.old other }
+    ensures settled { IfOk result (λ config. config.system ≡ settled.now) }
+    ensures solved { IfOk result (λ config. IsSolved config) }
+    ensures assign { IfOk result (λ config. (before : List (List ℕ)) → Assign (F.tells files.old) (text_of prefix.now) (whole_of settled.now) before begun.entry.users → Assign (F.tells files.old) (text_of prefix.now) (whole_of settled.now) (before ++ map (λ (path : Bor (List ℕ)). path.now) paths.now) config.users) }
+{
+    let mut config = begun;
+    for path in paths {
+        let fragment = load_path(alloc, settled, prefix, path, files, err)?;
+        config.merge(&fragment)?;
+    }
+    Ok(config)
+}
+
 /// The configuration of some files, each over those before it.
 pub(crate) fn configured<'a, F: Files, E: Sink>(
     alloc: Global,
@@ -104,10 +147,9 @@ pub(crate) fn configured<'a, F: Files, E: Sink>(
     ensures solved { IfOk result (λ config. IsSolved config) }
     ensures assign { IfOk result (λ config. Assign (F.tells files.old) (text_of prefix.now) (whole_of settled.now) (map (λ (path : Bor (List ℕ)). path.now) paths.now) config.users) }
 {
-    let mut config = Config::new(alloc, settled)?;
-    for path in paths {
-        let fragment = load_path(alloc, settled, prefix, path, files, err)?;
-        config.merge(&fragment)?;
-    }
-    Ok(config)
+    let Some((first, others)) = paths.split_first() else {
+        return Ok(Config::new(alloc, settled)?);
+    };
+    let config = configured_by(alloc, settled, prefix, first, files, err)?;
+    overlaid(alloc, settled, config, prefix, others, files, err)
 }

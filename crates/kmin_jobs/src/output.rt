@@ -1,11 +1,45 @@
-//! What is told on standard error.
-use kc_minimal::write_out;
+//! What is written: an answer, and what is told on standard error.
+ghost use Rattle.std.specs.Prelude.{◌≡◌, ◌<◌, length, take, IfErr, OnOk};
+ghost use Rattle.std.specs.Io.KnownBytes.{Appends};
+ghost use Rattle.kmin_jobs.specs.Bundled.{Rises};
+ghost use Rattle.kmin_jobs.specs.Stops.{status_of};
+
+use crate::stop::Stop;
+use kc_minimal::{WriteFault, write_out};
 use kc_value::Sink;
 use std::fmt;
 
 /// Writes a text as far as it goes.
 pub(crate) fn tell<W: Sink>(sink: &mut W, text: &[u8]) {
     let _ = write_out(sink, text);
+}
+
+/// Writes an answer that was made whole. That a write fails is told.
+pub(crate) fn write_answer<O: Sink, E: Sink>(
+    text: &[u8],
+    out: &mut O,
+    err: &mut E,
+) -> Result<(), WriteFault>
+    ensures whole { OnOk result (Appends (O.taken out.old) (O.taken out.new) text.now) }
+    ensures unfailed { OnOk result (O.failures out.new ≡ O.failures out.old) }
+    ensures part { IfErr result (λ fault. (fault.written < length text.now) × Appends (O.taken out.old) (O.taken out.new) (take fault.written text.now)) }
+    ensures failed { IfErr result (λ fault. Rises (O.failures out.old) (O.failures out.new)) }
+{
+    let written = write_out(out, text);
+    if written.is_err() {
+        tell(err, b"output: Write\n");
+    }
+    written
+}
+
+/// The exit status of what ended a run. Want of memory, which wasn't told yet, is told.
+pub(crate) fn end_with<E: Sink>(stop: Stop, err: &mut E) -> u8
+    ensures { result ≡ status_of stop }
+{
+    if stop == Stop::Memory {
+        tell(err, b"out of memory\n");
+    }
+    stop.status()
 }
 
 /// Formats text straight into a writer, without taking memory.

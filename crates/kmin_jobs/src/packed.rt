@@ -14,11 +14,11 @@ ghost use Rattle.kmin_jobs.specs.Bundled.{AnswersBundle, RefusesConfiguration, R
 use crate::bundle::{cut, read_whole};
 use crate::loading::load;
 use crate::memory::Memory;
-use crate::output::tell;
+use crate::output::write_answer;
 use crate::stop::Stop;
 use crate::trees::{read_texts, settled_tree};
 use kc_dotconfig::{Config, Prefix};
-use kc_minimal::{full_text, write_out};
+use kc_minimal::full_text;
 use kc_rules::{Profile, Settled};
 use kc_tree::Texts;
 use kc_value::{Seed, Sink, Source};
@@ -42,12 +42,9 @@ pub(crate) fn run_bundle<I: Source, O: Sink, E: Sink>(
 {
     let bundle = read_whole(alloc, input, err)?;
     let text = bundle_text(alloc, seed, &bundle, err)?;
-    match write_out(out, &text) {
+    match write_answer(&text, out, err) {
         Ok(()) => Ok(()),
-        Err(_) => {
-            tell(err, b"output: Write\n");
-            Err(Stop::Failed)
-        }
+        Err(_) => Err(Stop::Failed),
     }
 }
 
@@ -86,7 +83,6 @@ fn full_over<E: Sink>(
     let prefix = Prefix::plain();
     let mut reader = Memory::new(configuration);
     let fragment = load(alloc, settled, &prefix, "config", &mut reader, err)?;
-    let mut config = Config::new(alloc, settled)?;
-    config.merge(&fragment)?;
+    let config = Config::of(alloc, settled, &fragment)?;
     Ok(full_text(alloc, &config, &prefix)?)
 }

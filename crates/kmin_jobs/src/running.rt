@@ -5,11 +5,10 @@ ghost use Rattle.kmin_jobs.specs.Bundles.{ReadsWhole};
 ghost use Rattle.kmin_jobs.specs.Bundled.{AnswersBundle, RefusesConfiguration, RefusesTree, Rises, WritesPart};
 
 use crate::files::Files;
-use crate::output::tell;
+use crate::output::{end_with, tell, write_answer};
 use crate::packed::run_bundle;
 use crate::serving::serve;
 use crate::stop::Stop;
-use kc_minimal::write_out;
 use kc_value::{Sink, Source};
 use kmin_words::{Words, read_words};
 use std::alloc::Global;
@@ -44,12 +43,7 @@ pub fn run<F: Files, I: Source, O: Sink, E: Sink>(
     if words.is_empty() {
         return match run_bundle(alloc, files.seed(), input, out, err) {
             Ok(()) => 0,
-            Err(stop) => {
-                if stop == Stop::Memory {
-                    tell(err, b"out of memory\n");
-                }
-                stop.status()
-            }
+            Err(stop) => end_with(stop, err),
         };
     }
     match read_words(alloc, words) {
@@ -59,10 +53,7 @@ pub fn run<F: Files, I: Source, O: Sink, E: Sink>(
             tell(err, text.as_bytes());
             2
         }
-        Err(_) => {
-            tell(err, b"out of memory\n");
-            6
-        }
+        Err(_) => end_with(Stop::Memory, err),
     }
 }
 
@@ -70,11 +61,8 @@ pub fn run<F: Files, I: Source, O: Sink, E: Sink>(
 fn tell_help<O: Sink, E: Sink>(text: &str, out: &mut O, err: &mut E) -> u8
     ensures { (result ≡ 0) ⊎ (result ≡ 5) }
 {
-    match write_out(out, text.as_bytes()) {
+    match write_answer(text.as_bytes(), out, err) {
         Ok(()) => 0,
-        Err(_) => {
-            tell(err, b"output: Write\n");
-            5
-        }
+        Err(_) => Stop::Failed.status(),
     }
 }

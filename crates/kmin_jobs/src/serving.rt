@@ -12,11 +12,10 @@ ghost use Rattle.kmin_words.specs.declared.job.Verb.TheVariants.{Compare};
 use crate::files::Files;
 use crate::gather::{Gathered, gather};
 use crate::loading::configured;
-use crate::output::tell;
+use crate::output::{end_with, write_answer};
 use crate::stop::Stop;
 use crate::trees::settled_tree;
 use crate::verbs::{Answered, compared, text_of};
-use kc_minimal::write_out;
 use kc_rules::Settled;
 use kc_value::Sink;
 use kmin_words::{Job, Verb};
@@ -48,19 +47,11 @@ pub fn serve<F: Files, O: Sink, E: Sink>(
     ensures unwritten { result ≢ 0 → result ≢ 1 → result ≢ 5 → O.taken out.new ≡ O.taken out.old }
 {
     match answer_job(alloc, job, files, err) {
-        Ok(answer) => match write_out(out, &answer.text) {
+        Ok(answer) => match write_answer(&answer.text, out, err) {
             Ok(()) => answer.status,
-            Err(fault) => {
-                tell(err, b"output: Write\n");
-                Stop::Failed.status()
-            }
+            Err(fault) => Stop::Failed.status(),
         },
-        Err(stop) => {
-            if stop == Stop::Memory {
-                tell(err, b"out of memory\n");
-            }
-            stop.status()
-        }
+        Err(stop) => end_with(stop, err),
     }
 }
 

@@ -1,7 +1,6 @@
 -- What is gathered of a file while it is read.
 use Rattle.std.specs.Prelude.{◌≡◌, ℕ, ◌+◌, ◌≤◌, List, ◌++◌, length, map}
 use Rattle.kc_tree_model.specs.Trees.{Whole}
-use Rattle.kc_rules_model.specs.declared.values.UserValue.{UserValue}
 use Rattle.kc_dotconfig_model.specs.declared.fault.LoadKind.{LoadKind}
 use Rattle.kc_dotconfig_model.specs.Lines.{Saying}
 use Rattle.kc_dotconfig_model.specs.Files.{FileSays, file_users, notices_from}

@@ -1,4 +1,4 @@
-use Rattle.std.proofs.Common.{inl, inr, ◌≡◌, ◌<◌, ◌≤◌, length, take, refl, ◌∙◌, sym, arith}
+use Rattle.std.proofs.Common.{inr, ◌≡◌, ◌<◌, ◌≤◌, length, take, refl, ◌∙◌, sym, arith}
 use Rattle.kc_rules.specs.Told.{whole_of}
 use Rattle.kc_dotconfig_model.specs.LoadFaults.{MOST_LINES}
 use Rattle.kc_dotconfig_model.specs.checker.Prefixes.{text_of}

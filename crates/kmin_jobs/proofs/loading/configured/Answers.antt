@@ -1,28 +1,13 @@
-use Rattle.std.proofs.Common.{rules, [], refl, sym, ◌∙◌}
-use Rattle.kmin_jobs.specs.Answers.{none}
-use Rattle.kmin_jobs.proofs.Assigning.{assign_next, taken_next}
+use Rattle.kc_rules.specs.Told.{whole_of}
+use Rattle.kc_dotconfig_model.specs.checker.Prefixes.{text_of}
+use Rattle.kmin_jobs.proofs.Assigning.{assign_none, assign_rest}
 use Rattle.kmin_jobs.proofs.loading.configured.Goals as goal
 
-pub loop-path-init : goal.loop-path-init
-loop-path-init g c = record {
-  same = λ other. refl;
-  settled = c.in_ok-config.ensures.settled;
-  solved = c.in_ok-config.ensures.solved;
-  assign = rw c.in_ok-config.ensures.users none;
-}
+pub returns-in_default-clause-assign : goal.returns-in_default-clause-assign
+returns-in_default-clause-assign g c =
+    assign_none (g.F.Files.tells c.args.files.now) (text_of c.args.prefix.now) (whole_of c.args.settled.now) c.args.paths.now c.in_ok-new.field-0.users c.in_default.ensures.cases c.in_ok-new.ensures.users
 
-pub loop-path-preserved : goal.loop-path-preserved
-loop-path-preserved g c =
-    let ok = c.in_ok-fragment.ensures.ok in
-    record {
-      same = λ other. c.load_path.ensures.same other ∙ c.loop-path.invariant.same other;
-      settled = search rules;
-      solved = search rules;
-      assign = assign_next _ (g.F.Files.tells c.loop-path.files) _ _ _ _ _ _ _ _ c.loop-path.invariant.assign (λ path. sym (c.loop-path.invariant.same path)) ok (taken_next c.args.paths.now c.loop-path.path-index (record { ref_ptr = (0, 0); now = [] }) (search rules)) (search rules);
-    }
-
-pub returns-in_err-fragment-clause-same : goal.returns-in_err-fragment-clause-same
-returns-in_err-fragment-clause-same g c = λ other. c.load_path.ensures.same other ∙ c.loop-path.invariant.same other
-
-pub returns-in_err-merge-clause-same : goal.returns-in_err-merge-clause-same
-returns-in_err-merge-clause-same g c = λ other. c.load_path.ensures.same other ∙ c.loop-path.invariant.same other
+pub returns-clause-assign : goal.returns-clause-assign
+returns-clause-assign g c =
+    assign_rest (g.F.Files.tells c.args.files.now) (g.F.Files.tells c.configured_by.new.files) (text_of c.args.prefix.now) (whole_of c.args.settled.now) c.args.paths.now c.in-Some.others.now c.in-Some.first.now c.in_ok-config.config.users c.overlaid.result
+    c.configured_by.ensures.same c.in-Some.ensures.cases.0 c.in_ok-config.ensures.assign c.overlaid.ensures.assign
