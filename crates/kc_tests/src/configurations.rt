@@ -1,4 +1,5 @@
 //! The texts of notices and faults.
+use super::printing::is_printed;
 use kc_dotconfig_model::{LoadFault, LoadKind, NoticeKind};
 use std::test::Fail;
 
@@ -8,8 +9,7 @@ fn notices_and_faults_are_printed_by_the_names_of_their_kinds(rt: HostRuntime) -
         (NoticeKind::UnknownSymbol, "UnknownSymbol"),
         (NoticeKind::NotOfType, "NotOfType"),
     ] {
-        let text = twice!(format!(in rt.alloc(); "{kind}"));
-        assert_eq!(rt; text.as_str(), name);
+        assert!(rt; twice!(is_printed(rt.alloc(), &kind, name)));
     }
     for (kind, text) in [
         (LoadKind::Malformed, "Malformed at line 3"),
@@ -21,8 +21,7 @@ fn notices_and_faults_are_printed_by_the_names_of_their_kinds(rt: HostRuntime) -
         (LoadKind::TooLarge, "TooLarge at line 3"),
     ] {
         let fault = LoadFault { line: 3, kind };
-        let printed = twice!(format!(in rt.alloc(); "{fault}"));
-        assert_eq!(rt; printed.as_str(), text);
+        assert!(rt; twice!(is_printed(rt.alloc(), &fault, text)));
     }
     Ok(())
 }

@@ -23,6 +23,8 @@ mod loads;
 #[cfg(test)]
 mod minimal;
 #[cfg(test)]
+mod printing;
+#[cfg(test)]
 mod rules;
 #[cfg(test)]
 mod settling;

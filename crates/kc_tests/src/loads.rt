@@ -1,8 +1,7 @@
 //! Configurations that hold what files assign.
-use super::settling::settled;
-use kc_dotconfig::{Config, Prefix, read_config};
+use super::settling::{merged, replaced, settled};
+use kc_dotconfig::Config;
 use kc_rules::{Profile, Settled};
-use kc_value::FromRead;
 use std::alloc::{AllocError, Global};
 use std::test::Fail;
 
@@ -11,89 +10,139 @@ const TREE: &str =
     "config A\n\tbool \"a\"\nconfig B\n\tbool\n\tdefault A\nconfig C\n\tbool \"c\"\n\tdepends on B\nchoice\n\tprompt \"pick\"\nconfig M\n\tbool \"m\"\nconfig H\n\tbool \"h\"\n\tdepends on X\nendchoice\nconfig X\n\tbool \"x\"\n";
 
 /// The text of the tree, with 1,200 symbols more.
-fn text(alloc: Global) -> Result<String, AllocError> {
-    let mut text = String::from_str(alloc, TREE)?;
+fn text(alloc: Global) -> Result<Vec<u8>, AllocError> {
+    let mut text = Vec::from_slice(alloc, TREE.as_bytes())?;
     for number in 0..1_200 {
-        let symbol = format!(in alloc; "config S{number}\n\tbool\n")?;
-        text.push_str(symbol.as_str())?;
+        text.extend_from_slice(&symbol(number))?;
     }
     Ok(text)
 }
 
+/// The lines of the symbol of this number.
+fn symbol(number: u32) -> [u8; 19] {
+    let mut lines = *b"config S0000\n\tbool\n";
+    lines[8] = digit(number / 1_000);
+    lines[9] = digit(number / 100);
+    lines[10] = digit(number / 10);
+    lines[11] = digit(number);
+    lines
+}
+
+/// The last digit of a number.
+fn digit(number: u32) -> u8 {
+    b'0' + (number % 10) as u8
+}
+
 /// The tree, settled.
 fn large_tree(alloc: Global) -> Result<Settled, AllocError> {
-    settled(alloc, text(alloc)?.as_bytes(), Profile::Present)
+    settled(alloc, &text(alloc)?, Profile::Present)
 }
 
-/// Whether a file, laid over what is held or in its place, changes the values of these units, so many being evaluated.
-fn changes(
+/// A file that is laid over what is held or put in its place, the units whose values it changes, and how many are
+/// evaluated.
+struct Change {
+    file: &'static str,
+    is_merged: bool,
+    changed: &'static [u32],
+    evaluated: u64,
+}
+
+const FIRST: [Change; 2] = [
+    Change {
+        file: "CONFIG_A=y\n",
+        is_merged: false,
+        changed: &[0, 1],
+        evaluated: 3,
+    },
+    Change {
+        file: "CONFIG_C=y\n",
+        is_merged: true,
+        changed: &[2],
+        evaluated: 1,
+    },
+];
+
+const OF_A_COPY: Change = Change {
+    file: "CONFIG_A=y\n",
+    is_merged: false,
+    changed: &[2],
+    evaluated: 1,
+};
+
+const MISSED: [Change; 1] = [Change {
+    file: "CONFIG_H=y\n",
+    is_merged: true,
+    changed: &[],
+    evaluated: 1,
+}];
+
+const LAST: [Change; 1] = [Change {
+    file: "",
+    is_merged: false,
+    changed: &[0, 1, 2],
+    evaluated: 4,
+}];
+
+/// Whether a file changes what it should.
+fn is_made(alloc: Global, config: &mut Config<'_>, change: &Change) -> Result<bool, AllocError> {
+    let made = if change.is_merged {
+        merged(alloc, config, change.file)
+    } else {
+        replaced(alloc, config, change.file)
+    };
+    let report = made?;
+    Ok(report.changed.as_slice() == change.changed && report.evaluated == change.evaluated)
+}
+
+/// Whether each of these files does.
+fn are_made(
     alloc: Global,
     config: &mut Config<'_>,
-    file: &str,
-    is_merged: bool,
-    changed: &[u32],
-    evaluated: u64,
-) -> Result<bool, &'static str> {
-    let mut source = FromRead::new(file.as_bytes());
-    let fragment = match read_config(alloc, config.settled(), &Prefix::plain(), &mut source) {
-        Ok(fragment) => fragment,
-        Err(_) => return Err("not read"),
-    };
-    let answer = if is_merged {
-        config.merge(&fragment)
-    } else {
-        config.replace(&fragment)
-    };
-    match answer {
-        Ok(report) => Ok(report.changed.as_slice() == changed && report.evaluated == evaluated),
-        Err(_) => Err("no memory"),
+    changes: &[Change],
+) -> Result<bool, AllocError> {
+    for change in changes {
+        if !twice!(is_made(alloc, config, change)) {
+            return Ok(false);
+        }
     }
-}
-
-/// A configuration of the tree that nothing is assigned in.
-fn empty(alloc: Global, tree: &Settled) -> Result<Config<'_>, &'static str> {
-    match Config::new(alloc, tree) {
-        Ok(config) => Ok(config),
-        Err(_) => Err("no memory"),
-    }
+    Ok(true)
 }
 
 /// Whether a copy holds what its original does, as a file tells that takes its place.
-fn is_copied(alloc: Global, config: &Config<'_>) -> Result<bool, &'static str> {
-    let Ok(mut copy) = config.copy() else {
-        return Err("no memory");
-    };
-    changes(alloc, &mut copy, "CONFIG_A=y\n", false, &[2], 1)
+fn is_copied(alloc: Global, config: &Config<'_>) -> Result<bool, AllocError> {
+    let mut copy = config.copy()?;
+    is_made(alloc, &mut copy, &OF_A_COPY)
 }
 
 /// Whether the symbol of this number is the only one that is missed.
-fn is_missed(config: &Config<'_>, number: u32) -> Result<bool, &'static str> {
-    match config.missed() {
-        Ok(missed) => Ok(missed.len() == 1 && missed[0].number() == number),
-        Err(_) => Err("no memory"),
-    }
+fn is_missed(config: &Config<'_>, number: u32) -> Result<bool, AllocError> {
+    let missed = config.missed()?;
+    Ok(missed.len() == 1 && missed[0].number() == number)
 }
 
 /// Whether a configuration of the tree holds what files assign, and tells what changes.
-fn holds(alloc: Global, config: &mut Config<'_>) -> Result<bool, &'static str> {
-    let first = twice!(changes(alloc, config, "CONFIG_A=y\n", false, &[0, 1], 3));
-    let second = twice!(changes(alloc, config, "CONFIG_C=y\n", true, &[2], 1));
+fn holds(alloc: Global, config: &mut Config<'_>) -> Result<bool, AllocError> {
+    let first = are_made(alloc, config, &FIRST)?;
     let is_copied = twice!(is_copied(alloc, config));
-    let third = twice!(changes(alloc, config, "CONFIG_H=y\n", true, &[], 1));
+    let third = are_made(alloc, config, &MISSED)?;
     let is_missed = twice!(is_missed(config, 4));
-    let last = twice!(changes(alloc, config, "", false, &[0, 1, 2], 4));
-    Ok(first && second && is_copied && third && is_missed && last)
+    let last = are_made(alloc, config, &LAST)?;
+    Ok(first && is_copied && third && is_missed && last)
 }
 
 /// Whether a configuration does so from its making on.
-fn holds_from_the_start(alloc: Global, tree: &Settled) -> Result<bool, &'static str> {
-    let mut config = empty(alloc, tree)?;
+fn holds_from_the_start(alloc: Global) -> Result<bool, AllocError> {
+    holds_in(alloc, &large_tree(alloc)?)
+}
+
+/// Whether it does so over this tree.
+fn holds_in(alloc: Global, tree: &Settled) -> Result<bool, AllocError> {
+    let mut config = Config::new(alloc, tree)?;
     holds(alloc, &mut config)
 }
 
 #[test]
 fn a_configuration_holds_what_files_assign(rt: HostRuntime) -> Result<(), Fail> {
-    let tree = twice!(large_tree(rt.alloc()));
-    assert!(rt; twice!(holds_from_the_start(rt.alloc(), &tree)));
+    assert!(rt; twice!(holds_from_the_start(rt.alloc())));
     Ok(())
 }

@@ -1,11 +1,12 @@
 //! Files that are minimised from a reader to a writer, which the program doesn't do, and the texts of faults.
+use super::printing::is_printed;
 use super::settling::settled;
 use kc_dotconfig::Prefix;
 use kc_dotconfig_model::{LoadFault, LoadKind};
 use kc_minimal::{RunFault, WriteFault, minimise};
-use kc_rules::Profile;
+use kc_rules::{Profile, Settled};
 use kc_value::{Bounded, FromRead};
-use std::alloc::Global;
+use std::alloc::{AllocError, Global};
 use std::test::Fail;
 
 #[test]
@@ -22,25 +23,39 @@ fn faults_are_printed_as_what_failed(rt: HostRuntime) -> Result<(), Fail> {
             "Write after 4 bytes",
         ),
     ] {
-        let printed = twice!(format!(in rt.alloc(); "{fault}"));
-        assert_eq!(rt; printed.as_str(), text);
+        assert!(rt; twice!(is_printed(rt.alloc(), &fault, text)));
     }
     Ok(())
 }
 
 /// Whether a file is minimised to these bytes.
-fn is_minimised(alloc: Global, tree: &str, file: &str, wanted: &str) -> Result<bool, &'static str> {
-    let Ok(settled) = settled(alloc, tree.as_bytes(), Profile::Present) else {
-        return Err("not settled");
-    };
+fn is_minimised(alloc: Global, file: &str, wanted: &str) -> Result<bool, AllocError> {
+    let tree = settled(alloc, TREE.as_bytes(), Profile::Present)?;
+    is_minimised_over(alloc, &tree, file, wanted)
+}
+
+/// Whether a file is minimised to these bytes over this tree.
+fn is_minimised_over(
+    alloc: Global,
+    tree: &Settled,
+    file: &str,
+    wanted: &str,
+) -> Result<bool, AllocError> {
+    let mut sink = Bounded::new(alloc, 256, true)?;
+    Ok(is_written(alloc, tree, file, &mut sink)? && sink.bytes() == wanted.as_bytes())
+}
+
+/// Whether a file is minimised without a notice; an `Err` where it isn't accepted too.
+fn is_written(
+    alloc: Global,
+    tree: &Settled,
+    file: &str,
+    sink: &mut Bounded,
+) -> Result<bool, AllocError> {
     let mut source = FromRead::new(file.as_bytes());
-    let mut sink = match Bounded::new(alloc, 256, true) {
-        Ok(sink) => sink,
-        Err(_) => return Err("no memory"),
-    };
-    match minimise(alloc, &settled, &Prefix::plain(), &mut source, &mut sink) {
-        Ok(notices) => Ok(notices.is_empty() && sink.bytes() == wanted.as_bytes()),
-        Err(_) => Err("not minimised"),
+    match minimise(alloc, tree, &Prefix::plain(), &mut source, sink) {
+        Ok(notices) => Ok(notices.is_empty()),
+        Err(_) => Err(AllocError),
     }
 }
 
@@ -74,7 +89,7 @@ fn files_are_minimised(rt: HostRuntime) -> Result<(), Fail> {
             "# CONFIG_A is not set\nCONFIG_S=\"a\\\"b\"\nCONFIG_Z=y\n",
         ),
     ] {
-        assert!(rt; twice!(is_minimised(rt.alloc(), TREE, file, wanted)));
+        assert!(rt; twice!(is_minimised(rt.alloc(), file, wanted)));
     }
     Ok(())
 }

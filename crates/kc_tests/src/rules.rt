@@ -1,9 +1,8 @@
 //! Values of a tree: those that a session holds after many changes, and those that solving anew gives.
-use super::settling::settled;
-use kc_dotconfig::{Config, Prefix, read_config};
-use kc_rules::{Profile, Settled, Steps};
+use super::settling::{merged, settled};
+use kc_dotconfig::Config;
+use kc_rules::{Profile, Settled, Steps, UnitValue};
 use kc_system::{System, solve};
-use kc_value::FromRead;
 use std::alloc::{AllocError, Global};
 use std::test::Fail;
 
@@ -63,38 +62,34 @@ const LINES: [&str; 16] = [
     "# CONFIG_MODULES is not set\n",
 ];
 
-/// Lays a file over what is held.
-fn lay(alloc: Global, config: &mut Config<'_>, file: &str) -> Result<(), AllocError> {
-    let mut source = FromRead::new(file.as_bytes());
-    match read_config(alloc, config.settled(), &Prefix::plain(), &mut source) {
-        Ok(fragment) => {
-            config.merge(&fragment)?;
-            Ok(())
-        }
-        Err(_) => Err(AllocError),
-    }
-}
-
 /// Whether solving anew what is held gives the values held.
 fn is_solved(alloc: Global, config: &Config<'_>) -> Result<bool, AllocError> {
     let tree = config.settled();
     let values = solve(alloc, tree, tree.order(), config.users(), &mut Steps::new())?;
-    let held = config.values();
-    for u in 0..held.len() {
-        if u >= values.len() || !Settled::same(&values[u], &held[u]) {
-            return Ok(false);
-        }
-    }
-    Ok(true)
+    Ok(are_same(&values, config.values()))
 }
 
-/// Whether the values held stay those that solving anew gives, through many changes.
+/// Whether each value held is the one that was solved.
+fn are_same(values: &[UnitValue], held: &[UnitValue]) -> bool {
+    values.len() >= held.len()
+        && values
+            .iter()
+            .zip(held)
+            .all(|(value, held)| Settled::same(value, held))
+}
+
+/// Whether the values held stay those that solving anew gives, in this profile.
+fn is_kept_solved(alloc: Global, profile: Profile) -> Result<bool, AllocError> {
+    stays_solved(alloc, &settled(alloc, TREE, profile)?)
+}
+
+/// Whether they do so in this tree, through many changes.
 fn stays_solved(alloc: Global, tree: &Settled) -> Result<bool, AllocError> {
     let mut config = Config::new(alloc, tree)?;
     let mut seed: u32 = 1;
     for _ in 0..40 {
         seed = seed.wrapping_mul(1_664_525).wrapping_add(1_013_904_223);
-        lay(alloc, &mut config, LINES[(seed >> 28) as usize % 16])?;
+        merged(alloc, &mut config, LINES[(seed >> 28) as usize % 16])?;
         if !is_solved(alloc, &config)? {
             return Ok(false);
         }
@@ -105,8 +100,7 @@ fn stays_solved(alloc: Global, tree: &Settled) -> Result<bool, AllocError> {
 #[test]
 fn changes_give_what_solving_anew_gives(rt: HostRuntime) -> Result<(), Fail> {
     for profile in [Profile::Present, Profile::Classic] {
-        let tree = twice!(settled(rt.alloc(), TREE, profile));
-        assert!(rt; twice!(stays_solved(rt.alloc(), &tree)));
+        assert!(rt; twice!(is_kept_solved(rt.alloc(), profile)));
     }
     Ok(())
 }

@@ -1,12 +1,16 @@
 //! Copies of values, and seeds.
 use kc_value::{Seed, Text, Value};
+use std::alloc::{AllocError, Global};
 use std::hash::BuildHasher;
+
+/// A copy of a value that is a text.
+fn copied(alloc: Global) -> Result<Value, AllocError> {
+    Value::Text(Text::copied(alloc, "ab")?).copy(alloc)
+}
 
 #[test]
 fn copies_values(rt: HostRuntime) -> Result<(), std::test::Fail> {
-    let alloc = rt.alloc();
-    let copied = twice!(Value::Text(twice!(Text::copied(alloc, "ab"))).copy(alloc));
-    match copied {
+    match twice!(copied(rt.alloc())) {
         Value::Text(text) => assert_eq!(rt; text.as_str(), "ab"),
         Value::Tri(_) => assert!(rt; false),
     }

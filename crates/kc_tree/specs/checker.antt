@@ -10,6 +10,7 @@ pub mod Definitions
 pub mod Firsts
 pub mod GatheredAttributes
 pub mod GatheredFits
+pub mod GatheredLists
 pub mod GatheredView
 pub mod Gathers
 pub mod GroupedItems

@@ -1,5 +1,5 @@
 //! The choices round what was read.
-ghost use Rattle.std.specs.Prelude.{◌≡◌, ◌<◌, ◌^◌, List, IfOk, OnOk, length, map, reverse};
+ghost use Rattle.std.specs.Prelude.{◌≡◌, ◌<◌, ◌^◌, ◌∷◌, ◌++◌, [], List, IfOk, OnOk, length, map, reverse};
 ghost use Rattle.kc_tree_model.specs.Blocks.{Group as Read};
 ghost use Rattle.kc_tree_model.specs.Conditions.{placed};
 ghost use Rattle.kc_tree_model.specs.Contents.{contents_of};
@@ -44,6 +44,20 @@ fn step(inside: &mut Vec<Option<u32>>, what: &What, choices: u32) -> Result<(), 
     Ok(())
 }
 
+/// Puts down the choice round a group, and what the group opens or ends.
+fn put(
+    around: &mut Vec<Option<u32>>,
+    inside: &mut Vec<Option<u32>>,
+    what: &What,
+    choices: u32,
+) -> Result<(), AllocError>
+    ensures around { OnOk result (around.new.items ≡ around.old.items ++ innermost_choice (reverse inside.old.items) ∷ []) }
+    ensures inside { OnOk result (reverse inside.new.items ≡ opened_behind what.now choices (reverse inside.old.items)) }
+{
+    around.push(innermost(inside))?;
+    step(inside, what, choices)
+}
+
 /// The number of the choice round each group, if there is one.
 pub(crate) fn choices_around(
     alloc: Global,
@@ -55,11 +69,9 @@ pub(crate) fn choices_around(
     let mut around = Vec::with_capacity(alloc, listing.groups.len())?;
     let mut inside = Vec::new(alloc);
     let mut choices = 0;
-    for i in 0..listing.groups.len() {
-        let what = &listing.groups[i].what;
-        around.push(innermost(&inside))?;
-        step(&mut inside, what, choices)?;
-        if begins_choice(what) {
+    for group in &listing.groups {
+        put(&mut around, &mut inside, &group.what, choices)?;
+        if begins_choice(&group.what) {
             choices += 1;
         }
     }
@@ -71,8 +83,8 @@ pub(crate) fn choice_count(listing: &Listing) -> usize
     ensures { (read : List Read) → Shows listing.now read → result ≡ length (contents_of read).choices }
 {
     let mut choices = 0;
-    for i in 0..listing.groups.len() {
-        if begins_choice(&listing.groups[i].what) {
+    for group in &listing.groups {
+        if begins_choice(&group.what) {
             choices += 1;
         }
     }

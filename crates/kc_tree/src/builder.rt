@@ -8,7 +8,7 @@ ghost use Rattle.kc_tree_model.specs.Reading.{reading};
 ghost use Rattle.kc_tree_model.specs.TreeFaults.{fault_told};
 ghost use Rattle.kc_tree_model.specs.TreeLookup.{IsConsistent};
 ghost use Rattle.kc_listing.specs.Shown.{Shows};
-ghost use Rattle.kc_tree.specs.checker.Assembly.{IsWalk, AreFew, AreSymbolParts, AreChoiceParts, IsGathering};
+ghost use Rattle.kc_tree.specs.checker.Assembly.{IsWalk, AreFew, AreSymbolParts, AreChoiceParts, AreAllParts, IsGathering};
 ghost use Rattle.kc_tree.specs.checker.GatheredFits.{GatheredFit};
 ghost use Rattle.kc_tree.specs.checker.GatheredView.{whole_gathered};
 ghost use Rattle.kc_tree.specs.checker.Summaries.{IsSummary};
@@ -58,10 +58,12 @@ fn symbol_parts(
     requires summary { (read : List Read) → Shows walked.now.listing read → IsSummary read summary.now }
     ensures { (files : Files) (root : List ℕ) → IsWalk walked.now files root → IfOk result (AreSymbolParts walked.now.listing.names.arena (reading files root).read) }
 {
+    let listing = &walked.listing;
+    let symbols = summary.symbols.as_slice();
     Ok(SymbolParts {
-        rows: symbol_rows(alloc, &walked.listing, &summary.symbols)?,
-        attributes: gather_attributes(alloc, &walked.listing, &walked.groups, &walked.conditions)?,
-        units: units_of(alloc, &walked.listing, &summary.symbols)?,
+        rows: symbol_rows(alloc, listing, symbols)?,
+        units: units_of(alloc, listing, symbols)?,
+        attributes: gather_attributes(alloc, listing, &walked.groups, &walked.conditions)?,
     })
 }
 
@@ -71,30 +73,54 @@ fn choice_parts(alloc: Global, walked: &Walked) -> Result<ChoiceParts, AllocErro
     requires walk { (files : Files) × (root : List ℕ) × IsWalk walked.now files root }
     ensures { (files : Files) (root : List ℕ) → IsWalk walked.now files root → IfOk result (AreChoiceParts walked.now.listing (reading files root).read) }
 {
+    let listing = &walked.listing;
+    let groups = walked.groups.as_slice();
+    let conditions = walked.conditions.as_slice();
     Ok(ChoiceParts {
-        rows: choice_rows(alloc, &walked.listing, &walked.groups, &walked.conditions)?,
-        defaults: member_defaults(alloc, &walked.listing, &walked.groups, &walked.conditions)?,
-        entries: entries_of(alloc, &walked.listing, &walked.groups)?,
+        rows: choice_rows(alloc, listing, groups, conditions)?,
+        entries: entries_of(alloc, listing, groups)?,
+        defaults: member_defaults(alloc, listing, groups, conditions)?,
+    })
+}
+
+/// All that is gathered behind a walk.
+#[derive(Drop)]
+struct AllParts {
+    summary: Summary,
+    symbols: SymbolParts,
+    choices: ChoiceParts,
+}
+
+/// The summary, the symbols and the choices. An `Err` is want of memory.
+fn all_parts(alloc: Global, walked: &Walked) -> Result<AllParts, AllocError>
+    requires { (files : Files) × (root : List ℕ) × IsWalk walked.now files root }
+    ensures { (files : Files) (root : List ℕ) → IsWalk walked.now files root → IfOk result (AreAllParts walked.now.listing (reading files root).read) }
+{
+    let summary = Summary::new(alloc, &walked.listing)?;
+    Ok(AllParts {
+        choices: choice_parts(alloc, walked)?,
+        symbols: symbol_parts(alloc, walked, &summary)?,
+        summary,
     })
 }
 
 /// All parts together.
-fn gathered(
-    listing: Listing,
-    summary: Summary,
-    symbols: SymbolParts,
-    choices: ChoiceParts,
-) -> Gathered
-    ensures arena { result.arena ≡ listing.names.arena }
-    ensures symbols { result.symbols ≡ symbols.rows }
-    ensures attributes { result.attributes ≡ symbols.attributes }
-    ensures choices { result.choices ≡ choices.rows }
-    ensures members { result.members ≡ summary.members }
-    ensures member_defaults { result.member_defaults ≡ choices.defaults }
-    ensures entries { result.entries ≡ choices.entries }
-    ensures titles { result.titles ≡ listing.texts }
-    ensures units { result.units ≡ symbols.units }
+fn gathered(walked: Walked, parts: AllParts) -> Gathered
+    ensures arena { result.arena ≡ walked.listing.names.arena }
+    ensures symbols { result.symbols ≡ parts.symbols.rows }
+    ensures attributes { result.attributes ≡ parts.symbols.attributes }
+    ensures choices { result.choices ≡ parts.choices.rows }
+    ensures members { result.members ≡ parts.summary.members }
+    ensures member_defaults { result.member_defaults ≡ parts.choices.defaults }
+    ensures entries { result.entries ≡ parts.choices.entries }
+    ensures titles { result.titles ≡ walked.listing.texts }
+    ensures units { result.units ≡ parts.symbols.units }
 {
+    let Walked {
+        listing,
+        groups: _conditions_of_groups,
+        conditions: _conditions,
+    } = walked;
     let Listing {
         names,
         texts,
@@ -106,6 +132,11 @@ fn gathered(
         symbols: _names,
         numbers: _numbers,
     } = names;
+    let AllParts {
+        summary,
+        symbols,
+        choices,
+    } = parts;
     let Summary {
         symbols: _abouts,
         around: _around,
@@ -130,13 +161,8 @@ fn gathered_of(alloc: Global, walked: Walked) -> Result<Gathered, AllocError>
     requires walk { (files : Files) × (root : List ℕ) × IsWalk walked files root }
     ensures { (files : Files) (root : List ℕ) → IsWalk walked files root → IfOk result (IsGathering (reading files root).read) }
 {
-    if walked.listing.groups.len() > u32::MAX as usize {
-        return Err(AllocError);
-    }
-    let summary = Summary::new(alloc, &walked.listing)?;
-    let symbols = symbol_parts(alloc, &walked, &summary)?;
-    let choices = choice_parts(alloc, &walked)?;
-    Ok(gathered(walked.listing, summary, symbols, choices))
+    let parts = all_parts(alloc, &walked)?;
+    Ok(gathered(walked, parts))
 }
 
 /// The tree of what was read. An `Err` is want of memory.

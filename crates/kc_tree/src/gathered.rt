@@ -57,6 +57,28 @@ impl Attributes {
     }
 }
 
+/// The attributes of each symbol together, and the members and defaults of each choice.
+#[derive(Drop)]
+pub(crate) struct Lists {
+    pub attributes: GroupedAttributes,
+    pub members: Grouped<Sym>,
+    pub member_defaults: Grouped<MemberDefault>,
+}
+
+/// The unit of each symbol and of each choice, and for each name of the arena the symbol of that name.
+#[derive(Drop)]
+pub(crate) struct Tables {
+    pub units: UnitNumbers,
+    pub symbol_of_name: Vec<Option<Sym>>,
+}
+
+/// All that is made of what was gathered.
+#[derive(Drop)]
+pub(crate) struct Made {
+    pub tables: Tables,
+    pub lists: Lists,
+}
+
 /// What was gathered of all groups.
 #[derive(Drop)]
 pub(crate) struct Gathered {
@@ -75,6 +97,7 @@ impl Gathered {
     ghost use Rattle.kc_tree.specs.Held.{Held};
     ghost use Rattle.kc_tree.specs.checker.GatheredView.{whole_gathered};
     ghost use Rattle.kc_tree.specs.checker.GatheredFits.{GatheredFit};
+    ghost use Rattle.kc_tree.specs.checker.GatheredLists.{AreLists, AreTables, parts_made};
     ghost use Rattle.kc_tree.specs.checker.Units.{HasUnits};
 
     /// The unit of each symbol and of each choice. An `Err` is want of memory.
@@ -88,6 +111,73 @@ impl Gathered {
         Ok(numbers)
     }
 
+    /// The attributes of each symbol together, and the members and defaults of each choice. An `Err` is want of memory.
+    fn lists(&self, alloc: Global) -> Result<Lists, AllocError>
+        requires fits { GatheredFit self.now }
+        ensures { IfOk result (AreLists self.now) }
+    {
+        let choices = self.choices.len();
+        Ok(Lists {
+            members: self.members.grouped(alloc, choices)?,
+            member_defaults: self.member_defaults.grouped(alloc, choices)?,
+            attributes: self.attributes.grouped(alloc, self.symbols.len())?,
+        })
+    }
+
+    /// The unit of each symbol and of each choice, and the symbol of each name. An `Err` is want of memory.
+    fn tables(&self, alloc: Global) -> Result<Tables, AllocError>
+        requires fits { GatheredFit self.now }
+        requires distinct { AreDistinct self.now.arena.names }
+        requires consistent { IsConsistent (whole_gathered self.now) }
+        ensures { IfOk result (AreTables self.now) }
+    {
+        let names = self.arena.name_count();
+        Ok(Tables {
+            units: self.unit_numbers(alloc)?,
+            symbol_of_name: symbols_of_names(alloc, names, &self.symbols)?,
+        })
+    }
+
+    /// All that is made of what was gathered. An `Err` is want of memory.
+    fn made(&self, alloc: Global) -> Result<Made, AllocError>
+        requires fits { GatheredFit self.now }
+        requires distinct { AreDistinct self.now.arena.names }
+        requires consistent { IsConsistent (whole_gathered self.now) }
+        ensures tables { IfOk result (λ m. AreTables self.now m.tables) }
+        ensures lists { IfOk result (λ m. AreLists self.now m.lists) }
+    {
+        Ok(Made {
+            tables: self.tables(alloc)?,
+            lists: self.lists(alloc)?,
+        })
+    }
+
+    /// The lists of the tree of what was gathered.
+    fn into_parts(self, made: Made) -> Parts
+        ensures { result ≡ parts_made self made.lists made.tables }
+    {
+        let Made { tables, lists } = made;
+        Parts {
+            arena: self.arena,
+            symbols: self.symbols,
+            prompts: lists.attributes.prompts,
+            defaults: lists.attributes.defaults,
+            ranges: lists.attributes.ranges,
+            selectors: lists.attributes.selectors,
+            impliers: lists.attributes.impliers,
+            direct: lists.attributes.direct,
+            choices: self.choices,
+            members: lists.members,
+            member_defaults: lists.member_defaults,
+            entries: self.entries,
+            titles: self.titles,
+            units: self.units,
+            unit_of_symbol: tables.units.symbols,
+            unit_of_choice: tables.units.choices,
+            symbol_of_name: tables.symbol_of_name,
+        }
+    }
+
     /// The tree of what was gathered. An `Err` is want of memory.
     pub(crate) fn into_tree(self, alloc: Global) -> Result<Tree, AllocError>
         requires fits { GatheredFit self }
@@ -95,30 +185,7 @@ impl Gathered {
         requires consistent { IsConsistent (whole_gathered self) }
         ensures { IfOk result (λ t. t ≡ record { exprs = self.arena; whole = whole_gathered self }) }
     {
-        let numbers = self.unit_numbers(alloc)?;
-        let names = self.arena.name_count();
-        let symbol_of_name = symbols_of_names(alloc, names, &self.symbols)?;
-        let attributes = self.attributes.grouped(alloc, self.symbols.len())?;
-        let members = self.members.grouped(alloc, self.choices.len())?;
-        let member_defaults = self.member_defaults.grouped(alloc, self.choices.len())?;
-        Ok(Tree::of(Parts {
-            arena: self.arena,
-            symbols: self.symbols,
-            prompts: attributes.prompts,
-            defaults: attributes.defaults,
-            ranges: attributes.ranges,
-            selectors: attributes.selectors,
-            impliers: attributes.impliers,
-            direct: attributes.direct,
-            choices: self.choices,
-            members,
-            member_defaults,
-            entries: self.entries,
-            titles: self.titles,
-            units: self.units,
-            unit_of_symbol: numbers.symbols,
-            unit_of_choice: numbers.choices,
-            symbol_of_name,
-        }))
+        let made = self.made(alloc)?;
+        Ok(Tree::of(self.into_parts(made)))
     }
 }

@@ -59,6 +59,21 @@ fn put_absent(paths: &mut Paths, texts: &Texts, path: &str) -> Result<(), AllocE
     }
 }
 
+/// Puts the path that a group sources to the others, if it is absent.
+fn put_source(
+    paths: &mut Paths,
+    texts: &Texts,
+    told: &[Text],
+    what: &What,
+) -> Result<(), AllocError>
+    ensures { OnOk result (paths_in paths.new ≡ with_absent texts.now (paths_in paths.old) (path_in told.now what.now)) }
+{
+    match path_of(told, what) {
+        Some(path) => put_absent(paths, texts, path),
+        None => Ok(()),
+    }
+}
+
 /// The absent paths of what was read, the first path's too.
 fn absent_paths(
     alloc: Global,
@@ -72,9 +87,7 @@ fn absent_paths(
     let mut paths = Paths::new(alloc, texts.seed());
     put_absent(&mut paths, texts, root)?;
     for group in &listing.groups {
-        if let Some(path) = path_of(&listing.texts, &group.what) {
-            put_absent(&mut paths, texts, path)?;
-        }
+        put_source(&mut paths, texts, &listing.texts, &group.what)?;
     }
     Ok(paths)
 }
@@ -131,6 +144,6 @@ pub fn wanted(alloc: Global, texts: &Texts, root: &str) -> Result<Vec<String>, T
     ensures paths { IfOk result (λ paths. files_wanted texts.now root.now ≡ Ok (map string_bytes paths.items)) }
     ensures fault { IfErr result (λ f. (f ≡ no_memory) ⊎ (files_wanted texts.now root.now ≡ Err f)) }
 {
-    let (listing, fault) = read_found_files(alloc, texts, root);
-    lacking(alloc, texts, root, &listing, fault)
+    let read = read_found_files(alloc, texts, root);
+    lacking(alloc, texts, root, &read.0, read.1)
 }

@@ -52,9 +52,10 @@ pub(crate) fn symbol_rows(
     ensures { (read : List Read) → Shows listing.now read → IfOk result (λ rows. AreRowsOf listing.now.names.arena (contents_of read) (names_defined read) rows.items) }
 {
     let names = listing.names.symbols.as_slice();
+    let groups = listing.groups.as_slice();
     let mut rows = Vec::with_capacity(alloc, names.len())?;
     for s in 0..names.len() {
-        rows.push(row_of(&listing.groups, names[s], &symbols[s]))?;
+        rows.push(row_of(groups, names[s], &symbols[s]))?;
     }
     Ok(rows)
 }

@@ -3,37 +3,106 @@ use crate::texts;
 use clap::{Arg, ArgAction, Command};
 use std::alloc::{AllocError, Global};
 
+/// A command's name, and what is told of it: in a line, at length, and behind its options.
+struct Told {
+    name: &'static str,
+    about: &'static str,
+    long: &'static str,
+    after: &'static str,
+}
+
+/// The commands over any number of files.
+static OVER_FILES: [Told; 4] = [
+    Told {
+        name: "min",
+        about: texts::MIN,
+        long: texts::MIN_LONG,
+        after: texts::MIN_AFTER,
+    },
+    Told {
+        name: "full",
+        about: texts::FULL,
+        long: texts::FULL_LONG,
+        after: texts::FULL_AFTER,
+    },
+    Told {
+        name: "missed",
+        about: texts::MISSED,
+        long: texts::MISSED_LONG,
+        after: texts::MISSED_AFTER,
+    },
+    Told {
+        name: "check",
+        about: texts::CHECK,
+        long: texts::CHECK_LONG,
+        after: texts::CHECK_AFTER,
+    },
+];
+
+/// The command over two files.
+static COMPARE: Told = Told {
+    name: "compare",
+    about: texts::COMPARE,
+    long: texts::COMPARE_LONG,
+    after: texts::COMPARE_AFTER,
+};
+
+/// An option's name and the name of its value, what the value is without it, and its help.
+struct Valued {
+    name: &'static str,
+    value: &'static str,
+    default: &'static str,
+    help: &'static str,
+}
+
+/// The options that take any value.
+static FREE: [Valued; 3] = [
+    Valued {
+        name: "root",
+        value: "DIR",
+        default: ".",
+        help: texts::ROOT,
+    },
+    Valued {
+        name: "tree",
+        value: "PATH",
+        default: "Kconfig",
+        help: texts::TREE,
+    },
+    Valued {
+        name: "prefix",
+        value: "TEXT",
+        default: "CONFIG_",
+        help: texts::PREFIX,
+    },
+];
+
+/// The option with few values.
+static IMPLY: Valued = Valued {
+    name: "imply",
+    value: "PROFILE",
+    default: "present",
+    help: texts::IMPLY,
+};
+
 /// The values of `--imply`.
 static PROFILES: [&str; 2] = ["present", "classic"];
 
 /// The program with all its commands.
 pub(crate) fn program<'a>(alloc: Global) -> Result<Command<'a>, AllocError> {
-    let program = named(alloc)?;
-    let program = with_files(
-        alloc,
-        program,
-        "min",
-        [texts::MIN, texts::MIN_LONG, texts::MIN_AFTER],
-    )?;
-    let program = with_files(
-        alloc,
-        program,
-        "full",
-        [texts::FULL, texts::FULL_LONG, texts::FULL_AFTER],
-    )?;
-    let program = with_files(
-        alloc,
-        program,
-        "missed",
-        [texts::MISSED, texts::MISSED_LONG, texts::MISSED_AFTER],
-    )?;
-    let program = with_files(
-        alloc,
-        program,
-        "check",
-        [texts::CHECK, texts::CHECK_LONG, texts::CHECK_AFTER],
-    )?;
-    with_compare(alloc, program)
+    let mut program = named(alloc)?;
+    for told in &OVER_FILES {
+        program = with_command(program, over_files(alloc, told))?;
+    }
+    with_command(program, over_two_files(alloc, &COMPARE))
+}
+
+/// A program with a command more, once that is made.
+fn with_command<'a>(
+    program: Command<'a>,
+    command: Result<Command<'a>, AllocError>,
+) -> Result<Command<'a>, AllocError> {
+    program.subcommand(command?)
 }
 
 /// The program without its commands.
@@ -41,50 +110,36 @@ fn named<'a>(alloc: Global) -> Result<Command<'a>, AllocError> {
     let program = Command::new(alloc, "kmin")
         .no_binary_name(true)
         .propagate_version(true)
+        .subcommand_required(true);
+    helped(program).bin_name("kmin")
+}
+
+/// The program with its own help.
+fn helped(program: Command<'_>) -> Command<'_> {
+    program
         .version(texts::VERSION)
         .about(texts::ABOUT)
         .after_help(texts::AFTER)
         .after_long_help(texts::AFTER_LONG)
         .override_usage(texts::USAGE)
-        .subcommand_required(true);
-    program.bin_name("kmin")
-}
-
-/// With a command over any number of files: what it does, in a line and at length, and its example.
-fn with_files<'a>(
-    alloc: Global,
-    program: Command<'a>,
-    name: &'a str,
-    [about, long, example]: [&'a str; 3],
-) -> Result<Command<'a>, AllocError> {
-    let command = Command::new(alloc, name)
-        .about(about)
-        .long_about(long)
-        .after_long_help(example);
-    program.subcommand(over_files(alloc, command)?)
 }
 
 /// A command over any number of files.
-fn over_files<'a>(alloc: Global, command: Command<'a>) -> Result<Command<'a>, AllocError> {
-    let command = with_options(alloc, command)?;
-    let files = Arg::new(alloc, "FILE")
-        .action(ArgAction::Append)
-        .num_args(0..);
-    command.arg(files.help(texts::FILES))
+fn over_files<'a>(alloc: Global, told: &Told) -> Result<Command<'a>, AllocError> {
+    with_options(alloc, told)?.arg(any_number(alloc, "FILE", texts::FILES))
 }
 
-/// With the command that compares two files.
-fn with_compare<'a>(alloc: Global, program: Command<'a>) -> Result<Command<'a>, AllocError> {
-    let command = Command::new(alloc, "compare")
-        .about(texts::COMPARE)
-        .long_about(texts::COMPARE_LONG)
-        .after_long_help(texts::COMPARE_AFTER);
-    program.subcommand(over_two_files(alloc, command)?)
+/// A word that may be given any number of times.
+fn any_number<'a>(alloc: Global, name: &'a str, help: &'a str) -> Arg<'a> {
+    Arg::new(alloc, name)
+        .action(ArgAction::Append)
+        .num_args(0..)
+        .help(help)
 }
 
 /// A command over two files, each of which has to be given.
-fn over_two_files<'a>(alloc: Global, command: Command<'a>) -> Result<Command<'a>, AllocError> {
-    let command = with_options(alloc, command)?;
+fn over_two_files<'a>(alloc: Global, told: &Told) -> Result<Command<'a>, AllocError> {
+    let command = with_options(alloc, told)?;
     let command = command.arg(required(alloc, "LEFT", texts::LEFT))?;
     command.arg(required(alloc, "RIGHT", texts::RIGHT))
 }
@@ -95,25 +150,32 @@ fn required<'a>(alloc: Global, name: &'a str, help: &'a str) -> Arg<'a> {
 }
 
 /// A command with the options that all have.
-fn with_options<'a>(alloc: Global, command: Command<'a>) -> Result<Command<'a>, AllocError> {
-    let command = command.arg(option(alloc, "root", "DIR", ".", texts::ROOT))?;
-    let command = command.arg(option(alloc, "tree", "PATH", "Kconfig", texts::TREE))?;
-    let command = command.arg(option(alloc, "prefix", "TEXT", "CONFIG_", texts::PREFIX))?;
-    let imply = option(alloc, "imply", "PROFILE", "present", texts::IMPLY);
-    command.arg(imply.value_parser(PROFILES.as_slice()))
+fn with_options<'a>(alloc: Global, told: &Told) -> Result<Command<'a>, AllocError> {
+    let mut command = described(alloc, told);
+    for valued in &FREE {
+        command = command.arg(option(alloc, valued))?;
+    }
+    command.arg(imply(alloc))
+}
+
+/// The option that takes one of few values.
+fn imply<'a>(alloc: Global) -> Arg<'a> {
+    option(alloc, &IMPLY).value_parser(PROFILES.as_slice())
+}
+
+/// A command with its own help.
+fn described<'a>(alloc: Global, told: &Told) -> Command<'a> {
+    Command::new(alloc, told.name)
+        .about(told.about)
+        .long_about(told.long)
+        .after_long_help(told.after)
 }
 
 /// An option with a value.
-fn option<'a>(
-    alloc: Global,
-    name: &'a str,
-    value: &'a str,
-    default: &'a str,
-    help: &'a str,
-) -> Arg<'a> {
-    Arg::new(alloc, name)
-        .long(name)
-        .value_name(value)
-        .default_value(default)
-        .help(help)
+fn option<'a>(alloc: Global, valued: &Valued) -> Arg<'a> {
+    Arg::new(alloc, valued.name)
+        .long(valued.name)
+        .value_name(valued.value)
+        .default_value(valued.default)
+        .help(valued.help)
 }

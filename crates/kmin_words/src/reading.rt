@@ -27,15 +27,17 @@ pub fn read_words<'a>(alloc: Global, words: &'a [&'a str]) -> Result<Words<'a>, 
 {
     match program(alloc)?.try_get_matches_from(words) {
         Ok(matches) => job_of(alloc, &matches),
-        Err(error) if error.kind() == ErrorKind::OutOfMemory => Err(AllocError),
         Err(error) => told(alloc, &error),
     }
 }
 
-/// What `clap` says in place of a job.
+/// What `clap` says in place of a job, unless it has no memory.
 fn told<'a>(alloc: Global, error: &Error) -> Result<Words<'a>, AllocError>
     ensures { IfOk result HasItsFiles }
 {
+    if error.kind() == ErrorKind::OutOfMemory {
+        return Err(AllocError);
+    }
     let text = format!(in alloc; "{error}")?;
     if error.use_stderr() {
         return Ok(Words::Refused(text));

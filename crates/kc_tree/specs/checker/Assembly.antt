@@ -18,7 +18,9 @@ use Rattle.kc_tree.specs.checker.GatheredView.{whole_gathered}
 use Rattle.kc_tree.specs.checker.Kept.{EntryRowFits}
 use Rattle.kc_tree.specs.checker.PartsView.{entry_seen}
 use Rattle.kc_tree.specs.checker.Rows.{AreRowsOf}
+use Rattle.kc_tree.specs.checker.Summaries.{IsSummary}
 use Rattle.kc_tree.specs.checker.UnitList.{units_read}
+use Rattle.kc_tree.specs.declared.builder.AllParts.{AllParts}
 use Rattle.kc_tree.specs.declared.builder.ChoiceParts.{ChoiceParts}
 use Rattle.kc_tree.specs.declared.builder.SymbolParts.{SymbolParts}
 use Rattle.kc_tree.specs.declared.gathered.Gathered.{Gathered}
@@ -45,6 +47,13 @@ pub record AreChoiceParts (l : Listing) (read : List Group) (p : ChoiceParts) : 
   pub defaults : AreDefaultsOf l (contents_of read) (placed read) (length (contents_of read).choices) p.defaults
   pub entries : map (entry_seen l.names.arena l.texts.items) p.entries.items ≡ (whole_of read).entries
   pub entries_fit : All (EntryRowFits (length l.names.arena.nodes) (length l.names.symbols.items) (length (contents_of read).choices) (length l.texts.items)) p.entries.items
+
+-- the summary, the symbols and the choices, of so few groups that each has a number
+pub record AreAllParts (l : Listing) (read : List Group) (p : AllParts) : Type 0 where
+  pub few : length l.groups.items < 2 ^ 32
+  pub summary : IsSummary read p.summary
+  pub symbols : AreSymbolParts l.names.arena read p.symbols
+  pub choices : AreChoiceParts l read p.choices
 
 -- all that is gathered of what was read: its numbers are there, and it stands for the whole
 pub record IsGathering (read : List Group) (g : Gathered) : Type 0 where

@@ -5,8 +5,8 @@ use Rattle.kc_tree.specs.checker.Summaries.{read_before}
 use Rattle.kc_tree.proofs.Rounds.{numbers_of_choices}
 use Rattle.kc_tree.proofs.around.choice_count.Given as goal
 
-abbrev pub invariant-loop-i : goal.invariant-loop-i
-invariant-loop-i l = record {
-  few : l.choices ≤ l.i;
-  counted : (read : List Read) → Shows l.listing read → l.choices ≡ length (numbers_of_choices (read_before l.i read));
+abbrev pub invariant-loop-group : goal.invariant-loop-group
+invariant-loop-group l = record {
+  few : l.choices ≤ l.group-index;
+  counted : (read : List Read) → Shows l.listing read → l.choices ≡ length (numbers_of_choices (read_before l.group-index read));
 }

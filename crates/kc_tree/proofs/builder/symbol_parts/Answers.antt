@@ -4,8 +4,8 @@ use Rattle.kc_tree.proofs.builder.symbol_parts.Goals as goal
 
 pub symbol_rows-requires-clause-symbols : goal.symbol_rows-requires-clause-symbols
 unfolding IsSummary
-symbol_rows-requires-clause-symbols c = λ read s. c.deref.ensures.value ∙ (c.requires.summary read s).symbols
+symbol_rows-requires-clause-symbols c = λ read s. c.as_slice-symbols.ensures.value ∙ (c.requires.summary read s).symbols
 
 pub units_of-requires-clause-symbols : goal.units_of-requires-clause-symbols
 unfolding IsSummary
-units_of-requires-clause-symbols c = λ read s. c.deref-4.ensures.value ∙ (c.requires.summary read s).symbols
+units_of-requires-clause-symbols c = λ read s. c.as_slice-symbols.ensures.value ∙ (c.requires.summary read s).symbols

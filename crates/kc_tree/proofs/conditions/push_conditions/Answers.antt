@@ -1,9 +1,35 @@
-use Rattle.std.proofs.Common.{subst, ap, arith, length, length-append, [], ◌∷◌}
+use Rattle.std.proofs.Common.{◌≡◌, ◌<◌, ℕ, List, All, get_or, subst, sym, ap, arith, length, length-append, [], ◌∷◌}
 use Rattle.std.proofs.lemmas.List.{take_all}
 use Rattle.kc_tree.specs.checker.Conjuncts.{AreBehind}
-use Rattle.kc_tree.proofs.Growth.{grows_on, joined_on, behind_more}
+use Rattle.kc_tree.proofs.Growth.{grows_on, joined_on, behind_more, none_behind, there_on}
+use Rattle.kc_expr.specs.Arena.{Exprs, Grows}
+use Rattle.kc_listing.proofs.PutSteps.{grows_same}
+use Rattle.kc_listing.specs.Shown.{LineHeld}
+use Rattle.kc_listing.specs.declared.listing.Line.{Line as CodeLine}
+use Rattle.kc_statements.specs.Said.{AttributeHeld}
+use Rattle.kc_statements.proofs.Later.{attribute_held}
 use Rattle.kc_expr.proofs.StoreLemmas.{stands_on}
 use Rattle.kc_tree.proofs.conditions.push_conditions.Goals as goal
+
+line_held : (old mid : Exprs) (lines : List CodeLine) (k : ℕ) (d : CodeLine) → Grows old mid → All (LineHeld old) lines → k < length lines → d ≡ get_or lines k d → AttributeHeld mid d.attribute
+line_held old mid lines k d g held h e = subst (λ (l : CodeLine). AttributeHeld mid l.attribute) (sym e) (attribute_held old mid (get_or lines k d).attribute g (held k d h))
+
+pub loop-line-init : goal.loop-line-init
+loop-line-init c = record {
+  grows = grows_same c.args.arena.now;
+  stand = λ ds vs own j y. none_behind c.args.arena.now c.args.conditions.now.items ds vs;
+  longer = omega arith;
+}
+
+pub condition_of-requires-clause-dependencies : goal.condition_of-requires-clause-dependencies
+condition_of-requires-clause-dependencies c = there_on c.args.arena.now c.loop-line.arena c.loop-line.invariant.grows c.args.entry.now.dependencies c.requires.dependencies
+
+pub condition_of-requires-clause-shown : goal.condition_of-requires-clause-shown
+condition_of-requires-clause-shown c = there_on c.args.arena.now c.loop-line.arena c.loop-line.invariant.grows c.args.entry.now.shown c.requires.shown
+
+pub condition_of-requires-clause-held : goal.condition_of-requires-clause-held
+condition_of-requires-clause-held c =
+    line_held c.args.arena.now c.loop-line.arena c.args.lines.now c.loop-line.line-index c.line-item.result c.loop-line.invariant.grows c.requires.held c.loop-line-test.true c.line-item.is
 
 pub loop-line-preserved : goal.loop-line-preserved
 loop-line-preserved c =

@@ -1,4 +1,4 @@
-use Rattle.std.proofs.Common.{arith}
+use Rattle.std.proofs.Common.{arith, refl}
 use Rattle.kc_system.specs.Solutions.{Solves}
 use Rattle.kc_system.proofs.sessions.Session.holding.Goals as goal
 
@@ -31,3 +31,15 @@ returns-clause-gives g c =
       solves = solves;
       only = λ w b. c.in_ok-values.ensures.unique w values (rw (← c.as_slice.ensures.value) at b) c.in_ok-values.ensures.solves;
     }
+
+pub solve-requires-clause-order : goal.solve-requires-clause-order
+solve-requires-clause-order g c = c.requires.order
+
+pub solve-requires-clause-users : goal.solve-requires-clause-users
+solve-requires-clause-users g c = rw c.as_slice.ensures.value c.requires.users
+
+pub returns-clause-users : goal.returns-clause-users
+returns-clause-users g c = refl
+
+pub returns-clause-system : goal.returns-clause-system
+returns-clause-system g c = c.in_ok-plan.ensures.system

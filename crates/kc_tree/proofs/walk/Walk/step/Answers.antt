@@ -3,15 +3,47 @@ use Rattle.std.specs.Prelude.{slice_get}
 use Rattle.kc_expr.specs.Arena.{Grows}
 use Rattle.kc_expr.proofs.StoreLemmas.{stands_on}
 use Rattle.kc_listing.proofs.PutSteps.{grows_same, on_ok}
+use Rattle.kc_statements.proofs.Later.{attribute_held}
 use Rattle.kc_tree_model.specs.Blocks.{Group, open_blocks}
 use Rattle.kc_tree_model.specs.Conditions.{all_of, context, dependencies_of, prompts_of}
 use Rattle.kc_tree.specs.checker.Conjuncts.{AreBehind}
 use Rattle.kc_tree.specs.checker.Firsts.{PromptStands}
 use Rattle.kc_tree.specs.checker.Walked.{AroundShown, or_yes}
 use Rattle.kc_tree.specs.declared.conditions.Around.{Around}
-use Rattle.kc_tree.proofs.Growth.{grows_on, conjoins_there, joined_on}
+use Rattle.kc_tree.proofs.Growth.{grows_on, there_on, conjoins_there, joined_on}
 use Rattle.kc_tree.proofs.WalkSteps.{top_shown, entry_is, ended, entered, end_side, other_side, prompt_there, prompt_stands, inside_on, around_on, what_on}
 use Rattle.kc_tree.proofs.walk.Walk.step.Goals as goal
+
+pub entry_conditions-requires-clause-dependencies : goal.entry_conditions-requires-clause-dependencies
+entry_conditions-requires-clause-dependencies c =
+    let w = c.args.self.now in
+    let k = c.requires.walked in
+    let t = top_shown w.arena k.0 w.yes (reverse w.stack.items) (open_blocks 0 k.1) (k.2 w.arena (grows_same w.arena)).stack_is in
+    let a = subst (λ (x : Around). AroundShown w.arena k.0 w.yes x (open_blocks 0 k.1)) (sym c.around-around.ensures) t in
+    conjoins_there w.arena c.around-around.result.dependencies _ a.dependencies_are
+
+pub entry_conditions-requires-clause-visibles : goal.entry_conditions-requires-clause-visibles
+entry_conditions-requires-clause-visibles c =
+    let w = c.args.self.now in
+    let k = c.requires.walked in
+    let t = top_shown w.arena k.0 w.yes (reverse w.stack.items) (open_blocks 0 k.1) (k.2 w.arena (grows_same w.arena)).stack_is in
+    let a = subst (λ (x : Around). AroundShown w.arena k.0 w.yes x (open_blocks 0 k.1)) (sym c.around-around.ensures) t in
+    conjoins_there w.arena c.around-around.result.visibles _ a.visibles_are
+
+pub entry_conditions-requires-clause-held : goal.entry_conditions-requires-clause-held
+entry_conditions-requires-clause-held c = c.requires.lines
+
+pub push_conditions-requires-clause-held : goal.push_conditions-requires-clause-held
+push_conditions-requires-clause-held c = λ k d h. attribute_held c.args.self.now.arena c.entry_conditions.new.arena _ c.entry_conditions.ensures.grows (c.requires.lines k d h)
+
+pub inside-requires-clause-around : goal.inside-requires-clause-around
+inside-requires-clause-around c =
+    let w = c.args.self.now in
+    let k = c.requires.walked in
+    let t = top_shown w.arena k.0 w.yes (reverse w.stack.items) (open_blocks 0 k.1) (k.2 w.arena (grows_same w.arena)).stack_is in
+    let a = subst (λ (x : Around). AroundShown w.arena k.0 w.yes x (open_blocks 0 k.1)) (sym c.around-around.ensures) t in
+    there_on w.arena c.push_conditions.new.arena (grows_on w.arena c.entry_conditions.new.arena c.push_conditions.new.arena c.entry_conditions.ensures.grows c.push_conditions.ensures.grows) c.around-around.result.dependencies
+    (conjoins_there w.arena c.around-around.result.dependencies _ a.dependencies_are)
 
 pub push_conditions-requires-clause-dependencies : goal.push_conditions-requires-clause-dependencies
 push_conditions-requires-clause-dependencies c =

@@ -1,0 +1,13 @@
+use Rattle.std.proofs.Common.{arith, ap, length}
+use Rattle.std.proofs.lemmas.List.{with_items_is}
+use Rattle.kc_system.proofs.ordering.order.Goals as goal
+
+pub order_or_cycle-requires-clause-taking : goal.order_or_cycle-requires-clause-taking
+order_or_cycle-requires-clause-taking g c =
+    let flags = with_items_is c.in_ok-flags.flags c.take_all.new.flags (omega (arith, c.take_all.auto.flags, ap length c.deref_mut.ensures.value, c.in_ok-flags.flags.ok.0)) in
+    rw (c.deref.ensures.value, flags) c.in_ok-take_all.ensures.taking
+
+pub order_or_cycle-requires-clause-left : goal.order_or_cycle-requires-clause-left
+order_or_cycle-requires-clause-left g c =
+    let flags = with_items_is c.in_ok-flags.flags c.take_all.new.flags (omega (arith, c.take_all.auto.flags, ap length c.deref_mut.ensures.value, c.in_ok-flags.flags.ok.0)) in
+    rw (c.deref.ensures.value, flags) c.in_ok-take_all.ensures.left

@@ -1,0 +1,14 @@
+use Rattle.std.proofs.Common.{◌≡◌, arith, sym, ◌∙◌, None}
+use Rattle.std.proofs.lemmas.List.{get_or_default}
+use Rattle.kc_system.specs.Solutions.{user_of}
+use Rattle.kc_system.proofs.solving.evaluate.Goals as goal
+
+pub eval-requires-clause-user : goal.eval-requires-clause-user
+eval-requires-clause-user g c =
+    let there : user_of c.args.users.now c.args.u ≡ c.index-users-u.result = get_or_default c.args.users.now c.args.u None c.index-users-u.result (omega (arith, c.requires.users.0, c.requires.unit)) ∙ sym c.index-users-u.is in
+    rw (c.as_ref.ensures.value, ← there) (c.requires.users.1 c.args.u c.requires.unit)
+
+pub returns-clause-value : goal.returns-clause-value
+returns-clause-value g c =
+    let there : user_of c.args.users.now c.args.u ≡ c.index-users-u.result = get_or_default c.args.users.now c.args.u None c.index-users-u.result (omega (arith, c.requires.users.0, c.requires.unit)) ∙ sym c.index-users-u.is in
+    rw there (rw c.as_ref.ensures.value at c.eval.ensures.value)

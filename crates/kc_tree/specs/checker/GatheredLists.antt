@@ -1,0 +1,44 @@
+-- The lists that are made of what was gathered.
+use Rattle.std.specs.Prelude.{length}
+use Rattle.kc_tree.specs.checker.GatheredAttributes.{AreGrouped}
+use Rattle.kc_tree.specs.checker.GatheredView.{whole_gathered}
+use Rattle.kc_tree.specs.checker.GroupedItems.{IsGrouped}
+use Rattle.kc_tree.specs.checker.NameTable.{IsTable}
+use Rattle.kc_tree.specs.checker.Units.{HasUnits}
+use Rattle.kc_tree.specs.declared.parts.Parts.{Parts}
+use Rattle.kc_tree.specs.declared.gathered.Gathered.{Gathered}
+use Rattle.kc_tree.specs.declared.gathered.Lists.{Lists}
+use Rattle.kc_tree.specs.declared.gathered.Tables.{Tables}
+
+-- what belongs to one symbol or choice is put together
+pub record AreLists (g : Gathered) (l : Lists) : Type 0 where
+  pub attributes : AreGrouped (length g.symbols.items) g.attributes l.attributes
+  pub members : IsGrouped (length g.choices.items) g.members.keys.items g.members.items.items l.members.starts.items l.members.items.items
+  pub member_defaults : IsGrouped (length g.choices.items) g.member_defaults.keys.items g.member_defaults.items.items l.member_defaults.starts.items l.member_defaults.items.items
+
+-- each symbol and each choice has its unit, and each name its symbol
+pub record AreTables (g : Gathered) (t : Tables) : Type 0 where
+  pub units : HasUnits (whole_gathered g) t.units.symbols.items t.units.choices.items
+  pub names : IsTable (length g.arena.names) g.symbols.items (length g.symbols.items) t.symbol_of_name.items
+
+-- the lists of the tree
+abbrev pub parts_made : Gathered → Lists → Tables → Parts
+parts_made g l t = record {
+  arena = g.arena;
+  symbols = g.symbols;
+  prompts = l.attributes.prompts;
+  defaults = l.attributes.defaults;
+  ranges = l.attributes.ranges;
+  selectors = l.attributes.selectors;
+  impliers = l.attributes.impliers;
+  direct = l.attributes.direct;
+  choices = g.choices;
+  members = l.members;
+  member_defaults = l.member_defaults;
+  entries = g.entries;
+  titles = g.titles;
+  units = g.units;
+  unit_of_symbol = t.units.symbols;
+  unit_of_choice = t.units.choices;
+  symbol_of_name = t.symbol_of_name;
+}
