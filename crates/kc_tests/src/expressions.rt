@@ -52,6 +52,22 @@ fn meets_once(rt: HostRuntime) -> Result<(), std::test::Fail> {
     Ok(())
 }
 
+/// Whether the names of an expression are put behind those of a list, each as often as it stands there.
+fn are_put(alloc: Global) -> Result<bool, ExprFault> {
+    let mut arena = Arena::new(alloc);
+    let list = tokens(alloc, "A && B || !A")?;
+    let (id, _) = arena.parse_expr(&list, 0, true)?;
+    let mut found = Vec::new(alloc);
+    arena.push_names(id, &mut found)?;
+    Ok(found.len() == 3)
+}
+
+#[test]
+fn puts_names(rt: HostRuntime) -> Result<(), std::test::Fail> {
+    assert!(rt; twice!(are_put(rt.alloc())));
+    Ok(())
+}
+
 #[test]
 fn a_kind_is_its_name(rt: HostRuntime) -> Result<(), std::test::Fail> {
     for (kind, wanted) in [
