@@ -18,4 +18,5 @@ pub mod TokenPlaces
 pub mod TokenTexts
 mod Vectors
 pub mod WalkLemmas
+pub mod WordAlone
 pub mod WordBytes

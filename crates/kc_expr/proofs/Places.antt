@@ -27,6 +27,10 @@ place_at [] i d h = absurd (omega arith)
 place_at (n ∷ ns) zero d h = rw (same_bytes n) refl
 place_at (n ∷ ns) (suc i) d h = at_place (bytes_eq (get_or ns i []) n) i n (place_of (get_or ns i []) ns) (other_bytes (get_or ns i []) n (λ e. omega (arith, d zero (suc i) (omega arith) h (sym e)))) (place_at ns i (tail_distinct n ns d) (omega arith))
 
+-- a name that is held at a place is found there
+pub place_of_held : (names : List (List ℕ)) (i : ℕ) (x : List ℕ) → AreDistinct names → i < length names → get_or names i [] ≡ x → place_of x names ≡ Some i
+place_of_held names i x d h e = ap (λ y. place_of y names) (sym e) ∙ place_at names i d h
+
 pub seen_at : (names : List (List ℕ)) (i : ℕ) (sees : ℕ → Option Seen) → AreDistinct names → i < length names → names_seen names sees (get_or names i []) ≡ sees i
 seen_at names i sees d h = ap (option_and_then sees) (place_at names i d h)
 

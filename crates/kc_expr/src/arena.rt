@@ -171,8 +171,8 @@ impl Arena {
         self.store.node_count()
     }
 
-    /// The number of a name, which is put behind the others where it is new. No expression is made. An `Err` is want
-    /// of memory, and leaves the arena as it was.
+    /// The number of a name, which is put behind the others where it is new, as it mostly is: it is hashed once. No
+    /// expression is made. An `Err` is want of memory, and leaves the arena as it was.
     pub fn intern(&mut self, name: &str) -> Result<NameId, ExprFault>
         ensures names { IfOk result (λ id. self.new.names ≡ with_name name.now self.old.names) }
         ensures place { IfOk result (λ id. place_of name.now self.new.names ≡ Some id) }
@@ -183,7 +183,7 @@ impl Arena {
         ensures memory { IfErr result (λ e. e.kind ≡ OutOfMemory) }
         ensures err { OnErr result (self.new ≡ self.old) }
     {
-        let index = self.store.intern(name)?;
+        let index = self.store.put_name(name)?;
         Ok(NameId::at(index))
     }
 

@@ -21,10 +21,10 @@ use kc_value::{Text, Tri};
 fn constant_of(text: &str) -> Option<Tri>
     ensures { result ≡ letter_value text.now }
 {
-    match text {
-        "n" => Some(Tri::N),
-        "m" => Some(Tri::M),
-        "y" => Some(Tri::Y),
+    match text.as_bytes() {
+        [b'n'] => Some(Tri::N),
+        [b'm'] => Some(Tri::M),
+        [b'y'] => Some(Tri::Y),
         _ => None,
     }
 }
@@ -36,7 +36,7 @@ fn is_constant_m(leaf: Leaf) -> bool
 }
 
 impl Store {
-    ghost use Rattle.kc_expr.specs.checker.Store.{names_held, exprs_in, IsSound, Extends};
+    ghost use Rattle.kc_expr.specs.checker.Store.{names_held, exprs_in, IsSound, Extends, HasNamesOf};
 
     /// The operand that a word is.
     fn word_leaf(&mut self, text: &str) -> Result<Leaf, ExprFault>
@@ -48,13 +48,14 @@ impl Store {
         ensures operand { IfOk result (λ l. operand_of (names_held self.new) self.new.texts.items l ≡ constant_or named text.now) }
         ensures memory { IfErr result (λ e. e.kind ≡ OutOfMemory) }
     {
-        match constant_of(text) {
-            Some(t) => Ok(Leaf::Constant(t)),
-            None => {
-                let index = self.intern(text)?;
-                Ok(Leaf::Name(index))
-            }
+        if let Some(t) = constant_of(text) {
+            return Ok(Leaf::Constant(t));
         }
+        if let Some(index) = self.find_newest(text) {
+            return Ok(Leaf::Name(index));
+        }
+        let index = self.intern(text)?;
+        Ok(Leaf::Name(index))
     }
 
     /// The operand that a quoted token is.
@@ -100,6 +101,19 @@ impl Store {
             TokenKind::Quoted => Ok(Some(self.quoted_leaf(token.text)?)),
             _ => Ok(None),
         }
+    }
+
+    /// A node for a word that stands alone.
+    pub(crate) fn parse_word(&mut self, text: &str, condition: bool) -> Result<u32, ExprFault>
+        requires { IsSound self.old }
+        ensures sound { IsSound self.new }
+        ensures extends { Extends self.old self.new }
+        ensures names { IfOk result (HasNamesOf self.old self.new) }
+        ensures stands { IfOk result (λ id. Stands (exprs_in self.new) id (as_condition condition (alone (constant_or named text.now)))) }
+        ensures memory { IfErr result (λ e. e.kind ≡ OutOfMemory) }
+    {
+        let leaf = self.word_leaf(text)?;
+        self.push_alone(leaf, condition)
     }
 
     /// A node for an operand that stands alone. In a condition `m` means `m && MODULES`.

@@ -1,8 +1,9 @@
 //! The parser of expressions.
-ghost use Rattle.std.specs.Prelude.{◌≡◌, ◌↔◌, ◌≤◌, Some, length, drop, ◌&&◌, ◌||◌, ◌⊎◌, IsTrue, IfOk, IfErr};
+ghost use Rattle.std.specs.Prelude.{◌≡◌, ◌↔◌, ◌≤◌, Some, length, drop, ◌&&◌, ◌||◌, ◌⊎◌, IsTrue, IfSome, IfOk, IfErr, ◌+◌, []};
 ghost use Rattle.kc_expr.specs.declared.token.TokenKind.TheVariants.{Word, Quoted, Not, Open};
-ghost use Rattle.kc_expr.specs.Grammar.{beyond, extent, fault_of, is_close, is_operand_kind};
-ghost use Rattle.kc_expr.specs.checker.Parsing.{first_kind, first_relation, operand_read, factor_read, ands_read, ors_read, whole_read, Parses, IsParsedWhole, IsRefusedWhole, MeetsFault};
+ghost use Rattle.kc_expr.specs.Expr.{named};
+ghost use Rattle.kc_expr.specs.Grammar.{beyond, constant_or, extent, fault_of, is_close, is_operand_kind};
+ghost use Rattle.kc_expr.specs.checker.Parsing.{first_kind, first_operand, first_relation, operand_read, factor_read, ands_read, ors_read, whole_read, Parses, IsParsedWhole, IsRefusedWhole, MeetsFault};
 ghost use Rattle.kc_expr.specs.Token.{pieces_of};
 
 use super::fault::{ExprFault, ExprKind};
@@ -32,6 +33,23 @@ fn relation_at(tokens: &[Token<'_>], at: usize) -> Option<Relop>
     }
     match tokens[at].kind {
         TokenKind::Relation(op) => Some(op),
+        _ => None,
+    }
+}
+
+/// The text of the token at a place, where it is a word and the last one.
+fn last_word<'a>(tokens: &[Token<'a>], at: usize) -> Option<&'a str>
+    requires { at ≤ length tokens.now }
+    ensures kind { IfSome result (λ _. first_kind (drop at (pieces_of tokens.now)) ≡ Some Word) }
+    ensures operand { IfSome result (λ text. first_operand (drop at (pieces_of tokens.now)) ≡ Some (constant_or named text.now)) }
+    ensures last { IfSome result (λ _. drop (at + 1) (pieces_of tokens.now) ≡ []) }
+{
+    if at + 1 != tokens.len() {
+        return None;
+    }
+    let token = tokens[at];
+    match token.kind {
+        TokenKind::Word => Some(token.text),
         _ => None,
     }
 }
@@ -215,7 +233,7 @@ impl Store {
         Ok((left, next))
     }
 
-    /// All tokens from a place on.
+    /// All tokens from a place on. Most expressions are one word alone.
     pub(crate) fn parse_whole(
         &mut self,
         tokens: &[Token<'_>],
@@ -231,6 +249,9 @@ impl Store {
         ensures ok { IfOk result (IsParsedWhole self.new condition (whole_read depth (drop at (pieces_of tokens.now)))) }
         ensures fault { IfErr result (IsRefusedWhole (pieces_of tokens.now) (whole_read depth (drop at (pieces_of tokens.now)))) }
     {
+        if let Some(text) = last_word(tokens, at) {
+            return self.parse_word(text, condition);
+        }
         let (id, next) = self.parse_ors(tokens, at, depth, condition)?;
         if next < tokens.len() {
             return Err(fault_at(tokens, next, ExprKind::Malformed));

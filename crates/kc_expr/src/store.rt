@@ -1,5 +1,5 @@
 //! The lists that an arena holds.
-ghost use Rattle.std.specs.Prelude.{◌≡◌, ◌<◌, ◌^◌, [], length, take, Some, IfOk, IfErr, OnOk, OnErr, slice_index_or};
+ghost use Rattle.std.specs.Prelude.{◌≡◌, ◌<◌, ◌^◌, [], length, take, Some, IsTrue, IfSome, IfOk, IfErr, OnOk, OnErr, slice_index_or};
 ghost use Rattle.kc_expr.specs.declared.fault.ExprKind.TheVariants.{OutOfMemory};
 ghost use Rattle.kc_expr.specs.Arena.{Stands};
 ghost use Rattle.kc_expr.specs.Lookup.{place_of};
@@ -109,6 +109,31 @@ impl Store {
         }
     }
 
+    /// The number of a name that is one of the last two: expressions often name what was just defined.
+    pub(crate) fn find_newest(&self, name: &str) -> Option<u32>
+        requires { IsSound self.now }
+        ensures place { IfSome result (λ i. place_of name.now (names_held self.now) ≡ Some i) }
+    {
+        let count = self.names.len();
+        if count > 0 && self.has_at(count - 1, name) {
+            return Some((count - 1) as u32);
+        }
+        if count > 1 && self.has_at(count - 2, name) {
+            return Some((count - 2) as u32);
+        }
+        None
+    }
+
+    /// Whether a name stands at a place. Names that follow one another differ mostly at their ends: these are compared
+    /// first.
+    fn has_at(&self, index: usize, name: &str) -> bool
+        requires { index < length (names_held self.now) }
+        ensures { IsTrue result → slice_index_or (names_held self.now) index [] ≡ name.now }
+    {
+        let held = self.name(index);
+        held.len() == name.len() && held.as_bytes().last() == name.as_bytes().last() && held == name
+    }
+
     /// Puts a node behind the others. 2^32 nodes are as many as there can be.
     pub(crate) fn push(&mut self, node: Node) -> Result<u32, ExprFault>
         requires sound { IsSound self.old }
@@ -145,8 +170,8 @@ impl Store {
         }
     }
 
-    /// Puts a name behind the others, unless it is there. 2^32 names are as many as there can be.
-    fn put_name(&mut self, name: &str) -> Result<u32, ExprFault>
+    /// The number of a name, which is put behind the others unless it is there. 2^32 names are as many as there can be.
+    pub(crate) fn put_name(&mut self, name: &str) -> Result<u32, ExprFault>
         requires { IsSound self.old }
         ensures sound { IsSound self.new }
         ensures extends { Extends self.old self.new }

@@ -1,8 +1,13 @@
-use Rattle.std.proofs.Common.{arith, length-drop}
-use Rattle.std.proofs.lemmas.Result.{err_from_is_err_and}
+use Rattle.std.proofs.Common.{◌≡◌, Ok, drop, sym, ◌∙◌, arith, length-drop}
+use Rattle.std.proofs.lemmas.Result.{err_from_is_err_and, IfOk-weaker}
 use Rattle.std.proofs.lemmas.List.{length-map}
+use Rattle.kc_expr.specs.Expr.{alone, named}
+use Rattle.kc_expr.specs.Grammar.{constant_or}
+use Rattle.kc_expr.specs.checker.Parsing.{whole_read}
 use Rattle.kc_expr.specs.Token.{pieces_of, piece_of}
 use Rattle.kc_expr.proofs.ParseSteps.{whole_refused, whole_too_long, whole_parsed}
+use Rattle.kc_expr.proofs.ReaderSteps.{drop_one}
+use Rattle.kc_expr.proofs.WordAlone.{word_whole}
 use Rattle.kc_expr.proofs.store.Store.parse_whole.Goals as goal
 
 pub returns-in_err-id-clause-fault : goal.returns-in_err-id-clause-fault
@@ -16,3 +21,10 @@ returns-then-next-tokens-clause-fault c =
 
 pub returns-clause-ok : goal.returns-clause-ok
 returns-clause-ok c = whole_parsed (pieces_of c.args.tokens.now) c.args.condition c.args.at c.args.depth c.parse_ors.new.self _ _ c.in_ok-id.ensures.parses (omega (arith, length-map c.args.tokens.now piece_of))
+
+pub returns-in-Some-clause-ok : goal.returns-in-Some-clause-ok
+returns-in-Some-clause-ok c =
+    let e = c.in-Some.ensures in
+    let reads : whole_read c.args.depth (drop c.args.at (pieces_of c.args.tokens.now)) ≡ Ok (alone (constant_or named c.in-Some.text.now)) =
+    word_whole (drop c.args.at (pieces_of c.args.tokens.now)) (constant_or named c.in-Some.text.now) e.kind e.operand (sym (drop_one c.args.at (pieces_of c.args.tokens.now)) ∙ e.last) c.args.depth in
+    IfOk-weaker c.parse_word.result _ _ (λ id s. record { expr = alone (constant_or named c.in-Some.text.now); reads = reads; stands = s }) c.parse_word.ensures.stands

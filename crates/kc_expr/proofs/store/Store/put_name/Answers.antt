@@ -7,7 +7,7 @@ use Rattle.kc_expr.specs.Lookup.{place_of, AreDistinct}
 use Rattle.kc_expr.specs.Names.{with_name}
 use Rattle.kc_expr.specs.checker.Store.{Extends}
 use Rattle.kc_expr.proofs.Places.{place_put, distinct_put, names_put, place_there}
-use Rattle.kc_expr.proofs.StoreLemmas.{sound_on, put_prefix, put_long}
+use Rattle.kc_expr.proofs.StoreLemmas.{extends_self, sound_on, put_prefix, put_long}
 use Rattle.kc_expr.proofs.store.Store.put_name.Goals as goal
 
 placed : (c : goal.In_ok-index) → place_of c.args.name.now (map string_bytes c.insert_full.new.self.keys) ≡ Some c.in_ok-index.index
@@ -18,16 +18,22 @@ placed c =
     ∙ place_put string_bytes (string_bytes v) v refl c.args.self.now.names.keys
     ∙ ap Some (sym c.in_ok-index.ensures.index)
 
+extended : (c : goal.In_ok-index) → Extends c.args.self.now (record c.args.self.now { names = c.insert_full.new.self })
+extended c =
+    let v = c.in_ok-from_str.field-0 in
+    record { names = rw c.in_ok-index.ensures.keys (put_prefix (list_any (λ k. bytes_eq (string_bytes v) (string_bytes k)) c.args.self.now.names.keys) c.args.self.now.names.keys v); texts = take-length c.args.self.now.texts.items; nodes = take-length c.args.self.now.nodes.items }
+
+pub returns-clause-extends : goal.returns-clause-extends
+returns-clause-extends c = extended c
+
 pub returns-clause-sound : goal.returns-clause-sound
 returns-clause-sound c =
     let v = c.in_ok-from_str.field-0 in
     let distinct : AreDistinct (map string_bytes c.insert_full.new.self.keys) =
     subst (λ (ks : List (String Global)). AreDistinct (map string_bytes ks)) (sym c.in_ok-index.ensures.keys) (distinct_put string_bytes (string_bytes v) v refl c.args.self.now.names.keys c.requires.distinct) in
-    let extends : Extends c.args.self.now (record c.args.self.now { names = c.insert_full.new.self }) =
-    record { names = rw c.in_ok-index.ensures.keys (put_prefix (list_any (λ k. bytes_eq (string_bytes v) (string_bytes k)) c.args.self.now.names.keys) c.args.self.now.names.keys v); texts = take-length c.args.self.now.texts.items; nodes = take-length c.args.self.now.nodes.items } in
     let few : length c.insert_full.new.self.keys ≤ 2 ^ 32 =
     omega (arith, ap length c.in_ok-index.ensures.keys, put_long (list_any (λ k. bytes_eq (string_bytes v) (string_bytes k)) c.args.self.now.names.keys) c.args.self.now.names.keys v, c.in_ok-number_at.ensures.below, c.len.ensures) in
-    sound_on c.args.self.now (record c.args.self.now { names = c.insert_full.new.self }) c.requires extends refl distinct few
+    sound_on c.args.self.now (record c.args.self.now { names = c.insert_full.new.self }) c.requires (extended c) refl distinct few
 
 pub returns-clause-place : goal.returns-clause-place
 returns-clause-place c = placed c
@@ -44,3 +50,15 @@ returns-clause-within c = (place_there _ _ _ (placed c)).0
 
 pub returns-clause-name : goal.returns-clause-name
 returns-clause-name c = (place_there _ _ _ (placed c)).1
+
+pub returns-in_err-number_at-clause-sound : goal.returns-in_err-number_at-clause-sound
+returns-in_err-number_at-clause-sound c = c.requires
+
+pub returns-in_err-number_at-clause-extends : goal.returns-in_err-number_at-clause-extends
+returns-in_err-number_at-clause-extends c = extends_self c.args.self.now
+
+pub returns-in_err-from_str-clause-sound : goal.returns-in_err-from_str-clause-sound
+returns-in_err-from_str-clause-sound c = c.requires
+
+pub returns-in_err-from_str-clause-extends : goal.returns-in_err-from_str-clause-extends
+returns-in_err-from_str-clause-extends c = extends_self c.args.self.now

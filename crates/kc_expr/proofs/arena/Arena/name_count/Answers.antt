@@ -1,0 +1,4 @@
+use Rattle.kc_expr.proofs.arena.Arena.name_count.Goals as goal
+
+pub returns-clause-count : goal.returns-clause-count
+returns-clause-count c = rw (← c.self.view_is) (cc)
