@@ -1,14 +1,16 @@
 -- What the texts of strings say.
 use Rattle.std.proofs.Common.{◌≡◌, ◌<◌, ℕ, Bool, true, false, not, ◌==◌, cond, List, [], ◌∷◌, length, find, Option, Some, None, refl, sym, ◌∙◌, ap, subst, zero, suc, arith}
-use Rattle.std.specs.Prelude.{IfSome, IfNone, IfOk, Result, Ok, Err, slice_get, is_some}
+use Rattle.std.specs.Prelude.{IfSome, IfNone, IfOk, Result, Ok, Err, slice_get, is_some, option_map, bytes_eq}
 use Rattle.std.proofs.lemmas.Bool.{eqb-true}
+use Rattle.std.proofs.lemmas.Slice.Eq.{bytes_eq-Decides}
 use Rattle.kc_expr.specs.Token.{is_white_byte}
 use Rattle.kc_value.specs.declared.tri.Tri.{Tri}
 use Rattle.kc_value.specs.declared.value.Kind.{Kind}
 use Rattle.kc_value.specs.declared.value.Kind.TheVariants.{Bool as Boolean, Tristate, Text, Int, Hex}
 use Rattle.kc_value.specs.Number.{number_of_text}
 use Rattle.kc_tree_model.specs.Trees.{Whole, Symbol}
-use Rattle.kc_tree_model.specs.TreeLookup.{symbol_named}
+use Rattle.kc_tree_model.specs.TreeLookup.{IsConsistent, symbol_named}
+use Rattle.kc_tree_model.proofs.Lookups.{found_by_name}
 use Rattle.kc_rules_model.specs.Kinds.{is_y}
 use Rattle.kc_dotconfig.specs.declared.said.Said.{Said}
 use Rattle.kc_dotconfig.specs.checker.Sayings.{saying_of, IsWithin}
@@ -113,3 +115,13 @@ empty_says (b ∷ line) h = let n = eqb-true (length (b ∷ line)) 0 h in absurd
 pub no_hash_says : (line : List ℕ) → (length line == 0) ≡ false → is_hash (find (λ b. not (is_white_byte b)) line) ≡ false → None ≡ of_other line
 no_hash_says [] some h = cc
 no_hash_says (b ∷ line) some h = sym (ap (λ t. cond {A = Option Saying} t (Some silent) None) h)
+
+-- a symbol that has the name is the symbol of the name
+pub named_there : (tree : Whole) → IsConsistent tree → (s : ℕ) (found name : List ℕ) → option_map (λ (t : Symbol). t.name) (slice_get tree.symbols s) ≡ Some found → true ≡ bytes_eq found name → symbol_named tree name ≡ Some s
+named_there tree sound s found name at equal = go (slice_get tree.symbols s) refl at where
+  go : (o : Option Symbol) → slice_get tree.symbols s ≡ o → option_map (λ (t : Symbol). t.name) o ≡ Some found → symbol_named tree name ≡ Some s
+  go None e f = cc
+  go (Some symbol) e f =
+      let same = (bytes_eq-Decides found name).0 (sym equal) in
+      let n : symbol.name ≡ name = cc in
+      subst (λ x. symbol_named tree x ≡ Some s) n (found_by_name tree sound s symbol e)

@@ -1,16 +1,16 @@
 -- What a configuration holds and keeps after a change.
-use Rattle.std.proofs.Common.{◌≡◌, inl, inr, ℕ, ◌<◌, IsTrue, List, ◌++◌, length, Option, Some, None, refl, sym, ◌∙◌, ap, subst}
+use Rattle.std.proofs.Common.{◌≡◌, inl, inr, ℕ, ◌<◌, IsTrue, List, [], ◌++◌, length, Option, Some, None, refl, sym, ◌∙◌, ap, subst, arith}
 use Rattle.std.specs.Prelude.{Contains, filter, is_none, replicate}
 use Rattle.kc_system.specs.Changes.{changed_users}
-use Rattle.kc_system.specs.Solutions.{user_of, Gives, FitsUsers}
+use Rattle.kc_system.specs.Solutions.{user_of, Gives, FitsUsers, FitsValues}
 use Rattle.kc_rules_model.specs.declared.values.UserValue.{UserValue}
 use Rattle.kc_rules_model.specs.Rule.{rule}
-use Rattle.kc_rules_model.specs.Shapes.{user_fits}
+use Rattle.kc_rules_model.specs.Shapes.{user_fits, value_fits}
 use Rattle.kc_rules_model.specs.SettledTrees.{IsSettledTree}
 use Rattle.kc_rules_model.proofs.SolutionsFit.{all_solutions_fit}
 use Rattle.kc_rules.specs.declared.rules.Settled.{Settled}
 use Rattle.kc_rules.specs.Told.{whole_of, profile_of}
-use Rattle.kc_dotconfig_model.specs.Files.{laid_over}
+use Rattle.kc_dotconfig_model.specs.Files.{no_users, laid_over}
 use Rattle.kc_dotconfig.specs.Configured.{Configured, tree_in, IsSolved}
 use Rattle.kc_dotconfig.specs.Fragments.{FitsTree, changes_of, users_of}
 use Rattle.kc_dotconfig.specs.checker.Configs.{units_of, clears_of, IsKept}
@@ -26,6 +26,27 @@ solved_by old new before same fits gives =
       fits_values = all_solutions_fit (profile_of new.system) (tree_in new) new.users new.values settled fits gives.solves;
       gives = gives;
     }
+
+-- the one solution that a session of a settled tree tells
+pub solved_as : (settled : Settled) (new : Configured) → new.system ≡ settled → IsSettledTree (whole_of settled) → FitsUsers (length (tree_in new).units) (λ u x. IsTrue (user_fits (tree_in new) u x)) new.users
+    → FitsValues (length (tree_in new).units) (λ u v. IsTrue (value_fits (tree_in new) u v)) new.values → Gives (length (tree_in new).units) (rule (profile_of new.system) (tree_in new)) new.users new.values → IsSolved new
+solved_as settled new same tree fits fits_values gives = record {
+  settled = subst (λ s. IsSettledTree (whole_of s)) (sym same) tree;
+  fits = fits;
+  fits_values = fits_values;
+  gives = gives;
+}
+
+-- no units are kept where no user value is held
+pub none_kept : (settled : Settled) (new : Configured) (held : List ℕ) → IsSolved new → new.system ≡ settled → new.users ≡ no_users (whole_of settled) → held ≡ [] → IsKept settled new held
+none_kept settled new held solved same users none = record {
+  same = same;
+  solved = solved;
+  covers = λ u x e. absurd (none_held (length (whole_of settled).units) u x (ap (λ l. user_of l u) (sym users) ∙ e));
+  within = λ u c. absurd (none_in u (subst (λ l. Contains l u) none c));
+} where
+  none_in : (u : ℕ) → Contains {X = ℕ} [] u → ⊥
+  none_in u (k, h, is) = omega (arith, h)
 
 -- the units kept after user values were laid over those held
 pub merged_kept : (settled : Settled) (old new : Configured) (held more : List ℕ) (es : List (ℕ × UserValue)) → IsKept settled old held → FitsTree (tree_in old) es → IsSolved new → new.system ≡ old.system

@@ -13,7 +13,7 @@ use super::parts::{is_comment, trimmed, unset_name, value_parts};
 use kc_dotconfig_model::{NoticeKind, Prefix};
 use kc_rules::Settled;
 use kc_rules_model::UserValue;
-use kc_tree::{Sym, Tree};
+use kc_tree::{Sym, Tree, Unit};
 use kc_value::{Kind, Text, Tri, hex_of, int_of, read_quoted};
 use std::alloc::{AllocError, Global};
 
@@ -133,23 +133,55 @@ fn unset_said(tree: &Tree, s: Sym) -> Said
     }
 }
 
+/// The symbol of a unit, if there is one of that name.
+fn symbol_of_unit(tree: &Tree, u: u32, name: &str) -> Option<Sym>
+    ensures symbol { IfSome result (λ s. symbol_named tree.now.whole name.now ≡ Some s) }
+    ensures there { IfSome result (λ s. s < length tree.now.whole.symbols) }
+{
+    let _ = tree.arena();
+    if u >= tree.len() {
+        return None;
+    }
+    match tree.unit(u) {
+        Unit::Symbol(s) if tree.name(s) == name => Some(s),
+        _ => None,
+    }
+}
+
+/// The symbol of a name. Most files are written in the order of the units: the next unit is looked at first.
+fn symbol_near(tree: &Tree, next: u32, name: &str) -> Option<Sym>
+    ensures symbol { result ≡ symbol_named tree.now.whole name.now }
+    ensures there { IfSome result (λ s. s < length tree.now.whole.symbols) }
+{
+    match symbol_of_unit(tree, next, name) {
+        Some(s) => Some(s),
+        None => tree.find(name),
+    }
+}
+
 /// What a line says that gives a name the text after `=`.
-fn value_line_said(alloc: Global, tree: &Tree, name: &str, text: &str) -> Result<Said, AllocError>
+fn value_line_said(
+    alloc: Global,
+    tree: &Tree,
+    next: u32,
+    name: &str,
+    text: &str,
+) -> Result<Said, AllocError>
     ensures said { IfOk result (λ said. saying_of said ≡ of_named tree.now.whole (λ s symbol. value_saying tree.now.whole s symbol text.now) (symbol_named tree.now.whole name.now)) }
     ensures within { IfOk result (λ said. IsWithin (length tree.now.whole.units) (saying_of said)) }
 {
-    match tree.find(name) {
+    match symbol_near(tree, next, name) {
         Some(s) => value_said(alloc, tree, s, text),
         None => Ok(Said::Noted(NoticeKind::UnknownSymbol)),
     }
 }
 
 /// What a line says that a name isn't set.
-fn unset_line_said(tree: &Tree, name: &str) -> Said
+fn unset_line_said(tree: &Tree, next: u32, name: &str) -> Said
     ensures said { saying_of result ≡ of_named tree.now.whole (λ s symbol. unset_saying tree.now.whole s symbol symbol.choice) (symbol_named tree.now.whole name.now) }
     ensures within { IsWithin (length tree.now.whole.units) (saying_of result) }
 {
-    match tree.find(name) {
+    match symbol_near(tree, next, name) {
         Some(s) => unset_said(tree, s),
         None => Said::Noted(NoticeKind::UnknownSymbol),
     }
@@ -167,11 +199,12 @@ fn other_line_said(line: &str) -> Option<Said>
     }
 }
 
-/// What a line says; `None` where it is malformed.
+/// What a line says; `None` where it is malformed. Its name may be that of the unit `next`.
 pub(crate) fn line_said(
     alloc: Global,
     settled: &Settled,
     prefix: &Prefix,
+    next: u32,
     line: &str,
 ) -> Result<Option<Said>, AllocError>
     ensures within { IfOk result (λ said. IfSome said (λ s. IsWithin (length (whole_of settled.now).units) (saying_of s))) }
@@ -180,11 +213,11 @@ pub(crate) fn line_said(
     let tree = settled.tree();
     let line = trimmed(line);
     if let Some((name, text)) = value_parts(prefix, line) {
-        let said = value_line_said(alloc, tree, name, text)?;
+        let said = value_line_said(alloc, tree, next, name, text)?;
         return Ok(Some(said));
     }
     if let Some(name) = unset_name(prefix, line) {
-        return Ok(Some(unset_line_said(tree, name)));
+        return Ok(Some(unset_line_said(tree, next, name)));
     }
     Ok(other_line_said(line))
 }

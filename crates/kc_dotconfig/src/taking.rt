@@ -27,6 +27,7 @@ pub(crate) fn no_lines(alloc: Global) -> Gathering
         assigns: Assigned::new(alloc),
         notices: Vec::new(alloc),
         lines: 0,
+        next: 0,
     }
 }
 
@@ -40,6 +41,7 @@ fn assign(gathered: &mut Gathering, unit: u32, user: UserValue) -> Result<(), Al
 {
     gathered.assigns.insert(unit, user)?;
     gathered.lines += 1;
+    gathered.next = unit.saturating_add(1);
     Ok(())
 }
 
@@ -93,7 +95,7 @@ pub(crate) fn take_line(
     let Ok(text) = std::str::from_utf8(line) else {
         return Err(LoadKind::NotUtf8);
     };
-    match line_said(alloc, settled, prefix, text) {
+    match line_said(alloc, settled, prefix, gathered.next, text) {
         Ok(Some(said)) => match take(gathered, said) {
             Ok(()) => Ok(()),
             Err(_) => Err(LoadKind::OutOfMemory),
@@ -111,6 +113,7 @@ pub(crate) fn fragment_of(gathered: Gathering) -> Result<Fragment, AllocError>
         assigns,
         notices,
         lines: _,
+        next: _,
     } = gathered;
     let assigns = assigns.into_list()?;
     Ok(Fragment { assigns, notices })

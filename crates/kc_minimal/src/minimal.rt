@@ -42,8 +42,7 @@ fn has_line(
     ensures { IfOk result (λ line. line ≡ has_line (profile_of settled.now) (whole_of settled.now) values.now s) }
 {
     let symbol = settled.tree().symbol(s);
-    let seen = settled.symbol_seen(s, values);
-    if symbol.choice.is_some() && is_n(seen.tri) {
+    if symbol.choice.is_some() && is_n(settled.symbol_seen(s, values).tri) {
         Ok(false)
     } else {
         is_kept(alloc, settled, values, symbol.unit)

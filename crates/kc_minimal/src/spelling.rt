@@ -52,15 +52,26 @@ fn push_unset(out: &mut Vec<u8>, prefix: &Prefix, name: &str) -> Result<(), Allo
     Ok(())
 }
 
+/// Appends a text, which is one letter most often.
+fn push_plain(out: &mut Vec<u8>, text: &str) -> Result<(), AllocError>
+    ensures { OnOk result (out.new.items ≡ out.old.items ++ text.now) }
+{
+    match text.as_bytes() {
+        [letter] => {
+            out.push(*letter)?;
+            Ok(())
+        }
+        bytes => out.extend_from_slice(bytes),
+    }
+}
+
 /// Appends the text that stands after `=`: that of a string in quotes.
 fn push_spelled(out: &mut Vec<u8>, kind: Kind, text: &str) -> Result<(), AllocError>
     ensures { OnOk result (out.new.items ≡ out.old.items ++ spelled kind text.now) }
 {
     match kind {
         Kind::Text => push_escaped(out, text),
-        Kind::Bool | Kind::Tristate | Kind::Int | Kind::Hex => out.extend_from_slice(
-            text.as_bytes(),
-        ),
+        Kind::Bool | Kind::Tristate | Kind::Int | Kind::Hex => push_plain(out, text),
     }
 }
 

@@ -3,14 +3,12 @@ use Rattle.kc_tree_model.specs.Trees.{Whole}
 use Rattle.kc_system.specs.Changes.{changed_users}
 use Rattle.kc_system.specs.Solutions.{FitsUsers}
 use Rattle.kc_rules_model.specs.Shapes.{user_fits}
-use Rattle.kc_rules_model.specs.SettledTrees.{IsSettledTree}
 use Rattle.kc_rules_model.specs.declared.values.UserValue.{UserValue}
 use Rattle.kc_rules.specs.Told.{whole_of}
-use Rattle.kc_dotconfig.specs.Configured.{IsSolved}
 use Rattle.kc_dotconfig.specs.Fragments.{changes_of, users_of}
 use Rattle.kc_dotconfig.specs.checker.Configs.{units_of}
 use Rattle.kc_dotconfig.proofs.Holding.{users_fit}
-use Rattle.kc_dotconfig.proofs.Solving.{held_kept}
+use Rattle.kc_dotconfig.proofs.Solving.{solved_as, held_kept}
 use Rattle.kc_dotconfig.proofs.config.Config.of.Goals as goal
 
 -- user values over so many units, as the assignment of a tree
@@ -33,10 +31,12 @@ invariant_of-result c =
     let settled = c.args.settled.now in
     let session = c.in_ok-session.session in
     let is = assigned (whole_of settled) c.len.result c.deref-2.result.now c.args.fragment.now.assigns.items c.in_ok-users.users.items c.in_ok-users.ensures c.deref-2.ensures.value c.len.ensures in
-    let solved : IsSolved session = record {
-      settled = subst (λ s. IsSettledTree (whole_of s)) (sym c.in_ok-session.ensures.system) c.tree.ensures.settled;
-      fits = c.values.ensures.fits_users;
-      fits_values = c.values.ensures.fits;
-      gives = c.values.ensures.gives;
-    } in
+    let solved = solved_as settled session c.in_ok-session.ensures.system c.tree.ensures.settled c.values.ensures.fits_users c.values.ensures.fits c.values.ensures.gives in
     held_kept settled session c.in_ok-held.held.items c.args.fragment.now.assigns.items c.requires solved c.in_ok-session.ensures.system (c.in_ok-session.ensures.users ∙ is) (c.in_ok-held.ensures ∙ ap units_of c.deref.ensures.value)
+
+pub returns-clause-solved : goal.returns-clause-solved
+returns-clause-solved c = solved_as c.args.settled.now c.in_ok-session.session c.in_ok-session.ensures.system c.tree.ensures.settled c.values.ensures.fits_users c.values.ensures.fits c.values.ensures.gives
+
+pub returns-clause-users : goal.returns-clause-users
+returns-clause-users c =
+    c.in_ok-session.ensures.users ∙ assigned (whole_of c.args.settled.now) c.len.result c.deref-2.result.now c.args.fragment.now.assigns.items c.in_ok-users.users.items c.in_ok-users.ensures c.deref-2.ensures.value c.len.ensures
