@@ -1,5 +1,5 @@
 -- Rules of units by what they are.
-use Rattle.std.proofs.Common.{◌≡◌, inl, inr, ◌==◌, arith, ℕ, ◌<◌, true, false, cond, IsTrue, List, length, Option, Some, None, IfSome, ℤ, pos, unwrap_or, refl, sym, ap, subst, ◌∙◌}
+use Rattle.std.proofs.Common.{◌≡◌, inl, inr, ◌==◌, arith, ℕ, ◌<◌, true, false, cond, IsTrue, List, length, Option, Some, None, IfSome, pos, unwrap_or, sym, ap, ◌∙◌}
 use Rattle.std.specs.Prelude.{slice_get}
 use Rattle.std.specs.List.{All, list_any}
 use Rattle.std.specs.Option.{option_and_then}
@@ -10,7 +10,7 @@ use Rattle.kc_value.specs.Number.{number_of_text}
 use Rattle.kc_tree_model.specs.Trees.{Whole, Symbol, Choice, of_symbol, of_choice}
 use Rattle.kc_rules_model.specs.declared.profile.Profile.{Profile}
 use Rattle.kc_rules_model.specs.declared.values.UnitValue.{UnitValue}
-use Rattle.kc_rules_model.specs.declared.values.UnitValue.TheVariants.{Tri as TriValue, Text as TextValue, Member as MemberValue}
+use Rattle.kc_rules_model.specs.declared.values.UnitValue.TheVariants.{Member as MemberValue}
 use Rattle.kc_rules_model.specs.declared.values.UserValue.{UserValue}
 use Rattle.kc_rules_model.specs.declared.values.UserValue.TheVariants.{Tri as TriUser, Text as TextUser, Member as MemberUser}
 use Rattle.kc_rules.specs.checker.Kept.{choice_rule_of}

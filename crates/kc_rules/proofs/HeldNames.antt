@@ -1,15 +1,15 @@
 -- What the names of an arena stand for is what all names stand for.
-use Rattle.std.proofs.Common.{◌≡◌, ℕ, List, [], ◌∷◌, Option, Some, None, get_or, refl, sym, ap, ◌∙◌}
-use Rattle.std.specs.Prelude.{option_and_then, slice_get}
+use Rattle.std.proofs.Common.{◌≡◌, ℕ, List, [], ◌∷◌, Option, Some, None, refl, sym, ap, ◌∙◌}
+use Rattle.std.specs.Prelude.{option_and_then}
 use Rattle.std.specs.List.{AllByRecursion}
 use Rattle.std.proofs.lemmas.Option.{slice_get-get_or}
-use Rattle.kc_expr.specs.Expr.{Expr, Names, Seen, value}
+use Rattle.kc_expr.specs.Expr.{Expr, value}
 use Rattle.kc_expr.specs.Lookup.{names_seen, place_of}
 use Rattle.kc_expr.specs.Mentioned.{names_in}
 use Rattle.kc_expr.proofs.Places.{place_there}
 use Rattle.kc_tree_model.specs.Trees.{Whole}
 use Rattle.kc_tree_model.specs.TreeLookup.{symbol_named}
-use Rattle.kc_rules_model.specs.checker.Agreement.{Agrees, value_agrees}
+use Rattle.kc_rules_model.specs.checker.Agreement.{value_agrees}
 use Rattle.kc_rules.specs.checker.Seen.{seen_at}
 use Rattle.kc_rules_model.specs.SymbolValues.{names_under, symbol_seen, condition}
 use Rattle.kc_rules_model.specs.declared.values.UnitValue.{UnitValue}

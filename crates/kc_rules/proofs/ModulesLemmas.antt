@@ -1,5 +1,5 @@
 -- The symbol of a name that an arena holds.
-use Rattle.std.proofs.Common.{◌≡◌, ℕ, ◌∙◌, ap, sym, List, [], Option, Some}
+use Rattle.std.proofs.Common.{◌≡◌, ℕ, ◌∙◌, ap, List, [], Option, Some}
 use Rattle.std.specs.Prelude.{option_and_then}
 use Rattle.std.proofs.lemmas.Option.{slice_get-get_or}
 use Rattle.kc_expr.specs.Lookup.{place_of}

@@ -1,5 +1,5 @@
 -- What a settled tree tells.
-use Rattle.std.specs.Prelude.{ℕ, List, if◌then◌else◌}
+use Rattle.std.specs.Prelude.{if◌then◌else◌}
 use Rattle.kc_value.specs.declared.value.Value.{Value}
 use Rattle.kc_value.specs.declared.value.Value.TheVariants.{Tri as TriValue, Text as TextValue}
 use Rattle.kc_value.specs.declared.value.ValueRef.{ValueRef}

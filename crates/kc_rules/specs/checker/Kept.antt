@@ -1,12 +1,11 @@
 -- What the parts of a kept tree say of rules.
-use Rattle.std.specs.Prelude.{ℕ, ◌<◌, All, Bool, not, ◌&&◌, Option, Some, None, find, List, length, map, if◌then◌else◌}
+use Rattle.std.specs.Prelude.{ℕ, ◌<◌, All, Bool, not, ◌&&◌, Option, Some, None, find, List, length, if◌then◌else◌}
 use Rattle.std.specs.Option.{option_map, option_and_then}
 use Rattle.kc_tree_model.specs.Trees.{Choice, MemberDefault}
 use Rattle.kc_rules_model.specs.Kinds.{is_n}
 use Rattle.kc_rules_model.specs.SymbolValues.{condition}
 use Rattle.kc_rules_model.specs.Rule.{is_visible_member, is_shown, or_else}
-use Rattle.kc_value.specs.declared.tri.Tri.{Tri}
-use Rattle.kc_expr.specs.Arena.{Exprs, stands_for}
+use Rattle.kc_expr.specs.Arena.{Exprs}
 use Rattle.kc_tree_model.specs.Trees.{Whole}
 use Rattle.kc_tree.specs.Told.{RangeFits}
 use Rattle.kc_tree.specs.declared.symbol.Default.{Default as KeptDefault}

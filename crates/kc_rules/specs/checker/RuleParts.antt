@@ -1,5 +1,5 @@
 -- The rules of bools and tristates, with the user value told as a tristate and a list of defaults.
-use Rattle.std.specs.Prelude.{Bool, not, List, Option, find, if◌then◌else◌}
+use Rattle.std.specs.Prelude.{not, List, Option, find, if◌then◌else◌}
 use Rattle.kc_value.specs.declared.tri.Tri.{Tri}
 use Rattle.kc_value.specs.Tri.{tri_or}
 use Rattle.kc_tree_model.specs.Trees.{Whole, Symbol, Default}

@@ -1,10 +1,9 @@
-use Rattle.std.proofs.Common.{◌≡◌, true, ℤ, sym, ap, ◌∙◌, pos, unwrap_or, Option}
+use Rattle.std.proofs.Common.{sym, ap, ◌∙◌, pos, unwrap_or}
 use Rattle.std.proofs.lemmas.Result.{IfOk-weaker}
-use Rattle.std.specs.Option.{option_map, option_copied}
+use Rattle.std.specs.Option.{option_copied}
 use Rattle.kc_value.specs.Number.{number_of_text}
-use Rattle.kc_tree.specs.Told.{symbol_of, range_of}
-use Rattle.kc_tree_model.specs.Trees.{Range}
-use Rattle.kc_rules_model.specs.Rule.{is_within, is_visible}
+use Rattle.kc_tree.specs.Told.{symbol_of}
+use Rattle.kc_rules_model.specs.Rule.{is_within}
 use Rattle.kc_rules.specs.checker.UnderView.{tree_under, exprs_under, values_under}
 use Rattle.kc_rules.proofs.Evaluations.{number_given}
 use Rattle.kc_rules.proofs.texts.number_rule.Goals as goal

@@ -1,4 +1,4 @@
-use Rattle.std.proofs.Common.{◌≡◌, sym, subst, IsTrue}
+use Rattle.std.proofs.Common.{sym, subst, IsTrue}
 use Rattle.std.specs.Option.{option_copied}
 use Rattle.std.proofs.Math.Bool.{Bool-set}
 use Rattle.std.proofs.Math.Logic.{∥∥₁_elim}
