@@ -5,3 +5,4 @@ pub mod AttributeLemmas
 pub mod Later
 pub mod ValueLemmas
 pub mod GlobLemmas
+pub mod Growing

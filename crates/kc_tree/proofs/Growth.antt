@@ -1,15 +1,15 @@
 -- What was joined stays so as the arena grows.
-use Rattle.std.proofs.Common.{◌≡◌, ℕ, ◌<◌, Bool, true, false, cond, List, [], ◌∷◌, ◌++◌, length, get_or, take, drop, map, Option, Some, None, suc, ◌+◌, refl, ap, sym, subst, ◌∙◌, arith, append_assoc, append-nil}
+use Rattle.std.proofs.Common.{◌≡◌, ℕ, ◌<◌, Bool, true, false, cond, List, [], ◌∷◌, ◌++◌, length, get_or, take, map, Option, Some, None, suc, ◌+◌, refl, ap, sym, subst, ◌∙◌, arith, append_assoc, append-nil}
 use Rattle.std.specs.Prelude.{All, IfSome}
-use Rattle.std.proofs.lemmas.List.{take-append-drop, map-append, take_more}
+use Rattle.std.proofs.lemmas.List.{map-append, take_more}
 use Rattle.std.proofs.lemmas.List.Elements.{All-append, All-cons, All-nil}
-use Rattle.std.proofs.Math.Seq.{take-append_seam}
 use Rattle.kc_expr.specs.Arena.{Exprs, Stands, stands_for, Grows}
 use Rattle.kc_expr.specs.Expr.{Expr}
 use Rattle.kc_expr.proofs.StoreLemmas.{stands_on}
 use Rattle.kc_statements.specs.Said.{AttributeHeld, IfHeld}
 use Rattle.kc_statements.specs.declared.statement.Attribute.{Attribute as CodeAttribute}
 use Rattle.kc_statements.specs.declared.statement.Attribute.TheVariants as attributes
+use Rattle.kc_statements.proofs.Growing.{grows_on}
 use Rattle.kc_statements.proofs.Later.{node_held, node_same}
 use Rattle.kc_listing.specs.declared.listing.Line.{Line as CodeLine}
 use Rattle.kc_listing.specs.Shown.{LineHeld}
@@ -20,20 +20,6 @@ use Rattle.kc_tree.specs.checker.Walked.{or_yes}
 use Rattle.kc_tree.specs.declared.conditions.Conjuncts.{Conjuncts}
 use Rattle.kc_tree.specs.declared.conditions.Conjuncts.TheVariants.{Dependencies, Visibles}
 use Rattle.kc_tree.specs.declared.conditions.EntryConditions.{EntryConditions}
-
-prefix_parts : {X : Type 0} (xs ys : List X) → take (length xs) ys ≡ xs → ys ≡ xs ++ drop (length xs) ys
-prefix_parts xs ys e = sym (take-append-drop (length xs) ys) ∙ ap (λ zs. zs ++ drop (length xs) ys) e
-
-prefix_trans : {X : Type 0} (xs ys zs : List X) → take (length xs) ys ≡ xs → take (length ys) zs ≡ ys → take (length xs) zs ≡ xs
-prefix_trans xs ys zs e f =
-    ap (take (length xs)) (prefix_parts ys zs f ∙ ap (λ vs. vs ++ drop (length ys) zs) (prefix_parts xs ys e) ∙ append_assoc xs (drop (length xs) ys) (drop (length ys) zs))
-    ∙ take-append_seam xs (drop (length xs) ys ++ drop (length ys) zs)
-
-pub grows_on : (a b c : Exprs) → Grows a b → Grows b c → Grows a c
-grows_on a b c g h = record {
-  names = prefix_trans a.names b.names c.names g.names h.names;
-  nodes = prefix_trans a.nodes b.nodes c.nodes g.nodes h.nodes;
-}
 
 pub conjoins_on : (old new : Exprs) → Grows old new → (o : Option ℕ) (es : List Expr) → Conjoins old o es → Conjoins new o es
 conjoins_on old new g None es h = h

@@ -1,11 +1,10 @@
 -- Steps of a walk through the groups.
 use Rattle.std.proofs.Common.{◌≡◌, inl, inr, ℕ, suc, ◌+◌, ◌-◌, ◌<◌, ◌≤◌, Bool, true, false, cond, List, [], ◌∷◌, ◌++◌, length, get_or, take, drop, map, reverse, Option, Some, None, refl, ap, sym, subst, ◌∙◌, arith, append-nil, length-append, length-drop, drop-cons, add-one}
-use Rattle.std.specs.Prelude.{All, IfSome, slice_get, slice_range, option_map, option_to_list, unwrap_or, filter_map}
+use Rattle.std.specs.Prelude.{All, IfSome, slice_get, slice_range, option_to_list, filter_map}
 use Rattle.std.proofs.lemmas.List.{reverse-append, take_all, take-append-le, drop-append-le}
 use Rattle.std.proofs.Math.Seq.{drop-append_seam}
-use Rattle.kc_value.specs.declared.tri.Tri.TheVariants.{N}
 use Rattle.kc_expr.specs.Arena.{Exprs, Stands, stands_for, Grows}
-use Rattle.kc_expr.specs.Expr.{Expr, alone, constant, shown}
+use Rattle.kc_expr.specs.Expr.{Expr, shown}
 use Rattle.kc_statements.specs.Said.{attribute_in, AttributeHeld}
 use Rattle.kc_statements.specs.declared.statement.Attribute.{Attribute as CodeAttribute}
 use Rattle.kc_statements.specs.declared.statement.Attribute.TheVariants as attributes
@@ -17,9 +16,9 @@ use Rattle.kc_listing.proofs.Growing.{lines_held}
 use Rattle.kc_statements.proofs.Later.{attribute_same, node_held, node_same}
 use Rattle.kc_listing.proofs.PutSteps.{grows_same}
 use Rattle.kc_tree_model.specs.Trees as tree
-use Rattle.kc_tree_model.specs.Statements.{Attribute, choice, condition, menu, source, depends_of, visible_of, prompt_of}
+use Rattle.kc_tree_model.specs.Statements.{Attribute, condition, menu, source, depends_of, visible_of, prompt_of}
 use Rattle.kc_tree_model.specs.Blocks.{Group, Line, Side, What, said, opening, closing, inside, side_of, open_blocks}
-use Rattle.kc_tree_model.specs.Conditions.{all_of, visible_conjunct, said_in, dependencies_of, shown_condition, context, place}
+use Rattle.kc_tree_model.specs.Conditions.{all_of, visible_conjunct, said_in, dependencies_of, context, place}
 use Rattle.kc_tree_model.specs.Contents.{menu_end_of}
 use Rattle.kc_tree_model.proofs.NestedTrees.OpenBlocks.{pushed, popped, open_inside}
 use Rattle.kc_tree.specs.checker.Conjunctions.{Conjoins, conjunct}
@@ -31,7 +30,8 @@ use Rattle.kc_tree.specs.declared.conditions.Around.{Around}
 use Rattle.kc_tree.specs.declared.conditions.EntryConditions.{EntryConditions}
 use Rattle.kc_tree.specs.declared.walk.GroupConditions.{GroupConditions}
 use Rattle.kc_tree.specs.declared.walk.Walk.{Walk}
-use Rattle.kc_tree.proofs.Growth.{grows_on, conjoins_on, joined_on, stand_on, held_on, stands_all, condition_on}
+use Rattle.kc_statements.proofs.Growing.{grows_on}
+use Rattle.kc_tree.proofs.Growth.{conjoins_on, joined_on, stand_on, held_on, stands_all, condition_on}
 
 -- the next attribute
 pub first_step : (lines : List CodeLine) (conditions : List ℕ) (i : ℕ) (d : CodeLine) → i < length lines → length conditions ≡ length lines → is_prompt (get_or lines i d).attribute ≡ false
@@ -48,24 +48,7 @@ first_here lines conditions i x d h e f g =
     let c : drop i conditions ≡ get_or conditions i 0 ∷ drop (i + 1) conditions = rw add-one (drop-cons conditions i 0 (omega arith)) in
     rw (l, c, f) (ap Some g)
 
--- the condition of the inside of a choice
-pub shown_stands : (old new : Exprs) (i s : ℕ) (e : Option Expr) → PromptStands old (Some i) e → Stands new s (shown (stands_for old i)) → Stands new s (unwrap_or (option_map shown e) (alone (constant N)))
-shown_stands old new i s None p h = absurd p
-shown_stands old new i s (Some e) p h = record { within = h.within; is = h.is ∙ ap shown p.is }
-
-pub none_shown : (exprs : Exprs) (n : ℕ) (e : Option Expr) → PromptStands exprs None e → Stands exprs n (alone (constant N)) → Stands exprs n (unwrap_or (option_map shown e) (alone (constant N)))
-none_shown exprs n None p h = h
-none_shown exprs n (Some e) p h = absurd p
-
--- the inside of a choice, an `if`, a menu and a sourced file
-pub choice_inside : (exprs : Exprs) (texts : List (List ℕ)) (y s : ℕ) (m : Group) (opened : List Group) → m.what ≡ said choice → Stands exprs s (shown_condition (context opened) m)
-    → AroundShown exprs texts y (record { dependencies = Some s; visibles = None; title = None }) (m ∷ opened)
-choice_inside exprs texts y s m opened e h = record {
-  dependencies_are = rw e (omega arith, h);
-  visibles_are = rw e refl;
-  ends = rw e refl;
-}
-
+-- the inside of an `if`, a menu and a sourced file
 pub if_inside : (old new : Exprs) (texts : List (List ℕ)) (y id : ℕ) (d : Option ℕ) (m : Group) (a : Around) (opened : List Group) → Grows old new → m.what ≡ said (condition (stands_for old id)) → AroundShown old texts y a opened
     → ((es : List Expr) → Conjoins old a.dependencies es → Conjoins new d (es ++ conjunct old (Some id)))
     → AroundShown new texts y (record { dependencies = d; visibles = a.visibles; title = None }) (m ∷ opened)

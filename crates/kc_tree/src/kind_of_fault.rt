@@ -1,8 +1,8 @@
 //! The kind of fault of a definition, or of an attribute.
-ghost use Rattle.std.specs.Prelude.{◌≡◌};
+ghost use Rattle.std.specs.Prelude.{◌≡◌, ◌&&◌, is_some, not};
 ghost use Rattle.kc_expr.specs.Arena.{Exprs};
-ghost use Rattle.kc_tree_model.specs.TreeFaults.{is_shapeless as shapeless};
-ghost use Rattle.kc_tree_model.specs.Statements.{default_of};
+ghost use Rattle.kc_tree_model.specs.TreeFaults.{is_number as number, is_shapeless as shapeless};
+ghost use Rattle.kc_tree_model.specs.Statements.{default_of, is_modules as modules, prompt_of, range_of};
 ghost use Rattle.kc_statements.specs.Said.{attribute_in};
 ghost use Rattle.kc_tree.specs.checker.Kinds.{definition_kind, typed_kind, choice_kind};
 
@@ -44,6 +44,27 @@ fn is_shapeless(kind: Kind, attribute: &Attribute) -> bool
     }
 }
 
+/// Whether an attribute is a prompt behind another one.
+fn is_second_prompt(prompted: bool, attribute: &Attribute) -> bool
+    ensures { (e : Exprs) → result ≡ (prompted && is_some (prompt_of (attribute_in e attribute.now))) }
+{
+    prompted && is_prompt(attribute)
+}
+
+/// Whether an attribute is a range in a symbol whose type has none.
+fn is_stray_range(kind: Kind, attribute: &Attribute) -> bool
+    ensures { (e : Exprs) → result ≡ (is_some (range_of (attribute_in e attribute.now)) && not (number kind)) }
+{
+    is_range(attribute) && !is_number(kind)
+}
+
+/// Whether an attribute marks the modules symbol in another symbol.
+fn is_stray_modules(is_modules_symbol: bool, attribute: &Attribute) -> bool
+    ensures { (e : Exprs) → result ≡ (modules (attribute_in e attribute.now) && not is_modules_symbol) }
+{
+    is_modules(attribute) && !is_modules_symbol
+}
+
 /// The fault of an attribute of a symbol of this type; `is_wrong` tells whether it selects or implies where it may
 /// not.
 pub(crate) fn of_typed(
@@ -57,15 +78,15 @@ pub(crate) fn of_typed(
 {
     if is_other_kind(kind, type_given(attribute)) {
         Some(TreeKind::TypeConflict)
-    } else if prompted && is_prompt(attribute) {
+    } else if is_second_prompt(prompted, attribute) {
         Some(TreeKind::SecondPrompt)
     } else if is_shapeless(kind, attribute) {
         Some(TreeKind::DefaultShape)
-    } else if is_range(attribute) && !is_number(kind) {
+    } else if is_stray_range(kind, attribute) {
         Some(TreeKind::RangeType)
     } else if is_wrong {
         Some(TreeKind::SelectType)
-    } else if is_modules(attribute) && !is_modules_symbol {
+    } else if is_stray_modules(is_modules_symbol, attribute) {
         Some(TreeKind::ModulesType)
     } else {
         None
@@ -80,7 +101,7 @@ pub(crate) fn of_choice(
 ) -> Option<TreeKind>
     ensures { (e : Exprs) → result ≡ choice_kind prompted is_no_member (attribute_in e attribute.now) }
 {
-    if prompted && is_prompt(attribute) {
+    if is_second_prompt(prompted, attribute) {
         Some(TreeKind::SecondPrompt)
     } else if is_no_member {
         Some(TreeKind::ChoiceDefault)

@@ -140,7 +140,8 @@ impl Tree {
         ensures there { IfSome result (λ s. s < length self.now.whole.symbols) }
     {
         let index = name.index();
-        if index < self.parts.symbol_of_name.len() {
+        let count = self.parts.symbol_of_name.len();
+        if index < count {
             self.parts.symbol_of_name[index]
         } else {
             None

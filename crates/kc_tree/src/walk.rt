@@ -152,6 +152,17 @@ fn inside(
     }
 }
 
+/// The expressions `y` and `n`.
+fn yes_and_no(arena: &mut Arena) -> Result<(ExprId, ExprId), ExprFault>
+    ensures grows { Grows arena.old arena.new }
+    ensures yes { IfOk result (λ r. Stands arena.new r.0 (all_of [])) }
+    ensures no { IfOk result (λ r. Stands arena.new r.1 (alone (constant N))) }
+{
+    let yes = arena.constant(Tri::Y)?;
+    let no = arena.constant(Tri::N)?;
+    Ok((yes, no))
+}
+
 impl Walk {
     /// Nothing was gone through.
     pub(crate) fn new(alloc: Global, arena: Arena) -> Result<Walk, ExprFault>
@@ -160,12 +171,11 @@ impl Walk {
         ensures empty { IfOk result (λ w. w.groups.items ≡ []) }
     {
         let mut arena = arena;
-        let yes = arena.constant(Tri::Y)?;
-        let no = arena.constant(Tri::N)?;
+        let constants = yes_and_no(&mut arena)?;
         Ok(Walk {
             arena,
-            yes,
-            no,
+            yes: constants.0,
+            no: constants.1,
             stack: Vec::new(alloc),
             groups: Vec::new(alloc),
             conditions: Vec::new(alloc),

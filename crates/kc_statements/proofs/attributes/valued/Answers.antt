@@ -2,6 +2,8 @@ use Rattle.std.proofs.Common.{arith, inl, inr}
 use Rattle.std.proofs.lemmas.List.{length-map}
 use Rattle.kc_expr.specs.Token.{pieces_of, piece_of}
 use Rattle.kc_statements.proofs.AttributeLemmas.{extent_within}
+use Rattle.kc_statements.proofs.Growing.{grows_on}
+use Rattle.kc_statements.proofs.Later.{node_held}
 use Rattle.kc_statements.proofs.ValueLemmas.{valued_told, valued_refused}
 use Rattle.kc_statements.proofs.attributes.valued.Goals as goal
 
@@ -22,3 +24,13 @@ returns-in-Err-optional_if-clause-gives c = λ f.
       | inl m ↦ inl m
       | inr e ↦ inr (valued_refused f (pieces_of c.args.tokens.now) c.in-Ok.read.1 r.expr c.in-Err-optional_if.kind r.reads c.in-Ok.ensures.end e)
     ]
+
+pub returns-in-Ok-optional_if-clause-grows : goal.returns-in-Ok-optional_if-clause-grows
+returns-in-Ok-optional_if-clause-grows c = grows_on c.args.arena.now c.parse_expr.new.self c.optional_if.new.arena c.parse_expr.ensures.grows c.optional_if.ensures.grows
+
+pub returns-in-Err-optional_if-clause-grows : goal.returns-in-Err-optional_if-clause-grows
+returns-in-Err-optional_if-clause-grows c = grows_on c.args.arena.now c.parse_expr.new.self c.optional_if.new.arena c.parse_expr.ensures.grows c.optional_if.ensures.grows
+
+pub returns-in-Ok-optional_if-clause-held : goal.returns-in-Ok-optional_if-clause-held
+returns-in-Ok-optional_if-clause-held c =
+    (node_held c.parse_expr.new.self c.optional_if.new.arena c.in-Ok.read.0 c.optional_if.ensures.grows c.in-Ok.ensures.ok.stands.within, c.in-Ok-optional_if.ensures.held)

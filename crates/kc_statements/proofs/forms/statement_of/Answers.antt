@@ -1,3 +1,4 @@
+use Rattle.std.proofs.Common.{rules}
 use Rattle.kc_expr.specs.Token.{pieces_of}
 use Rattle.kc_statements.proofs.FormLemmas.{by_keyword}
 use Rattle.kc_statements.proofs.forms.statement_of.Goals as goal
@@ -61,3 +62,6 @@ returns-in-Option-clause-gives c = by_keyword c.args.arena.now c.option_line.res
 
 pub returns-in-Option-clause-held : goal.returns-in-Option-clause-held
 returns-in-Option-clause-held c = c.option_line.ensures.held c.args.arena.now
+
+pub returns-in-DefaultType-clause-gives : goal.returns-in-DefaultType-clause-gives
+returns-in-DefaultType-clause-gives c = search rules

@@ -1,3 +1,4 @@
+use Rattle.kc_statements.proofs.Growing.{grows_on}
 use Rattle.kc_tree.proofs.Growth.{entry_joined}
 use Rattle.kc_tree.proofs.conditions.entry_conditions.Goals as goal
 
@@ -6,3 +7,14 @@ returns-clause-joined c =
     entry_joined c.args.arena.now c.with_all.new.arena c.with_all-2.new.arena c.with.new.arena c.args.lines.now c.args.around.now.dependencies c.args.around.now.visibles
     c.in_ok-dependencies.dependencies c.in_ok-visibles.visibles c.in_ok-entry.field-0 c.with_all.ensures.grows c.with_all-2.ensures.grows c.with.ensures.grows c.requires.held c.requires.visibles
     c.in_ok-dependencies.ensures.ok c.in_ok-visibles.ensures.ok c.in_ok-entry.ensures.ok
+
+pub returns-in_err-visibles-clause-grows : goal.returns-in_err-visibles-clause-grows
+returns-in_err-visibles-clause-grows c = grows_on c.args.arena.now c.with_all.new.arena c.with_all-2.new.arena c.with_all.ensures.grows c.with_all-2.ensures.grows
+
+pub returns-in_err-entry-clause-grows : goal.returns-in_err-entry-clause-grows
+returns-in_err-entry-clause-grows c =
+    grows_on c.args.arena.now c.with_all.new.arena c.with.new.arena c.with_all.ensures.grows (grows_on c.with_all.new.arena c.with_all-2.new.arena c.with.new.arena c.with_all-2.ensures.grows c.with.ensures.grows)
+
+pub returns-clause-grows : goal.returns-clause-grows
+returns-clause-grows c =
+    grows_on c.args.arena.now c.with_all.new.arena c.with.new.arena c.with_all.ensures.grows (grows_on c.with_all.new.arena c.with_all-2.new.arena c.with.new.arena c.with_all-2.ensures.grows c.with.ensures.grows)

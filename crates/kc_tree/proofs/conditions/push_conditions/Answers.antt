@@ -1,7 +1,8 @@
 use Rattle.std.proofs.Common.{◌≡◌, ◌<◌, ℕ, List, All, get_or, subst, sym, ap, arith, length, length-append, [], ◌∷◌}
 use Rattle.std.proofs.lemmas.List.{take_all}
 use Rattle.kc_tree.specs.checker.Conjuncts.{AreBehind}
-use Rattle.kc_tree.proofs.Growth.{grows_on, joined_on, behind_more, none_behind, there_on}
+use Rattle.kc_statements.proofs.Growing.{grows_on}
+use Rattle.kc_tree.proofs.Growth.{joined_on, behind_more, none_behind, there_on}
 use Rattle.kc_expr.specs.Arena.{Exprs, Grows}
 use Rattle.kc_listing.proofs.PutSteps.{grows_same}
 use Rattle.kc_listing.specs.Shown.{LineHeld}
@@ -50,3 +51,12 @@ pub returns-clause-stand : goal.returns-clause-stand
 returns-clause-stand c = λ ds vs own j y.
     subst (λ ls. AreBehind c.args.arena.now c.loop-line.arena c.args.conditions.now.items c.loop-line.conditions.items ds vs ls)
     (take_all c.loop-line.line-index c.args.lines.now c.loop-line-test.false) (c.loop-line.invariant.stand ds vs own j y)
+
+pub returns-in_err-condition-clause-grows : goal.returns-in_err-condition-clause-grows
+returns-in_err-condition-clause-grows c = grows_on c.args.arena.now c.loop-line.arena c.condition_of.new.arena c.loop-line.invariant.grows c.condition_of.ensures.grows
+
+pub returns-in_err-push-clause-grows : goal.returns-in_err-push-clause-grows
+returns-in_err-push-clause-grows c = grows_on c.args.arena.now c.loop-line.arena c.condition_of.new.arena c.loop-line.invariant.grows c.condition_of.ensures.grows
+
+pub returns-clause-grows : goal.returns-clause-grows
+returns-clause-grows c = c.loop-line.invariant.grows

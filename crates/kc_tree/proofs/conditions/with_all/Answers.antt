@@ -1,5 +1,6 @@
 use Rattle.kc_tree.specs.checker.Conjunctions.{conjunct}
-use Rattle.kc_tree.proofs.Growth.{grows_on, conjoins_there, conjoins_own, with_more}
+use Rattle.kc_statements.proofs.Growing.{grows_on}
+use Rattle.kc_tree.proofs.Growth.{conjoins_there, conjoins_own, with_more}
 use Rattle.kc_tree.proofs.conditions.with_all.Goals as goal
 
 pub loop-line-preserved : goal.loop-line-preserved

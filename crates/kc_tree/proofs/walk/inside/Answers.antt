@@ -2,6 +2,8 @@ use Rattle.std.proofs.Common.{◌≡◌, refl}
 use Rattle.kc_expr.specs.Arena.{stands_for}
 use Rattle.kc_tree_model.specs.Blocks.{said}
 use Rattle.kc_tree_model.specs.Statements.{choice, condition}
+use Rattle.kc_listing.proofs.PutSteps.{grows_same}
+use Rattle.kc_tree.proofs.WalkSteps.{menu_inside, source_inside}
 use Rattle.kc_tree.proofs.walk.inside.Goals as goal
 
 pub returns-in_ok-inside_choice-in-Choice-clause-shown : goal.returns-in_ok-inside_choice-in-Choice-clause-shown
@@ -14,3 +16,34 @@ returns-in_ok-inside_if-in-Condition-clause-shown c = λ names texts y m opened 
     let w = rw c.in-Condition.is at what in
     let e : m.what ≡ said (condition (stands_for c.args.arena.now c.in-Condition.condition)) = w.1 in
     (rw e refl, c.in_ok-inside_if-in-Condition.ensures.shown texts y m opened e a)
+
+pub returns-in-Menu-clause-shown : goal.returns-in-Menu-clause-shown
+returns-in-Menu-clause-shown c = λ names texts y m opened what a j p s n.
+    let w = rw c.in-Menu.is at what in
+    (rw w.2 refl, menu_inside c.args.arena.now texts y c.in-Menu.title w.0 m c.args.entry.now opened w.2 w.1 j s)
+
+pub returns-in-Source-clause-shown : goal.returns-in-Source-clause-shown
+returns-in-Source-clause-shown c = λ names texts y m opened what a j p s n.
+    let w = rw c.in-Source.is at what in
+    (rw w.2 refl, source_inside c.args.arena.now texts y w.0 m c.args.around.now opened w.2 a)
+
+pub returns-in-Menu-clause-grows : goal.returns-in-Menu-clause-grows
+returns-in-Menu-clause-grows c = grows_same c.args.arena.now
+
+pub returns-in-Source-clause-grows : goal.returns-in-Source-clause-grows
+returns-in-Source-clause-grows c = grows_same c.args.arena.now
+
+pub returns-in-Config-clause-grows : goal.returns-in-Config-clause-grows
+returns-in-Config-clause-grows c = grows_same c.args.arena.now
+
+pub returns-in-Comment-clause-grows : goal.returns-in-Comment-clause-grows
+returns-in-Comment-clause-grows c = grows_same c.args.arena.now
+
+pub returns-in-Mainmenu-clause-grows : goal.returns-in-Mainmenu-clause-grows
+returns-in-Mainmenu-clause-grows c = grows_same c.args.arena.now
+
+pub returns-in-Ends-clause-grows : goal.returns-in-Ends-clause-grows
+returns-in-Ends-clause-grows c = grows_same c.args.arena.now
+
+pub returns-in-FileEnd-clause-grows : goal.returns-in-FileEnd-clause-grows
+returns-in-FileEnd-clause-grows c = grows_same c.args.arena.now

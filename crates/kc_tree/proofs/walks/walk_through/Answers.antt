@@ -9,7 +9,7 @@ use Rattle.kc_tree.specs.checker.Firsts.{WhatHeld}
 use Rattle.kc_tree.specs.checker.Summaries.{no_group, group_at, attributes_end, read_before}
 use Rattle.kc_tree.specs.checker.Walked.{HasWalked}
 use Rattle.kc_tree.proofs.Aligned.{shown_at, count_is, none_before, all_before}
-use Rattle.kc_tree.proofs.Growth.{grows_on}
+use Rattle.kc_statements.proofs.Growing.{grows_on}
 use Rattle.kc_tree.proofs.WalkSteps.{what_on, what_held, lines_kept}
 use Rattle.kc_tree.proofs.walks.walk_through.Goals as goal
 

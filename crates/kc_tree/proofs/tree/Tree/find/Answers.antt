@@ -9,3 +9,6 @@ returns-clause-symbol c =
     let p = c.self.inside.parts in
     let e : place_of c.args.name.now p.arena.names ≡ Some c.in_ok-id.id = sym c.find.ensures ∙ c.in_ok-id.was in
     rw (← c.self.view_is) (rw (← c.self.view_is) at c.symbol_at.ensures.symbol ∙ told_by_place (whole_from p) c.args.name.now p.arena.names c.in_ok-id.id e)
+
+pub returns-clause-there : goal.returns-clause-there
+returns-clause-there c = c.symbol_at.ensures.there

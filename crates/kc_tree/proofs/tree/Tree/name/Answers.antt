@@ -9,3 +9,6 @@ name-requires-clause-there c =
     let l = symbols_length c.self.inside.parts in
     let e = c.number.ensures in
     omega arith
+
+pub returns : goal.returns
+returns c = rw (← c.self.view_is, ← c.number.ensures) c.name.ensures

@@ -10,7 +10,8 @@ use Rattle.kc_tree.specs.checker.Conjuncts.{AreBehind}
 use Rattle.kc_tree.specs.checker.Firsts.{PromptStands}
 use Rattle.kc_tree.specs.checker.Walked.{AroundShown, or_yes}
 use Rattle.kc_tree.specs.declared.conditions.Around.{Around}
-use Rattle.kc_tree.proofs.Growth.{grows_on, there_on, conjoins_there, joined_on}
+use Rattle.kc_statements.proofs.Growing.{grows_on}
+use Rattle.kc_tree.proofs.Growth.{there_on, conjoins_there, joined_on}
 use Rattle.kc_tree.proofs.WalkSteps.{top_shown, entry_is, ended, entered, end_side, other_side, prompt_there, prompt_stands, inside_on, around_on, what_on}
 use Rattle.kc_tree.proofs.walk.Walk.step.Goals as goal
 
@@ -125,3 +126,39 @@ returns-clause-walked c = λ names texts before m walked what attributes_are.
     c.in_ok-opened.opened (other_side w.arena names texts c.args.what.now m what (sym c.ends.ensures ∙ c.if-ends.false)) j (rw l refl)
     (rw (c.enter.ensures.yes, c.enter.ensures.groups) at groups) (c.put.ensures.stack ∙ c.in_ok-enter.ensures.stack) (λ later h. inside_on last later texts w.yes m s c.in_ok-opened.opened (subst (λ e. Grows e later) arena_is h) shown))
     c.put.ensures.groups
+
+pub returns-in_err-push_conditions-clause-grows : goal.returns-in_err-push_conditions-clause-grows
+returns-in_err-push_conditions-clause-grows c =
+    grows_on c.args.self.now.arena c.entry_conditions.new.arena c.push_conditions.new.arena c.entry_conditions.ensures.grows c.push_conditions.ensures.grows
+
+pub returns-then-ends-clause-grows : goal.returns-then-ends-clause-grows
+returns-then-ends-clause-grows c =
+    let w = c.args.self.now in
+    let mid = c.entry_conditions.new.arena in
+    let far = c.push_conditions.new.arena in
+    let g = grows_on w.arena mid far c.entry_conditions.ensures.grows c.push_conditions.ensures.grows in
+    subst (λ e. Grows w.arena e) (sym c.end.ensures.arena) g
+
+pub returns-in_err-opened-clause-grows : goal.returns-in_err-opened-clause-grows
+returns-in_err-opened-clause-grows c =
+    let w = c.args.self.now in
+    let mid = c.entry_conditions.new.arena in
+    let far = c.push_conditions.new.arena in
+    let g = grows_on w.arena mid far c.entry_conditions.ensures.grows c.push_conditions.ensures.grows in
+    grows_on w.arena far c.inside.new.arena g c.inside.ensures.grows
+
+pub returns-in_err-enter-clause-grows : goal.returns-in_err-enter-clause-grows
+returns-in_err-enter-clause-grows c =
+    let w = c.args.self.now in
+    let mid = c.entry_conditions.new.arena in
+    let far = c.push_conditions.new.arena in
+    let g = grows_on w.arena mid far c.entry_conditions.ensures.grows c.push_conditions.ensures.grows in
+    subst (λ e. Grows w.arena e) (sym c.enter.ensures.arena) (grows_on w.arena far c.inside.new.arena g c.inside.ensures.grows)
+
+pub returns-clause-grows : goal.returns-clause-grows
+returns-clause-grows c =
+    let w = c.args.self.now in
+    let mid = c.entry_conditions.new.arena in
+    let far = c.push_conditions.new.arena in
+    let g = grows_on w.arena mid far c.entry_conditions.ensures.grows c.push_conditions.ensures.grows in
+    subst (λ e. Grows w.arena e) (sym (c.put.ensures.arena ∙ c.enter.ensures.arena)) (grows_on w.arena far c.inside.new.arena g c.inside.ensures.grows)
