@@ -1,4 +1,4 @@
-use Rattle.std.proofs.Common.{arith, refl, ◌-◌}
+use Rattle.std.proofs.Common.{arith, refl, sym, ◌-◌, ◌∙◌}
 use Rattle.std.proofs.lemmas.Result.{err_from_is_err_and}
 use Rattle.kc_listing.specs.checker.Progress.{origin_of}
 use Rattle.kc_tree_model.specs.Reading.{read_file}
@@ -38,6 +38,16 @@ read_opened-lines-init t c = record {
   left = λ before d. all_left (origin_of c.args.from) (read_file (c.args.depth - 1) (origin_of c.args.from)) c.args.file.number c.args.file.bytes.now before c.args.read.now d;
   within = omega arith;
   few = omega arith;
+}
+
+pub read_opened-lines-preserved : goal.read_opened-lines-preserved
+read_opened-lines-preserved t c = record {
+  left = λ before d.
+      let l = c.lines.invariant.left before d in
+      let o = c.in_ok-next.ensures.read l.now l.describes in
+      record { now = o.now; describes = o.describes; left = sym o.left ∙ l.left };
+  within = c.in_ok-next.ensures.bounds.within;
+  few = let n = c.lines.invariant.few in let f = c.in_ok-next.ensures.bounds.few in omega arith;
 }
 
 pub read_opened-returns : goal.read_opened-returns

@@ -17,6 +17,9 @@ returns-then-len-ge-MAX_SYMBOLS-clause-told c = λ names h.
     let none : place_of c.args.name.now names ≡ None = place_known c.intern.new.self c.args.self.now.symbols.items c.args.self.now.numbers.items names c.args.name.now c.in-Ok.id l c.in-Ok.ensures.place ∙ sym (rw c.as_slice.ensures.value at c.number_at.ensures) ∙ c.in_default-number_at.is in
     inr (refl, told_full c.intern.new.self c.args.self.now.symbols.items c.args.self.now.numbers.items names c.args.name.now l none (let t = c.if-len-ge-MAX_SYMBOLS.true in let k = c.len.ensures in omega arith), l)
 
+pub define-requires-clause-few : goal.define-requires-clause-few
+define-requires-clause-few c = let t = c.if-len-ge-MAX_SYMBOLS.false in let k = c.len.ensures in omega arith
+
 pub returns-clause-told : goal.returns-clause-told
 returns-clause-told c = λ names h.
     let l = names_later c.args.self.now.arena c.intern.new.self c.args.self.now.symbols.items c.args.self.now.numbers.items names c.in-Ok.ensures.grows h in
