@@ -3,7 +3,7 @@ ghost use Rattle.std.specs.Prelude.{◌≡◌, ◌<◌, not, Some, None, IfSome,
 ghost use Rattle.std.specs.List.{find};
 ghost use Rattle.kc_expr.specs.Token.{is_white_byte};
 ghost use Rattle.kc_dotconfig_model.specs.Lines.{without_white_end};
-ghost use Rattle.kc_dotconfig_model.specs.checker.Prefixes.{text_of};
+ghost use Rattle.kc_dotconfig_model.specs.Prefixes.{text_of};
 ghost use Rattle.kc_dotconfig_model.specs.checker.Reading.{behind, named_before, value_parts, unset_name, is_hash};
 
 use kc_dotconfig_model::Prefix;

@@ -1,7 +1,7 @@
 //! Reading a configuration file, a block at a time.
 ghost use Rattle.std.specs.Prelude.{◌≡◌, ◌⊎◌, ◌<◌, ◌≤◌, ℕ, ◌+◌, ◌-◌, ◌^◌, List, [], ◌∷◌, ◌++◌, length, true, IfOk, IfErr, OnOk, OnErr};
 ghost use Rattle.kc_dotconfig_model.specs.Names.{lacks};
-ghost use Rattle.kc_dotconfig_model.specs.checker.Prefixes.{text_of};
+ghost use Rattle.kc_dotconfig_model.specs.Prefixes.{text_of};
 ghost use Rattle.kc_dotconfig_model.specs.LoadFaults.{complete, IsFirstFault};
 ghost use Rattle.kc_dotconfig.specs.checker.Gathered.{Holds, GoesOn, StopsIn, Takes, Refuses, EndsWell, EndsBadly, IsWholeOf};
 ghost use Rattle.kc_dotconfig.specs.Fragments.{FitsTree};

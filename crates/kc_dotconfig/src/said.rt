@@ -5,7 +5,7 @@ ghost use Rattle.kc_tree_model.specs.TreeLookup.{symbol_named};
 ghost use Rattle.kc_value.specs.Number.{number_of_text};
 ghost use Rattle.kc_rules.specs.Told.{whole_of};
 ghost use Rattle.kc_dotconfig_model.specs.Lines.{tri_meant, unset_saying, without_white_end};
-ghost use Rattle.kc_dotconfig_model.specs.checker.Prefixes.{text_of};
+ghost use Rattle.kc_dotconfig_model.specs.Prefixes.{text_of};
 ghost use Rattle.kc_dotconfig_model.specs.checker.Reading.{line_saying, tri_saying, string_saying, number_saying, saying_of_kind, value_saying, unquoted, of_named, of_other};
 ghost use Rattle.kc_dotconfig.specs.checker.Sayings.{saying_of, IsWithin};
 

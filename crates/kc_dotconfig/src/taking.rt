@@ -4,7 +4,7 @@ ghost use Rattle.std.specs.Str.{IsUtf8};
 ghost use Rattle.kc_tree_model.specs.Trees.{Whole};
 ghost use Rattle.kc_rules.specs.Told.{whole_of};
 ghost use Rattle.kc_dotconfig_model.specs.Lines.{Saying, Says, IsMalformed, without_white_end};
-ghost use Rattle.kc_dotconfig_model.specs.checker.Prefixes.{text_of};
+ghost use Rattle.kc_dotconfig_model.specs.Prefixes.{text_of};
 ghost use Rattle.std.specs.BTreeMap.{insert_entry};
 ghost use Rattle.std.specs.Ordering.{nat_cmp};
 ghost use Rattle.kc_dotconfig.specs.checker.Sayings.{saying_of, IsWithin};

@@ -1,4 +1,5 @@
 pub mod Names
+pub mod Prefixes
 pub mod Lines
 pub mod Files
 pub mod LoadFaults

@@ -38,7 +38,7 @@ fn is_valid(text: &[u8]) -> bool
 }
 
 impl Prefix {
-    ghost use Rattle.kc_dotconfig_model.specs.checker.Prefixes.{text_of};
+    ghost use Rattle.kc_dotconfig_model.specs.Prefixes.{text_of};
 
     /// The prefix of Linux's configuration files, `CONFIG_`.
     pub fn plain() -> Prefix

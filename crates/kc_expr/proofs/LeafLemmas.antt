@@ -8,7 +8,8 @@ use Rattle.kc_expr.specs.declared.token.Token.{Token as CodeToken}
 use Rattle.kc_expr.specs.declared.token.TokenKind.{TokenKind}
 use Rattle.kc_expr.specs.declared.token.TokenKind.TheVariants.{Word, Quoted, Relation, Not, And, Or, Open, Close}
 use Rattle.kc_expr.specs.Expr.{alone, both, constant, named, modules}
-use Rattle.kc_expr.specs.Grammar.{is_quote, operand_of_kind, as_condition}
+use Rattle.kc_expr.specs.Grammar.{is_quote, operand_of_kind}
+use Rattle.kc_expr.specs.checker.Conditions.{as_condition}
 use Rattle.kc_expr.specs.checker.Nodes.{operand_of}
 use Rattle.kc_expr.specs.checker.Parsing.{first_operand, is_m}
 use Rattle.kc_expr.specs.Token.{pieces_of, piece_of}

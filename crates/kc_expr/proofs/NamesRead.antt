@@ -7,7 +7,7 @@ use Rattle.kc_expr.specs.declared.store.Store.{Store}
 use Rattle.kc_expr.specs.declared.token.Relop.{Relop}
 use Rattle.kc_expr.specs.Arena.{Stands, stands_for}
 use Rattle.kc_expr.specs.Expr.{Expr, Operand, alone, related, negated}
-use Rattle.kc_expr.specs.Grammar.{as_condition}
+use Rattle.kc_expr.specs.checker.Conditions.{as_condition}
 use Rattle.kc_expr.specs.Mentioned.{operand_names, names_in}
 use Rattle.kc_expr.specs.Names.{with_name, with_names}
 use Rattle.kc_expr.specs.checker.Nodes.{operand_of}

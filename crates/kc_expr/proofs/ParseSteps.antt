@@ -12,7 +12,8 @@ use Rattle.kc_expr.specs.declared.token.TokenKind.{TokenKind}
 use Rattle.kc_expr.specs.declared.token.TokenKind.TheVariants.{Not, Open, Close}
 use Rattle.kc_expr.specs.Arena.{Stands, stands_for}
 use Rattle.kc_expr.specs.Expr.{Expr, Operand, alone, related, negated, both, either}
-use Rattle.kc_expr.specs.Grammar.{Read, on_read, beyond, closed, fault_of, as_condition}
+use Rattle.kc_expr.specs.Grammar.{Read, on_read, beyond, closed, fault_of}
+use Rattle.kc_expr.specs.checker.Conditions.{as_condition}
 use Rattle.kc_expr.specs.checker.Parsing.{first_kind, first_operand, first_relation, operand_read, factor_read, ors_read, whole_read, IsParsed, IsRefused, Parses, IsParsedWhole, IsRefusedWhole, MeetsFault}
 use Rattle.kc_expr.specs.checker.Store.{exprs_in, IsSound, Extends}
 use Rattle.kc_expr.specs.Token.{Piece}

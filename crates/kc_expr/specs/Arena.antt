@@ -1,17 +1,12 @@
 -- What contracts see of an arena.
-use Rattle.std.specs.Prelude.{◌≡◌, ℕ, ◌<◌, List, length, take, slice_index_or, refl}
-use Rattle.std.specs.Coded.{Coded, code_by, coded×, coded_ℕ, coded_list}
+use Rattle.std.specs.Prelude.{◌≡◌, ℕ, ◌<◌, List, length, take, slice_index_or}
 use Rattle.kc_value.specs.declared.tri.Tri.TheVariants.{N}
 use Rattle.kc_expr.specs.Expr.{Expr, alone, constant}
-use Rattle.kc_expr.specs.checker.ExprCode.{expr_code}
 
 -- the names held, in order of first sight, and the expression for which each node stands
 pub record Exprs : Type 0 where
   pub names : List (List ℕ)
   pub nodes : List Expr
-
-abbrev pub exprs_code : Coded Exprs
-exprs_code = code_by (List (List ℕ) × List Expr) (coded× (coded_list (coded_list coded_ℕ)) (coded_list expr_code)) (λ a. (a.names, a.nodes)) (λ p. record { names = p.0; nodes = p.1 }) (λ _. refl)
 
 -- the expression for which a node stands
 abbrev pub stands_for : Exprs → ℕ → Expr

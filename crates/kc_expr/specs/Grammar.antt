@@ -9,7 +9,7 @@ use Rattle.kc_expr.specs.declared.fault.ExprKind.TheVariants.{Malformed, TooDeep
 use Rattle.kc_expr.specs.declared.token.TokenKind.{TokenKind}
 use Rattle.kc_expr.specs.declared.token.TokenKind.TheVariants.{Word, Quoted, Relation, Not, And, Or, Open, Close}
 use Rattle.kc_expr.specs.Token.{Piece}
-use Rattle.kc_expr.specs.Expr.{Expr, Operand, constant, named, quoted, alone, related, negated, both, either, conditional}
+use Rattle.kc_expr.specs.Expr.{Expr, Operand, constant, named, quoted, alone, related, negated, both, either}
 
 -- a quote
 abbrev pub is_quote : ℕ → Bool
@@ -214,7 +214,3 @@ end_of (t ∷ u ∷ ts) = end_of (u ∷ ts)
 abbrev pub fault_of : List Piece → ExprKind × List Piece → ExprFault
 fault_of all (kind, []) = record { offset = end_of all; kind = kind }
 fault_of all (kind, t ∷ ts) = record { offset = t.start; kind = kind }
-
--- what is read means, as a condition or as a value
-abbrev pub as_condition : Bool → Expr → Expr
-as_condition condition e = if condition then conditional e else e

@@ -1,5 +1,5 @@
 -- The tokens of a line.
-use Rattle.std.specs.Prelude.{ℕ, zero, suc, pred, ◌+◌, ◌-◌, ◌<◌, ◌≤◌, Bool, false, ◌&&◌, ◌||◌, ◌==◌, nat_le, List, [], ◌∷◌, length, take, drop, map, take_while, position, Option, Some, None, Result, Ok, Err, slice_index, if◌then◌else◌}
+use Rattle.std.specs.Prelude.{ℕ, zero, suc, pred, ◌+◌, Bool, false, ◌&&◌, ◌||◌, ◌==◌, nat_le, List, [], ◌∷◌, length, take, drop, map, take_while, position, Option, Some, None, Result, Ok, Err, slice_index, if◌then◌else◌}
 use Rattle.kc_value.specs.Quoted.{closing}
 use Rattle.kc_expr.specs.declared.fault.ExprFault.{ExprFault}
 use Rattle.kc_expr.specs.declared.fault.ExprKind.TheVariants.{BadToken, UnclosedQuote, LeftOut}
@@ -59,13 +59,6 @@ lead_of bytes =
     else if is_word_byte a then Token Word (length (take_while is_word_byte bytes))
     else if a == 34 || (a == 39) then lead_of_quoted bytes
     else lead_of_operator a (slice_index bytes 1)
-
--- a token is of bytes that are there and ends behind an ASCII byte; a fault stands at a byte that is there
-abbrev pub Reaches : List ℕ → Lead → Type 0
-Reaches bytes White = slice_index bytes 0 < 128
-Reaches bytes Comment = Unit {0}
-Reaches bytes (Token kind len) = (0 < len) × (len ≤ length bytes) × (slice_index bytes (len - 1) < 128)
-Reaches bytes (Fault kind ahead) = ahead < length bytes
 
 -- the tokens of a line from a place on, or its first fault; so many bytes are of a token that began before
 abbrev pub lexed : ℕ → ℕ → List ℕ → Result (List Piece) ExprFault

@@ -1,5 +1,8 @@
+pub mod ArenaCode
 pub mod ArenaView
+pub mod Conditions
 pub mod ExprCode
+pub mod Leads
 pub mod Nodes
 pub mod Parsing
 pub mod Store

@@ -28,7 +28,8 @@ pub struct Arena {
 }
 
 impl Model for Arena {
-    ghost use Rattle.kc_expr.specs.Arena.{Exprs, exprs_code};
+    ghost use Rattle.kc_expr.specs.Arena.{Exprs};
+    ghost use Rattle.kc_expr.specs.checker.ArenaCode.{exprs_code};
 
     ghost Value = { Exprs };
 

@@ -3,7 +3,8 @@ ghost use Rattle.std.specs.Prelude.{◌≡◌, ◌<◌, ◌≤◌, length, drop,
 ghost use Rattle.kc_expr.specs.declared.fault.ExprKind.TheVariants.{OutOfMemory};
 ghost use Rattle.kc_expr.specs.Arena.{Stands};
 ghost use Rattle.kc_expr.specs.Expr.{alone, named, quoted};
-ghost use Rattle.kc_expr.specs.Grammar.{as_condition, constant_or, letter_value, quoted_text};
+ghost use Rattle.kc_expr.specs.Grammar.{constant_or, letter_value, quoted_text};
+ghost use Rattle.kc_expr.specs.checker.Conditions.{as_condition};
 ghost use Rattle.kc_expr.specs.Mentioned.{operand_names};
 ghost use Rattle.kc_expr.specs.Names.{with_names};
 ghost use Rattle.kc_expr.specs.checker.Nodes.{LeafFits, operand_of};

@@ -1,7 +1,8 @@
 //! Words, quoted texts and operators of a line.
 ghost use Rattle.std.specs.Prelude.{◌≡◌, ◌<◌, ◌≤◌, ◌⊎◌, true, length, take, IfSome, IfErr, OnOk, OnErr, position, take_while, ◌==◌, ◌-◌, slice_index, [], ◌∷◌};
 ghost use Rattle.kc_expr.specs.declared.fault.ExprKind.TheVariants.{OutOfMemory};
-ghost use Rattle.kc_expr.specs.Token.{is_white_byte, is_word_byte, lead_of, lead_of_quoted, lead_of_operator, lexed, pieces_of, Reaches};
+ghost use Rattle.kc_expr.specs.Token.{is_white_byte, is_word_byte, lead_of, lead_of_quoted, lead_of_operator, lexed, pieces_of};
+ghost use Rattle.kc_expr.specs.checker.Leads.{Reaches};
 ghost use Rattle.kc_expr.specs.Answers.{Answers, with_front};
 
 use super::fault::{ExprFault, ExprKind};

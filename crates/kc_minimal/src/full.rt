@@ -5,7 +5,7 @@ ghost use Rattle.kc_tree.specs.Told.{entry_of, EntryFits};
 ghost use Rattle.kc_tree_model.specs.Trees.{Entry as TreeEntry, definition};
 ghost use Rattle.kc_rules_model.specs.Reports.{is_written};
 ghost use Rattle.kc_rules.specs.Told.{whole_of, tree_of};
-ghost use Rattle.kc_dotconfig_model.specs.checker.Prefixes.{text_of};
+ghost use Rattle.kc_dotconfig_model.specs.Prefixes.{text_of};
 ghost use Rattle.kc_minimal_model.specs.Spelling.{ended_line};
 ghost use Rattle.kc_minimal_model.specs.FullFile.{heading, end_line, applies, full_file};
 ghost use Rattle.kc_minimal.specs.checker.Drafts.{IsDraft};

@@ -1,7 +1,7 @@
 //! Minimal files.
 ghost use Rattle.std.specs.Prelude.{◌≡◌, ◌<◌, ◌++◌, [], length, IfOk, OnOk, if◌then◌else◌};
 ghost use Rattle.kc_rules.specs.Told.{whole_of, profile_of};
-ghost use Rattle.kc_dotconfig_model.specs.checker.Prefixes.{text_of};
+ghost use Rattle.kc_dotconfig_model.specs.Prefixes.{text_of};
 ghost use Rattle.kc_minimal_model.specs.Spelling.{ended_line};
 ghost use Rattle.kc_minimal_model.specs.MinimalFile.{is_kept, has_line, minimal_file};
 ghost use Rattle.kc_minimal.specs.checker.Values.{FitValues};

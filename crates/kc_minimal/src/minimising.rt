@@ -2,7 +2,7 @@
 ghost use Rattle.std.specs.Prelude.{◌≡◌, ◌≤◌, ◌+◌, List, IfOk, IfErr, OnOk};
 ghost use Rattle.kc_rules_model.specs.declared.values.UnitValue.{UnitValue as Held};
 ghost use Rattle.kc_rules.specs.Told.{whole_of, profile_of};
-ghost use Rattle.kc_dotconfig_model.specs.checker.Prefixes.{text_of};
+ghost use Rattle.kc_dotconfig_model.specs.Prefixes.{text_of};
 ghost use Rattle.kc_dotconfig.specs.Fragments.{FitsTree, users_of};
 ghost use Rattle.kc_minimal_model.specs.MinimalText.{IsMinimalText};
 ghost use Rattle.kc_minimal.specs.Minimised.{IsMinimised, EndsWith};

@@ -3,7 +3,7 @@ ghost use Rattle.std.specs.Prelude.{◌≡◌, ◌<◌, ◌++◌, ◌∷◌, ◌
 ghost use Rattle.kc_expr.specs.Lookup.{seen_of};
 ghost use Rattle.kc_rules_model.specs.Kinds.{is_n, is_tri_kind};
 ghost use Rattle.kc_rules.specs.Told.{whole_of};
-ghost use Rattle.kc_dotconfig_model.specs.checker.Prefixes.{text_of};
+ghost use Rattle.kc_dotconfig_model.specs.Prefixes.{text_of};
 ghost use Rattle.kc_minimal_model.specs.Spelling.{spelled, value_line, unset_line, line_with, ended_line};
 
 use kc_dotconfig_model::Prefix;

@@ -1,7 +1,7 @@
 //! The minimal and the full file of a configuration.
 ghost use Rattle.std.specs.Prelude.{◌≡◌, ◌≤◌, true, length, IfOk};
 ghost use Rattle.kc_rules.specs.Told.{profile_of};
-ghost use Rattle.kc_dotconfig_model.specs.checker.Prefixes.{text_of};
+ghost use Rattle.kc_dotconfig_model.specs.Prefixes.{text_of};
 ghost use Rattle.kc_dotconfig_model.specs.Files.{file_lines};
 ghost use Rattle.kc_dotconfig_model.specs.LoadFaults.{MOST_BYTES, MOST_LINES};
 ghost use Rattle.kc_dotconfig.specs.Configured.{tree_in};

@@ -32,8 +32,3 @@ abbrev pub unescaped : Bool → List ℕ → List ℕ
 unescaped escaped [] = []
 unescaped true (c ∷ cs) = c ∷ unescaped false cs
 unescaped false (c ∷ cs) = if c == 92 then unescaped true cs else c ∷ unescaped false cs
-
--- a text in quotes, and what stands between them
-pub record HasBody (text body : List ℕ) : Type 0 where
-  pub parts : text ≡ 34 ∷ (body ++ 34 ∷ [])
-  pub is_body : IsBody 34 body (unescaped false body)

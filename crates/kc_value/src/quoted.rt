@@ -1,6 +1,7 @@
 //! Texts in quotes.
 ghost use Rattle.std.specs.Prelude.{◌≡◌, ◌+◌, ◌-◌, ◌<◌, ◌≤◌, ℕ, List, take, false, length, slice_index, ◌++◌, OnOk, OnErr, IfOk, IfSome, IfNone, string_bytes};
-ghost use Rattle.kc_value.specs.Quoted.{quoted, closing, unescaped, IsQuoted, HasBody};
+ghost use Rattle.kc_value.specs.Quoted.{quoted, closing, unescaped, IsQuoted};
+ghost use Rattle.kc_value.specs.checker.Bodies.{HasBody};
 
 use std::alloc::{AllocError, Global};
 

@@ -1,7 +1,7 @@
 //! The files of the system.
 ghost use Rattle.std.specs.Prelude.{None};
 
-use kc_value::{FromRead, Seed};
+use kc_value::{Failed, FromRead, Seed, Source};
 use kmin_jobs::Files;
 use std::fs::File;
 use std::random::RandomSource;
@@ -33,8 +33,33 @@ fn new_seed(runtime: &HostRuntime) -> Seed {
     Seed::of(u64::from_le_bytes(first), u64::from_le_bytes(second))
 }
 
+/// An open file, and how many bytes it had when it was opened.
+#[derive(Drop)]
+pub(crate) struct Opened {
+    reader: FromRead<File>,
+    size: usize,
+}
+
+impl Source for Opened {
+    ghost left = { λ s. ⟦<FromRead<File> as Source>⟧.left s.reader };
+
+    ghost failures = { λ s. ⟦<FromRead<File> as Source>⟧.failures s.reader };
+
+    fn read_some(&mut self, buf: &mut [u8]) -> Result<usize, Failed> {
+        self.reader.read_some(buf)
+    }
+}
+
+/// How many bytes a file has, and 0 where the system doesn't tell.
+fn size_now(file: &File) -> usize {
+    match file.metadata() {
+        Ok(metadata) => usize::try_from(metadata.len()).unwrap_or(usize::MAX),
+        Err(_) => 0,
+    }
+}
+
 impl Files for Disk<'_> {
-    type File = FromRead<File>;
+    type File = Opened;
 
     ghost tells = { λ _ _. None };
 
@@ -42,8 +67,16 @@ impl Files for Disk<'_> {
         self.seed
     }
 
-    fn reader_for(&mut self, path: &str) -> Option<FromRead<File>> {
+    fn reader_for(&mut self, path: &str) -> Option<Opened> {
         let file = File::open(self.runtime, path).ok()?;
-        Some(FromRead::new(file))
+        let size = size_now(&file);
+        Some(Opened {
+            reader: FromRead::new(file),
+            size,
+        })
+    }
+
+    fn size_of(&self, file: &Opened) -> usize {
+        file.size
     }
 }

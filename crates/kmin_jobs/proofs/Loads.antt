@@ -7,7 +7,7 @@ use Rattle.kc_dotconfig_model.specs.declared.fault.LoadKind.{LoadKind}
 use Rattle.kc_dotconfig_model.specs.declared.fault.LoadKind.TheVariants.{Malformed, NotUtf8, LineTooLong, TooManyLines, Read, OutOfMemory, TooLarge}
 use Rattle.kc_dotconfig_model.specs.LoadFaults.{complete, IsFirstFault, IsAccepted}
 use Rattle.kc_dotconfig.specs.Reads.{IsRefused, Tells}
-use Rattle.kmin_jobs.specs.Refused.{IsNotAccepted}
+use Rattle.kmin_jobs.specs.checker.Refused.{IsNotAccepted}
 
 -- a first fault refuses
 faulty : (prefix : List ℕ) (tree : Whole) (bytes : List ℕ) (kind : LoadKind) (number : ℕ) → IsFirstFault prefix tree complete bytes kind number

@@ -1,5 +1,5 @@
 -- Bundles: a tree, a line of just `%%` and a configuration.
-use Rattle.std.specs.Prelude.{◌≡◌, ℕ, Bool, not, List, [], ◌∷◌, ◌++◌, Option, IsTrue, ◌⊎◌, bytes_eq, ◌==◌}
+use Rattle.std.specs.Prelude.{◌≡◌, ℕ, Bool, not, List, [], ◌∷◌, ◌++◌, Option, IsTrue, ◌⊎◌, bytes_eq}
 use Rattle.std.specs.List.{list_all}
 use Rattle.std.specs.Io.KnownBytes.{Consumes, IsAtEnd}
 use Rattle.kc_dotconfig_model.specs.Files.{file_lines}
@@ -7,10 +7,6 @@ use Rattle.kc_dotconfig_model.specs.Files.{file_lines}
 -- the line that ends the tree: `%%`
 abbrev pub marker : List ℕ
 marker = 37 ∷ 37 ∷ []
-
--- any byte but a newline
-abbrev pub is_inline : ℕ → Bool
-is_inline c = not (c == 10)
 
 -- a text begins with a line, which has a newline or ends the text, and then comes the rest
 abbrev pub BeginsWithLine : (text line rest : List ℕ) → Type 0

@@ -6,24 +6,29 @@ use std::alloc::{AllocError, Global};
 /// The word that a line begins with which sources a file.
 const SOURCE: &[u8] = b"source";
 
-/// How many bytes a file of the texts has, and the absent paths that its lines source; nothing behind the last file.
+/// The most paths that are told of one file: as many files as a tree may have.
+const MOST_PATHS: usize = 4096;
+
+/// The absent paths that the lines of a file of the texts source; nothing behind the last file.
 pub(crate) fn sourced(
     alloc: Global,
     texts: &Texts,
     number: u32,
-) -> Result<Option<(usize, Vec<String>)>, AllocError> {
+) -> Result<Option<Vec<String>>, AllocError> {
     let Some(path) = texts.path_at(number) else {
         return Ok(None);
     };
     let bytes = texts.get(path).unwrap_or(&[]);
-    let paths = absent_paths(alloc, texts, bytes)?;
-    Ok(Some((bytes.len(), paths)))
+    Ok(Some(absent_paths(alloc, texts, bytes)?))
 }
 
-/// The absent paths that the lines of a file source.
+/// The absent paths that the lines of a file source, up to `MOST_PATHS`.
 fn absent_paths(alloc: Global, texts: &Texts, bytes: &[u8]) -> Result<Vec<String>, AllocError> {
     let mut paths = Vec::new(alloc);
     for place in memmem::find_iter(bytes, SOURCE) {
+        if paths.len() >= MOST_PATHS {
+            break;
+        }
         if let Some(path) = path_sourced(bytes, place) {
             if texts.get(path).is_none() {
                 paths.push(String::from_str(alloc, path)?)?;

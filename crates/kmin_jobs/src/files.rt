@@ -19,4 +19,9 @@ pub trait Files {
     fn reader_for(&mut self, path: &str) -> Option<Self::File>
         ensures same { (other : List ℕ) → tells self.new other ≡ tells self.old other }
         ensures opens { OpensAs (tells self.old path.now) (option_map Self.File.Source.left result) };
+
+    /// How many bytes an open file is likely to have, and 0 where that isn't known; it changes no answer.
+    fn size_of(&self, _file: &Self::File) -> usize {
+        0
+    }
 }

@@ -17,7 +17,7 @@ const MOST_BYTES: usize = 67_108_865;
 /// How many bytes are read at once.
 const BLOCK: usize = 8192;
 
-/// The most files that are opened ahead.
+/// The most files that are opened ahead, and at once: as many as a tree may have.
 const MOST_FILES: u32 = 4096;
 
 /// How often the files of a tree are asked what they want. A path that wasn't asked for before stands one file
@@ -29,6 +29,34 @@ const MOST_ROUNDS: u32 = 64;
 pub(crate) struct Gathered {
     pub(crate) texts: Texts,
     pub(crate) read: Result<Tree, TreeFault>,
+}
+
+/// What may still be opened and read at once: so many files, and so many bytes of them.
+#[derive(Drop)]
+struct Room {
+    files: u32,
+    bytes: usize,
+}
+
+impl Room {
+    /// Room for a whole tree.
+    fn whole() -> Room {
+        Room {
+            files: MOST_FILES,
+            bytes: MOST_BYTES,
+        }
+    }
+
+    /// Takes the room of a file that was opened, of which so many bytes were read.
+    fn take(&mut self, bytes: usize) {
+        self.files = self.files.saturating_sub(1);
+        self.bytes = self.bytes.saturating_sub(bytes);
+    }
+
+    /// Whether none is left.
+    fn is_used(&self) -> bool {
+        self.files == 0 || self.bytes == 0
+    }
 }
 
 /// The files of a tree, read: its first file and what the lines of its files source, as far as it can be opened and read,
@@ -44,8 +72,9 @@ pub(crate) fn gather<F: Files>(
     ensures read { IfOk result (λ g. IsRead g.texts first.now g.read) }
 {
     let mut texts = Texts::with_seed(alloc, files.seed());
-    insert_one(alloc, root, first, files, &mut texts)?;
-    open_ahead(alloc, root, files, &mut texts)?;
+    let mut room = Room::whole();
+    insert_one(alloc, root, first, &mut room, files, &mut texts)?;
+    open_ahead(alloc, root, &mut room, files, &mut texts)?;
     let read = read_texts(alloc, &texts, first);
     if !lacks_file(&read) {
         return Ok(Gathered { texts, read });
@@ -63,10 +92,12 @@ fn lacks_file(read: &Result<Tree, TreeFault>) -> bool {
     }
 }
 
-/// Inserts what the lines of the files source, ahead of a reading. Files that no reading looks at change no answer.
+/// Inserts what the lines of the files source, ahead of a reading, as long as there is room. Files that no reading looks at
+/// change no answer.
 fn open_ahead<F: Files>(
     alloc: Global,
     root: &str,
+    room: &mut Room,
     files: &mut F,
     texts: &mut Texts,
 ) -> Result<(), AllocError>
@@ -74,16 +105,14 @@ fn open_ahead<F: Files>(
     ensures same { (path : List ℕ) → F.tells files.new path ≡ F.tells files.old path }
     ensures below { AreTextsBelow (F.tells files.old) root.now texts.new }
 {
-    let mut left = MOST_BYTES;
     for number in 0..MOST_FILES {
-        let Some((size, paths)) = sourced(alloc, texts, number)? else {
-            return Ok(());
-        };
-        if size >= left {
+        if room.is_used() {
             return Ok(());
         }
-        left -= size;
-        insert_all(alloc, root, &paths, files, texts)?;
+        let Some(paths) = sourced(alloc, texts, number)? else {
+            return Ok(());
+        };
+        insert_all(alloc, root, &paths, room, files, texts)?;
     }
     Ok(())
 }
@@ -106,19 +135,19 @@ fn open_wanted<F: Files>(
             Err(fault) if fault.kind == TreeKind::OutOfMemory => return Err(AllocError),
             Err(_) => return Ok(()),
         };
-        if !insert_all(alloc, root, &paths, files, texts)? {
+        if !insert_all(alloc, root, &paths, &mut Room::whole(), files, texts)? {
             return Ok(());
         }
     }
     Ok(())
 }
 
-/// Inserts the files of some paths, as far as they can be opened and read, and tells whether there is any. It stops where
-/// they have more bytes than a tree may have.
+/// Inserts the files of some paths, as long as there is room, and tells whether any was inserted.
 fn insert_all<F: Files>(
     alloc: Global,
     root: &str,
     paths: &[String],
+    room: &mut Room,
     files: &mut F,
     texts: &mut Texts,
 ) -> Result<bool, AllocError>
@@ -127,36 +156,38 @@ fn insert_all<F: Files>(
     ensures below { AreTextsBelow (F.tells files.old) root.now texts.new }
 {
     let mut any = false;
-    let mut left = MOST_BYTES;
     for path in paths {
-        if let Some(size) = insert_one(alloc, root, path.as_str(), files, texts)? {
-            any = true;
-            if size >= left {
-                return Ok(true);
-            }
-            left -= size;
+        if room.is_used() {
+            return Ok(any);
         }
+        any |= insert_one(alloc, root, path.as_str(), room, files, texts)?;
     }
     Ok(any)
 }
 
-/// Inserts the file of a path, if it can be opened and read, and tells how many bytes it has.
+/// Inserts the file of a path that isn't there yet, if it can be opened and read, and tells whether it did.
 fn insert_one<F: Files>(
     alloc: Global,
     root: &str,
     path: &str,
+    room: &mut Room,
     files: &mut F,
     texts: &mut Texts,
-) -> Result<Option<usize>, AllocError>
+) -> Result<bool, AllocError>
     requires below { AreTextsBelow (F.tells files.old) root.now texts.old }
     ensures same { (other : List ℕ) → F.tells files.new other ≡ F.tells files.old other }
     ensures below { AreTextsBelow (F.tells files.old) root.now texts.new }
 {
+    if texts.get(path).is_some() {
+        return Ok(false);
+    }
     let Some(bytes) = read_below(alloc, root, path, files)? else {
-        return Ok(None);
+        room.take(0);
+        return Ok(false);
     };
+    room.take(bytes.len());
     texts.insert(path, &bytes)?;
-    Ok(Some(bytes.len()))
+    Ok(true)
 }
 
 /// The bytes of a path below the root, unless it can't be opened or read.
@@ -173,20 +204,28 @@ fn read_below<F: Files>(
     place.push_str("/")?;
     place.push_str(path)?;
     match files.reader_for(&place) {
-        Some(mut reader) => read_front(alloc, &mut reader),
+        Some(mut reader) => {
+            let room = files.size_of(&reader).min(MOST_BYTES);
+            read_front(alloc, &mut reader, room)
+        }
         None => Ok(None),
     }
 }
 
-/// All bytes of a reader, or the first `MOST_BYTES` of more; nothing where a read fails.
-fn read_front<S: Source>(alloc: Global, source: &mut S) -> Result<Option<Vec<u8>>, AllocError>
+/// All bytes of a reader, or the first `MOST_BYTES` of more; nothing where a read fails. `room` is for how many bytes room is
+/// made at once.
+fn read_front<S: Source>(
+    alloc: Global,
+    source: &mut S,
+    room: usize,
+) -> Result<Option<Vec<u8>>, AllocError>
     ensures bytes { IfOk result (λ found. IfSome found (λ bytes. Consumes (S.left source.old) (S.left source.new) bytes.items × (length bytes.items ≤ MOST_BYTES) × ((length bytes.items ≡ MOST_BYTES) ⊎ IsAtEnd (S.left source.new)))) }
 {
-    let mut bytes = Vec::new(alloc);
+    let mut bytes = Vec::with_capacity(alloc, room)?;
     let mut block = [0; BLOCK];
     while bytes.len() < MOST_BYTES {
-        let room = (MOST_BYTES - bytes.len()).min(BLOCK);
-        let Ok(count) = source.read_some(&mut block[..room]) else {
+        let most = (MOST_BYTES - bytes.len()).min(BLOCK);
+        let Ok(count) = source.read_some(&mut block[..most]) else {
             return Ok(None);
         };
         if count == 0 {

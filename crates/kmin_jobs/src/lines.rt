@@ -2,8 +2,8 @@
 ghost use Rattle.std.specs.Prelude.{◌≡◌, ◌<◌, ◌≤◌, ◌++◌, ◌∷◌, [], length, IsTrue, IfSome, IfNone};
 ghost use Rattle.std.specs.List.{list_all, prefix_len};
 ghost use Rattle.kc_dotconfig_model.specs.Files.{file_lines};
-ghost use Rattle.kmin_jobs.specs.Bundles.{BeginsWithLine, is_inline};
-ghost use Rattle.kmin_jobs.specs.checker.LineEnds.{begins_behind_line};
+ghost use Rattle.kmin_jobs.specs.Bundles.{BeginsWithLine};
+ghost use Rattle.kmin_jobs.specs.checker.LineEnds.{begins_behind_line, is_inline};
 
 /// How many bytes stand before the first newline.
 fn line_length(text: &[u8]) -> usize

@@ -2,13 +2,13 @@
 ghost use Rattle.std.specs.Prelude.{◌≡◌, ◌⊎◌, ◌∷◌, ◌++◌, [], List, ℕ, map, IfOk, IfErr, OnOk};
 ghost use Rattle.std.specs.Borrow.{Bor};
 ghost use Rattle.kc_rules.specs.Told.{whole_of};
-ghost use Rattle.kc_dotconfig_model.specs.checker.Prefixes.{text_of};
+ghost use Rattle.kc_dotconfig_model.specs.Prefixes.{text_of};
 ghost use Rattle.kc_dotconfig.specs.Configured.{IsSolved};
 ghost use Rattle.kc_dotconfig.specs.Fragments.{FitsTree};
 ghost use Rattle.kc_dotconfig.specs.Reads.{IsReadAs};
 ghost use Rattle.kmin_jobs.specs.Answers.{Assign};
 ghost use Rattle.kmin_jobs.specs.Bundled.{Rises};
-ghost use Rattle.kmin_jobs.specs.Refused.{IsNotAccepted};
+ghost use Rattle.kmin_jobs.specs.checker.Refused.{IsNotAccepted};
 ghost use Rattle.kmin_jobs.specs.checker.Loaded.{IsAssignment};
 
 use crate::files::Files;

@@ -2,7 +2,7 @@
 ghost use Rattle.std.specs.Prelude.{◌≡◌, ◌<◌, length, take, IfErr, OnOk};
 ghost use Rattle.std.specs.Io.KnownBytes.{Appends};
 ghost use Rattle.kmin_jobs.specs.Bundled.{Rises};
-ghost use Rattle.kmin_jobs.specs.Stops.{status_of};
+ghost use Rattle.kmin_jobs.specs.checker.Stops.{status_of};
 
 use crate::stop::Stop;
 use kc_minimal::{WriteFault, write_out};

@@ -1,6 +1,6 @@
 //! What ends a run before its answer.
 ghost use Rattle.std.specs.Prelude.{◌≡◌};
-ghost use Rattle.kmin_jobs.specs.Stops.{status_of};
+ghost use Rattle.kmin_jobs.specs.checker.Stops.{status_of};
 ghost use Rattle.kmin_jobs.specs.declared.stop.Stop.TheVariants.{Memory};
 
 use std::alloc::{AllocError, AllocFailed};

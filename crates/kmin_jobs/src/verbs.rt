@@ -6,7 +6,7 @@ ghost use Rattle.std.specs.List.{flat_map};
 ghost use Rattle.kc_minimal_model.specs.Differences.{differences};
 ghost use Rattle.kc_rules.specs.Told.{profile_of};
 ghost use Rattle.kc_dotconfig.specs.Configured.{tree_in};
-ghost use Rattle.kc_dotconfig_model.specs.checker.Prefixes as prefixes;
+ghost use Rattle.kc_dotconfig_model.specs.Prefixes as prefixes;
 ghost use Rattle.kmin_jobs.specs.Answers.{name_line, text_of_verb, difference_line, status_of_differences};
 ghost use Rattle.kmin_jobs.specs.Asked.{Asked};
 ghost use Rattle.kmin_words.specs.declared.job.Verb.TheVariants.{Compare};

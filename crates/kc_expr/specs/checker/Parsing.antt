@@ -14,7 +14,8 @@ use Rattle.kc_expr.specs.Arena.{Stands}
 use Rattle.kc_expr.specs.Expr.{Expr, Operand, modules}
 use Rattle.kc_expr.specs.Mentioned.{operand_names}
 use Rattle.kc_expr.specs.checker.Nodes.{operand_of}
-use Rattle.kc_expr.specs.Grammar.{Read, behind_operand, operand_of_piece, read_factor, read_ands, read_ors, whole, fault_of, as_condition}
+use Rattle.kc_expr.specs.Grammar.{Read, behind_operand, operand_of_piece, read_factor, read_ands, read_ors, whole, fault_of}
+use Rattle.kc_expr.specs.checker.Conditions.{as_condition}
 use Rattle.kc_expr.specs.checker.Store.{exprs_in}
 use Rattle.kc_expr.specs.Token.{Piece}
 

@@ -1,6 +1,9 @@
 -- Where a line ends.
-use Rattle.std.specs.Prelude.{ℕ, Bool, true, not, List, [], ◌∷◌}
-use Rattle.kmin_jobs.specs.Bundles.{is_inline}
+use Rattle.std.specs.Prelude.{ℕ, Bool, true, not, List, [], ◌∷◌, ◌==◌}
+
+-- any byte but a newline
+abbrev pub is_inline : ℕ → Bool
+is_inline c = not (c == 10)
 
 -- a newline comes first, or nothing
 abbrev pub begins_behind_line : List ℕ → Bool

@@ -1,5 +1,5 @@
 use Rattle.kc_rules.specs.Told.{whole_of}
-use Rattle.kc_dotconfig_model.specs.checker.Prefixes.{text_of}
+use Rattle.kc_dotconfig_model.specs.Prefixes.{text_of}
 use Rattle.kc_dotconfig.proofs.ReadingWhole.{fault_of, ends_whole}
 use Rattle.kc_dotconfig.proofs.reading.finish.Goals as goal
 

@@ -1,7 +1,7 @@
 use Rattle.std.proofs.Common.{inr, ◌≡◌, ◌<◌, ◌≤◌, length, take, refl, ◌∙◌, sym, arith}
 use Rattle.kc_rules.specs.Told.{whole_of}
 use Rattle.kc_dotconfig_model.specs.LoadFaults.{MOST_LINES}
-use Rattle.kc_dotconfig_model.specs.checker.Prefixes.{text_of}
+use Rattle.kc_dotconfig_model.specs.Prefixes.{text_of}
 use Rattle.kc_dotconfig.specs.Reads.{MOST_READ}
 use Rattle.kc_dotconfig.proofs.ReadingWhole.{has_read_none, has_read_more, tells_read, rises, one_read, on_any_ok, if_any_err, tells_short, tells_refused, refused_in, block_fault, whole_read, whole_fits, end_fault}
 use Rattle.kc_dotconfig.proofs.reading.read_config.Goals as goal

@@ -1,7 +1,7 @@
 use Rattle.std.proofs.Common.{◌≡◌, ◌-◌, ◌≤◌}
 use Rattle.kc_rules.specs.Told.{whole_of}
 use Rattle.kc_dotconfig_model.specs.LoadFaults.{MOST_BYTES, MOST_LINES}
-use Rattle.kc_dotconfig_model.specs.checker.Prefixes.{text_of}
+use Rattle.kc_dotconfig_model.specs.Prefixes.{text_of}
 use Rattle.kc_dotconfig.proofs.ReadingWhole.{HasRead}
 use Rattle.kc_dotconfig.proofs.reading.read_config.Given as goal
 

@@ -1,7 +1,7 @@
 use Rattle.std.proofs.Common.{inr}
 use Rattle.std.proofs.lemmas.Result.{err_from_is_err_and}
 use Rattle.kc_rules.specs.Told.{whole_of}
-use Rattle.kc_dotconfig_model.specs.checker.Prefixes.{text_of}
+use Rattle.kc_dotconfig_model.specs.Prefixes.{text_of}
 use Rattle.kc_dotconfig.proofs.ReadingSteps.{block_faulty, part_refused, part_too_large}
 use Rattle.kc_dotconfig.proofs.reading.take_block.Goals as goal
 

@@ -1,7 +1,7 @@
 use Rattle.std.proofs.Common.{[], refl}
 use Rattle.std.proofs.lemmas.Result.{err_from_is_err_and}
 use Rattle.kc_rules.specs.Told.{whole_of}
-use Rattle.kc_dotconfig_model.specs.checker.Prefixes.{text_of}
+use Rattle.kc_dotconfig_model.specs.Prefixes.{text_of}
 use Rattle.kc_dotconfig.proofs.ReadingSteps.{nothing_taken, first_newline, no_newline, step_taken, step_refused, last_taken, last_refused}
 use Rattle.kc_dotconfig.proofs.reading.take_bytes.Goals as goal
 

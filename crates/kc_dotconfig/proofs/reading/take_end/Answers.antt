@@ -1,7 +1,7 @@
 use Rattle.std.proofs.Common.{◌≡◌, List, ℕ, [], length, ◌<◌, ◌∙◌, ap, sym, subst, inl, inr, arith}
 use Rattle.kc_rules.specs.Told.{whole_of}
 use Rattle.kc_dotconfig_model.specs.LoadFaults.{MOST_LINES}
-use Rattle.kc_dotconfig_model.specs.checker.Prefixes.{text_of}
+use Rattle.kc_dotconfig_model.specs.Prefixes.{text_of}
 use Rattle.kc_dotconfig.specs.checker.Gathered.{EndsWell}
 use Rattle.kc_dotconfig.proofs.ReadingSteps.{none_of, some_of, ends_empty, result_ends, result_ends_badly, lines_bound}
 use Rattle.kc_dotconfig.proofs.reading.take_end.Goals as goal

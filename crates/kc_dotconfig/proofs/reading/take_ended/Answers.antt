@@ -4,7 +4,7 @@ use Rattle.std.proofs.lemmas.Result.{err_from_is_err_and}
 use Rattle.kc_rules.specs.Told.{whole_of}
 use Rattle.kc_dotconfig_model.specs.declared.fault.LoadKind.TheVariants.{LineTooLong}
 use Rattle.kc_dotconfig_model.specs.LoadFaults.{MOST_LINES, MOST_LINE_BYTES}
-use Rattle.kc_dotconfig_model.specs.checker.Prefixes.{text_of}
+use Rattle.kc_dotconfig_model.specs.Prefixes.{text_of}
 use Rattle.kc_dotconfig.specs.checker.Gathered.{Takes}
 use Rattle.kc_dotconfig.proofs.ReadingSteps.{none_of, line_taken, many_refuses, long_stops, stops_refuses, result_refused, result_taken, push_refused, lines_bound}
 use Rattle.kc_dotconfig.proofs.reading.take_ended.Goals as goal

@@ -3,7 +3,7 @@ use Rattle.std.specs.Prelude.{option_map}
 use Rattle.kc_tree.specs.Held.{Held}
 use Rattle.kc_rules.specs.Told.{whole_of}
 use Rattle.kc_dotconfig_model.specs.Lines.{without_white_end}
-use Rattle.kc_dotconfig_model.specs.checker.Prefixes.{text_of}
+use Rattle.kc_dotconfig_model.specs.Prefixes.{text_of}
 use Rattle.kc_dotconfig.specs.checker.Sayings.{saying_of}
 use Rattle.kc_dotconfig.proofs.Sayings.{value_line_says, unset_line_says, other_line_says}
 use Rattle.kc_dotconfig.proofs.said.line_said.Goals as goal

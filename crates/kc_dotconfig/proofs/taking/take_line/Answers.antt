@@ -1,5 +1,5 @@
 use Rattle.kc_rules.specs.Told.{whole_of}
-use Rattle.kc_dotconfig_model.specs.checker.Prefixes.{text_of}
+use Rattle.kc_dotconfig_model.specs.Prefixes.{text_of}
 use Rattle.kc_dotconfig.specs.checker.Sayings.{saying_of}
 use Rattle.kc_dotconfig.proofs.Takings.{says_of, malformed_of, within_of}
 use Rattle.kc_dotconfig.proofs.taking.take_line.Goals as goal

@@ -1,7 +1,7 @@
 use Rattle.std.proofs.Common.{◌+◌, ◌∙◌, drop, subst}
 use Rattle.kc_tree.specs.Told.{entry_of}
 use Rattle.kc_rules.specs.Told.{whole_of, tree_of}
-use Rattle.kc_dotconfig_model.specs.checker.Prefixes.{text_of}
+use Rattle.kc_dotconfig_model.specs.Prefixes.{text_of}
 use Rattle.kc_minimal.specs.checker.Drafts.{IsDraft}
 use Rattle.kc_minimal.proofs.DraftSteps.{next_left}
 use Rattle.kc_minimal.proofs.full.full_lines.Goals as goal

@@ -1,7 +1,7 @@
 use Rattle.std.proofs.Common.{false, sym, ◌∙◌, refl, ap, ◌&&◌}
 use Rattle.kc_rules_model.specs.Reports.{is_written}
 use Rattle.kc_rules.specs.Told.{whole_of}
-use Rattle.kc_dotconfig_model.specs.checker.Prefixes.{text_of}
+use Rattle.kc_dotconfig_model.specs.Prefixes.{text_of}
 use Rattle.kc_minimal.specs.declared.full.Draft.{Draft}
 use Rattle.kc_minimal.proofs.DraftSteps.{symbol_written}
 use Rattle.kc_minimal.proofs.full.push_definition.Goals as goal

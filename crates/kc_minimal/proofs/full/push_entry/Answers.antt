@@ -1,7 +1,7 @@
 use Rattle.std.proofs.lemmas.Result.{on_ok_weaker}
 use Rattle.kc_expr.specs.Arena.{stands_for}
 use Rattle.kc_rules.specs.Told.{whole_of, tree_of}
-use Rattle.kc_dotconfig_model.specs.checker.Prefixes.{text_of}
+use Rattle.kc_dotconfig_model.specs.Prefixes.{text_of}
 use Rattle.kc_minimal.proofs.DraftSteps.{menu_begun, menu_ended, commented}
 use Rattle.kc_minimal.proofs.full.push_entry.Goals as goal
 

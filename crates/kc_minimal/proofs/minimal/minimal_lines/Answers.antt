@@ -1,5 +1,5 @@
 use Rattle.kc_rules.specs.Told.{whole_of, profile_of}
-use Rattle.kc_dotconfig_model.specs.checker.Prefixes.{text_of}
+use Rattle.kc_dotconfig_model.specs.Prefixes.{text_of}
 use Rattle.kc_minimal_model.specs.Spelling.{ended_line}
 use Rattle.kc_minimal_model.specs.MinimalFile.{has_line}
 use Rattle.kc_minimal.proofs.RangeLines.{line_more}

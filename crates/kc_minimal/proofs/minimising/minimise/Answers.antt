@@ -1,5 +1,5 @@
 use Rattle.kc_rules.specs.Told.{whole_of, profile_of}
-use Rattle.kc_dotconfig_model.specs.checker.Prefixes.{text_of}
+use Rattle.kc_dotconfig_model.specs.Prefixes.{text_of}
 use Rattle.kc_minimal.proofs.MinimisedFiles.{minimised, cut_off}
 use Rattle.kc_minimal.proofs.minimising.minimise.Goals as goal
 

@@ -1,6 +1,6 @@
 use Rattle.kc_expr.specs.Lookup.{seen_of}
 use Rattle.kc_rules.specs.Told.{whole_of}
-use Rattle.kc_dotconfig_model.specs.checker.Prefixes.{text_of}
+use Rattle.kc_dotconfig_model.specs.Prefixes.{text_of}
 use Rattle.kc_minimal.proofs.SymbolLines.{line_of}
 use Rattle.kc_minimal.proofs.spelling.push_symbol.Goals as goal
 

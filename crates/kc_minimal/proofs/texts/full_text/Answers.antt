@@ -1,5 +1,5 @@
 use Rattle.std.proofs.lemmas.Result.{IfOk-weaker}
-use Rattle.kc_dotconfig_model.specs.checker.Prefixes.{text_of}
+use Rattle.kc_dotconfig_model.specs.Prefixes.{text_of}
 use Rattle.kc_minimal.proofs.HeldTexts.{full_held, full_back, full_accepted}
 use Rattle.kc_minimal.proofs.texts.full_text.Goals as goal
 

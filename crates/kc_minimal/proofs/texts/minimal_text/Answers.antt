@@ -1,5 +1,5 @@
 use Rattle.std.proofs.lemmas.Result.{IfOk-weaker}
-use Rattle.kc_dotconfig_model.specs.checker.Prefixes.{text_of}
+use Rattle.kc_dotconfig_model.specs.Prefixes.{text_of}
 use Rattle.kc_minimal.proofs.HeldTexts.{minimal_held}
 use Rattle.kc_minimal.proofs.texts.minimal_text.Goals as goal
 

@@ -1,5 +1,5 @@
 use Rattle.kc_rules.specs.Told.{whole_of}
-use Rattle.kc_dotconfig_model.specs.checker.Prefixes.{text_of}
+use Rattle.kc_dotconfig_model.specs.Prefixes.{text_of}
 use Rattle.kmin_jobs.proofs.Assigning.{assign_none, assign_rest}
 use Rattle.kmin_jobs.proofs.loading.configured.Goals as goal
 

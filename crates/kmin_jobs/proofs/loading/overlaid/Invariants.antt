@@ -2,7 +2,7 @@ use Rattle.std.proofs.Common.{◌≡◌, ◌++◌, ℕ, List, map, take}
 use Rattle.std.specs.Borrow.{Bor}
 use Rattle.kc_rules.specs.Told.{whole_of}
 use Rattle.kc_dotconfig.specs.Configured.{IsSolved}
-use Rattle.kc_dotconfig_model.specs.checker.Prefixes.{text_of}
+use Rattle.kc_dotconfig_model.specs.Prefixes.{text_of}
 use Rattle.kmin_jobs.specs.Answers.{Assign}
 use Rattle.kmin_jobs.proofs.loading.overlaid.Given as goal
 

@@ -1,0 +1,8 @@
+-- What stands between the quotes of a text.
+use Rattle.std.specs.Prelude.{◌≡◌, ℕ, List, [], ◌∷◌, ◌++◌, false}
+use Rattle.kc_value.specs.Quoted.{IsBody, unescaped}
+
+-- a text in quotes, and what stands between them
+pub record HasBody (text body : List ℕ) : Type 0 where
+  pub parts : text ≡ 34 ∷ (body ++ 34 ∷ [])
+  pub is_body : IsBody 34 body (unescaped false body)
