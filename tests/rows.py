@@ -13,8 +13,9 @@ Behind the name a part may have a word:
     unended    of stdin, alone or behind another word: the stream stays open behind these bytes, so that a program that asks
                for more of it waits until its time is up
 
-'-- status N' has the status, 0 without it. '-- large' says that the row is too large for its allocations, reads and writes to be
-refused in turn.
+'-- status N' has the status, 0 without it. '-- long' says that the row is too long to be cut at each byte, or to be read in small
+pieces each of which fails in turn; '-- large' that its allocations, reads and writes are too many to be refused in turn at all.
+'-- memory N' gives the program N kibibytes of memory and no more; such a row counts as large.
 """
 import os
 import re
@@ -26,6 +27,8 @@ import threading
 TOP = os.path.dirname(os.path.dirname(os.path.realpath(__file__)))
 PROGRAM = f"{TOP}/crates/kmin/out/kmin"
 SECONDS = 120
+COMMANDS = ("full", "min", "missed", "check", "compare")
+OPTIONS = ("--root", "--tree", "--prefix", "--imply")
 
 
 def unescaped(text):
@@ -43,6 +46,28 @@ def repeated(lines):
     return b"".join(made)
 
 
+def lines_of(data):
+    """The lines of a file, each with its newline if it has one."""
+    return re.findall(rb"[^\n]*\n|[^\n]+", data)
+
+
+def parted(bundle):
+    """The two parts of a bundle, before and behind its first line of just `%%`; the second is None where there is none."""
+    lines = lines_of(bundle)
+    for number, line in enumerate(lines):
+        if line.rstrip(b"\n") == b"%%":
+            return b"".join(lines[:number]), b"".join(lines[number + 1 :])
+    return bundle, None
+
+
+def put(folder, name, data):
+    """Writes a file below a folder."""
+    path = f"{folder}/{name}"
+    os.makedirs(os.path.dirname(path), exist_ok=True)
+    with open(path, "wb") as it:
+        it.write(data)
+
+
 def feed(stream, data):
     """Writes what is read of these bytes."""
     rest = memoryview(data)
@@ -55,7 +80,8 @@ def feed(stream, data):
 
 class Row:
     def __init__(self, text):
-        self.words, self.status, self.is_large = [], 0, False
+        self.words, self.status, self.memory = [], 0, 0
+        self.is_long = self.is_large = False
         self.parts, self.special = {"stdin": b"", "stdout": b"", "stderr": b""}, {}
         head, *parts = re.split(r"^-- ", text, flags=re.M)
         self.name, *lines = head.splitlines()
@@ -75,8 +101,12 @@ class Row:
             return self.take(title, text)
         if name == "status":
             self.status = int(how)
+        elif name == "memory":
+            self.memory, self.is_long, self.is_large = int(how), True, True
+        elif name == "long":
+            self.is_long = True
         elif name == "large":
-            self.is_large = True
+            self.is_long = self.is_large = True
         elif how in ("full", "closed", "endless"):
             self.special[name] = how
         elif how == "escaped":
@@ -88,13 +118,36 @@ class Row:
         else:
             raise ValueError(f"{self.name}: {name} has no form {how}")
 
+    def files(self):
+        """The files that lie where the program runs."""
+        return {name: data for name, data in self.parts.items() if name not in ("stdin", "stdout", "stderr")}
+
     def place(self, folder):
-        """Writes the files that lie where the program runs."""
-        for name, data in self.parts.items():
-            if name not in ("stdin", "stdout", "stderr"):
-                os.makedirs(os.path.dirname(f"{folder}/{name}"), exist_ok=True)
-                with open(f"{folder}/{name}", "wb") as it:
-                    it.write(data)
+        """Writes these files."""
+        for name, data in self.files().items():
+            put(folder, name, data)
+
+    def is_bundle(self):
+        """Whether the program reads a bundle that ends."""
+        return not self.words and "stdin" not in self.special
+
+    def asked(self):
+        """The command that the words give, its options by name, and its configuration files; None where they give none, are
+        refused or ask for a text alone."""
+        if not self.words or self.words[0] not in COMMANDS or self.status == 2:
+            return None
+        options, files, words = {}, [], iter(self.words[1:])
+        for word in words:
+            name, is_whole, value = word.partition("=")
+            if word == "--":
+                files += words
+            elif name in OPTIONS:
+                options[name] = value if is_whole else next(words)
+            elif word.startswith("-"):
+                return None
+            else:
+                files.append(word)
+        return self.words[0], options, files
 
     def run(self, folder=None, settings={}):
         """Runs the program in a folder that has the row's files, or in a new one, with these settings in its environment, and
@@ -104,6 +157,8 @@ class Row:
                 self.place(made)
                 return self.run(made, settings)
         words, streams = [PROGRAM, *self.words], {"env": {**os.environ, **settings}}
+        if self.memory:
+            words = ["sh", "-c", f'ulimit -v {self.memory} && exec "$@"', "", *words]
         for name, number in (("stdout", 1), ("stderr", 2)):
             how = self.special.get(name)
             streams[name] = open("/dev/full", "wb") if how == "full" else subprocess.PIPE

@@ -14,6 +14,23 @@ macro_rules! twice {
     };
 }
 
+/// Makes a call again where it was refused at its first try, which has to leave this as it was; else it stays refused.
+#[cfg(test)]
+macro_rules! twice_on {
+    ($told:expr, $call:expr) => {{
+        let before = $told;
+        match $call {
+            Ok(made) => made,
+            Err(fault) => {
+                if $told != before {
+                    return Err(fault);
+                }
+                $call?
+            }
+        }
+    }};
+}
+
 #[cfg(test)]
 mod configurations;
 #[cfg(test)]

@@ -1,8 +1,8 @@
 //! Values of a tree: those that a session holds after many changes, and those that solving anew gives.
-use super::settling::{merged, settled};
+use super::settling::{are_same, merged_twice, settled};
 use kc_dotconfig::Config;
-use kc_rules::{Profile, Settled, Steps, UnitValue};
-use kc_system::{System, solve};
+use kc_rules::{Profile, Settled, Steps};
+use kc_system::solve;
 use std::alloc::{AllocError, Global};
 use std::test::Fail;
 
@@ -69,15 +69,6 @@ fn is_solved(alloc: Global, config: &Config<'_>) -> Result<bool, AllocError> {
     Ok(are_same(&values, config.values()))
 }
 
-/// Whether each value held is the one that was solved.
-fn are_same(values: &[UnitValue], held: &[UnitValue]) -> bool {
-    values.len() >= held.len()
-        && values
-            .iter()
-            .zip(held)
-            .all(|(value, held)| Settled::same(value, held))
-}
-
 /// Whether the values held stay those that solving anew gives, in this profile.
 fn is_kept_solved(alloc: Global, profile: Profile) -> Result<bool, AllocError> {
     stays_solved(alloc, &settled(alloc, TREE, profile)?)
@@ -85,12 +76,12 @@ fn is_kept_solved(alloc: Global, profile: Profile) -> Result<bool, AllocError> {
 
 /// Whether they do so in this tree, through many changes.
 fn stays_solved(alloc: Global, tree: &Settled) -> Result<bool, AllocError> {
-    let mut config = Config::new(alloc, tree)?;
+    let mut config = twice!(Config::new(alloc, tree));
     let mut seed: u32 = 1;
     for _ in 0..40 {
         seed = seed.wrapping_mul(1_664_525).wrapping_add(1_013_904_223);
-        merged(alloc, &mut config, LINES[(seed >> 28) as usize % 16])?;
-        if !is_solved(alloc, &config)? {
+        merged_twice(alloc, &mut config, LINES[(seed >> 28) as usize % 16])?;
+        if !twice!(is_solved(alloc, &config)) {
             return Ok(false);
         }
     }
@@ -100,7 +91,7 @@ fn stays_solved(alloc: Global, tree: &Settled) -> Result<bool, AllocError> {
 #[test]
 fn changes_give_what_solving_anew_gives(rt: HostRuntime) -> Result<(), Fail> {
     for profile in [Profile::Present, Profile::Classic] {
-        assert!(rt; twice!(is_kept_solved(rt.alloc(), profile)));
+        assert!(rt; is_kept_solved(rt.alloc(), profile)?);
     }
     Ok(())
 }

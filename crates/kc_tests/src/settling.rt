@@ -1,25 +1,31 @@
 //! Trees and files that tests are made with.
 ghost use Rattle.std.specs.Prelude.{IfOk};
+ghost use Rattle.kc_dotconfig.specs.Configured.{tree_in};
 ghost use Rattle.kc_dotconfig.specs.Fragments.{FitsTree};
 ghost use Rattle.kc_rules.specs.Told.{whole_of};
 
 use kc_dotconfig::{Config, Fragment, Prefix, read_config};
-use kc_rules::{Profile, Settled, settle};
-use kc_system::Report;
+use kc_rules::{Profile, Settled, UnitValue, UserValue, settle};
+use kc_system::{Report, System};
 use kc_tree::{Texts, Tree, read_tree};
 use kc_value::FromRead;
 use std::alloc::{AllocError, Global};
 
 /// The tree of one file, settled; an `Err` where it isn't accepted too.
 pub(crate) fn settled(alloc: Global, text: &[u8], profile: Profile) -> Result<Settled, AllocError> {
-    match settle(alloc, tree_of(alloc, text)?, profile) {
+    let texts = texts_of(alloc, text)?;
+    Ok(twice!(settled_of(alloc, &texts, profile)))
+}
+
+fn settled_of(alloc: Global, texts: &Texts, profile: Profile) -> Result<Settled, AllocError> {
+    match settle(alloc, tree_of(alloc, texts)?, profile) {
         Ok(settled) => Ok(settled),
         Err(_) => Err(AllocError),
     }
 }
 
-fn tree_of(alloc: Global, text: &[u8]) -> Result<Tree, AllocError> {
-    match read_tree(alloc, &texts_of(alloc, text)?, "Kconfig") {
+fn tree_of(alloc: Global, texts: &Texts) -> Result<Tree, AllocError> {
+    match read_tree(alloc, texts, "Kconfig") {
         Ok(tree) => Ok(tree),
         Err(_) => Err(AllocError),
     }
@@ -27,7 +33,10 @@ fn tree_of(alloc: Global, text: &[u8]) -> Result<Tree, AllocError> {
 
 fn texts_of(alloc: Global, text: &[u8]) -> Result<Texts, AllocError> {
     let mut texts = Texts::new(alloc);
-    texts.insert("Kconfig", text)?;
+    twice_on!(
+        texts.get("Kconfig").is_some(),
+        texts.insert("Kconfig", text)
+    );
     Ok(texts)
 }
 
@@ -39,6 +48,56 @@ pub(crate) fn merged(
 ) -> Result<Report, AllocError> {
     let fragment = fragment_of(alloc, config.settled(), file)?;
     config.merge(&fragment)
+}
+
+/// Lays a file over what is held; where that is refused once, it has to leave what is held as it was.
+pub(crate) fn merged_twice(
+    alloc: Global,
+    config: &mut Config<'_>,
+    file: &str,
+) -> Result<Report, AllocError> {
+    let fragment = twice!(fragment_of(alloc, config.settled(), file));
+    let before = twice!(config.copy());
+    laid_over(config, &before, &fragment)
+}
+
+/// Lays a fragment over what is held, which is what this copy holds.
+fn laid_over(
+    config: &mut Config<'_>,
+    before: &Config<'_>,
+    fragment: &Fragment,
+) -> Result<Report, AllocError>
+    requires { FitsTree (tree_in config.old) fragment.now.assigns.items }
+{
+    Ok(twice_on!(hold_the_same(config, before), config.merge(fragment)))
+}
+
+/// Whether two configurations of a tree hold the same, and have the same values.
+fn hold_the_same(config: &Config<'_>, other: &Config<'_>) -> bool {
+    let has_same_users = config
+        .users()
+        .iter()
+        .zip(other.users())
+        .all(|(user, other)| is_same_user(user, other));
+    has_same_users && are_same(config.values(), other.values())
+}
+
+/// Whether two units have the same user value, or none.
+fn is_same_user(user: &Option<UserValue>, other: &Option<UserValue>) -> bool {
+    match (user, other) {
+        (Some(user), Some(other)) => Settled::same_user(user, other),
+        (None, None) => true,
+        _ => false,
+    }
+}
+
+/// Whether each value of the second is that of the first.
+pub(crate) fn are_same(values: &[UnitValue], held: &[UnitValue]) -> bool {
+    values.len() >= held.len()
+        && values
+            .iter()
+            .zip(held)
+            .all(|(value, held)| Settled::same(value, held))
 }
 
 /// Puts a file in the place of what is held; an `Err` where it isn't accepted too.
