@@ -160,7 +160,9 @@ fn with_options<'a>(alloc: Global, told: &Told) -> Result<Command<'a>, AllocErro
 
 /// The option that takes one of few values.
 fn imply<'a>(alloc: Global) -> Arg<'a> {
-    option(alloc, &IMPLY).value_parser(PROFILES.as_slice())
+    option(alloc, &IMPLY)
+        .long_help(texts::IMPLY_LONG)
+        .value_parser(PROFILES.as_slice())
 }
 
 /// A command with its own help.
@@ -168,7 +170,7 @@ fn described<'a>(alloc: Global, told: &Told) -> Command<'a> {
     Command::new(alloc, told.name)
         .about(told.about)
         .long_about(told.long)
-        .after_long_help(told.after)
+        .after_help(told.after)
 }
 
 /// An option with a value.

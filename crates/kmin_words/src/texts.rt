@@ -18,19 +18,19 @@ Examples:
   kmin full board.config debug.config          a full file of two fragments
   kmin missed board.config debug.config        what was asked for and not given
   kmin compare old.config new.config           what changes for the symbols
-  kmin check --root linux --tree arch/arm64/Kconfig
+  kmin check --root firmware --tree board/Kconfig board.config
 
 Exit status:
   0  done; of compare: no difference
   1  compare found differences
   2  the command line is refused
   3  the tree is refused
-  4  a configuration file is refused
+  4  a configuration file is refused, or a bundle is too large
   5  a read or a write failed
   6  out of memory
 
-Without a command, kmin reads a bundle on standard input, a tree, a line `%%` and a configuration
-file, and writes its full file.
+Without a word, kmin reads a bundle on standard input, a tree, a line `%%` and a configuration
+file, and writes its full file. Options stand behind the command: `kmin help COMMAND` tells them.
 
 ",
             $text
@@ -39,12 +39,14 @@ file, and writes its full file.
 }
 
 pub(crate) const AFTER: &str = with_examples!(
-    "`kmin --help` tells what each message means, `kmin help COMMAND` more of a command."
+    "`kmin --help` tells what each message means, and what to do about it."
 );
 
 pub(crate) const AFTER_LONG: &str = with_examples!(
     "\
-Messages are `FILE:LINE: KIND`, on standard error; line 0 where a file can't be opened.
+Messages are `FILE:LINE: KIND`, on standard error. Of a bundle FILE is `Kconfig` in the tree and
+`config` in the configuration. Line 0 is told of a configuration file that can't be opened, and of
+a tree's first file where it can't be opened or read or has too many bytes.
 
 Kinds of a tree:
   NotUtf8           the line isn't UTF-8: save the file as UTF-8
@@ -59,31 +61,39 @@ Kinds of a tree:
   NoType            a symbol without a type: add bool, tristate, string, hex or int
   TypeConflict      another type than the symbol's first: let both be one
   SecondPrompt      a second prompt of one entry: keep one
-  DefaultShape      a string, int or hex takes one word or text as default
-  RangeType         only an int or a hex has a range
-  SelectType        select and imply are of bool and tristate symbols alone
-  ChoiceMember      a member isn't bool, or is defined twice
+  DefaultShape      a string's, int's or hex's default isn't one word or text: write just one
+  RangeType         a range of neither an int nor a hex: take it out, or change the type
+  SelectType        select or imply in, or of, neither a bool nor a tristate: take it out
+  ChoiceMember      a member that isn't bool, or is defined twice: make it bool, define it once
   ChoiceDefault     a choice's default is no member of it: name one
-  ModulesType       MODULES isn't bool, or `modules` stands in another symbol
-  MissingFile       the file isn't there: see --root and --tree, and the path
-  SourceLoop        a file sources itself: take out one of the lines
-  TooDeep           more than 32 files, 64 blocks or 64 signs and parentheses within each other
-  TooMany           too many symbols, choices, files or bytes, or a name of more than 256 bytes
+  ModulesType       MODULES isn't bool, or another has `modules`: make it bool, take `modules` out
+  MissingFile       the file can't be opened or read: see --root and --tree, and the path
+  SourceLoop        a file is sourced while it is open: take out one of the lines
+  TooDeep           more than 32 files, 64 blocks or 64 signs and parentheses open: nest less
+  TooMany           too many symbols, choices, files or bytes: part the tree; a name of more than
+                    256 bytes: shorten it
   Cycle             the symbols told depend on one another: take out a dependency
-  LeftOut           a form that kmin leaves out, as a macro: expand it first
+  LeftOut           a form that kmin leaves out: expand a macro first, write another form anew
 
 Kinds of a configuration file:
-  Malformed         neither NAME=value, an unset line, a comment nor empty: correct it
-  NotUtf8           the line isn't UTF-8
-  LineTooLong       more than 65,536 bytes in a line
-  TooManyLines      more than 1,048,576 lines
-  TooLarge          more than 67,108,864 bytes
-  Read              the file can't be opened or read
-  UnknownSymbol     a notice: the tree has no such symbol, and the line assigns nothing
-  NotOfType         a notice: the value is none of the symbol's type, and the line assigns nothing
+  Malformed         neither CONFIG_NAME=value, an unset line, a comment nor empty: correct it, or
+                    tell another prefix than CONFIG_ by --prefix
+  NotUtf8           the line isn't UTF-8: save the file as UTF-8
+  LineTooLong       more than 65,536 bytes in a line: shorten it
+  TooManyLines      more than 1,048,576 lines: part the file
+  TooLarge          more than 67,108,864 bytes: part the file
+  Read              the file can't be opened or read: check the path and the permissions
+  UnknownSymbol     a notice, the tree has no such symbol, nothing is assigned: take the line out
+  NotOfType         a notice, the value isn't of the symbol's type and isn't assigned: correct it
 
-Without a file: `output: Write` where a write fails, `prefix: Malformed` where --prefix isn't 1 to
-32 letters, digits and `_`, and `out of memory`."
+Without a file:
+  bundle:0: Read            standard input can't be read: check where it comes from
+  bundle:0: TooLarge        more than 67,108,864 bytes of a bundle: give its parts as files
+  output: Write             standard output can't be written: make room, keep the pipe open
+  prefix: Malformed         --prefix isn't 1 to 32 letters, digits and `_`: correct it
+  kmin: a word isn't UTF-8  a word of the command line isn't: give the file another name
+  error: ..                 the command line is refused: correct the word that is told
+  out of memory             memory was refused: free some, or raise a limit that was set"
 );
 
 /// A text, and the exit statuses of a command other than `compare`.
@@ -116,12 +126,17 @@ The output is made whole before the first byte is written; but a shell empties `
 kmin reads it, so don't write to a file that is also read."
 );
 
-pub(crate) const FULL: &str = "Writes the full file: each symbol that can be seen or has a default";
+pub(crate) const FULL: &str =
+    "Writes the full file: the symbols that are visible, selected, implied or have a default";
 
 pub(crate) const FULL_LONG: &str = "\
-Writes the full file of the configuration, a .config in the way of `make olddefconfig`: headings of
-menus, a line NAME=value for each symbol that is visible or has a default, and a line
-`# NAME is not set` for each that is n. It has no header.
+Writes the full file of the configuration, a .config in the way of `make olddefconfig`, without a
+header: headings of menus and comments, and each symbol that is visible. Of the others, members of
+choices aside, it has those with a default in force, the first whose condition isn't n (of a bool
+or tristate it isn't n itself), those that are selected, and those that are implied while what they
+depend on isn't n. A line is `CONFIG_NAME=value`, of a bool or tristate that is n
+`# CONFIG_NAME is not set`. No other symbol has a line, also where it has a value, as a number that
+stands at a bound of its range.
 
 Several FILEs are merged: each is laid over those before it. `kmin missed` tells afterwards which
 assignments had no effect.";
@@ -129,7 +144,7 @@ assignments had no effect.";
 pub(crate) const FULL_AFTER: &str = with_statuses!(
     "\
 Example:
-  kmin full --root linux arch/arm/configs/board_defconfig > .config"
+  kmin full --root firmware configs/board_defconfig > .config"
 );
 
 pub(crate) const MISSED: &str = "Lists the symbols that don't have the value that a FILE assigns";
@@ -161,8 +176,9 @@ pub(crate) const COMPARE: &str = "Lists the symbols whose values differ between 
 
 pub(crate) const COMPARE_LONG: &str = "\
 Resolves LEFT and RIGHT, each alone, and writes a line `NAME: LEFT -> RIGHT` for each symbol whose
-values differ, also where neither file has a line of it. It compares values, not lines: a minimal
-file and its full file are equal.";
+values differ, also where neither file has a line of it. It compares values, not lines: a file and
+its minimal file don't differ, nor do a file and its full file where no tristate stands above its
+visibility, as a default or an imply may set it.";
 
 pub(crate) const COMPARE_AFTER: &str = "\
 Example:
@@ -175,9 +191,15 @@ pub(crate) const ROOT: &str = "Folder in which the paths of the tree lie";
 
 pub(crate) const TREE: &str = "First file of the tree, below DIR";
 
-pub(crate) const PREFIX: &str = "What stands before each name in a FILE";
+pub(crate) const PREFIX: &str = "What stands before each name in a file";
 
-pub(crate) const IMPLY: &str = "How an implied value counts";
+pub(crate) const IMPLY: &str = "How `imply` counts";
+
+pub(crate) const IMPLY_LONG: &str = "\
+How `imply` counts:
+present  where no assignment counts, as a default, up to the symbol's dependency
+classic  there whole, unless that dependency is n; and under an implied y
+         an m, an assigned one too, becomes y";
 
 pub(crate) const FILES: &str =
     "Configuration files, each laid over those before it; without one\nnothing is assigned; /dev/stdin is standard input";
