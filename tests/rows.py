@@ -17,6 +17,8 @@ Behind the name a part may have a word:
 pieces each of which fails in turn; '-- large' that its allocations, reads and writes are too many to be refused in turn at all.
 '-- memory N' gives the program N kibibytes of memory and no more; such a row counts as large.
 """
+import concurrent.futures
+import multiprocessing
 import os
 import re
 import shlex
@@ -58,6 +60,13 @@ def parted(bundle):
         if line.rstrip(b"\n") == b"%%":
             return b"".join(lines[:number]), b"".join(lines[number + 1 :])
     return bundle, None
+
+
+def side_by_side(call, *items):
+    """What a call gives for each item (or for the items at each place of several lists), in their order, each worked out in
+    one of as many processes as there are processors for this one."""
+    with concurrent.futures.ProcessPoolExecutor(len(os.sched_getaffinity(0)), multiprocessing.get_context("fork")) as pool:
+        yield from pool.map(call, *items)
 
 
 def put(folder, name, data):
