@@ -3,11 +3,11 @@ ghost use Rattle.std.specs.Prelude.{◌≡◌, ◌<◌, ◌≤◌, ◌⊎◌, �
 ghost use Rattle.std.specs.List.Sorted.{IsStrictlyIncreasing};
 ghost use Rattle.kc_expr.specs.declared.fault.ExprKind.TheVariants.{OutOfMemory};
 
-use super::evaluate::value_at;
+use super::evaluate::value_of;
 use super::fault::ExprFault;
 use super::ids::{ExprId, NameId};
 use super::lookup::Lookup;
-use super::mentioned::{push_names, push_new_names};
+use super::mentioned::{push_names, push_unwalked};
 use super::node::{Leaf, Node};
 use super::operand::Operand;
 use super::parse::extent_len;
@@ -77,7 +77,7 @@ impl Arena {
         requires { id < length self.now.nodes }
         ensures { result ≡ value (names_seen self.now.names (L.sees lookup.now)) (stands_for self.now id) }
     {
-        value_at(&self.store, id.index(), lookup)
+        value_of(&self.store, id.index(), lookup)
     }
 
     /// Reads the expression that begins at a token. It reaches up to the first word or quoted token that directly
@@ -88,6 +88,7 @@ impl Arena {
     /// `Malformed` stands at the first token that can't go on, and at the end of the token before where none is left;
     /// `TooDeep` at a symbol under more than 64 `!` and parentheses; `OutOfMemory` is want of memory. The first is
     /// told. An `Err` leaves the arena as it was; an `Ok` adds the new names of the expression, in their order.
+    #[inline(always)]
     pub fn parse_expr(
         &mut self,
         tokens: &[Token<'_>],
@@ -283,7 +284,7 @@ impl Arena {
         ensures none { (node : ℕ) → OnErr result (is_walked walk.new node ≡ false) }
     {
         let others = found.len();
-        match push_new_names(&self.store, id.index(), walk, found) {
+        match push_unwalked(&self.store, id.index(), walk, found) {
             Ok(()) => Ok(()),
             Err(fault) => {
                 found.truncate(others);

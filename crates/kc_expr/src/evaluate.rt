@@ -181,8 +181,22 @@ fn related_value<L: Lookup>(store: &Store, op: Relop, a: Leaf, b: Leaf, lookup: 
     }
 }
 
-/// The value of the expression of a node.
-pub(crate) fn value_at<L: Lookup>(store: &Store, index: usize, lookup: &L) -> Tri
+/// The value of the expression of a node. Most are leaves.
+#[inline(always)]
+pub(crate) fn value_of<L: Lookup>(store: &Store, index: usize, lookup: &L) -> Tri
+    requires there { index < length store.now.nodes.items }
+    requires sound { IsSound store.now }
+    ensures { result ≡ value (names_seen (names_held store.now) (L.sees lookup.now)) (stands_for (exprs_in store.now) index) }
+{
+    if let Node::Alone(leaf) = store.node(index) {
+        return leaf_value(store, leaf, lookup);
+    }
+    value_at(store, index, lookup)
+}
+
+/// The value of the expression of a node, whatever it is.
+#[inline(never)]
+fn value_at<L: Lookup>(store: &Store, index: usize, lookup: &L) -> Tri
     requires there { index < length store.now.nodes.items }
     requires sound { IsSound store.now }
     ensures { result ≡ value (names_seen (names_held store.now) (L.sees lookup.now)) (stands_for (exprs_in store.now) index) }

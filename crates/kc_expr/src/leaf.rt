@@ -40,6 +40,7 @@ impl Store {
     ghost use Rattle.kc_expr.specs.checker.Store.{names_held, exprs_in, IsSound, Extends, HasNamesOf};
 
     /// The operand that a word is.
+    #[inline(always)]
     fn word_leaf(&mut self, text: &str) -> Result<Leaf, ExprFault>
         requires { IsSound self.old }
         ensures sound { IsSound self.new }
@@ -105,6 +106,7 @@ impl Store {
     }
 
     /// A node for a word that stands alone.
+    #[inline(always)]
     pub(crate) fn parse_word(&mut self, text: &str, condition: bool) -> Result<u32, ExprFault>
         requires { IsSound self.old }
         ensures sound { IsSound self.new }
@@ -118,6 +120,7 @@ impl Store {
     }
 
     /// A node for an operand that stands alone. In a condition `m` means `m && MODULES`.
+    #[inline(always)]
     pub(crate) fn push_alone(&mut self, leaf: Leaf, condition: bool) -> Result<u32, ExprFault>
         requires sound { IsSound self.old }
         requires fits { LeafFits (length (names_held self.old)) (length self.old.texts.items) leaf }

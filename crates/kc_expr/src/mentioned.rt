@@ -63,10 +63,38 @@ pub(crate) fn push_names(
     }
 }
 
+/// Puts the names in the expression of a node behind others, but for those of walked nodes, and walks the node. Most are
+/// leaves.
+#[inline(always)]
+pub(crate) fn push_unwalked(
+    store: &Store,
+    index: usize,
+    walk: &mut Walk,
+    found: &mut Vec<NameId>,
+) -> Result<(), AllocError>
+    requires there { index < length store.now.nodes.items }
+    requires sound { IsSound store.now }
+    requires room { length walk.old ≡ length store.now.nodes.items }
+    requires found { HasFoundTo (exprs_in store.now) index walk.old found.old.items }
+    ensures walked { OnOk result (HasWalked (exprs_in store.now) index walk.old walk.new found.old.items found.new.items) }
+    ensures held { OnOk result (All (λ i. i < length (names_held store.now)) found.old.items → All (λ i. i < length (names_held store.now)) found.new.items) }
+    ensures kept { take (length found.old.items) found.new.items ≡ found.old.items }
+{
+    if walk.has(index) {
+        return Ok(());
+    }
+    if let Node::Alone(leaf) = store.node(index) {
+        walk.stamp(index);
+        return push_name(store, leaf, found);
+    }
+    push_new_names(store, index, walk, found)
+}
+
 /// Puts the names in the expression of a node behind others, but for those of walked nodes, and walks the node. It is
 /// stamped before its names stand: a node below can't reach it.
+#[inline(never)]
 #[tactic(auto, using(crate::proofs::KeptLists::kept_through))]
-pub(crate) fn push_new_names(
+fn push_new_names(
     store: &Store,
     index: usize,
     walk: &mut Walk,

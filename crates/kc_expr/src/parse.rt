@@ -210,6 +210,7 @@ impl Store {
 
     /// Conjunctions joined by `||`.
     #[cycle(parser)]
+    #[inline(never)]
     fn parse_ors(
         &mut self,
         tokens: &[Token<'_>],
@@ -234,6 +235,7 @@ impl Store {
     }
 
     /// All tokens from a place on. Most expressions are one word alone.
+    #[inline(always)]
     pub(crate) fn parse_whole(
         &mut self,
         tokens: &[Token<'_>],

@@ -16,6 +16,7 @@ use kc_tree::{Default, Force, Symbol};
 use kc_value::{Kind, Tri};
 
 /// The largest value of some expressions, `n` without any.
+#[inline(always)]
 pub(crate) fn largest(under: &Under<'_>, ids: &[ExprId]) -> Tri
     requires { AreNodes (exprs_under under.now) ids.now }
     ensures { result ≡ largest (conditions (tree_under under.now) (values_under under.now) (map (stands_for (exprs_under under.now)) ids.now)) }
@@ -28,6 +29,7 @@ pub(crate) fn largest(under: &Under<'_>, ids: &[ExprId]) -> Tri
 }
 
 /// What a select or imply forces.
+#[inline(never)]
 fn force_value(under: &Under<'_>, force: Force) -> Tri
     requires by { force.by < length (tree_under under.now).symbols }
     requires condition { force.condition < length (exprs_under under.now).nodes }
@@ -41,6 +43,7 @@ fn force_value(under: &Under<'_>, force: Force) -> Tri
 }
 
 /// What some selects or implies force.
+#[inline(always)]
 pub(crate) fn forced(under: &Under<'_>, all: &[Force]) -> Tri
     requires { AreForces (exprs_under under.now) (tree_under under.now) all.now }
     ensures { result ≡ largest (forces (tree_under under.now) (values_under under.now) (map (kept_force (exprs_under under.now)) all.now)) }
@@ -99,6 +102,7 @@ pub(crate) fn is_visible(under: &Under<'_>, symbol: &Symbol<'_>) -> bool
 }
 
 /// The value of the first default whose condition isn't `n`, up to the condition.
+#[inline(always)]
 pub(crate) fn default_value(under: &Under<'_>, defaults: &[Default]) -> Tri
     requires { AreDefaults (exprs_under under.now) defaults.now }
     ensures { result ≡ default_tri (tree_under under.now) (values_under under.now) (active_default_of (tree_under under.now) (values_under under.now) (map (default_of (exprs_under under.now)) defaults.now)) }

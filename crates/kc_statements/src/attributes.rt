@@ -65,6 +65,7 @@ pub(crate) fn type_line<'a>(
 }
 
 /// `E [if E]`, where `m` in the first stays `m`.
+#[inline(always)]
 fn valued(arena: &mut Arena, tokens: &[Token<'_>]) -> Result<Valued, TreeKind>
     ensures grows { Grows arena.old arena.new }
     ensures gives { (f : DefinedValued → DefinedAttribute) → Gives (λ d. attribute (f (valued_in arena.new d))) result (default_line f (pieces_of tokens.now)) }

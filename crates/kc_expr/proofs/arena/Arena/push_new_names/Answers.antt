@@ -3,8 +3,8 @@ use Rattle.kc_expr.specs.Arena.{Exprs}
 use Rattle.kc_expr.proofs.StoreLemmas.{within_nodes, length-nodes}
 use Rattle.kc_expr.proofs.arena.Arena.push_new_names.Goals as goal
 
-pub push_new_names-requires-clause-there : goal.push_new_names-requires-clause-there
-push_new_names-requires-clause-there c = rw c.index.ensures (within_nodes c.args.self.now c.self.inside.store c.args.id c.self.view_is c.requires.there)
+pub push_unwalked-requires-clause-there : goal.push_unwalked-requires-clause-there
+push_unwalked-requires-clause-there c = rw c.index.ensures (within_nodes c.args.self.now c.self.inside.store c.args.id c.self.view_is c.requires.there)
 
-pub push_new_names-requires-clause-room : goal.push_new_names-requires-clause-room
-push_new_names-requires-clause-room c = omega (arith, c.requires.found.room, length-nodes c.self.inside.store, ap (λ (x : Exprs). length x.nodes) c.self.view_is)
+pub push_unwalked-requires-clause-room : goal.push_unwalked-requires-clause-room
+push_unwalked-requires-clause-room c = omega (arith, c.requires.found.room, length-nodes c.self.inside.store, ap (λ (x : Exprs). length x.nodes) c.self.view_is)
