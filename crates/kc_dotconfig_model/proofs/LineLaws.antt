@@ -12,7 +12,8 @@ use Rattle.kc_dotconfig_model.specs.Names.{is_prefix}
 use Rattle.kc_dotconfig_model.specs.Lines.{Saying, silent, Says, value, unset, unknown_value, unknown_unset, empty, comment, IsValueLine, IsUnsetLine, unset_saying, without_white_end}
 use Rattle.kc_dotconfig_model.specs.Files.{file_lines}
 use Rattle.kc_dotconfig_model.specs.checker.Reading.{value_saying, value_parts, unset_name, named_before, behind, of_symbol_at, of_named, is_hash, of_other, of_unset, of_value, line_saying, with_rest, sayings_of_lines}
-use Rattle.kc_dotconfig_model.specs.Laws.{LinesAreRead, FilesAreRead}
+use Rattle.kc_dotconfig_model.specs.checker.ReadingLaws.{LinesAreRead, FilesAreRead}
+use Rattle.kc_dotconfig_model.specs.Laws.{LinesSayOneThing, FilesSayOneThing}
 use Rattle.kc_dotconfig_model.proofs.ValueLaws.{value_says, value_said}
 use Rattle.kc_dotconfig_model.proofs.LineForms.{value_line_is, value_line_read, unset_line_is, unset_line_read}
 
@@ -165,3 +166,14 @@ lines_complete prefix tree valid (line ∷ lines) (saying ∷ sayings) all =
 
 pub file_read : FilesAreRead
 file_read prefix tree bytes sayings valid = (lines_sound prefix tree valid (file_lines bytes) sayings, lines_complete prefix tree valid (file_lines bytes) sayings)
+
+same_told : {X : Type 0} (a b : X) (o : Option X) → o ≡ Some a → o ≡ Some b → a ≡ b
+same_told a b o p q = cc
+
+pub line_says_one : LinesSayOneThing
+line_says_one prefix tree line a b valid of_a of_b =
+    same_told a b (line_saying prefix tree line) ((line_read prefix tree line a valid).1 of_a) ((line_read prefix tree line b valid).1 of_b)
+
+pub file_says_one : FilesSayOneThing
+file_says_one prefix tree bytes a b valid of_a of_b =
+    same_told a b (sayings_of_lines prefix tree (file_lines bytes)) ((file_read prefix tree bytes a valid).1 of_a) ((file_read prefix tree bytes b valid).1 of_b)

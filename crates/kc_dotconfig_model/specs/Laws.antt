@@ -1,4 +1,4 @@
--- A line says what the function of `Reading` tells, and nothing else.
+-- The laws of lines and files.
 use Rattle.std.specs.Prelude.{◌≡◌, ◌⊎◌, ◌↔◌, ℕ, ◌+◌, ◌≤◌, true, List, Option, Some, length, slice_get, IsTrue}
 use Rattle.std.specs.Str.{IsUtf8}
 use Rattle.kc_tree_model.specs.Trees.{Whole}
@@ -12,16 +12,16 @@ use Rattle.kc_dotconfig_model.specs.Names.{is_prefix}
 use Rattle.kc_dotconfig_model.specs.Lines.{Saying, Says, without_white_end}
 use Rattle.kc_dotconfig_model.specs.Files.{file_lines, has_utf8_lines, FileSays, assigned_over, file_users, laid_over}
 use Rattle.kc_dotconfig_model.specs.LoadFaults.{MOST_BYTES, MOST_LINES, MOST_LINE_BYTES, Extent, complete, cut_short, ComesAt, IsFirstFault, IsAccepted, newlines}
-use Rattle.kc_dotconfig_model.specs.checker.Reading.{line_saying, file_sayings}
 
 -- each line says one thing at most
-abbrev pub LinesAreRead : Type 0
-LinesAreRead = (prefix : List ℕ) (tree : Whole) (line : List ℕ) (saying : Saying) → is_prefix prefix ≡ true
-    → (line_saying prefix tree line ≡ Some saying) ↔ Says prefix tree line saying
+abbrev pub LinesSayOneThing : Type 0
+LinesSayOneThing = (prefix : List ℕ) (tree : Whole) (line : List ℕ) (a b : Saying) → is_prefix prefix ≡ true
+    → Says prefix tree line a → Says prefix tree line b → a ≡ b
 
-abbrev pub FilesAreRead : Type 0
-FilesAreRead = (prefix : List ℕ) (tree : Whole) (bytes : List ℕ) (sayings : List Saying) → is_prefix prefix ≡ true
-    → (file_sayings prefix tree bytes ≡ Some sayings) ↔ FileSays prefix tree bytes sayings
+-- and so does each file
+abbrev pub FilesSayOneThing : Type 0
+FilesSayOneThing = (prefix : List ℕ) (tree : Whole) (bytes : List ℕ) (a b : List Saying) → is_prefix prefix ≡ true
+    → FileSays prefix tree bytes a → FileSays prefix tree bytes b → a ≡ b
 
 -- the lines of a file over an assignment are its own assignment over it
 abbrev pub FilesLieOverAssignments : Type 0

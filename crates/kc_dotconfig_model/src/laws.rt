@@ -1,12 +1,19 @@
 //! Laws of lines and files.
-ghost use Rattle.kc_dotconfig_model.specs.Laws.{LinesAreRead, FilesAreRead, FilesLieOverAssignments, FilesFit, AcceptedFilesAreRead, OneFaultIsFirst, FaultyFilesAreRefused, FailedReadsAreTold, AcceptedFilesHaveGoodLines, EachFileIsJudged, EachCutFileIsJudged};
+ghost use Rattle.kc_dotconfig_model.specs.checker.ReadingLaws.{LinesAreRead, FilesAreRead};
+ghost use Rattle.kc_dotconfig_model.specs.Laws.{LinesSayOneThing, FilesSayOneThing, FilesLieOverAssignments, FilesFit, AcceptedFilesAreRead, OneFaultIsFirst, FaultyFilesAreRefused, FailedReadsAreTold, AcceptedFilesHaveGoodLines, EachFileIsJudged, EachCutFileIsJudged};
 
-/// A line says what the forms of lines have it say, and one thing at most.
+/// A line says one thing at most, and so does a file.
+pub fn one_thing_is_said()
+    ensures line { LinesSayOneThing }
+    ensures file { FilesSayOneThing }
+{}
+
+/// What a line says by its forms is what the function tells with which worked examples compute.
 pub fn lines_are_read()
     ensures { LinesAreRead }
 {}
 
-/// A file says what its lines say, and one thing at most.
+/// The same of a file.
 pub fn files_are_read()
     ensures { FilesAreRead }
 {}
