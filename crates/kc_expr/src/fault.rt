@@ -1,28 +1,29 @@
 //! Faults of tokens and expressions.
 use std::alloc::{AllocError, AllocFailed};
+use std::fmt;
 use thiserror::Error;
 
 /// What is wrong. The text of a kind is its name.
 #[derive(Clone, Copy, Debug, PartialEq, Eq, Error)]
 pub enum ExprKind {
     /// A byte that begins no token.
-    #[error("BadToken")]
     BadToken,
     /// A quote that isn't closed in its line.
-    #[error("UnclosedQuote")]
     UnclosedQuote,
     /// Tokens that aren't an expression.
-    #[error("Malformed")]
     Malformed,
     /// A symbol under more than 64 `!` and parentheses.
-    #[error("TooDeep")]
     TooDeep,
     /// A `$` outside a comment.
-    #[error("LeftOut")]
     LeftOut,
     /// Want of memory.
-    #[error("OutOfMemory")]
     OutOfMemory,
+}
+
+impl fmt::Display for ExprKind {
+    fn fmt<W: fmt::Write>(&self, f: &mut fmt::Formatter<W>) -> fmt::Result {
+        fmt::Debug::fmt(self, f)
+    }
 }
 
 /// What is wrong, and at which byte of the line. The byte of want of memory is 0.

@@ -1,5 +1,6 @@
 pub mod WordLemmas
 pub mod FormLemmas
+pub mod RangeLemmas
 pub mod TitleLemmas
 pub mod AttributeLemmas
 pub mod Later

@@ -1,5 +1,6 @@
 pub mod ClosingSteps
 pub mod Digits
+pub mod EscapedBytes
 pub mod EscapeSteps
 pub mod HexLaws
 pub mod NumberLaws

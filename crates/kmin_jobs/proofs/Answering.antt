@@ -1,5 +1,5 @@
 -- The answers, put together.
-use Rattle.std.proofs.Common.{◌≡◌, ◌≢◌, ℕ, List, [], ◌∷◌, Option, Some, Result, Ok, Err, Vec, IfOk, codes, length, map, take, drop, refl, ap, ◌∙◌, arith}
+use Rattle.std.proofs.Common.{◌≡◌, ◌≢◌, ℕ, ◌≤◌, List, [], ◌∷◌, Option, Some, Result, Ok, Err, Vec, IfOk, codes, length, map, take, drop, refl, ap, ◌∙◌, arith}
 use Rattle.std.specs.Borrow.{Bor}
 use Rattle.std.specs.declared.alloc.Global.{Global}
 use Rattle.std.specs.List.{flat_map}
@@ -10,7 +10,7 @@ use Rattle.kc_rules_model.specs.declared.values.UnitValue.{UnitValue}
 use Rattle.kc_rules_model.specs.declared.values.UserValue.{UserValue}
 use Rattle.kc_dotconfig_model.specs.LoadFaults.{IsAccepted}
 use Rattle.kc_minimal_model.specs.FullFile.{full_file}
-use Rattle.kc_minimal_model.specs.Differences.{differences}
+use Rattle.kc_minimal_model.specs.Differences.{Difference, differences}
 use Rattle.kc_rules.specs.declared.rules.Settled.{Settled}
 use Rattle.kc_rules.specs.Told.{whole_of, profile_of}
 use Rattle.kc_dotconfig.specs.Configured.{Configured, IsSolved, tree_in}
@@ -42,6 +42,11 @@ two_paths [] e = absurd (omega arith)
 two_paths (a ∷ []) e = absurd (omega arith)
 two_paths (a ∷ b ∷ []) e = (a.now, b.now, refl, refl, refl)
 two_paths (a ∷ b ∷ c ∷ files) e = absurd (omega arith)
+
+-- the status of a comparison is 0 or 1
+pub status_at_most_one : (ds : List Difference) → status_of_differences ds ≤ 1
+status_at_most_one [] = omega arith
+status_at_most_one (d ∷ ds) = omega arith
 
 -- what a comparison answers
 pub answers_two : (tells others : List ℕ → Told) (asked : Asked) (texts : Files) (files front back : List (Bor (List ℕ))) (left right : Configured) (rules : Settled) (text : List ℕ) (status : ℕ)

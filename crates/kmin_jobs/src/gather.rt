@@ -72,13 +72,45 @@ pub(crate) fn gather<F: Files>(
     ensures read { IfOk result (λ g. IsRead g.texts first.now g.read) }
 {
     let mut texts = Texts::with_seed(alloc, files.seed());
-    let mut room = Room::whole();
-    insert_one(alloc, root, first, &mut room, files, &mut texts)?;
-    open_ahead(alloc, root, &mut room, files, &mut texts)?;
+    open_first(alloc, root, first, files, &mut texts)?;
     let read = read_texts(alloc, &texts, first);
-    if !lacks_file(&read) {
-        return Ok(Gathered { texts, read });
+    if lacks_file(&read) {
+        drop(read);
+        return gather_wanted(alloc, root, first, files, texts);
     }
+    Ok(Gathered { texts, read })
+}
+
+/// Inserts the first file of a tree and what the lines of its files source, ahead of a reading.
+fn open_first<F: Files>(
+    alloc: Global,
+    root: &str,
+    first: &str,
+    files: &mut F,
+    texts: &mut Texts,
+) -> Result<(), AllocError>
+    requires below { AreTextsBelow (F.tells files.old) root.now texts.old }
+    ensures same { (path : List ℕ) → F.tells files.new path ≡ F.tells files.old path }
+    ensures below { AreTextsBelow (F.tells files.old) root.now texts.new }
+{
+    let mut room = Room::whole();
+    insert_one(alloc, root, first, &mut room, files, texts)?;
+    open_ahead(alloc, root, &mut room, files, texts)
+}
+
+/// The files of a tree, with those that its files want beside these, and read.
+fn gather_wanted<F: Files>(
+    alloc: Global,
+    root: &str,
+    first: &str,
+    files: &mut F,
+    mut texts: Texts,
+) -> Result<Gathered, AllocError>
+    requires below { AreTextsBelow (F.tells files.old) root.now texts }
+    ensures same { (path : List ℕ) → F.tells files.new path ≡ F.tells files.old path }
+    ensures below { IfOk result (λ g. AreTextsBelow (F.tells files.old) root.now g.texts) }
+    ensures read { IfOk result (λ g. IsRead g.texts first.now g.read) }
+{
     open_wanted(alloc, root, first, files, &mut texts)?;
     let read = read_texts(alloc, &texts, first);
     Ok(Gathered { texts, read })

@@ -105,7 +105,9 @@ fn configured_by<'a, F: Files, E: Sink>(
     ensures assign { IfOk result (λ config. Assign (F.tells files.old) (text_of prefix.now) (whole_of settled.now) (path.now ∷ []) config.users) }
 {
     let fragment = load_path(alloc, settled, prefix, path, files, err)?;
-    Ok(Config::of(alloc, settled, &fragment)?)
+    let config = Config::of(alloc, settled, &fragment);
+    drop(fragment);
+    Ok(config?)
 }
 
 /// A configuration with the files of some paths laid over it, one after another.

@@ -1,15 +1,17 @@
 //! The answer to a bundle.
 ghost use Rattle.std.specs.Prelude.{◌≡◌, ◌≢◌, ◌<◌, ◌≤◌, ◌⊎◌, ◌∷◌, [], List, ℕ, Option, Some, codes, length, IfOk, IfErr, OnOk};
 ghost use Rattle.std.specs.Io.KnownBytes.{Appends, Consumes};
+ghost use Rattle.kc_tree_model.specs.Trees.{Whole};
 ghost use Rattle.kc_rules.specs.Told.{whole_of, profile_of};
+ghost use Rattle.kc_rules_model.specs.declared.profile.Profile.TheVariants.{Present};
 ghost use Rattle.kc_rules_model.specs.declared.values.UnitValue.{UnitValue};
 ghost use Rattle.kc_rules_model.specs.declared.values.UserValue.{UserValue};
 ghost use Rattle.kc_dotconfig_model.specs.LoadFaults.{IsAccepted};
 ghost use Rattle.kc_minimal_model.specs.FullFile.{full_file};
-ghost use Rattle.kmin_jobs.specs.Answers.{Resolve};
+ghost use Rattle.kmin_jobs.specs.Answers.{AreAccepted, Resolve};
 ghost use Rattle.kmin_jobs.specs.Asked.{bundle_asks};
 ghost use Rattle.kmin_jobs.specs.Bundles.{ReadsWhole};
-ghost use Rattle.kmin_jobs.specs.Bundled.{AnswersBundle, RefusesConfiguration, RefusesTree, Rises, WritesPart};
+ghost use Rattle.kmin_jobs.specs.Bundled.{AnswersBundle, RefusesConfiguration, RefusesTree, Rises, WritesPart, texts_of};
 
 use crate::bundle::{cut, read_whole};
 use crate::loading::load;
@@ -61,11 +63,28 @@ fn bundle_text<E: Sink>(
     ensures failed { result ≢ Err Stop.Failed }
 {
     let (tree, configuration) = cut(bundle);
+    let settled = bundle_tree(alloc, seed, tree, err)?;
+    let text = full_over(alloc, &settled, configuration, err);
+    drop(settled);
+    text
+}
+
+/// The settled tree of a bundle's one file, or what is told of its fault.
+fn bundle_tree<E: Sink>(
+    alloc: Global,
+    seed: Seed,
+    tree: &[u8],
+    err: &mut E,
+) -> Result<Settled, Stop>
+    ensures accepted { IfOk result (λ settled. AreAccepted (texts_of tree.now) (codes "Kconfig") (whole_of settled)) }
+    ensures profile { IfOk result (λ settled. profile_of settled ≡ Present) }
+    ensures refused { result ≡ Err Stop.Tree → (whole : Whole) → AreAccepted (texts_of tree.now) (codes "Kconfig") whole → ⊥ }
+    ensures others { IfErr result (λ stop. (stop ≡ Stop.Tree) ⊎ (stop ≡ Stop.Memory)) }
+{
     let mut texts = Texts::with_seed(alloc, seed);
     texts.insert("Kconfig", tree)?;
     let read = read_texts(alloc, &texts, "Kconfig");
-    let settled = settled_tree(alloc, &texts, "Kconfig", read, Profile::Present, err)?;
-    full_over(alloc, &settled, configuration, err)
+    settled_tree(alloc, &texts, "Kconfig", read, Profile::Present, err)
 }
 
 /// The full file of a configuration over a settled tree, in the plain form.
@@ -83,6 +102,10 @@ fn full_over<E: Sink>(
     let prefix = Prefix::plain();
     let mut reader = Memory::new(configuration);
     let fragment = load(alloc, settled, &prefix, "config", &mut reader, err)?;
-    let config = Config::of(alloc, settled, &fragment)?;
-    Ok(full_text(alloc, &config, &prefix)?)
+    let config = Config::of(alloc, settled, &fragment);
+    drop(fragment);
+    let config = config?;
+    let text = full_text(alloc, &config, &prefix);
+    drop(config);
+    Ok(text?)
 }

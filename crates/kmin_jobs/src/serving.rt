@@ -66,13 +66,44 @@ fn answer_job<F: Files, E: Sink>(
     ensures answer { IfOk result (λ answer. (texts : trees.Files) × AreTextsBelow (F.tells files.old) job.now.root.now texts × Answer (F.tells files.old) (asked_of job.now) texts (paths_of job.now) answer.text.items answer.status) }
     ensures status { IfOk result (λ answer. answer.status ≤ 1) }
 {
+    let settled = job_tree(alloc, job, files, err)?;
+    let answer = answer_over(alloc, job, &settled, files, err);
+    drop(settled);
+    answer
+}
+
+/// The settled tree of a job, or what is told of its fault.
+fn job_tree<F: Files, E: Sink>(
+    alloc: Global,
+    job: &Job<'_>,
+    files: &mut F,
+    err: &mut E,
+) -> Result<Settled, Stop>
+    ensures same { (path : List ℕ) → F.tells files.new path ≡ F.tells files.old path }
+    ensures accepted { IfOk result (λ settled. (texts : trees.Files) × AreTextsBelow (F.tells files.old) job.now.root.now texts × AreAccepted texts job.now.tree.now (whole_of settled)) }
+    ensures profile { IfOk result (λ settled. profile_of settled ≡ job.now.profile) }
+{
     let Gathered { texts, read } = gather(alloc, job.root, job.tree, files)?;
-    let settled = settled_tree(alloc, &texts, job.tree, read, job.profile, err)?;
-    drop(texts);
+    settled_tree(alloc, &texts, job.tree, read, job.profile, err)
+}
+
+/// What a job writes of the configurations over its tree.
+fn answer_over<F: Files, E: Sink>(
+    alloc: Global,
+    job: &Job<'_>,
+    settled: &Settled,
+    files: &mut F,
+    err: &mut E,
+) -> Result<Answered, Stop>
+    requires two { job.now.verb ≡ Compare → length job.now.files.items ≡ 2 }
+    requires profile { profile_of settled.now ≡ job.now.profile }
+    ensures answer { IfOk result (λ answer. (texts : trees.Files) → AreAccepted texts job.now.tree.now (whole_of settled.now) → Answer (F.tells files.old) (asked_of job.now) texts (paths_of job.now) answer.text.items answer.status) }
+    ensures status { IfOk result (λ answer. answer.status ≤ 1) }
+{
     if job.verb == Verb::Compare {
-        answer_two(alloc, job, &settled, files, err)
+        answer_two(alloc, job, settled, files, err)
     } else {
-        answer_one(alloc, job, &settled, files, err)
+        answer_one(alloc, job, settled, files, err)
     }
 }
 
@@ -90,8 +121,12 @@ fn answer_one<F: Files, E: Sink>(
     ensures status { IfOk result (λ answer. answer.status ≤ 1) }
 {
     let config = configured(alloc, settled, &job.prefix, &job.files, files, err)?;
-    let text = text_of(alloc, job.verb, &config, &job.prefix)?;
-    Ok(Answered { text, status: 0 })
+    let text = text_of(alloc, job.verb, &config, &job.prefix);
+    drop(config);
+    Ok(Answered {
+        text: text?,
+        status: 0,
+    })
 }
 
 /// What a comparison writes of its two files, each alone.
@@ -111,5 +146,8 @@ fn answer_two<F: Files, E: Sink>(
     let (left, right) = job.files.split_at(1);
     let left = configured(alloc, settled, &job.prefix, left, files, err)?;
     let right = configured(alloc, settled, &job.prefix, right, files, err)?;
-    Ok(compared(alloc, &left, &right)?)
+    let answer = compared(alloc, &left, &right);
+    drop(right);
+    drop(left);
+    Ok(answer?)
 }

@@ -48,7 +48,11 @@ pub(crate) fn settled_tree<E: Sink>(
     };
     match settle(alloc, tree, profile) {
         Ok(settled) => Ok(settled),
-        Err((tree, fault)) => Err(tell_unsettled(texts, first, &tree, &fault, err)),
+        Err((tree, fault)) => {
+            let stop = tell_unsettled(texts, first, &tree, &fault, err);
+            drop(tree);
+            Err(stop)
+        }
     }
 }
 

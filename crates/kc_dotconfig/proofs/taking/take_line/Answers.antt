@@ -1,3 +1,4 @@
+use Rattle.std.proofs.Common.{rules}
 use Rattle.kc_rules.specs.Told.{whole_of}
 use Rattle.kc_dotconfig_model.specs.Prefixes.{text_of}
 use Rattle.kc_dotconfig.specs.checker.Sayings.{saying_of}
@@ -19,3 +20,6 @@ returns-in-Ok-None-clause-malformed c e = (
   c.in-Ok.ensures.cases.1,
   malformed_of (text_of c.args.prefix.now) (whole_of c.args.settled.now) c.args.line.now c.in-Ok.text.now c.in-Ok-None.field-0 c.args.prefix.now.valid c.in-Ok.ensures.cases.0 c.in-Ok-None.ensures.said c.in-Ok-None.field-0-is,
 )
+
+pub returns-in-Ok-None-clause-ok : goal.returns-in-Ok-None-clause-ok
+returns-in-Ok-None-clause-ok c = search rules

@@ -1,3 +1,4 @@
+use Rattle.std.proofs.Common.{rules}
 use Rattle.kc_rules.specs.Told.{whole_of, profile_of}
 use Rattle.kc_dotconfig_model.specs.Prefixes.{text_of}
 use Rattle.kc_minimal_model.specs.Spelling.{ended_line}
@@ -10,3 +11,6 @@ loop-number-preserved c =
     let settled = c.args.settled.now in
     let line = ended_line (text_of c.args.prefix.now) (whole_of settled) c.args.values.now in
     line_more (has_line (profile_of settled) (whole_of settled) c.args.values.now) line c.loop-number.number c.loop-number.text.items _ c.loop-number.invariant (rw c.at.ensures at c.in_ok-push_if_kept.ensures)
+
+pub returns : goal.returns
+returns c = search rules

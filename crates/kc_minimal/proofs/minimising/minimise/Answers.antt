@@ -1,3 +1,4 @@
+use Rattle.std.proofs.Common.{rules}
 use Rattle.kc_rules.specs.Told.{whole_of, profile_of}
 use Rattle.kc_dotconfig_model.specs.Prefixes.{text_of}
 use Rattle.kc_minimal.proofs.MinimisedFiles.{minimised, cut_off}
@@ -19,3 +20,6 @@ returns-in-Err-write_out-clause-fault g c =
     cut_off c.minimal_files_are_canonical.ensures c.files_assign_the_lines.ensures (text_of c.args.prefix.now) c.args.prefix.now.valid (profile_of c.args.settled.now) (whole_of c.args.settled.now) c.tree-tree.ensures.settled
     (g.R.Source.left c.args.source.now) (g.R.Source.left c.read_config.new.source) c.in-Ok.fragment c.in-Ok.ensures.ok minimal.0 text minimal.1 (g.W.Sink.taken c.args.sink.now) (g.W.Sink.taken c.write_out.new.sink)
     (g.W.Sink.failures c.args.sink.now) (g.W.Sink.failures c.write_out.new.sink) c.in-Err-write_out.fault.written part.0 part.1 c.in-Err-write_out.ensures.failed
+
+pub returns-in-Err-clause-fault : goal.returns-in-Err-clause-fault
+returns-in-Err-clause-fault g c = search rules

@@ -1,4 +1,4 @@
-use Rattle.std.proofs.Common.{◌≡◌, ◌-◌, ◌<◌, ◌≤◌, ◌∙◌, length, take, drop, ap, arith, length-drop}
+use Rattle.std.proofs.Common.{◌≡◌, ◌-◌, ◌<◌, ◌≤◌, ◌∙◌, length, take, drop, ap, arith, length-drop, rules}
 use Rattle.kc_minimal.proofs.WrittenParts.{appends_part, no_failure, rest_from}
 use Rattle.kc_minimal.proofs.writing.write_out.Goals as goal
 
@@ -15,3 +15,6 @@ loop-written-preserved g c =
       took = appends_part _ _ _ text rest w c.in-Ok.count e c.loop-written.invariant.took c.in-Ok.ensures.bytes;
       unfailed = no_failure _ c.in-Ok.count rest _ some c.in-Ok.ensures.failures ∙ c.loop-written.invariant.unfailed;
     }
+
+pub loop-written-init : goal.loop-written-init
+loop-written-init g c = search rules

@@ -1,4 +1,4 @@
-use Rattle.std.proofs.Common.{eqb}
+use Rattle.std.proofs.Common.{eqb, rules}
 use Rattle.std.proofs.lemmas.List.Filters.{dedup_is}
 use Rattle.kc_rules.proofs.Chains.{sorted_needs}
 use Rattle.kc_rules.proofs.linking.needed.Goals as goal
@@ -9,3 +9,6 @@ returns-clause-needed c =
     let sorted = c.sort_unstable.new.self.items in
     let last = c.dedup.new.self.items in
     sorted_needs c.args.tree.now.whole c.args.u found sorted last c.requires.unit c.in_ok-push_needed.ensures.units c.in_ok-push_needed.ensures.below c.sort_unstable.ensures.permutation c.sort_unstable.ensures.sorted (dedup_is eqb sorted last c.dedup.ensures.filtered)
+
+pub push_needed-requires-clause-found : goal.push_needed-requires-clause-found
+push_needed-requires-clause-found c = search rules

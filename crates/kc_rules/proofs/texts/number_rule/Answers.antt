@@ -1,4 +1,4 @@
-use Rattle.std.proofs.Common.{sym, ap, ◌∙◌, pos, unwrap_or}
+use Rattle.std.proofs.Common.{sym, ap, ◌∙◌, pos, unwrap_or, rules}
 use Rattle.std.proofs.lemmas.Result.{IfOk-weaker}
 use Rattle.std.specs.Option.{option_copied}
 use Rattle.kc_value.specs.Number.{number_of_text}
@@ -15,3 +15,6 @@ returns-then-is_visible c =
     let n = unwrap_or (number_of_text k c.in-Some.assigned.now) (pos 0) in
     let within = sym (c.is_text_within-within.ensures ∙ ap (λ o. is_within (tree_under u) (values_under u) k o n) c.active_range-range.ensures.range) ∙ c.if-within.true in
     IfOk-weaker c.copied.result _ _ (λ text same. same ∙ number_given (tree_under u) (values_under u) (symbol_of (exprs_under u) c.args.symbol.now) (option_copied c.args.user) c.in-Some.assigned.now (ap option_copied c.in-Some.is) (sym c.is_visible.ensures ∙ c.if-is_visible.true) within) c.copied.ensures
+
+pub number_default-requires-in-None-clause-range : goal.number_default-requires-in-None-clause-range
+number_default-requires-in-None-clause-range c = search rules

@@ -1,5 +1,8 @@
+use Rattle.std.proofs.Common.{inl, inr, sym, ap, ◌∙◌, Some}
+use Rattle.kc_statements.specs.Said.{if_in, operand_in}
 use Rattle.kc_statements.proofs.Growing.{grows_on}
-use Rattle.kc_statements.proofs.Later.{operand_held}
+use Rattle.kc_statements.proofs.Later.{operand_held, operand_same}
+use Rattle.kc_statements.proofs.RangeLemmas.{first_refused, second_refused, operands_given, operands_refused}
 use Rattle.kc_statements.proofs.range.range_line.Goals as goal
 
 pub returns-in-Err-operand-clause-grows : goal.returns-in-Err-operand-clause-grows
@@ -23,3 +26,31 @@ returns-in-Ok-optional_if-clause-held c =
     let new = c.optional_if.new.arena in
     let g = c.optional_if.ensures.grows in
     (operand_held c.operand.new.arena new c.in-Ok.id (grows_on c.operand.new.arena high new c.operand-2.ensures.grows g) c.in-Ok.ensures.held, operand_held high new c.in-Ok-operand.id g c.in-Ok-operand.ensures.held, c.in-Ok-optional_if.ensures.held)
+
+pub returns-then-not-is_operand-clause-gives : goal.returns-then-not-is_operand-clause-gives
+returns-then-not-is_operand-clause-gives c = inr (first_refused c.args.tokens.now c.if-tokens-lt2.false (sym c.if-not-is_operand.ensures))
+
+pub returns-then-not-is_operand-2-clause-gives : goal.returns-then-not-is_operand-2-clause-gives
+returns-then-not-is_operand-2-clause-gives c = inr (second_refused c.args.tokens.now c.if-tokens-lt2.false (sym c.if-not-is_operand-2.ensures))
+
+pub returns-in-Err-clause-gives : goal.returns-in-Err-clause-gives
+returns-in-Err-clause-gives c = inl c.in-Err.ensures.memory
+
+pub returns-in-Err-operand-clause-gives : goal.returns-in-Err-operand-clause-gives
+returns-in-Err-operand-clause-gives c = inl c.in-Err-operand.ensures.memory
+
+pub returns-in-Ok-optional_if-clause-gives : goal.returns-in-Ok-optional_if-clause-gives
+returns-in-Ok-optional_if-clause-gives c =
+    let high = c.operand-2.new.arena in
+    let new = c.optional_if.new.arena in
+    let g = c.optional_if.ensures.grows in
+    let low_same = operand_same c.operand.new.arena new c.in-Ok.id (grows_on c.operand.new.arena high new c.operand-2.ensures.grows g) c.in-Ok.ensures.held in
+    let high_same = operand_same high new c.in-Ok-operand.id g c.in-Ok-operand.ensures.held in
+    operands_given c.args.tokens.now (operand_in new c.in-Ok.id) (operand_in new c.in-Ok-operand.id) (if_in new c.in-Ok-optional_if.condition) c.if-tokens-lt2.false (c.in-Ok.ensures.operand ∙ ap Some (sym low_same)) (c.in-Ok-operand.ensures.operand ∙ ap Some (sym high_same)) c.in-Ok-optional_if.ensures.gives
+
+pub returns-in-Err-optional_if-clause-gives : goal.returns-in-Err-optional_if-clause-gives
+returns-in-Err-optional_if-clause-gives c =
+    elim c.in-Err-optional_if.ensures.gives [
+      | inl m ↦ inl m
+      | inr e ↦ inr (operands_refused c.args.tokens.now (operand_in c.operand.new.arena c.in-Ok.id) (operand_in c.operand-2.new.arena c.in-Ok-operand.id) c.in-Err-optional_if.kind c.if-tokens-lt2.false c.in-Ok.ensures.operand c.in-Ok-operand.ensures.operand e)
+    ]

@@ -1,4 +1,5 @@
 use Rattle.std.proofs.Common.{◌≡◌, ◌<◌, ◌+◌, cond, length, sym, subst, ap, ◌∙◌, arith}
+use Rattle.std.proofs.lemmas.Grind.{common_steps}
 use Rattle.std.proofs.lemmas.List.{get_or_read}
 use Rattle.kc_tree_model.specs.Limits.{names_defined}
 use Rattle.kc_tree_model.specs.TreeFaults.{tree_faults}
@@ -63,3 +64,6 @@ returns c = λ read h.
     let l = c.args.listing.now in
     let n = count_is l.names.arena (names_defined read) l.texts.items l.lines.items l.groups.items read h.groups_are in
     sym (fault_none read c.loop-i.i (omega arith) (c.loop-i.invariant.none read h))
+
+pub loop-i-init : goal.loop-i-init
+loop-i-init c = grind (arith, common_steps)

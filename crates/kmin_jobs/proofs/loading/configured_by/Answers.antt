@@ -11,5 +11,5 @@ returns-clause-assign g c =
     let tells = g.F.Files.tells c.args.files.now in
     let tree = whole_of c.args.settled.now in
     let fragment = c.in_ok-fragment.fragment in
-    assign_next tells tells _ tree [] (c.args.path.now ∷ []) c.args.path.now (no_users tree) c.in_ok-of.field-0.users fragment none (λ p. refl) c.in_ok-fragment.ensures.ok refl
-    (c.in_ok-of.ensures.users ∙ lies_alone tree fragment.assigns.items)
+    assign_next tells tells _ tree [] (c.args.path.now ∷ []) c.args.path.now (no_users tree) c.in_ok-config.field-0.users fragment none (λ p. refl) c.in_ok-fragment.ensures.ok refl
+    (c.in_ok-config.ensures.users ∙ lies_alone tree fragment.assigns.items)

@@ -18,5 +18,5 @@ returns-clause-ok g c =
         assign = rw (← c.new-reader.ensures) (one_told c.new-reader.result.rest.now (Some c.load.new.source.rest.now) _ _ tree _ (no_users tree) config.users _ plain c.in_ok-fragment.ensures.ok refl users);
         gives = gives_over config c.args.settled.now same (search rules);
       },
-      full_over config c.args.settled.now _ _ _ same plain c.in_ok-full_text.ensures.text,
+      full_over config c.args.settled.now _ _ _ same plain c.in_ok-text.ensures.text,
     )

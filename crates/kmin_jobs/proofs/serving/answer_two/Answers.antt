@@ -1,6 +1,6 @@
-use Rattle.std.proofs.Common.{rules}
+use Rattle.std.proofs.Common.{rules, ◌≤◌, subst, sym}
 use Rattle.kmin_jobs.specs.Asked.{asked_of}
-use Rattle.kmin_jobs.proofs.Answering.{answers_two}
+use Rattle.kmin_jobs.proofs.Answering.{answers_two, status_at_most_one}
 use Rattle.kmin_jobs.proofs.serving.answer_two.Goals as goal
 
 pub returns-clause-answer : goal.returns-clause-answer
@@ -10,4 +10,7 @@ returns-clause-answer g c = λ texts accepted.
     accepted c.requires.two c.requires.profile c.in_ok-left.ensures.settled c.in_ok-right.ensures.settled
     c.requires.files (search rules) (search rules) c.configured.ensures.same
     c.in_ok-left.ensures.assign c.in_ok-left.ensures.solved c.in_ok-right.ensures.assign c.in_ok-right.ensures.solved
-    c.in_ok-compared.ensures.text c.in_ok-compared.ensures.status
+    c.in_ok-answer.ensures.text c.in_ok-answer.ensures.status
+
+pub returns-clause-status : goal.returns-clause-status
+returns-clause-status g c = subst (λ n. n ≤ 1) (sym c.in_ok-answer.ensures.status) (status_at_most_one _)

@@ -5,8 +5,8 @@ use Rattle.kmin_jobs.proofs.trees.settled_tree.Goals as goal
 
 pub returns-in-Err-settle-clause-refused : goal.returns-in-Err-settle-clause-refused
 returns-in-Err-settle-clause-refused g c = λ e.
-    let t : Err c.tell_unsettled.result ≡ Err Tree = e in
-    let s : c.tell_unsettled.result ≡ Tree = cc in
+    let t : Err c.tell_unsettled-stop.result ≡ Err Tree = e in
+    let s : c.tell_unsettled-stop.result ≡ Tree = cc in
     let read = rw c.in-Ok.is at c.requires.read in
-    let k = c.tell_unsettled.ensures.cycle s _ _ c.in-Err-settle.ensures.cycle in
+    let k = c.tell_unsettled-stop.ensures.cycle s _ _ c.in-Err-settle.ensures.cycle in
     cycle_refuses c.args.texts.now c.args.first.now c.in-Ok.tree.whole k.0 read.1 k.1

@@ -1,4 +1,5 @@
-use Rattle.std.proofs.Common.{ap}
+use Rattle.std.proofs.Common.{ap, arith}
+use Rattle.std.proofs.lemmas.Grind.{common_steps}
 use Rattle.kc_rules.specs.Told.{whole_of}
 use Rattle.kc_dotconfig.specs.Configured.{tree_in}
 use Rattle.kmin_jobs.proofs.NamedLines.{compared_text}
@@ -9,3 +10,6 @@ returns-clause-text c =
     compared_text (tree_in c.args.left.now) (whole_of c.settled.result.now) c.args.left.now.values c.args.right.now.values c.values.result.now c.values-2.result.now
     c.in_ok-found.found.items c.deref.result.now c.in_ok-text.text.items
     (ap whole_of c.settled.ensures) c.values.ensures.values c.values-2.ensures.values c.deref.ensures.value c.in_ok-found.ensures.differences c.in_ok-text.ensures
+
+pub returns-clause-status : goal.returns-clause-status
+returns-clause-status c = grind (arith, common_steps)

@@ -1,4 +1,4 @@
-use Rattle.std.proofs.Common.{sym, subst, IsTrue}
+use Rattle.std.proofs.Common.{sym, subst, IsTrue, rules}
 use Rattle.std.specs.Option.{option_copied}
 use Rattle.std.proofs.Math.Bool.{Bool-set}
 use Rattle.std.proofs.Math.Logic.{∥∥₁_elim}
@@ -12,3 +12,6 @@ returns-clause-fits c =
     let r = c.args.self.now.rules in
     let t = r.tree.whole in
     IfOk-weaker c.value_of.result _ _ (λ value same. subst (λ w. IsTrue (value_fits t c.args.u w)) (sym same) (∥∥₁_elim r.consistent (Bool-set _ _) (λ sound. rules_fit r.profile t c.args.u (option_copied c.args.user) c.args.values.now sound c.requires.unit c.requires.user c.requires.values))) c.value_of.ensures
+
+pub returns-clause-step : goal.returns-clause-step
+returns-clause-step c = search rules

@@ -1,0 +1,16 @@
+use Rattle.std.proofs.Common.{subst, ◌∙◌, ap, codes, IfOk}
+use Rattle.kc_tree_model.specs.Files.{Files, with_file}
+use Rattle.kc_tree_model.specs.Trees.{Whole}
+use Rattle.kc_rules.specs.Told.{whole_of}
+use Rattle.kmin_jobs.specs.Answers.{AreAccepted}
+use Rattle.kmin_jobs.proofs.packed.bundle_tree.Goals as goal
+
+pub returns-clause-accepted : goal.returns-clause-accepted
+returns-clause-accepted g c =
+    let texts = c.in_ok-insert.ensures.ok ∙ ap (λ (fs : Files). with_file fs (codes "Kconfig") c.args.tree.now) c.with_seed-texts.ensures in
+    subst (λ (fs : Files). IfOk c.settled_tree.result (λ settled. AreAccepted fs (codes "Kconfig") (whole_of settled))) texts c.settled_tree.ensures.accepted
+
+pub returns-clause-refused : goal.returns-clause-refused
+returns-clause-refused g c = λ e.
+    let texts = c.in_ok-insert.ensures.ok ∙ ap (λ (fs : Files). with_file fs (codes "Kconfig") c.args.tree.now) c.with_seed-texts.ensures in
+    subst (λ (fs : Files). (whole : Whole) → AreAccepted fs (codes "Kconfig") whole → ⊥) texts (c.settled_tree.ensures.refused e)
