@@ -26,28 +26,50 @@ pub(crate) fn sourced(
 fn absent_paths(alloc: Global, texts: &Texts, bytes: &[u8]) -> Result<Vec<String>, AllocError> {
     let mut paths = Vec::new(alloc);
     for place in memmem::find_iter(bytes, SOURCE) {
+        put_absent(alloc, texts, path_sourced(bytes, place), &mut paths)?;
         if paths.len() >= MOST_PATHS {
             break;
-        }
-        if let Some(path) = path_sourced(bytes, place) {
-            if texts.get(path).is_none() {
-                paths.push(String::from_str(alloc, path)?)?;
-            }
         }
     }
     Ok(paths)
 }
 
+/// Puts a path to the others, if it is absent.
+fn put_absent(
+    alloc: Global,
+    texts: &Texts,
+    path: Option<&str>,
+    paths: &mut Vec<String>,
+) -> Result<(), AllocError> {
+    match path {
+        Some(path) if texts.get(path).is_none() => {
+            paths.push(String::from_str(alloc, path)?)?;
+            Ok(())
+        }
+        _ => Ok(()),
+    }
+}
+
 /// The path that a line sources which has the word at a place, in its common form.
 fn path_sourced(bytes: &[u8], place: usize) -> Option<&str> {
     let (before, rest) = bytes.split_at_checked(place)?;
-    if !begins_line(before) {
-        return None;
+    if begins_line(before) {
+        path_behind(line_from(rest))
+    } else {
+        None
     }
-    let line = match memchr(b'\n', rest) {
-        Some(end) => rest.get(..end)?,
-        None => rest,
-    };
+}
+
+/// The bytes up to the first newline.
+fn line_from(bytes: &[u8]) -> &[u8] {
+    match memchr(b'\n', bytes) {
+        Some(end) => bytes.get(..end).unwrap_or(bytes),
+        None => bytes,
+    }
+}
+
+/// The path behind the word, in its common form.
+fn path_behind(line: &[u8]) -> Option<&str> {
     let path = std::str::from_utf8(line).ok()?.strip_prefix("source")?;
     Some(path.trim().trim_matches('"'))
 }

@@ -1,4 +1,4 @@
-use Rattle.std.proofs.Common.{ap, length, arith}
+use Rattle.std.proofs.Common.{ap, length, arith, rules}
 use Rattle.kc_expr.specs.Arena.{Exprs}
 use Rattle.kc_expr.proofs.StoreLemmas.{within_nodes, length-nodes}
 use Rattle.kc_expr.proofs.arena.Arena.push_new_names.Goals as goal
@@ -8,3 +8,6 @@ push_unwalked-requires-clause-there c = rw c.index.ensures (within_nodes c.args.
 
 pub push_unwalked-requires-clause-room : goal.push_unwalked-requires-clause-room
 push_unwalked-requires-clause-room c = omega (arith, c.requires.found.room, length-nodes c.self.inside.store, ap (λ (x : Exprs). length x.nodes) c.self.view_is)
+
+pub returns-in-Err-clause-err : goal.returns-in-Err-clause-err
+returns-in-Err-clause-err c = search rules
