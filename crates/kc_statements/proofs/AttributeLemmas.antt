@@ -34,6 +34,10 @@ pub default_is : (f : Valued → Attribute) (ts : List Piece) (e : Expr) → rea
 unfolding default_by default_then
 default_is f ts e r = default_reading f ts (read_expr (extent ts)) ∙ ap (default_by f ts) r
 
+pub default_unread : (f : Valued → Attribute) (ts : List Piece) (x : ExprKind × List Piece) → read_expr (extent ts) ≡ Err x → default_line f ts ≡ Err (kind_of_fault x.0)
+unfolding default_by default_then
+default_unread f ts x r = default_reading f ts (read_expr (extent ts)) ∙ ap (default_by f ts) r
+
 -- an expression reaches no further than the tokens
 reaches_by : (b : Bool) (t : Piece) (ts us : List Piece) → length us ≤ length ts → length (cond b (t ∷ []) (t ∷ us)) ≤ length ts + 1
 reaches_by true t ts us h = omega arith

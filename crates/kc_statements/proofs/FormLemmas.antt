@@ -1,16 +1,20 @@
 -- Steps of the forms.
-use Rattle.std.proofs.Common.{◌≡◌, inl, inr, ℕ, suc, zero, ◌+◌, ◌<◌, Bool, true, false, List, [], ◌∷◌, length, drop, refl, ap, sym, ◌∙◌, arith, Some, Result, Ok, Err, length-drop, map, ◌==◌}
+use Rattle.std.proofs.Common.{◌≡◌, inl, inr, ℕ, suc, zero, ◌+◌, ◌<◌, ◌≤◌, ◌⊎◌, Bool, true, false, List, [], ◌∷◌, length, drop, refl, ap, sym, ◌∙◌, arith, rules, Some, Result, Ok, Err, length-drop, map, ◌==◌}
 use Rattle.std.proofs.lemmas.List.{drop-map, drop_more}
-use Rattle.std.specs.Prelude.{codes, slice_index_or}
+use Rattle.std.specs.Prelude.{codes, slice_index_or, take}
 use Rattle.std.proofs.lemmas.Bool.{false≢true}
+use Rattle.std.proofs.lemmas.Bool.Decides.{nat_tests}
 use Rattle.kc_expr.specs.Token.{Piece, piece_of, pieces_of}
+use Rattle.kc_expr.specs.Reading.{IsNotRead, expr_at, expr_end}
+use Rattle.kc_expr.specs.declared.fault.ExprFault.{ExprFault}
+use Rattle.kc_expr.specs.declared.fault.ExprKind.TheVariants as expr_kinds
 use Rattle.kc_expr.specs.declared.token.Token.{Token as CodeToken}
 use Rattle.kc_expr.specs.declared.token.TokenKind.TheVariants.{Word}
 use Rattle.kc_expr.specs.Expr.{Expr, conditional}
-use Rattle.kc_expr.specs.Grammar.{extent, read_expr}
+use Rattle.kc_expr.specs.Grammar.{extent, read_expr, fault_of}
 use Rattle.kc_expr.specs.declared.fault.ExprKind.{ExprKind}
 use Rattle.kc_tree_model.specs.declared.fault.TreeKind.{TreeKind}
-use Rattle.kc_tree_model.specs.declared.fault.TreeKind.TheVariants.{Malformed}
+use Rattle.kc_tree_model.specs.declared.fault.TreeKind.TheVariants.{Malformed, OutOfMemory}
 use Rattle.kc_tree_model.specs.Forms.{last_condition, optional_if, no_more, kind_of_fault, Taken, ◌>>=◌}
 use Rattle.kc_tree_model.specs.Keywords.{is_the_word}
 use Rattle.kc_expr.specs.Arena.{Exprs}
@@ -39,6 +43,34 @@ by_reading ts (Err f) = refl
 pub condition_behind : (ts : List Piece) (e : Expr) → read_expr (extent ts) ≡ Ok e → length (extent ts) < length ts → last_condition ts ≡ Err Malformed
 unfolding behind
 condition_behind ts e reads h = by_reading ts (read_expr (extent ts)) ∙ ap (behind ts) reads ∙ more (conditional e) (drop (length (extent ts)) ts) (omega (arith, length-drop (length (extent ts)) ts))
+
+-- no tokens behind a condition
+bare : {A : Type 0} (x : A) (ts : List Piece) → length ts ≡ 0 → no_more x ts ≡ Ok x
+bare x [] h = refl
+bare x (t ∷ ts) h = absurd (omega (arith, h))
+
+pub condition_last : (ts : List Piece) (e : Expr) → read_expr (extent ts) ≡ Ok e → length ts ≤ length (extent ts) → last_condition ts ≡ Ok (conditional e)
+unfolding behind
+condition_last ts e reads h = by_reading ts (read_expr (extent ts)) ∙ ap (behind ts) reads ∙ bare (conditional e) (drop (length (extent ts)) ts) (omega (arith, h, length-drop (length (extent ts)) ts))
+
+-- tokens that are no expression
+pub condition_unread : (ts : List Piece) (x : ExprKind × List Piece) → read_expr (extent ts) ≡ Err x → last_condition ts ≡ Err (kind_of_fault x.0)
+unfolding behind
+condition_unread ts x reads = by_reading ts (read_expr (extent ts)) ∙ ap (behind ts) reads
+
+told_kind : (all : List Piece) (x : ExprKind × List Piece) → (fault_of all x).kind ≡ x.0
+told_kind all (k, []) = refl
+told_kind all (k, t ∷ ts) = refl
+
+-- the parser's fault as that of a form
+pub unread : {A : Type 0} (ps : List Piece) (at : ℕ) (e : ExprFault) (k : TreeKind) (given : Result A TreeKind) → ((e.kind ≡ expr_kinds.OutOfMemory) ⊎ IsNotRead ps at e) → k ≡ kind_of_fault e.kind
+    → ((x : ExprKind × List Piece) → read_expr (expr_at ps at) ≡ Err x → given ≡ Err (kind_of_fault x.0)) → (k ≡ OutOfMemory) ⊎ (given ≡ Err k)
+unread ps at e k given f q h = elim f [
+  | inl m ↦ inl (q ∙ ap kind_of_fault m)
+  | inr n ↦
+      let told : e.kind ≡ n.fault.0 = ap (λ (y : ExprFault). y.kind) n.placed ∙ told_kind (take (expr_end ps at) ps) n.fault in
+      inr (h n.fault n.reads ∙ ap Err (sym (q ∙ ap kind_of_fault told)))
+]
 
 -- the token at a place, and those behind it
 pub front_piece : (ts : List CodeToken) (at : ℕ) (d : CodeToken) → at < length ts → drop at (pieces_of ts) ≡ piece_of (slice_index_or ts at d) ∷ drop (at + 1) (pieces_of ts)
@@ -78,3 +110,16 @@ there (suc n) b e f = omega arith
 -- the statement of a line, by its keyword
 pub by_keyword : (e : Exprs) (r : Result CodeStatement TreeKind) (ps : List Piece) {k l : CodeKeyword} → k ≡ l → Gives (statement_in e) r (statement_of (meant l) ps) → Gives (statement_in e) r (statement_of (meant k) ps)
 by_keyword e r ps {k} {l} q g = along (statement_in e) r (statement_of (meant k) ps) (statement_of (meant l) ps) (ap (λ w. statement_of (meant w) ps) q) g
+
+-- there is none where it succeeds
+equal : (m n : ℕ) → (m == n) ≡ true → m ≡ n
+equal m n e = search (rules, nat_tests)
+
+pub none_there : (ts : List CodeToken) (b : Bool) → b ≡ (length ts == 0) → b ≡ true → ts ≡ []
+none_there [] b e f = refl
+none_there (t ∷ ts) b e f = absurd (omega (arith, equal (length (t ∷ ts)) 0 (sym e ∙ f)))
+
+-- what is given, one step further
+pub given_on : {A B C : Type 0} (view : A → B) (k : B → C) (r : Result A TreeKind) (x : Result B TreeKind) → Gives view r x → Gives (λ a. k (view a)) r (stepped k x)
+given_on view k (Ok a) x g = ap (stepped k) g
+given_on view k (Err f) x g = elim g [ inl m ↦ inl m | inr q ↦ inr (ap (stepped k) q) ]

@@ -1,7 +1,7 @@
 -- An arena that grows in two steps.
 use Rattle.std.proofs.Common.{◌≡◌, List, length, take, drop, ◌++◌, ap, sym, ◌∙◌, append_assoc}
 use Rattle.std.proofs.lemmas.List.{take-append-drop}
-use Rattle.std.proofs.Math.Seq.{take-append_seam}
+use Rattle.std.proofs.Math.Seq.{take-append_seam, take-length}
 use Rattle.kc_expr.specs.Arena.{Exprs, Grows}
 
 front_parts : {X : Type 0} (xs ys : List X) → take (length xs) ys ≡ xs → ys ≡ xs ++ drop (length xs) ys
@@ -17,3 +17,7 @@ grows_on old mid new g h = record {
   names = front_on old.names mid.names new.names g.names h.names;
   nodes = front_on old.nodes mid.nodes new.nodes g.nodes h.nodes;
 }
+
+-- an arena that did not grow
+pub grows_none : (e : Exprs) → Grows e e
+grows_none e = record { names = take-length e.names; nodes = take-length e.nodes }

@@ -7,3 +7,4 @@ pub mod Later
 pub mod ValueLemmas
 pub mod GlobLemmas
 pub mod Growing
+pub mod LineLemmas

@@ -1,5 +1,5 @@
 -- Titles.
-use Rattle.std.proofs.Common.{◌≡◌, ℕ, true, List, [], ◌∷◌, refl, ap, sym, ◌∙◌, inl, Result, Ok, Err}
+use Rattle.std.proofs.Common.{◌≡◌, ℕ, ◌<◌, arith, length, true, List, [], ◌∷◌, refl, ap, sym, ◌∙◌, inl, Result, Ok, Err}
 use Rattle.std.specs.Prelude.{IfOk, IfErr}
 use Rattle.std.proofs.lemmas.Bool.{false≢true}
 use Rattle.kc_expr.specs.Token.{pieces_of}
@@ -17,6 +17,10 @@ pub title_given : (f : List ℕ → Head) (ts : List CodeToken) → is_one_quote
 title_given f [] n = absurd (false≢true n)
 title_given f (t ∷ []) n = rw n refl
 title_given f (t ∷ u ∷ us) n = absurd (false≢true n)
+
+pub title_there : (ts : List CodeToken) → is_one_quoted (pieces_of ts) ≡ true → 0 < length ts
+title_there [] n = absurd (false≢true n)
+title_there (t ∷ ts) n = omega arith
 
 -- the title's text, or want of memory
 pub title_by : (f : List ℕ → Head) (x : List ℕ) (r : Result (List ℕ) TreeKind) (given : Result Statement TreeKind) → given ≡ Ok (head (f x)) → IfOk r (λ t. t ≡ x) → IfErr r (λ k. k ≡ OutOfMemory)

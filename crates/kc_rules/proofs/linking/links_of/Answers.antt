@@ -1,4 +1,5 @@
-use Rattle.std.proofs.Common.{◌∙◌}
+use Rattle.std.proofs.Common.{◌∙◌, subst, arith}
+use Rattle.kc_rules.specs.checker.Links.{LinksBelow}
 use Rattle.kc_rules.proofs.Chains.{linked}
 use Rattle.kc_rules.proofs.linking.links_of.Goals as goal
 
@@ -7,3 +8,6 @@ loop-u-preserved c = record {
   links = linked c.args.tree.now.whole c.loop-u.u c.loop-u.made.starts.items c.loop-u.made.links.items c.as_slice.result.now c.link.new.links.starts.items c.link.new.links.links.items c.loop-u.invariant.links (c.as_slice.ensures.value ∙ c.in_ok-needed.ensures.needed) c.in_ok-link.ensures.links c.in_ok-link.ensures.starts;
   room = c.in_ok-needed.ensures.room;
 }
+
+pub returns : goal.returns
+returns c = subst (λ n. LinksBelow c.args.tree.now.whole n c.loop-u.made.starts.items c.loop-u.made.links.items) (omega (arith, c.loop-u.auto.u-end, c.loop-u-test.false, c.len-u-end.ensures)) c.loop-u.invariant.links

@@ -13,3 +13,6 @@ returns-clause-units c = λ d.
     (ap (some_name c.args.tree.now.exprs (is_of c.args.tree.now.whole d)) c.requires.no_names)
     (names_met c.args.tree.now.exprs (is_of c.args.tree.now.whole d) c.as_slice.result.now c.push_symbol.new.names.items _ c.as_slice.ensures.value (c.in_ok-push_symbol.ensures.names (is_of c.args.tree.now.whole d))))
     (c.push_units.ensures.units d)
+
+pub returns-clause-room : goal.returns-clause-room
+returns-clause-room c = on_ok_weaker c.push_units.result (λ e. c.in_ok-push_symbol.ensures.found.room) (c.push_units.ensures.units 0)

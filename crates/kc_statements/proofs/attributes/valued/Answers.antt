@@ -1,10 +1,12 @@
 use Rattle.std.proofs.Common.{arith, inl, inr}
 use Rattle.std.proofs.lemmas.List.{length-map}
 use Rattle.kc_expr.specs.Token.{pieces_of, piece_of}
-use Rattle.kc_statements.proofs.AttributeLemmas.{extent_within}
+use Rattle.kc_statements.proofs.AttributeLemmas.{extent_within, default_unread}
 use Rattle.kc_statements.proofs.Growing.{grows_on}
 use Rattle.kc_statements.proofs.Later.{node_held}
 use Rattle.kc_statements.proofs.ValueLemmas.{valued_told, valued_refused}
+use Rattle.kc_statements.proofs.FormLemmas.{unread}
+use Rattle.kc_tree_model.specs.Forms.{default_line}
 use Rattle.kc_statements.proofs.attributes.valued.Goals as goal
 
 pub optional_if-requires : goal.optional_if-requires
@@ -34,3 +36,6 @@ returns-in-Err-optional_if-clause-grows c = grows_on c.args.arena.now c.parse_ex
 pub returns-in-Ok-optional_if-clause-held : goal.returns-in-Ok-optional_if-clause-held
 returns-in-Ok-optional_if-clause-held c =
     (node_held c.parse_expr.new.self c.optional_if.new.arena c.in-Ok.read.0 c.optional_if.ensures.grows c.in-Ok.ensures.ok.stands.within, c.in-Ok-optional_if.ensures.held)
+
+pub returns-in-Err-clause-gives : goal.returns-in-Err-clause-gives
+returns-in-Err-clause-gives c = λ f. unread (pieces_of c.args.tokens.now) 0 c.in-Err.fault c.kind_of.result (default_line f (pieces_of c.args.tokens.now)) c.in-Err.ensures.fault c.kind_of.ensures (default_unread f (pieces_of c.args.tokens.now))

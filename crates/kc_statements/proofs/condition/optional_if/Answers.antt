@@ -2,6 +2,7 @@ use Rattle.std.proofs.Common.{arith, inl, inr, sym, ◌∙◌, drop, ◌+◌}
 use Rattle.kc_expr.specs.Token.{pieces_of, piece_of}
 use Rattle.std.specs.Prelude.{slice_index_or}
 use Rattle.kc_statements.proofs.FormLemmas.{front_piece, no_if, if_given, if_refused, some_token}
+use Rattle.kc_statements.proofs.Growing.{grows_none}
 use Rattle.kc_statements.proofs.condition.optional_if.Goals as goal
 
 pub returns-then-not-is_the_word-clause-gives : goal.returns-then-not-is_the_word-clause-gives
@@ -18,3 +19,9 @@ returns-in-Err-clause-gives c =
       | inl m ↦ inl m
       | inr e ↦ inr (if_refused (piece_of (slice_index_or c.args.tokens.now c.args.at some_token)) (drop (c.args.at + 1) (pieces_of c.args.tokens.now)) c.in-Err.kind (sym c.is_the_word.ensures ∙ c.if-not-is_the_word.false) e)
     ])
+
+pub returns-then-not-is_the_word-clause-grows : goal.returns-then-not-is_the_word-clause-grows
+returns-then-not-is_the_word-clause-grows c = grows_none c.args.arena.now
+
+pub returns-then-at-tokens-clause-grows : goal.returns-then-at-tokens-clause-grows
+returns-then-at-tokens-clause-grows c = grows_none c.args.arena.now

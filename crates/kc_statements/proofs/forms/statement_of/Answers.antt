@@ -1,6 +1,7 @@
 use Rattle.std.proofs.Common.{rules}
 use Rattle.kc_expr.specs.Token.{pieces_of}
 use Rattle.kc_statements.proofs.FormLemmas.{by_keyword}
+use Rattle.kc_statements.proofs.Growing.{grows_none}
 use Rattle.kc_statements.proofs.forms.statement_of.Goals as goal
 
 pub returns-in-Config-clause-gives : goal.returns-in-Config-clause-gives
@@ -65,3 +66,36 @@ returns-in-Option-clause-held c = c.option_line.ensures.held c.args.arena.now
 
 pub returns-in-DefaultType-clause-gives : goal.returns-in-DefaultType-clause-gives
 returns-in-DefaultType-clause-gives c = search rules
+
+pub returns-in-Config-clause-grows : goal.returns-in-Config-clause-grows
+returns-in-Config-clause-grows c = grows_none c.args.arena.now
+
+pub returns-in-Choice-clause-grows : goal.returns-in-Choice-clause-grows
+returns-in-Choice-clause-grows c = grows_none c.args.arena.now
+
+pub returns-in-Menu-clause-grows : goal.returns-in-Menu-clause-grows
+returns-in-Menu-clause-grows c = grows_none c.args.arena.now
+
+pub returns-in-Comment-clause-grows : goal.returns-in-Comment-clause-grows
+returns-in-Comment-clause-grows c = grows_none c.args.arena.now
+
+pub returns-in-Source-clause-grows : goal.returns-in-Source-clause-grows
+returns-in-Source-clause-grows c = grows_none c.args.arena.now
+
+pub returns-in-Mainmenu-clause-grows : goal.returns-in-Mainmenu-clause-grows
+returns-in-Mainmenu-clause-grows c = grows_none c.args.arena.now
+
+pub returns-in-End-clause-grows : goal.returns-in-End-clause-grows
+returns-in-End-clause-grows c = grows_none c.args.arena.now
+
+pub returns-in-Help-clause-grows : goal.returns-in-Help-clause-grows
+returns-in-Help-clause-grows c = grows_none c.args.arena.now
+
+pub returns-in-Modules-clause-grows : goal.returns-in-Modules-clause-grows
+returns-in-Modules-clause-grows c = grows_none c.args.arena.now
+
+pub returns-in-Option-clause-grows : goal.returns-in-Option-clause-grows
+returns-in-Option-clause-grows c = grows_none c.args.arena.now
+
+pub returns-in-LeftOut-clause-grows : goal.returns-in-LeftOut-clause-grows
+returns-in-LeftOut-clause-grows c = grows_none c.args.arena.now

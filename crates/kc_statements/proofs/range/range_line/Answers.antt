@@ -1,6 +1,6 @@
 use Rattle.std.proofs.Common.{inl, inr, sym, ap, ◌∙◌, Some}
 use Rattle.kc_statements.specs.Said.{if_in, operand_in}
-use Rattle.kc_statements.proofs.Growing.{grows_on}
+use Rattle.kc_statements.proofs.Growing.{grows_on, grows_none}
 use Rattle.kc_statements.proofs.Later.{operand_held, operand_same}
 use Rattle.kc_statements.proofs.RangeLemmas.{first_refused, second_refused, operands_given, operands_refused}
 use Rattle.kc_statements.proofs.range.range_line.Goals as goal
@@ -54,3 +54,9 @@ returns-in-Err-optional_if-clause-gives c =
       | inl m ↦ inl m
       | inr e ↦ inr (operands_refused c.args.tokens.now (operand_in c.operand.new.arena c.in-Ok.id) (operand_in c.operand-2.new.arena c.in-Ok-operand.id) c.in-Err-optional_if.kind c.if-tokens-lt2.false c.in-Ok.ensures.operand c.in-Ok-operand.ensures.operand e)
     ]
+
+pub returns-then-not-is_operand-clause-grows : goal.returns-then-not-is_operand-clause-grows
+returns-then-not-is_operand-clause-grows c = grows_none c.args.arena.now
+
+pub returns-then-not-is_operand-2-clause-grows : goal.returns-then-not-is_operand-2-clause-grows
+returns-then-not-is_operand-2-clause-grows c = grows_none c.args.arena.now

@@ -1,6 +1,6 @@
-use Rattle.std.proofs.Common.{◌≡◌, ◌++◌, ℕ, List, Option, IsTrue, length, ◌∙◌, sym, ap, subst}
+use Rattle.std.proofs.Common.{◌≡◌, ◌++◌, ℕ, List, Option, IsTrue, length, take, ◌∙◌, sym, ap, subst}
 use Rattle.std.specs.Prelude.{filter, is_none}
-use Rattle.kc_system.specs.Changes.{changed_users, FitsChanges, IsTouched, IsCountOf}
+use Rattle.kc_system.specs.Changes.{changed_users, FitsChanges, IsTouched, IsCountOf, IsListOf, IsChanged}
 use Rattle.kc_system.specs.Solutions.{user_of}
 use Rattle.kc_rules_model.specs.Dependencies.{dependencies}
 use Rattle.kc_rules_model.specs.Shapes.{user_fits}
@@ -48,3 +48,34 @@ pub returns-in-Ok-apply-clause-evaluated : goal.returns-in-Ok-apply-clause-evalu
 returns-in-Ok-apply-clause-evaluated c =
     let v : c.args.self.now ≡ c.self.inside.session = sym c.self.view_is in
     subst (λ (s : Configured). IsCountOf (length (tree_in s).units) (IsTouched (dependencies (tree_in s)) s.users c.apply.new.self.users s.values c.apply.new.self.values) c.in-Ok-apply.report.evaluated) (sym v) c.in-Ok-apply.ensures.evaluated
+
+pub invariant_of-self-in-Err-apply : goal.invariant_of-self-in-Err-apply
+invariant_of-self-in-Err-apply c =
+    let held = c.truncate-in-Err-apply.ensures.items ∙ ap (λ n. take n c.hold.new.held.items) (c.len-count.ensures ∙ c.self.inside.held.ok.0) ∙ c.in-Ok.ensures.kept in
+    rw (c.in-Err-apply.ensures.err, held) c.self.invariant
+
+pub invariant_of-self : goal.invariant_of-self
+invariant_of-self c =
+    let held = c.truncate.ensures.items ∙ ap (λ n. take n c.hold.new.held.items) (c.len-count.ensures ∙ c.self.inside.held.ok.0) ∙ c.in-Err.ensures.kept in
+    rw held c.self.invariant
+
+pub returns-clause-solved : goal.returns-clause-solved
+returns-clause-solved c = rw c.in-Err-apply.ensures.err c.self.invariant.solved
+
+pub returns-in-Ok-apply-clause-changed : goal.returns-in-Ok-apply-clause-changed
+returns-in-Ok-apply-clause-changed c = subst (λ (s : Configured). IsListOf (length (tree_in s).units) (IsChanged s.values c.apply.new.self.values) c.in-Ok-apply.report.changed.items) c.self.view_is c.in-Ok-apply.ensures.changed
+
+pub returns-clause-err : goal.returns-clause-err
+returns-clause-err c = c.in-Err-apply.ensures.err ∙ c.self.view_is
+
+pub returns-clause-settled : goal.returns-clause-settled
+returns-clause-settled c = ap (λ (s : Configured). s.system) (c.in-Err-apply.ensures.err ∙ c.self.view_is)
+
+pub returns-in-Ok-apply-clause-settled : goal.returns-in-Ok-apply-clause-settled
+returns-in-Ok-apply-clause-settled c = c.in-Ok-apply.ensures.system ∙ ap (λ (s : Configured). s.system) c.self.view_is
+
+pub returns-in-Err-clause-settled : goal.returns-in-Err-clause-settled
+returns-in-Err-clause-settled c = ap (λ (s : Configured). s.system) c.self.view_is
+
+pub returns-in-Err-clause-err : goal.returns-in-Err-clause-err
+returns-in-Err-clause-err c = c.self.view_is

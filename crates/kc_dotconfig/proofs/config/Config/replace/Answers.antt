@@ -1,11 +1,13 @@
 use Rattle.std.proofs.Common.{◌≡◌, ◌++◌, ℕ, List, Option, IsTrue, length, ◌∙◌, sym, ap, subst}
-use Rattle.kc_system.specs.Changes.{changed_users, FitsChanges}
+use Rattle.kc_system.specs.Changes.{changed_users, FitsChanges, IsListOf, IsChanged, IsTouched, IsCountOf}
+use Rattle.kc_rules_model.specs.Dependencies.{dependencies}
 use Rattle.kc_rules_model.specs.Shapes.{user_fits}
 use Rattle.kc_rules_model.specs.declared.values.UserValue.{UserValue}
 use Rattle.kc_dotconfig.specs.Configured.{Configured, tree_in}
 use Rattle.kc_dotconfig.specs.Fragments.{FitsTree, changes_of, users_of}
 use Rattle.kc_dotconfig.specs.checker.Configs.{units_of, clears_of}
 use Rattle.kc_dotconfig.proofs.Holding.{fits_changes, fits_both}
+use Rattle.kc_dotconfig.proofs.ReadingWhole.{if_any_err}
 use Rattle.kc_dotconfig.proofs.Solving.{solved_by, replaced_kept, replaced_users}
 use Rattle.kc_dotconfig.proofs.config.Config.replace.Goals as goal
 
@@ -50,3 +52,24 @@ returns-clause-users c =
 
 pub returns-clause-solved : goal.returns-clause-solved
 returns-clause-solved c = solved_by c.self.inside.session c.apply.new.self c.self.invariant.solved c.in_ok-report.ensures.system c.in_ok-report.ensures.fits c.in_ok-report.ensures.gives
+
+pub returns-clause-settled : goal.returns-clause-settled
+returns-clause-settled c = c.in_ok-report.ensures.system ∙ ap (λ (s : Configured). s.system) c.self.view_is
+
+pub returns-clause-changed : goal.returns-clause-changed
+returns-clause-changed c = subst (λ (s : Configured). IsListOf (length (tree_in s).units) (IsChanged s.values c.apply.new.self.values) c.in_ok-report.report.changed.items) c.self.view_is c.in_ok-report.ensures.changed
+
+pub returns-clause-evaluated : goal.returns-clause-evaluated
+returns-clause-evaluated c = subst (λ (s : Configured). IsCountOf (length (tree_in s).units) (IsTouched (dependencies (tree_in s)) s.users c.apply.new.self.users s.values c.apply.new.self.values) c.in_ok-report.report.evaluated) c.self.view_is c.in_ok-report.ensures.evaluated
+
+pub invariant_of-self : goal.invariant_of-self
+invariant_of-self c = rw c.in_err-report.ensures.err c.self.invariant
+
+pub returns-in_err-report-clause-err : goal.returns-in_err-report-clause-err
+returns-in_err-report-clause-err c = if_any_err c.from_residual-in_err-report.result _ (λ e. c.in_err-report.ensures.err ∙ c.self.view_is)
+
+pub returns-in_err-report-clause-settled : goal.returns-in_err-report-clause-settled
+returns-in_err-report-clause-settled c = ap (λ (s : Configured). s.system) (c.in_err-report.ensures.err ∙ c.self.view_is)
+
+pub returns-in_err-report-clause-solved : goal.returns-in_err-report-clause-solved
+returns-in_err-report-clause-solved c = rw c.in_err-report.ensures.err c.self.invariant.solved

@@ -1,0 +1,32 @@
+use Rattle.std.proofs.Common.{inr, ap, sym, ◌∙◌, length, drop}
+use Rattle.kc_expr.specs.Token.{pieces_of}
+use Rattle.kc_expr.specs.Arena.{stands_for}
+use Rattle.kc_tree_model.specs.Forms.{worded_line, last_condition}
+use Rattle.kc_tree_model.specs.Statements.{attribute}
+use Rattle.kc_statements.proofs.FormLemmas.{along, given_on, none_there, there, stepped}
+use Rattle.kc_statements.proofs.Growing.{grows_none}
+use Rattle.kc_statements.proofs.LineLemmas.{worded_is, worded_other}
+use Rattle.kc_statements.proofs.attributes.worded.Goals as goal
+
+pub returns-then-is_empty-clause-grows : goal.returns-then-is_empty-clause-grows
+returns-then-is_empty-clause-grows c = grows_none c.args.arena.now
+
+pub returns-then-not-is_the_word-clause-grows : goal.returns-then-not-is_the_word-clause-grows
+returns-then-not-is_the_word-clause-grows c = grows_none c.args.arena.now
+
+pub returns-then-is_empty-clause-gives : goal.returns-then-is_empty-clause-gives
+returns-then-is_empty-clause-gives c = λ f. inr (ap (λ ts. worded_line c.args.word.now f (pieces_of ts)) (none_there c.args.tokens.now c.is_empty.result c.is_empty.ensures c.if-is_empty.true))
+
+pub returns-then-not-is_the_word-clause-gives : goal.returns-then-not-is_the_word-clause-gives
+returns-then-not-is_the_word-clause-gives c =
+    let some = there (length c.args.tokens.now) c.is_empty.result c.is_empty.ensures c.if-is_empty.false in
+    λ f. inr (worded_other c.args.word.now f c.args.tokens.now some (sym c.is_the_word.ensures ∙ c.if-not-is_the_word.true))
+
+pub returns-clause-gives : goal.returns-clause-gives
+returns-clause-gives c =
+    let some = there (length c.args.tokens.now) c.is_empty.result c.is_empty.ensures c.if-is_empty.false in
+    let e = c.last_condition.new.arena in
+    let ps = drop 1 (pieces_of c.args.tokens.now) in
+    λ f. along (λ id. attribute (f (stands_for e id))) c.last_condition.result (worded_line c.args.word.now f (pieces_of c.args.tokens.now)) (stepped (λ x. attribute (f x)) (last_condition ps))
+    (worded_is c.args.word.now f c.args.tokens.now some (sym c.is_the_word.ensures ∙ c.if-not-is_the_word.false))
+    (given_on (stands_for e) (λ x. attribute (f x)) c.last_condition.result (last_condition ps) c.last_condition.ensures.gives)
