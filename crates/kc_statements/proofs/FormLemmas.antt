@@ -111,7 +111,7 @@ there (suc n) b e f = omega arith
 pub by_keyword : (e : Exprs) (r : Result CodeStatement TreeKind) (ps : List Piece) {k l : CodeKeyword} → k ≡ l → Gives (statement_in e) r (statement_of (meant l) ps) → Gives (statement_in e) r (statement_of (meant k) ps)
 by_keyword e r ps {k} {l} q g = along (statement_in e) r (statement_of (meant k) ps) (statement_of (meant l) ps) (ap (λ w. statement_of (meant w) ps) q) g
 
--- there is none where it succeeds
+-- no tokens where their number is 0
 equal : (m n : ℕ) → (m == n) ≡ true → m ≡ n
 equal m n e = search (rules, nat_tests)
 
