@@ -1,5 +1,5 @@
 //! Names of expressions, and the names of faults.
-ghost use Rattle.std.specs.Prelude.{◌<◌, ◌≤◌, ◌^◌, length, IfOk, OnOk};
+ghost use Rattle.std.specs.Prelude.{◌<◌, ◌≤◌, ◌^◌, length, IfOk, OnOk, []};
 ghost use Rattle.kc_expr.specs.Walked.{HasFound};
 
 use kc_expr::{Arena, ExprFault, ExprId, ExprKind, NameId, Operand, Token, Walk, tokens};
@@ -41,15 +41,30 @@ fn interned(arena: &mut Arena, name: &str) -> Result<usize, ExprFault> {
     Ok(twice_on!(sizes(arena), arena.intern(name)).index())
 }
 
+/// The expression that begins a text, the place behind it, and how many tokens the text has.
+fn read(alloc: Global, arena: &mut Arena, text: &str) -> Result<(ExprId, usize, usize), ExprFault>
+    ensures { IfOk result (λ r. r.0 < length arena.new.nodes) }
+{
+    let list = twice!(tokens(alloc, text));
+    let (id, end) = parsed(arena, &list)?;
+    Ok((id, end, list.len()))
+}
+
 /// Whether the calls of an arena tell of an expression what they should.
 fn is_told(alloc: Global) -> Result<bool, ExprFault> {
     let mut arena = Arena::new(alloc);
-    let list = twice!(tokens(alloc, "Z = \"x\" && (!A || Z) && m if NEW"));
-    let (id, end) = parsed(&mut arena, &list)?;
-    let (names, nodes) = sizes(&arena);
-    let count = count_of_names(&mut arena, id)?;
-    let is_read = list.len() == 14 && end == 12 && names == 3 && count == 3;
-    Ok(is_read && sizes(&arena) == (3, nodes + 2) && are_put_behind(&mut arena)?)
+    let is_told = is_told_in(alloc, &mut arena);
+    drop(arena);
+    is_told
+}
+
+/// Whether those of this arena, which is empty, do.
+fn is_told_in(alloc: Global, arena: &mut Arena) -> Result<bool, ExprFault> {
+    let (id, end, tokens) = read(alloc, arena, "Z = \"x\" && (!A || Z) && m if NEW")?;
+    let (names, nodes) = sizes(arena);
+    let count = count_of_names(arena, id)?;
+    let is_read = tokens == 14 && end == 12 && names == 3 && count == 3;
+    Ok(is_read && sizes(arena) == (3, nodes + 2) && are_put_behind(arena)?)
 }
 
 /// How many names an expression has, joined to itself and shown.
@@ -106,17 +121,35 @@ fn push_met(
 /// Whether a walk passes over what it has met in its turn, and no longer in the next one.
 fn is_met_once(alloc: Global) -> Result<bool, ExprFault> {
     let mut arena = Arena::new(alloc);
-    let list = twice!(tokens(alloc, "A && B || !C"));
-    let (id, _) = parsed(&mut arena, &list)?;
-    let both = doubled(&mut arena, id)?;
-    let mut walk = twice!(arena.walk());
+    let is_met_once = is_met_once_in(alloc, &mut arena);
+    drop(arena);
+    is_met_once
+}
+
+/// Whether a walk through this arena, which is empty, does.
+fn is_met_once_in(alloc: Global, arena: &mut Arena) -> Result<bool, ExprFault> {
+    let (id, _, _) = read(alloc, arena, "A && B || !C")?;
+    let both = doubled(arena, id)?;
+    Ok(is_met_once_by(alloc, arena, both, &mut twice!(arena.walk()))?)
+}
+
+/// Whether this walk, which has met none, does.
+fn is_met_once_by(
+    alloc: Global,
+    arena: &Arena,
+    id: ExprId,
+    walk: &mut Walk,
+) -> Result<bool, AllocError>
+    requires there { id < length arena.now.nodes }
+    requires found { HasFound arena.now walk.old [] }
+{
     let mut found = Vec::new(alloc);
-    push_met(&arena, both, &mut walk, &mut found)?;
+    push_met(arena, id, walk, &mut found)?;
     let first = found.len();
-    push_met(&arena, both, &mut walk, &mut found)?;
+    push_met(arena, id, walk, &mut found)?;
     let again = found.len();
     walk.begin();
-    push_met(&arena, both, &mut walk, &mut found)?;
+    push_met(arena, id, walk, &mut found)?;
     Ok(first == 3 && again == 3 && found.len() == 6)
 }
 
@@ -137,11 +170,17 @@ fn push_all(arena: &Arena, id: ExprId, found: &mut Vec<NameId>) -> Result<(), Al
 /// Whether the names of an expression are put behind those of a list, each as often as it stands there.
 fn are_put(alloc: Global) -> Result<bool, ExprFault> {
     let mut arena = Arena::new(alloc);
-    let list = twice!(tokens(alloc, "A && B || !A"));
-    let (id, _) = parsed(&mut arena, &list)?;
+    let are_put = are_put_from(alloc, &mut arena);
+    drop(arena);
+    are_put
+}
+
+/// Whether those of an expression of this arena, which is empty, are.
+fn are_put_from(alloc: Global, arena: &mut Arena) -> Result<bool, ExprFault> {
+    let (id, _, _) = read(alloc, arena, "A && B || !A")?;
     let mut found = Vec::new(alloc);
-    push_all(&arena, id, &mut found)?;
-    push_all(&arena, id, &mut found)?;
+    push_all(arena, id, &mut found)?;
+    push_all(arena, id, &mut found)?;
     Ok(found.len() == 6 && found[..3] == found[3..])
 }
 

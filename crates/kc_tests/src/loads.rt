@@ -111,7 +111,9 @@ fn are_made(
 /// Whether a copy holds what its original does, as a file tells that takes its place.
 fn is_copied(alloc: Global, config: &Config<'_>) -> Result<bool, AllocError> {
     let mut copy = config.copy()?;
-    is_made(alloc, &mut copy, &OF_A_COPY)
+    let is_made = is_made(alloc, &mut copy, &OF_A_COPY);
+    drop(copy);
+    is_made
 }
 
 /// Whether the symbol of this number is the only one that is missed.
@@ -132,13 +134,18 @@ fn holds(alloc: Global, config: &mut Config<'_>) -> Result<bool, AllocError> {
 
 /// Whether a configuration does so from its making on.
 fn holds_from_the_start(alloc: Global) -> Result<bool, AllocError> {
-    holds_in(alloc, &large_tree(alloc)?)
+    let tree = large_tree(alloc)?;
+    let holds = holds_in(alloc, &tree);
+    drop(tree);
+    holds
 }
 
 /// Whether it does so over this tree.
 fn holds_in(alloc: Global, tree: &Settled) -> Result<bool, AllocError> {
     let mut config = twice!(Config::new(alloc, tree));
-    holds(alloc, &mut config)
+    let holds = holds(alloc, &mut config);
+    drop(config);
+    holds
 }
 
 #[test]

@@ -31,7 +31,9 @@ fn faults_are_printed_as_what_failed(rt: HostRuntime) -> Result<(), Fail> {
 /// Whether a file is minimised to these bytes.
 fn is_minimised(alloc: Global, file: &str, wanted: &str) -> Result<bool, AllocError> {
     let tree = settled(alloc, TREE.as_bytes(), Profile::Present)?;
-    is_minimised_over(alloc, &tree, file, wanted)
+    let is_minimised = is_minimised_over(alloc, &tree, file, wanted);
+    drop(tree);
+    is_minimised
 }
 
 /// Whether a file is minimised to these bytes over this tree.

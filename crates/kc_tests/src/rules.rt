@@ -71,17 +71,27 @@ fn is_solved(alloc: Global, config: &Config<'_>) -> Result<bool, AllocError> {
 
 /// Whether the values held stay those that solving anew gives, in this profile.
 fn is_kept_solved(alloc: Global, profile: Profile) -> Result<bool, AllocError> {
-    stays_solved(alloc, &settled(alloc, TREE, profile)?)
+    let tree = settled(alloc, TREE, profile)?;
+    let stays_solved = stays_solved(alloc, &tree);
+    drop(tree);
+    stays_solved
 }
 
 /// Whether they do so in this tree, through many changes.
 fn stays_solved(alloc: Global, tree: &Settled) -> Result<bool, AllocError> {
     let mut config = twice!(Config::new(alloc, tree));
+    let stays_solved = is_solved_throughout(alloc, &mut config);
+    drop(config);
+    stays_solved
+}
+
+/// Whether those of this configuration do, which holds none at first.
+fn is_solved_throughout(alloc: Global, config: &mut Config<'_>) -> Result<bool, AllocError> {
     let mut seed: u32 = 1;
     for _ in 0..40 {
         seed = seed.wrapping_mul(1_664_525).wrapping_add(1_013_904_223);
-        merged_twice(alloc, &mut config, LINES[(seed >> 28) as usize % 16])?;
-        if !twice!(is_solved(alloc, &config)) {
+        merged_twice(alloc, config, LINES[(seed >> 28) as usize % 16])?;
+        if !twice!(is_solved(alloc, config)) {
             return Ok(false);
         }
     }

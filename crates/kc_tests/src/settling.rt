@@ -14,7 +14,14 @@ use std::alloc::{AllocError, Global};
 /// The tree of one file, settled; an `Err` where it isn't accepted too.
 pub(crate) fn settled(alloc: Global, text: &[u8], profile: Profile) -> Result<Settled, AllocError> {
     let texts = texts_of(alloc, text)?;
-    Ok(twice!(settled_of(alloc, &texts, profile)))
+    let settled = settled_twice(alloc, &texts, profile);
+    drop(texts);
+    settled
+}
+
+/// The tree of these texts, settled at the second try where the first is refused.
+fn settled_twice(alloc: Global, texts: &Texts, profile: Profile) -> Result<Settled, AllocError> {
+    Ok(twice!(settled_of(alloc, texts, profile)))
 }
 
 fn settled_of(alloc: Global, texts: &Texts, profile: Profile) -> Result<Settled, AllocError> {
@@ -33,11 +40,16 @@ fn tree_of(alloc: Global, texts: &Texts) -> Result<Tree, AllocError> {
 
 fn texts_of(alloc: Global, text: &[u8]) -> Result<Texts, AllocError> {
     let mut texts = Texts::new(alloc);
+    insert(&mut texts, text)?;
+    Ok(texts)
+}
+
+fn insert(texts: &mut Texts, text: &[u8]) -> Result<(), AllocError> {
     twice_on!(
         texts.get("Kconfig").is_some(),
         texts.insert("Kconfig", text)
     );
-    Ok(texts)
+    Ok(())
 }
 
 /// Lays a file over what is held; an `Err` where it isn't accepted too.
@@ -56,9 +68,27 @@ pub(crate) fn merged_twice(
     config: &mut Config<'_>,
     file: &str,
 ) -> Result<Report, AllocError> {
-    let fragment = twice!(fragment_of(alloc, config.settled(), file));
+    let fragment = fragment_twice(alloc, config.settled(), file)?;
+    let report = laid_over_itself(config, &fragment);
+    drop(fragment);
+    report
+}
+
+/// The assignments of a file, read at the second try where the first is refused.
+fn fragment_twice(alloc: Global, settled: &Settled, file: &str) -> Result<Fragment, AllocError>
+    ensures { IfOk result (λ fragment. FitsTree (whole_of settled.now) fragment.assigns.items) }
+{
+    Ok(twice!(fragment_of(alloc, settled, file)))
+}
+
+/// Lays a fragment over what is held; where that is refused once, it has to leave what is held as it was.
+fn laid_over_itself(config: &mut Config<'_>, fragment: &Fragment) -> Result<Report, AllocError>
+    requires { FitsTree (tree_in config.old) fragment.now.assigns.items }
+{
     let before = twice!(config.copy());
-    laid_over(config, &before, &fragment)
+    let report = laid_over(config, &before, fragment);
+    drop(before);
+    report
 }
 
 /// Lays a fragment over what is held, which is what this copy holds.
