@@ -4,7 +4,7 @@ use Rattle.std.specs.Prelude.{All, IfSome, slice_get, slice_range, option_to_lis
 use Rattle.std.proofs.lemmas.List.{reverse-append, take_all, take-append-le, drop-append-le}
 use Rattle.std.proofs.Math.Seq.{drop-append_seam}
 use Rattle.kc_expr.specs.Arena.{Exprs, Stands, stands_for, Grows}
-use Rattle.kc_expr.specs.Expr.{Expr, shown}
+use Rattle.kc_expr.specs.Expr.{Expr}
 use Rattle.kc_statements.specs.Said.{attribute_in, AttributeHeld}
 use Rattle.kc_statements.specs.declared.statement.Attribute.{Attribute as CodeAttribute}
 use Rattle.kc_statements.specs.declared.statement.Attribute.TheVariants as attributes

@@ -1,4 +1,5 @@
 use Rattle.std.proofs.Common.{◌≡◌, ◌++◌, ℕ, List, length, take, ◌∙◌, ap, arith}
+use Rattle.std.proofs.lemmas.Grind.{common_steps}
 use Rattle.std.specs.Prelude.{filter, is_none}
 use Rattle.std.proofs.Math.Seq.{take-length, take-append_seam}
 use Rattle.kc_system.specs.Solutions.{user_of}
@@ -18,3 +19,6 @@ returns-clause-ok c =
 
 pub returns-clause-kept : goal.returns-clause-kept
 returns-clause-kept c = ap (take (length c.args.held.now.items)) c.loop-unit.invariant ∙ take-append_seam c.args.held.now.items _
+
+pub loop-unit-preserved : goal.loop-unit-preserved
+loop-unit-preserved c = grind (arith, common_steps)

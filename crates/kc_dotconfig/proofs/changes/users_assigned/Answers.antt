@@ -1,4 +1,5 @@
 use Rattle.std.proofs.Common.{◌++◌, ◌∷◌, [], List, Option, None, Some, replicate, slice_set, take, sym, ap, ◌∙◌, arith}
+use Rattle.std.proofs.lemmas.Grind.{common_steps, elements}
 use Rattle.std.proofs.lemmas.List.{take_more, length-set}
 use Rattle.kc_system.specs.Changes.{changed_users}
 use Rattle.kc_rules_model.specs.declared.values.UserValue.{UserValue}
@@ -24,3 +25,12 @@ loop-unit-preserved c =
           ∙ ap (λ x. changed_users (changes_of (take i assigns ++ x ∷ [])) blank) c.loop-unit-item.is
           ∙ ap (λ es. changed_users (changes_of es) blank) (sym more);
     }
+
+pub loop-unit-init : goal.loop-unit-init
+loop-unit-init c = grind (arith, common_steps)
+
+pub returns : goal.returns
+returns c = grind (arith, common_steps)
+
+pub index_mut-requires : goal.index_mut-requires
+index_mut-requires c = grind (arith, elements)

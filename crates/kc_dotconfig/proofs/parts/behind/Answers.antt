@@ -1,4 +1,5 @@
-use Rattle.std.proofs.Common.{◌≡◌, ◌++◌, length, drop, sym, ◌∙◌, ap}
+use Rattle.std.proofs.Common.{◌≡◌, ◌++◌, length, drop, sym, ◌∙◌, ap, arith}
+use Rattle.std.proofs.lemmas.Grind.{elements}
 use Rattle.std.proofs.lemmas.Bool.Decides.{Decides-eqb}
 use Rattle.std.proofs.lemmas.Slice.Eq.{starts_is}
 use Rattle.kc_dotconfig.proofs.LineParts.{behind_some, behind_none, front_boundary}
@@ -22,3 +23,9 @@ returns-clause-some c =
     let is : c.args.line.now ≡ c.args.front.now ++ drop (length c.args.front.now) c.args.line.now =
     sym c.as_bytes.ensures.value ∙ s.0 c.if-not-starts_with.false ∙ ap (λ l. c.args.front.now ++ drop (length c.args.front.now) l) c.as_bytes.ensures.value in
     behind_some c.args.front.now c.args.line.now c.range_from.result.now (is ∙ ap (λ l. c.args.front.now ++ l) (sym c.range_from.ensures.value))
+
+pub returns-then-not-starts_with-clause-some : goal.returns-then-not-starts_with-clause-some
+returns-then-not-starts_with-clause-some c = grind (arith, elements)
+
+pub returns-clause-none : goal.returns-clause-none
+returns-clause-none c = grind (arith, elements)

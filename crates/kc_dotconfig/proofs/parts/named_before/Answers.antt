@@ -1,4 +1,5 @@
-use Rattle.std.proofs.Common.{◌≡◌, sym, ◌∙◌, ap, None}
+use Rattle.std.proofs.Common.{◌≡◌, sym, ◌∙◌, ap, None, arith}
+use Rattle.std.proofs.lemmas.Grind.{common_steps, elements}
 use Rattle.std.specs.Option.{option_and_then}
 use Rattle.kc_dotconfig_model.specs.checker.Reading.{if_named, named_before}
 use Rattle.kc_dotconfig.proofs.LineParts.{cut_none, cut_parts, named_is, if_none}
@@ -12,3 +13,12 @@ pub returns-clause-some : goal.returns-clause-some
 returns-clause-some c =
     let b = c.in_ok-name.ensures.byte c.requires (λ w o f. f) in
     named_is c.args.end c.args.text.now c.in_ok-name.name.now c.in_ok-name.rest.now (cut_parts c.args.end c.args.text.now c.in_ok-name.name.now c.in_ok-name.rest.now b.0 b.1 b.2) (sym c.is_empty.ensures ∙ c.if-is_empty.false)
+
+pub returns-clause-none : goal.returns-clause-none
+returns-clause-none c = grind (arith, common_steps)
+
+pub returns-in_err-name-clause-some : goal.returns-in_err-name-clause-some
+returns-in_err-name-clause-some c = grind (arith, common_steps)
+
+pub returns-then-is_empty-clause-some : goal.returns-then-is_empty-clause-some
+returns-then-is_empty-clause-some c = grind (arith, elements)

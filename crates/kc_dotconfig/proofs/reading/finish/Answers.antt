@@ -1,3 +1,5 @@
+use Rattle.std.proofs.Common.{arith}
+use Rattle.std.proofs.lemmas.Grind.{common_steps}
 use Rattle.kc_rules.specs.Told.{whole_of}
 use Rattle.kc_dotconfig_model.specs.Prefixes.{text_of}
 use Rattle.kc_dotconfig.proofs.ReadingWhole.{fault_of, ends_whole}
@@ -8,3 +10,6 @@ returns-in-Err-clause-err c = fault_of (text_of c.args.prefix.now) (whole_of c.a
 
 pub returns-in-Ok-clause-ok : goal.returns-in-Ok-clause-ok
 returns-in-Ok-clause-ok c = ends_whole (text_of c.args.prefix.now) (whole_of c.args.settled.now) c.args.cutter.now c.args.gathered c.take_end.new.gathered c.in-Ok.fragment c.in_default.ensures.ok c.in-Ok.ensures
+
+pub returns-in-Err-fragment_of-clause-err : goal.returns-in-Err-fragment_of-clause-err
+returns-in-Err-fragment_of-clause-err c = grind (arith, common_steps)

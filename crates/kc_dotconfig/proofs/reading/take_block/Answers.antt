@@ -1,4 +1,5 @@
-use Rattle.std.proofs.Common.{inr}
+use Rattle.std.proofs.Common.{inr, arith}
+use Rattle.std.proofs.lemmas.Grind.{common_steps, elements}
 use Rattle.std.proofs.lemmas.Result.{err_from_is_err_and}
 use Rattle.kc_rules.specs.Told.{whole_of}
 use Rattle.kc_dotconfig_model.specs.Prefixes.{text_of}
@@ -15,3 +16,12 @@ returns-then-block-room-clause-err c = inr (part_too_large (text_of c.args.prefi
 
 pub returns-clause-err : goal.returns-clause-err
 returns-clause-err c = block_faulty c.take_bytes-2.result (text_of c.args.prefix.now) (whole_of c.args.settled.now) c.args.cutter.now c.args.gathered.now c.args.block.now c.args.size c.take_bytes-2.new.gathered.lines c.requires.size c.if-block-room.false c.take_bytes-2.ensures.err
+
+pub returns-clause-room : goal.returns-clause-room
+returns-clause-room c = grind (arith, common_steps)
+
+pub slice_bounds-take_bytes-end : goal.slice_bounds-take_bytes-end
+slice_bounds-take_bytes-end c = grind (arith, elements)
+
+pub returns-then-block-room-clause-few : goal.returns-then-block-room-clause-few
+returns-then-block-room-clause-few c = grind (arith, common_steps)

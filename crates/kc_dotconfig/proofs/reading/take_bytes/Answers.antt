@@ -1,4 +1,5 @@
-use Rattle.std.proofs.Common.{[], refl}
+use Rattle.std.proofs.Common.{[], refl, arith}
+use Rattle.std.proofs.lemmas.Grind.{common_steps, elements}
 use Rattle.std.proofs.lemmas.Result.{err_from_is_err_and}
 use Rattle.kc_rules.specs.Told.{whole_of}
 use Rattle.kc_dotconfig_model.specs.Prefixes.{text_of}
@@ -30,3 +31,12 @@ returns-clause-ok c = last_taken c.take_piece.result (text_of c.args.prefix.now)
 
 pub returns-clause-err : goal.returns-clause-err
 returns-clause-err c = last_refused c.take_piece.result (text_of c.args.prefix.now) (whole_of c.args.settled.now) c.args.cutter.now c.args.gathered.now c.args.bytes.now c.loop-at.rest.now c.loop-at.cutter c.loop-at.gathered c.loop-at.invariant.taken c.take_piece.ensures.err
+
+pub slice_bounds-take_ended-end : goal.slice_bounds-take_ended-end
+slice_bounds-take_ended-end c = grind (arith, elements)
+
+pub returns-clause-few : goal.returns-clause-few
+returns-clause-few c = grind (arith, common_steps)
+
+pub overflow_add-rest : goal.overflow_add-rest
+overflow_add-rest c = grind (arith, elements)

@@ -1,4 +1,5 @@
 use Rattle.std.proofs.Common.{◌≡◌, List, ℕ, [], length, ◌<◌, ◌∙◌, ap, sym, subst, inl, inr, arith}
+use Rattle.std.proofs.lemmas.Grind.{elements}
 use Rattle.kc_rules.specs.Told.{whole_of}
 use Rattle.kc_dotconfig_model.specs.LoadFaults.{MOST_LINES}
 use Rattle.kc_dotconfig_model.specs.Prefixes.{text_of}
@@ -26,3 +27,6 @@ returns-clause-few c h =
     let some : 0 < length c.args.cutter.now = (let b = ap length c.line.ensures.line in let h = some_of c.line.result.now (sym c.is_empty.ensures ∙ c.if-is_empty.false) in omega arith) in
     let few : c.args.gathered.now.lines < MOST_LINES = elim c.requires [ inl e ↦ (let a = ap length e in absurd (omega arith)) | inr h ↦ h ] in
     lines_bound c.take_line.result c.args.gathered.now.lines c.take_line.new.gathered.lines c.take_line.ensures.lines c.take_line.ensures.err few
+
+pub take_line-requires : goal.take_line-requires
+take_line-requires c = grind (arith, elements)

@@ -1,4 +1,5 @@
 use Rattle.std.proofs.Common.{◌≡◌, ◌+◌, ◌∷◌, subst, inr, List, ℕ, [], ◌++◌, length, ◌<◌, ◌≤◌, ◌∙◌, ap, sym, refl, arith}
+use Rattle.std.proofs.lemmas.Grind.{common_steps}
 use Rattle.std.specs.Prelude.{Err}
 use Rattle.std.proofs.lemmas.Result.{err_from_is_err_and}
 use Rattle.kc_rules.specs.Told.{whole_of}
@@ -61,3 +62,15 @@ returns-clause-ok c =
 
 pub returns-clause-few : goal.returns-clause-few
 returns-clause-few c = let h = c.requires.few in let n = c.if-gathered-eq-MOST_LINES.false in let e = c.in_ok-take_line.ensures.lines in omega arith
+
+pub returns-then-piece-gt-MOST_LINE_BYTES-clause-few : goal.returns-then-piece-gt-MOST_LINE_BYTES-clause-few
+returns-then-piece-gt-MOST_LINE_BYTES-clause-few c = grind (arith, common_steps)
+
+pub take_line-requires : goal.take_line-requires
+take_line-requires c = grind (arith, common_steps)
+
+pub returns-in_err-take_line-clause-few : goal.returns-in_err-take_line-clause-few
+returns-in_err-take_line-clause-few c = grind (arith, common_steps)
+
+pub take_line-requires-2 : goal.take_line-requires-2
+take_line-requires-2 c = grind (arith, common_steps)

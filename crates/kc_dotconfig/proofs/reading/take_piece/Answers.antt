@@ -1,4 +1,5 @@
 use Rattle.std.proofs.Common.{inr, ◌<◌, ◌∙◌, sym, arith}
+use Rattle.std.proofs.lemmas.Grind.{common_steps}
 use Rattle.kc_dotconfig_model.specs.LoadFaults.{MOST_LINES}
 use Rattle.kc_dotconfig.proofs.ReadingSteps.{some_of, many_stops, push_stops}
 use Rattle.kc_dotconfig.proofs.reading.take_piece.Goals as goal
@@ -10,3 +11,9 @@ pub returns-clause-err : goal.returns-clause-err
 returns-clause-err c =
     let few : c.args.lines < MOST_LINES = (let h = c.requires.few in let n = c.if-lines-eq-MOST_LINES.false in omega arith) in
     push_stops c.push.result c.args.cutter.now c.args.piece.now c.args.lines c.push.ensures.long c.push.ensures.kinds c.requires.one_line few
+
+pub returns-clause-ok : goal.returns-clause-ok
+returns-clause-ok c = grind (arith, common_steps)
+
+pub returns-then-is_empty-clause-ok : goal.returns-then-is_empty-clause-ok
+returns-then-is_empty-clause-ok c = grind (arith, common_steps)

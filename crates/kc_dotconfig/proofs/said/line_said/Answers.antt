@@ -1,4 +1,5 @@
-use Rattle.std.proofs.Common.{ap}
+use Rattle.std.proofs.Common.{ap, arith}
+use Rattle.std.proofs.lemmas.Grind.{common_steps, elements}
 use Rattle.std.specs.Prelude.{option_map}
 use Rattle.kc_tree.specs.Held.{Held}
 use Rattle.kc_rules.specs.Told.{whole_of}
@@ -22,3 +23,21 @@ pub returns-clause-said : goal.returns-clause-said
 returns-clause-said c =
     other_line_says (text_of c.args.prefix.now) (whole_of c.args.settled.now) c.tree-tree.result.now.whole (without_white_end c.args.line.now) c.trimmed-line.result.now (option_map saying_of c.other_line_said.result)
     (ap (λ (h : Held). h.whole) c.tree-tree.ensures.tree) c.trimmed-line.ensures c.in_default.ensures.none c.in_default-unset_name.ensures.none c.other_line_said.ensures.said
+
+pub value_line_said-requires-text-text : goal.value_line_said-requires-text-text
+value_line_said-requires-text-text c = grind (arith, common_steps)
+
+pub value_line_said-requires-text-name : goal.value_line_said-requires-text-name
+value_line_said-requires-text-name c = grind (arith, common_steps)
+
+pub unset_line_said-requires-text-name : goal.unset_line_said-requires-text-name
+unset_line_said-requires-text-name c = grind (arith, common_steps)
+
+pub returns-in_err-said-clause-within : goal.returns-in_err-said-clause-within
+returns-in_err-said-clause-within c = grind (arith, elements)
+
+pub returns-in-Some-unset_name-clause-within : goal.returns-in-Some-unset_name-clause-within
+returns-in-Some-unset_name-clause-within c = grind (arith, common_steps)
+
+pub returns-in-Some-clause-within : goal.returns-in-Some-clause-within
+returns-in-Some-clause-within c = grind (arith, common_steps)

@@ -1,4 +1,5 @@
-use Rattle.std.proofs.Common.{rules}
+use Rattle.std.proofs.Common.{rules, arith}
+use Rattle.std.proofs.lemmas.Grind.{common_steps}
 use Rattle.kc_rules.specs.Told.{whole_of}
 use Rattle.kc_dotconfig_model.specs.Prefixes.{text_of}
 use Rattle.kc_dotconfig.specs.checker.Sayings.{saying_of}
@@ -23,3 +24,51 @@ returns-in-Ok-None-clause-malformed c e = (
 
 pub returns-in-Ok-None-clause-ok : goal.returns-in-Ok-None-clause-ok
 returns-in-Ok-None-clause-ok c = search rules
+
+pub returns-in-Ok-take-clause-lines : goal.returns-in-Ok-take-clause-lines
+returns-in-Ok-take-clause-lines c = grind (arith, common_steps)
+
+pub returns-in-Err-clause-not_utf8 : goal.returns-in-Err-clause-not_utf8
+returns-in-Err-clause-not_utf8 c = grind (arith, common_steps)
+
+pub returns-in-Ok-None-clause-err : goal.returns-in-Ok-None-clause-err
+returns-in-Ok-None-clause-err c = grind (arith, common_steps)
+
+pub returns-in-Ok-take-clause-malformed : goal.returns-in-Ok-take-clause-malformed
+returns-in-Ok-take-clause-malformed c = grind (arith, common_steps)
+
+pub returns-in-Ok-None-clause-lines : goal.returns-in-Ok-None-clause-lines
+returns-in-Ok-None-clause-lines c = grind (arith, common_steps)
+
+pub returns-in-Ok-None-clause-kinds : goal.returns-in-Ok-None-clause-kinds
+returns-in-Ok-None-clause-kinds c = grind (arith, common_steps)
+
+pub returns-in-Err-clause-kinds : goal.returns-in-Err-clause-kinds
+returns-in-Err-clause-kinds c = grind (arith, common_steps)
+
+pub returns-in-Err-take-clause-err : goal.returns-in-Err-take-clause-err
+returns-in-Err-take-clause-err c = grind (arith, common_steps)
+
+pub returns-in_default-clause-kinds : goal.returns-in_default-clause-kinds
+returns-in_default-clause-kinds c = grind (arith, common_steps)
+
+pub returns-in_default-clause-malformed : goal.returns-in_default-clause-malformed
+returns-in_default-clause-malformed c = grind (arith, common_steps)
+
+pub returns-in-Ok-None-clause-not_utf8 : goal.returns-in-Ok-None-clause-not_utf8
+returns-in-Ok-None-clause-not_utf8 c = grind (arith, common_steps)
+
+pub returns-in-Err-take-clause-kinds : goal.returns-in-Err-take-clause-kinds
+returns-in-Err-take-clause-kinds c = grind (arith, common_steps)
+
+pub returns-in-Ok-take-clause-not_utf8 : goal.returns-in-Ok-take-clause-not_utf8
+returns-in-Ok-take-clause-not_utf8 c = grind (arith, common_steps)
+
+pub returns-in-Err-take-clause-malformed : goal.returns-in-Err-take-clause-malformed
+returns-in-Err-take-clause-malformed c = grind (arith, common_steps)
+
+pub returns-in-Err-take-clause-not_utf8 : goal.returns-in-Err-take-clause-not_utf8
+returns-in-Err-take-clause-not_utf8 c = grind (arith, common_steps)
+
+pub returns-in-Err-clause-malformed : goal.returns-in-Err-clause-malformed
+returns-in-Err-clause-malformed c = grind (arith, common_steps)

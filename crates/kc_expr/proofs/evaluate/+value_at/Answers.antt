@@ -1,4 +1,5 @@
 use Rattle.std.proofs.Common.{◌<◌, arith, length, ap, ◌∙◌}
+use Rattle.std.proofs.lemmas.Grind.{common_steps}
 use Rattle.kc_value.specs.Tri.{tri_not}
 use Rattle.kc_expr.specs.Expr.{value, unless_n}
 use Rattle.kc_expr.specs.Lookup.{names_seen}
@@ -50,3 +51,66 @@ ors-preserved g t c =
       below = omega (arith, f);
       chain = ors_more _ _ _ _ _ _ _ c.or-greatest.ensures.value c.value_at-in-Either-node.ensures (ap (value (names_seen (names_held c.args.store.now) (g.L.Lookup.sees c.args.lookup.now))) e) c.ors.invariant.chain;
     }
+
+pub overflow_cast-next-in-Either-node : goal.overflow_cast-next-in-Either-node
+overflow_cast-next-in-Either-node g t c = omega arith
+
+pub overflow_cast-right-in-Either-node : goal.overflow_cast-right-in-Either-node
+overflow_cast-right-in-Either-node g t c = omega arith
+
+pub overflow_cast-right-in-Both-node : goal.overflow_cast-right-in-Both-node
+overflow_cast-right-in-Both-node g t c = omega arith
+
+pub value_at-least-requires : goal.value_at-least-requires
+value_at-least-requires g t c = grind (arith, common_steps)
+
+pub leaf_value-requires-clause-fits : goal.leaf_value-requires-clause-fits
+leaf_value-requires-clause-fits g t c = grind (arith, common_steps)
+
+pub returns-in_default-node : goal.returns-in_default-node
+returns-in_default-node g t c = grind (arith, common_steps)
+
+pub value_at-requires : goal.value_at-requires
+value_at-requires g t c = grind (arith, common_steps)
+
+pub ors-smaller : goal.ors-smaller
+ors-smaller g t c = grind (arith, common_steps)
+
+pub leaf_value-requires-clause-distinct : goal.leaf_value-requires-clause-distinct
+leaf_value-requires-clause-distinct g t c = grind (arith, common_steps)
+
+pub overflow_cast-at-in-Both-node : goal.overflow_cast-at-in-Both-node
+overflow_cast-at-in-Both-node g t c = omega arith
+
+pub value_at-requires-in-Shown : goal.value_at-requires-in-Shown
+value_at-requires-in-Shown g t c = grind (arith, common_steps)
+
+pub returns-in_default : goal.returns-in_default
+returns-in_default g t c = grind (arith, common_steps)
+
+pub value_at-greatest-requires : goal.value_at-greatest-requires
+value_at-greatest-requires g t c = grind (arith, common_steps)
+
+pub related_value-requires-clause-right : goal.related_value-requires-clause-right
+related_value-requires-clause-right g t c = grind (arith, common_steps)
+
+pub value_at-requires-in-Both : goal.value_at-requires-in-Both
+value_at-requires-in-Both g t c = grind (arith, common_steps)
+
+pub value_at-requires-in-Either : goal.value_at-requires-in-Either
+value_at-requires-in-Either g t c = grind (arith, common_steps)
+
+pub related_value-requires-clause-distinct : goal.related_value-requires-clause-distinct
+related_value-requires-clause-distinct g t c = grind (arith, common_steps)
+
+pub ands-smaller : goal.ands-smaller
+ands-smaller g t c = grind (arith, common_steps)
+
+pub value_at-requires-in-Both-node : goal.value_at-requires-in-Both-node
+value_at-requires-in-Both-node g t c = grind (arith, common_steps)
+
+pub related_value-requires-clause-left : goal.related_value-requires-clause-left
+related_value-requires-clause-left g t c = grind (arith, common_steps)
+
+pub value_at-requires-in-Either-node : goal.value_at-requires-in-Either-node
+value_at-requires-in-Either-node g t c = grind (arith, common_steps)

@@ -1,4 +1,5 @@
 use Rattle.std.proofs.Common.{◌++◌, [], map, ap, sym, ◌∙◌, append_assoc, arith}
+use Rattle.std.proofs.lemmas.Grind.{common_steps}
 use Rattle.std.proofs.lemmas.Result.{on_ok_weaker}
 use Rattle.std.specs.Prelude.{slice_index_or}
 use Rattle.kc_expr.specs.Mentioned.{operand_names}
@@ -67,3 +68,48 @@ pub returns-in-Related-clause-kept : goal.returns-in-Related-clause-kept
 returns-in-Related-clause-kept t c =
     let first = kept_through c.args.found.now.items c.down.found.items _ c.down.invariant.kept c.push_name-in-Related.ensures.kept in
     kept_through c.args.found.now.items c.push_name-in-Related.new.found.items _ first c.push_name-in-Related-2.ensures.kept
+
+pub returns-in_err-push_name-in-Related-clause-kept : goal.returns-in_err-push_name-in-Related-clause-kept
+returns-in_err-push_name-in-Related-clause-kept t c = grind (arith, common_steps)
+
+pub overflow_cast-at-in-Both : goal.overflow_cast-at-in-Both
+overflow_cast-at-in-Both t c = omega arith
+
+pub push_names-requires : goal.push_names-requires
+push_names-requires t c = grind (arith, common_steps)
+
+pub returns-in_err-push_names-in-Either-clause-kept : goal.returns-in_err-push_names-in-Either-clause-kept
+returns-in_err-push_names-in-Either-clause-kept t c = grind (arith, common_steps)
+
+pub returns-in_err-push_names-in-Both-clause-kept : goal.returns-in_err-push_names-in-Both-clause-kept
+returns-in_err-push_names-in-Both-clause-kept t c = grind (arith, common_steps)
+
+pub push_name-requires-in-Related : goal.push_name-requires-in-Related
+push_name-requires-in-Related t c = grind (arith, common_steps)
+
+pub push_name-requires-in-Related-2 : goal.push_name-requires-in-Related-2
+push_name-requires-in-Related-2 t c = grind (arith, common_steps)
+
+pub down-init : goal.down-init
+down-init t c = grind (arith, common_steps)
+
+pub down-smaller-in-Shown : goal.down-smaller-in-Shown
+down-smaller-in-Shown t c = grind (arith, common_steps)
+
+pub down-smaller : goal.down-smaller
+down-smaller t c = grind (arith, common_steps)
+
+pub push_name-requires : goal.push_name-requires
+push_name-requires t c = grind (arith, common_steps)
+
+pub push_names-requires-in-Either : goal.push_names-requires-in-Either
+push_names-requires-in-Either t c = grind (arith, common_steps)
+
+pub down-smaller-in-Both : goal.down-smaller-in-Both
+down-smaller-in-Both t c = grind (arith, common_steps)
+
+pub down-smaller-in-Negated : goal.down-smaller-in-Negated
+down-smaller-in-Negated t c = grind (arith, common_steps)
+
+pub overflow_cast-at-in-Either : goal.overflow_cast-at-in-Either
+overflow_cast-at-in-Either t c = omega arith

@@ -1,4 +1,5 @@
 use Rattle.std.proofs.Common.{◌<◌, ◌||◌, length, ap, sym, ◌∙◌, arith}
+use Rattle.std.proofs.lemmas.Grind.{common_steps}
 use Rattle.std.proofs.lemmas.Result.{on_ok_weaker}
 use Rattle.std.proofs.lemmas.List.Folds.{list_any-append}
 use Rattle.kc_expr.specs.Walked.{mentions, some_name}
@@ -74,3 +75,75 @@ down-preserved t c =
       held = λ all. c.in_ok-push_new_names-in-Either.ensures.held (c.down.invariant.held all);
       kept = kept_through c.args.found.now.items c.down.found.items _ c.down.invariant.kept c.in_ok-push_new_names-in-Either.ensures.kept;
     }
+
+pub stamp-requires : goal.stamp-requires
+stamp-requires t c = omega arith
+
+pub down-init : goal.down-init
+down-init t c = grind (arith, common_steps)
+
+pub node-requires : goal.node-requires
+node-requires t c = omega arith
+
+pub returns-in-Alone-clause-kept : goal.returns-in-Alone-clause-kept
+returns-in-Alone-clause-kept t c = grind (arith, common_steps)
+
+pub overflow_cast-right : goal.overflow_cast-right
+overflow_cast-right t c = omega arith
+
+pub push_name-requires-in-Related-2 : goal.push_name-requires-in-Related-2
+push_name-requires-in-Related-2 t c = grind (arith, common_steps)
+
+pub down-smaller-in-Shown : goal.down-smaller-in-Shown
+down-smaller-in-Shown t c = grind (arith, common_steps)
+
+pub overflow_cast-right-in-Either : goal.overflow_cast-right-in-Either
+overflow_cast-right-in-Either t c = omega arith
+
+pub overflow_cast-at : goal.overflow_cast-at
+overflow_cast-at t c = omega arith
+
+pub returns-then-has-clause-held : goal.returns-then-has-clause-held
+returns-then-has-clause-held t c = grind (arith, common_steps)
+
+pub push_name-requires : goal.push_name-requires
+push_name-requires t c = grind (arith, common_steps)
+
+pub overflow_cast-at-in-Both : goal.overflow_cast-at-in-Both
+overflow_cast-at-in-Both t c = omega arith
+
+pub returns-in-Related-clause-kept : goal.returns-in-Related-clause-kept
+returns-in-Related-clause-kept t c = grind (arith, common_steps)
+
+pub returns-in_err-push_new_names-in-Either-clause-kept : goal.returns-in_err-push_new_names-in-Either-clause-kept
+returns-in_err-push_new_names-in-Either-clause-kept t c = grind (arith, common_steps)
+
+pub down-smaller-in-Negated : goal.down-smaller-in-Negated
+down-smaller-in-Negated t c = grind (arith, common_steps)
+
+pub overflow_cast-at-in-Either : goal.overflow_cast-at-in-Either
+overflow_cast-at-in-Either t c = omega arith
+
+pub overflow_cast-at-in-Shown : goal.overflow_cast-at-in-Shown
+overflow_cast-at-in-Shown t c = omega arith
+
+pub push_new_names-requires-in-Either : goal.push_new_names-requires-in-Either
+push_new_names-requires-in-Either t c = grind (arith, common_steps)
+
+pub returns-in_err-push_name-in-Related-clause-kept : goal.returns-in_err-push_name-in-Related-clause-kept
+returns-in_err-push_name-in-Related-clause-kept t c = grind (arith, common_steps)
+
+pub push_new_names-requires : goal.push_new_names-requires
+push_new_names-requires t c = grind (arith, common_steps)
+
+pub push_name-requires-in-Related : goal.push_name-requires-in-Related
+push_name-requires-in-Related t c = grind (arith, common_steps)
+
+pub down-smaller : goal.down-smaller
+down-smaller t c = grind (arith, common_steps)
+
+pub down-smaller-in-Both : goal.down-smaller-in-Both
+down-smaller-in-Both t c = grind (arith, common_steps)
+
+pub returns-in_err-push_new_names-in-Both-clause-kept : goal.returns-in_err-push_new_names-in-Both-clause-kept
+returns-in_err-push_new_names-in-Both-clause-kept t c = grind (arith, common_steps)

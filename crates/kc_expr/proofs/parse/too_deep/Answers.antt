@@ -1,4 +1,5 @@
-use Rattle.std.proofs.Common.{ap, sym, ◌∙◌, drop}
+use Rattle.std.proofs.Common.{ap, sym, ◌∙◌, drop, arith}
+use Rattle.std.proofs.lemmas.Grind.{common_steps}
 use Rattle.std.proofs.lemmas.Bool.{both_ways}
 use Rattle.kc_expr.specs.declared.fault.ExprKind.TheVariants.{Malformed, TooDeep}
 use Rattle.kc_expr.specs.Grammar.{beyond}
@@ -25,3 +26,6 @@ returns-else-symbol_at c = (
   sym c.loop-symbol.invariant.same ∙ beyond_other _ (λ o. both_ways _ c.loop-symbol-test.false (c.opens_at.ensures.1 o)) (λ o. both_ways _ c.if-symbol_at.false (c.symbol_at.ensures.1 o)),
   c.fault_at-else-symbol_at.ensures,
 )
+
+pub loop-symbol-smaller : goal.loop-symbol-smaller
+loop-symbol-smaller c = grind (arith, common_steps)

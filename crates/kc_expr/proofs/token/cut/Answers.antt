@@ -1,4 +1,5 @@
 use Rattle.std.proofs.Common.{arith, refl, sym, length-drop}
+use Rattle.std.proofs.lemmas.Grind.{common_steps}
 use Rattle.std.proofs.Math.Seq.{take-length}
 use Rattle.kc_expr.specs.Answers.{with_front}
 use Rattle.std.proofs.lemmas.Str.{IsCharBoundary-start}
@@ -37,3 +38,54 @@ loop-at-preserved c =
       kept = rw c.in_ok-push-in-Token.ensures.items (kept_behind c.args.found.now.items c.loop-at.found.items _ c.loop-at.invariant.kept);
       cut = cut_after_token c.args.line.now c.loop-at.at c.in-Token.len c.utf8.line b.0 b.1 (omega (arith, c.as_bytes-bytes.ensures.len)) b.2;
     }
+
+pub loop-at-smaller : goal.loop-at-smaller
+loop-at-smaller c = grind (arith, common_steps)
+
+pub overflow_add-end : goal.overflow_add-end
+overflow_add-end c = grind (arith, common_steps)
+
+pub returns-after-loop-at-clause-fault : goal.returns-after-loop-at-clause-fault
+returns-after-loop-at-clause-fault c = omega arith
+
+pub returns-in-Fault-clause-kept : goal.returns-in-Fault-clause-kept
+returns-in-Fault-clause-kept c = grind (arith, common_steps)
+
+pub range-text-requires-clause-start_le_end : goal.range-text-requires-clause-start_le_end
+range-text-requires-clause-start_le_end c = grind (arith, common_steps)
+
+pub overflow_add-at : goal.overflow_add-at
+overflow_add-at c = omega arith
+
+pub returns-after-loop-at-clause-kept : goal.returns-after-loop-at-clause-kept
+returns-after-loop-at-clause-kept c = grind (arith, common_steps)
+
+pub returns-in_err-push-in-Token-clause-kept : goal.returns-in_err-push-in-Token-clause-kept
+returns-in_err-push-in-Token-clause-kept c = grind (arith, common_steps)
+
+pub overflow_add-result : goal.overflow_add-result
+overflow_add-result c = grind (arith, common_steps)
+
+pub returns-in-Fault-clause-fault : goal.returns-in-Fault-clause-fault
+returns-in-Fault-clause-fault c = grind (arith, common_steps)
+
+pub returns-in-Comment-clause-fault : goal.returns-in-Comment-clause-fault
+returns-in-Comment-clause-fault c = grind (arith, common_steps)
+
+pub range-text-requires-clause-start_boundary : goal.range-text-requires-clause-start_boundary
+range-text-requires-clause-start_boundary c = omega arith
+
+pub loop-at-smaller-in-White : goal.loop-at-smaller-in-White
+loop-at-smaller-in-White c = omega arith
+
+pub returns-in-Fault-clause-tokens : goal.returns-in-Fault-clause-tokens
+returns-in-Fault-clause-tokens c = omega arith
+
+pub returns-in-Comment-clause-kept : goal.returns-in-Comment-clause-kept
+returns-in-Comment-clause-kept c = grind (arith, common_steps)
+
+pub returns-after-loop-at-clause-tokens : goal.returns-after-loop-at-clause-tokens
+returns-after-loop-at-clause-tokens c = grind (arith, common_steps)
+
+pub returns-in-Comment-clause-tokens : goal.returns-in-Comment-clause-tokens
+returns-in-Comment-clause-tokens c = grind (arith, common_steps)

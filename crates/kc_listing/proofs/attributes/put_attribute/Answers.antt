@@ -1,4 +1,5 @@
-use Rattle.std.proofs.Common.{sym, ◌∙◌, inr}
+use Rattle.std.proofs.Common.{sym, ◌∙◌, inr, arith}
+use Rattle.std.proofs.lemmas.Grind.{common_steps}
 use Rattle.kc_statements.specs.Said.{attribute_in}
 use Rattle.kc_listing.specs.Shown.{Shows}
 use Rattle.kc_listing.specs.checker.Progress.{Describes}
@@ -19,3 +20,6 @@ returns c = λ r before d. (
     counted = counted_attribute r _ _ _ _ _ before c.args.line (attribute_in c.args.read.now.listing.names.arena c.args.attribute.now) d.counted;
   },
 )
+
+pub returns-in_default : goal.returns-in_default
+returns-in_default c = grind (arith, common_steps)

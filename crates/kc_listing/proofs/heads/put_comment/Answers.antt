@@ -1,4 +1,5 @@
-use Rattle.std.proofs.Common.{refl}
+use Rattle.std.proofs.Common.{refl, arith}
+use Rattle.std.proofs.lemmas.Grind.{common_steps}
 use Rattle.kc_tree_model.specs.Blocks.{said}
 use Rattle.kc_tree_model.specs.Statements.{comment}
 use Rattle.kc_listing.proofs.HeadSteps.{head_put}
@@ -9,3 +10,6 @@ returns c = λ r before d.
     head_put r c.args.file c.args.line before (comment c.args.title) _ c.put_inside.result refl
     (c.put_inside.ensures.put r before (said (comment c.args.title)) (c.in-Ok.ensures.describes r before d) (c.args.title, c.in-Ok.ensures.kept, refl) refl refl)
     c.put_inside.ensures.memory
+
+pub returns-in_default : goal.returns-in_default
+returns-in_default c = grind (arith, common_steps)

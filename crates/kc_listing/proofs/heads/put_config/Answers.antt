@@ -1,4 +1,5 @@
-use Rattle.std.proofs.Common.{refl, inl, inr, sym, ap, ◌∙◌, Some, rules, length}
+use Rattle.std.proofs.Common.{refl, inl, inr, sym, ap, ◌∙◌, Some, rules, length, arith}
+use Rattle.std.proofs.lemmas.Grind.{common_steps}
 use Rattle.kc_tree_model.specs.Blocks.{said}
 use Rattle.kc_tree_model.specs.Statements.{config}
 use Rattle.kc_tree_model.specs.Limits.{names_defined}
@@ -33,3 +34,6 @@ returns c = λ r before d.
         counted = counted_inside r _ _ _ _ _ before c.args.file c.args.line (said (config c.args.name.now)) d.counted refl;
       },
     )
+
+pub returns-in_default : goal.returns-in_default
+returns-in_default c = grind (arith, common_steps)

@@ -1,4 +1,5 @@
-use Rattle.std.proofs.Common.{sym, ap, ◌∙◌, inr, refl, count_by}
+use Rattle.std.proofs.Common.{sym, ap, ◌∙◌, inr, refl, count_by, arith}
+use Rattle.std.proofs.lemmas.Grind.{common_steps}
 use Rattle.std.specs.Prelude.{nat_le}
 use Rattle.kc_tree_model.specs.Blocks.{said}
 use Rattle.kc_tree_model.specs.Statements.{menu}
@@ -18,3 +19,6 @@ returns c = λ r before d.
     head_put r c.args.file c.args.line before (menu c.args.title) _ c.put_block.result (menu_fits before c.args.title (sym (ap (nat_le 64) (blocks_are r _ _ _ _ _ before d.counted)) ∙ ap (λ xs. nat_le 64 (count_by is_block xs)) (sym c.deref.ensures.value) ∙ sym c.is_deep.ensures ∙ c.if-is_deep.false))
     (c.put_block.ensures.put r before (said (menu c.args.title)) (c.in-Ok.ensures.describes r before d) (c.args.title, c.in-Ok.ensures.kept, refl) refl refl)
     c.put_block.ensures.memory
+
+pub returns-in_default : goal.returns-in_default
+returns-in_default c = grind (arith, common_steps)

@@ -1,4 +1,4 @@
-use Rattle.std.proofs.Common.{sym, ap, ◌∙◌, inr, count_by}
+use Rattle.std.proofs.Common.{sym, ap, ◌∙◌, inr, count_by, arith}
 use Rattle.std.specs.Prelude.{nat_le}
 use Rattle.kc_tree_model.specs.Statements.{choice}
 use Rattle.kc_listing.specs.checker.Progress.{Describes}
@@ -21,3 +21,6 @@ returns c = λ r before d.
     head_put r c.args.file c.args.line before choice _ c.put_choice.result (choice_fits before (sym (ap (nat_le 64) (blocks_are r _ _ _ _ _ before d.counted)) ∙ ap (λ xs. nat_le 64 (count_by is_block xs)) (sym c.deref.ensures.value) ∙ sym c.is_deep.ensures ∙ c.if-is_deep.false) (choices_few _ _ d.counted.choices_are c.if-read-ge-MAX_CHOICES.false))
     (c.put_choice.ensures.put r before d)
     c.put_choice.ensures.memory
+
+pub put_choice-requires : goal.put_choice-requires
+put_choice-requires c = omega arith

@@ -1,4 +1,5 @@
-use Rattle.std.proofs.Common.{sym, ap, ◌∙◌, inr}
+use Rattle.std.proofs.Common.{sym, ap, ◌∙◌, inr, arith}
+use Rattle.std.proofs.lemmas.Grind.{common_steps}
 use Rattle.std.specs.Prelude.{option_map}
 use Rattle.kc_expr.specs.Token.{piece_of, pieces_of}
 use Rattle.kc_statements.specs.Meanings.{meant}
@@ -15,3 +16,6 @@ returns-in_default-keyword_of c = λ r before d. inr (
 pub returns : goal.returns
 returns c = λ r before d.
     rw c.in-Some.ensures.cases.0 (given_by_word r c.args.file c.args.line before (piece_of c.in-Some.first.now) (pieces_of c.in-Some.rest.now) (meant c.in-Some-keyword_of.keyword) _ c.read_form.result (sym c.keyword_of.ensures ∙ ap (option_map meant) c.in-Some-keyword_of.is) (c.read_form.ensures r before d))
+
+pub returns-in_default : goal.returns-in_default
+returns-in_default c = grind (arith, common_steps)

@@ -1,4 +1,5 @@
-use Rattle.std.proofs.Common.{sym, ◌∙◌}
+use Rattle.std.proofs.Common.{sym, ◌∙◌, arith}
+use Rattle.std.proofs.lemmas.Grind.{common_steps}
 use Rattle.kc_listing.proofs.Joining.{joined_stops, joined_goes_on}
 use Rattle.kc_listing.proofs.lines.joined_at.Goals as goal
 
@@ -7,3 +8,30 @@ returns-then-not-is_joined c = rw c.in_ok-extend_from_slice.ensures.items (joine
 
 pub loop-begin-preserved : goal.loop-begin-preserved
 loop-begin-preserved c = rw c.in_ok-extend_from_slice-2.ensures.items (joined_goes_on c.args.bytes.now c.args.at c.loop-begin.begin c.loop-begin.text.items c.loop-begin.lines c.physical_at-line.result c.loop-begin.invariant c.loop-begin-test.true c.physical_at-line.ensures (sym c.is_joined.ensures ∙ c.if-not-is_joined.false))
+
+pub slice_bounds-extend_from_slice-end : goal.slice_bounds-extend_from_slice-end
+slice_bounds-extend_from_slice-end c = grind (arith, common_steps)
+
+pub overflow_sub-line : goal.overflow_sub-line
+overflow_sub-line c = grind (arith, common_steps)
+
+pub slice_bounds-extend_from_slice-end-in-loop-begin : goal.slice_bounds-extend_from_slice-end-in-loop-begin
+slice_bounds-extend_from_slice-end-in-loop-begin c = omega arith
+
+pub slice_bounds-extend_from_slice-start-in-loop-begin : goal.slice_bounds-extend_from_slice-start-in-loop-begin
+slice_bounds-extend_from_slice-start-in-loop-begin c = grind (arith, common_steps)
+
+pub slice_bounds-extend_from_slice-count : goal.slice_bounds-extend_from_slice-count
+slice_bounds-extend_from_slice-count c = omega arith
+
+pub slice_bounds-extend_from_slice-start : goal.slice_bounds-extend_from_slice-start
+slice_bounds-extend_from_slice-start c = grind (arith, common_steps)
+
+pub slice_bounds-extend_from_slice-count-in-loop-begin : goal.slice_bounds-extend_from_slice-count-in-loop-begin
+slice_bounds-extend_from_slice-count-in-loop-begin c = grind (arith, common_steps)
+
+pub loop-begin-smaller : goal.loop-begin-smaller
+loop-begin-smaller c = grind (arith, common_steps)
+
+pub returns : goal.returns
+returns c = grind (arith, common_steps)

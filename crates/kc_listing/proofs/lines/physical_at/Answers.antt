@@ -22,3 +22,6 @@ returns-else-n-gt0 c =
       | else-n-gt0-via-then-n-gt0+else-rest-n-eq13 w ↦ (let h = rw r at w.if-rest-n-eq13.false in h e)
       | else-n-gt0-via-else-n-gt0 w ↦ omega arith
     ])
+
+pub overflow_sub-end : goal.overflow_sub-end
+overflow_sub-end c = omega arith

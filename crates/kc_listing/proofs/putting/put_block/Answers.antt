@@ -1,3 +1,4 @@
+use Rattle.std.proofs.Common.{arith}
 use Rattle.kc_tree_model.specs.Reading.{with_group}
 use Rattle.kc_statements.specs.Meanings.{block_meant}
 use Rattle.kc_listing.specs.Shown.{Shows}
@@ -11,3 +12,6 @@ returns-clause-put c = λ r before m d w b n.
     on_ok c.put_group.result (Shows c.put_group.new.listing (with_group (at_line c.args.file c.args.line) m before)) _
     (λ h. record { shows = h; counted = rw c.put_group.ensures.texts (counted_block r _ _ _ _ _ before c.args.file c.args.line m d.counted c.args.block c.push.new.self.items c.in-Ok.ensures.items b n) })
     (c.put_group.ensures.put before m d.shows w (block_name m (block_meant c.args.block) b))
+
+pub returns-in_default-clause-put : goal.returns-in_default-clause-put
+returns-in_default-clause-put c = omega arith

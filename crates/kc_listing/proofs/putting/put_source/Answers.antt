@@ -1,4 +1,4 @@
-use Rattle.std.proofs.Common.{refl, ap, ◌+◌}
+use Rattle.std.proofs.Common.{refl, ap, ◌+◌, arith}
 use Rattle.kc_tree_model.specs.Reading.{with_group}
 use Rattle.kc_tree_model.specs.Blocks.{said}
 use Rattle.kc_tree_model.specs.Statements.{source}
@@ -13,3 +13,6 @@ returns-clause-put c = λ r before path d t z.
     on_ok c.put_group.result (Shows c.put_group.new.listing (with_group (at_line c.args.file c.args.line) (said (source path)) before)) _
     (λ h. record { shows = h; counted = rw c.put_group.ensures.texts (counted_source r _ _ _ _ _ before c.args.file c.args.line (said (source path)) d.counted c.args.place path c.push.new.self.items _ _ refl t c.in-Ok.ensures.items refl (ap (λ n. c.args.read.now.bytes + n) z)) })
     (c.put_group.ensures.put before (said (source path)) d.shows (path, t, refl) refl)
+
+pub returns-in_default-clause-put : goal.returns-in_default-clause-put
+returns-in_default-clause-put c = omega arith

@@ -1,4 +1,5 @@
 use Rattle.std.proofs.Common.{arith, refl, sym, ◌-◌, ◌∙◌}
+use Rattle.std.proofs.lemmas.Grind.{common_steps, elements}
 use Rattle.std.proofs.lemmas.Result.{err_from_is_err_and}
 use Rattle.kc_listing.specs.checker.Progress.{origin_of}
 use Rattle.kc_tree_model.specs.Reading.{read_file}
@@ -60,3 +61,51 @@ pub read_sourced-returns-in_err-sourced : goal.read_sourced-returns-in_err-sourc
 read_sourced-returns-in_err-sourced t c = λ before d.
     let p = err_from_is_err_and c.from_residual.result c.from_residual.ensures.1 in
     rw (p.1, p.2) (not_sourced (origin_of c.args.from) (read_file c.args.depth (origin_of c.args.from)) c.args.file c.args.line c.args.path before c.open_source.new.read _ (c.in_err-sourced.ensures.sourced before d))
+
+pub read_opened-overflow_add-number : goal.read_opened-overflow_add-number
+read_opened-overflow_add-number t c = grind (arith, common_steps)
+
+pub read_one-returns-in_default-clause-bounds : goal.read_one-returns-in_default-clause-bounds
+read_one-returns-in_default-clause-bounds t c = omega arith
+
+pub read_opened-returns-then-depth-eq0 : goal.read_opened-returns-then-depth-eq0
+read_opened-returns-then-depth-eq0 t c = grind (arith, common_steps)
+
+pub read_one-read_help-requires-clause-within : goal.read_one-read_help-requires-clause-within
+read_one-read_help-requires-clause-within t c = grind (arith, common_steps)
+
+pub read_opened-overflow_sub-depth : goal.read_opened-overflow_sub-depth
+read_opened-overflow_sub-depth t c = grind (arith, common_steps)
+
+pub read_one-returns-clause-bounds : goal.read_one-returns-clause-bounds
+read_one-returns-clause-bounds t c = grind (arith, common_steps)
+
+pub read_one-returns-in_default-clause-read : goal.read_one-returns-in_default-clause-read
+read_one-returns-in_default-clause-read t c = grind (arith, elements)
+
+pub read_one-returns-in-Err-clause-bounds : goal.read_one-returns-in-Err-clause-bounds
+read_one-returns-in-Err-clause-bounds t c = grind (arith, common_steps)
+
+pub read_one-overflow_add-number : goal.read_one-overflow_add-number
+read_one-overflow_add-number t c = grind (arith, common_steps)
+
+pub read_sourced-returns : goal.read_sourced-returns
+read_sourced-returns t c = grind (arith, common_steps)
+
+pub read_one-read_help-requires-clause-small : goal.read_one-read_help-requires-clause-small
+read_one-read_help-requires-clause-small t c = omega arith
+
+pub read_one-read_help-requires-clause-few : goal.read_one-read_help-requires-clause-few
+read_one-read_help-requires-clause-few t c = grind (arith, common_steps)
+
+pub read_opened-lines-smaller : goal.read_opened-lines-smaller
+read_opened-lines-smaller t c = grind (arith, common_steps)
+
+pub read_one-returns-in-Ok-Next-clause-bounds : goal.read_one-returns-in-Ok-Next-clause-bounds
+read_one-returns-in-Ok-Next-clause-bounds t c = grind (arith, common_steps)
+
+pub read_sourced-read_opened-requires : goal.read_sourced-read_opened-requires
+read_sourced-read_opened-requires t c = grind (arith, common_steps)
+
+pub read_one-logical_at-requires : goal.read_one-logical_at-requires
+read_one-logical_at-requires t c = grind (arith, common_steps)

@@ -1,4 +1,5 @@
-use Rattle.std.proofs.Common.{◌+◌, true, sym, ◌∙◌}
+use Rattle.std.proofs.Common.{◌+◌, true, sym, ◌∙◌, arith}
+use Rattle.std.proofs.lemmas.Grind.{common_steps}
 use Rattle.kc_listing.proofs.ReaderSteps.{help_at_end, help_stops, indented_more, help_faulty}
 use Rattle.kc_listing.proofs.reader.read_indented.Goals as goal
 
@@ -18,3 +19,15 @@ help-preserved c =
 
 pub returns : goal.returns
 returns c = help_at_end c.args.file.number c.args.file.bytes.now c.args.at c.args.number c.args.columns c.help.begin c.help.lines c.help.invariant c.help-test.false
+
+pub overflow_add-number : goal.overflow_add-number
+overflow_add-number c = grind (arith, common_steps)
+
+pub help-init : goal.help-init
+help-init c = grind (arith, common_steps)
+
+pub overflow_add-lines : goal.overflow_add-lines
+overflow_add-lines c = omega arith
+
+pub help-smaller : goal.help-smaller
+help-smaller c = omega arith

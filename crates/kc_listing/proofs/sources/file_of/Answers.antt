@@ -1,4 +1,5 @@
-use Rattle.std.proofs.Common.{◌≡◌, rules, refl, sym, inr}
+use Rattle.std.proofs.Common.{◌≡◌, rules, refl, sym, inr, arith}
+use Rattle.std.proofs.lemmas.Grind.{common_steps}
 use Rattle.kc_tree_model.specs.Files.{number_of_file}
 use Rattle.kc_listing.specs.checker.Progress.{origin_of}
 use Rattle.kc_listing.proofs.FileSteps.{file_there, file_empty, file_absent}
@@ -20,3 +21,6 @@ returns-in-None c =
 
 pub returns-in-None-2 : goal.returns-in-None-2
 returns-in-None-2 c = inr (refl, file_absent c.args.from c.args.path.now (sym c.in-None.ensures) c.if-from.false)
+
+pub returns-in_default : goal.returns-in_default
+returns-in_default c = grind (arith, common_steps)

@@ -1,4 +1,5 @@
-use Rattle.std.proofs.Common.{inl, inr, refl, sym, ap, ◌∙◌}
+use Rattle.std.proofs.Common.{inl, inr, refl, sym, ap, ◌∙◌, arith}
+use Rattle.std.proofs.lemmas.Grind.{common_steps}
 use Rattle.kc_tree_model.specs.Blocks.{said}
 use Rattle.kc_tree_model.specs.Statements.{source}
 use Rattle.kc_tree_model.specs.Limits.{source_fault}
@@ -17,3 +18,27 @@ returns-in-Ok-put_group-clause-sourced c = λ before d.
         | inr f ↦ inr (c.in-Err.kind, ap (source_fault (origin_of c.args.from) before) (sym c.as_str.ensures.characters) ∙ e, f, shows)
       ]
     ]
+
+pub returns-in_default-clause-sourced : goal.returns-in_default-clause-sourced
+returns-in_default-clause-sourced c = grind (arith, common_steps)
+
+pub returns-in-Ok-put_source-clause-small : goal.returns-in-Ok-put_source-clause-small
+returns-in-Ok-put_source-clause-small c = grind (arith, common_steps)
+
+pub returns-in-Ok-put_group-clause-small : goal.returns-in-Ok-put_group-clause-small
+returns-in-Ok-put_group-clause-small c = omega arith
+
+pub returns-in-Err-put_group-clause-small : goal.returns-in-Err-put_group-clause-small
+returns-in-Err-put_group-clause-small c = omega arith
+
+pub returns-in-Ok-put_source-clause-sourced : goal.returns-in-Ok-put_source-clause-sourced
+returns-in-Ok-put_source-clause-sourced c = grind (arith, common_steps)
+
+pub returns-in-Err-put_group-clause-sourced : goal.returns-in-Err-put_group-clause-sourced
+returns-in-Err-put_group-clause-sourced c = grind (arith, common_steps)
+
+pub returns-in-Err-put_source-clause-small : goal.returns-in-Err-put_source-clause-small
+returns-in-Err-put_source-clause-small c = omega arith
+
+pub returns-in-Err-put_source-clause-sourced : goal.returns-in-Err-put_source-clause-sourced
+returns-in-Err-put_source-clause-sourced c = grind (arith, common_steps)

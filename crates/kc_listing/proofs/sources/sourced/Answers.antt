@@ -1,4 +1,5 @@
 use Rattle.std.proofs.Common.{◌+◌, sym, ◌∙◌, ap, inl, inr, Some, length, count_by, arith}
+use Rattle.std.proofs.lemmas.Grind.{common_steps}
 use Rattle.kc_listing.specs.checker.Progress.{Describes, origin_of}
 use Rattle.kc_listing.specs.checker.Standing.{is_file}
 use Rattle.kc_listing.proofs.StandSteps.{path_open, files_are_open}
@@ -49,3 +50,39 @@ returns-clause-sourced c = λ before d. (
   c.in-Ok.ensures.1,
   c.in-Ok.ensures.2,
 )
+
+pub returns-then-is_open-clause-small : goal.returns-then-is_open-clause-small
+returns-then-is_open-clause-small c = omega arith
+
+pub returns-then-file-read-clause-small : goal.returns-then-file-read-clause-small
+returns-then-file-read-clause-small c = omega arith
+
+pub returns-then-read-ge-MAX_FILES-clause-few : goal.returns-then-read-ge-MAX_FILES-clause-few
+returns-then-read-ge-MAX_FILES-clause-few c = omega arith
+
+pub returns-then-files_open-clause-few : goal.returns-then-files_open-clause-few
+returns-then-files_open-clause-few c = omega arith
+
+pub returns-then-files_open-clause-small : goal.returns-then-files_open-clause-small
+returns-then-files_open-clause-small c = omega arith
+
+pub returns-in-Err-clause-small : goal.returns-in-Err-clause-small
+returns-in-Err-clause-small c = omega arith
+
+pub returns-in-Err-clause-few : goal.returns-in-Err-clause-few
+returns-in-Err-clause-few c = omega arith
+
+pub returns-clause-few : goal.returns-clause-few
+returns-clause-few c = omega arith
+
+pub returns-then-is_open-clause-few : goal.returns-then-is_open-clause-few
+returns-then-is_open-clause-few c = omega arith
+
+pub returns-then-read-ge-MAX_FILES-clause-small : goal.returns-then-read-ge-MAX_FILES-clause-small
+returns-then-read-ge-MAX_FILES-clause-small c = grind (arith, common_steps)
+
+pub returns-then-file-read-clause-few : goal.returns-then-file-read-clause-few
+returns-then-file-read-clause-few c = omega arith
+
+pub returns-clause-small : goal.returns-clause-small
+returns-clause-small c = omega arith

@@ -1,4 +1,5 @@
-use Rattle.std.proofs.Common.{refl}
+use Rattle.std.proofs.Common.{refl, arith}
+use Rattle.std.proofs.lemmas.Grind.{common_steps}
 use Rattle.kc_expr.specs.Arena.{stands_for}
 use Rattle.kc_tree_model.specs.Statements.{config, choice, menu, condition, comment, mainmenu, ends}
 use Rattle.kc_statements.specs.Meanings.{block_meant}
@@ -25,3 +26,9 @@ returns-in-Mainmenu c = λ r before d. rw (c.without_path-in-Mainmenu.ensures, c
 
 pub returns-in-Ends : goal.returns-in-Ends
 returns-in-Ends c = λ r before d. rw (c.without_path-in-Ends.ensures, c.in-Ends.is) (head_said r c.args.file c.args.line before (ends (block_meant c.in-Ends.block)) _ c.put_block_end.result refl (c.put_block_end.ensures r before d))
+
+pub returns-in-Source : goal.returns-in-Source
+returns-in-Source c = grind (arith, common_steps)
+
+pub put_if-requires : goal.put_if-requires
+put_if-requires c = grind (arith, common_steps)

@@ -1,3 +1,5 @@
+use Rattle.std.proofs.Common.{arith}
+use Rattle.std.proofs.lemmas.Grind.{common_steps}
 use Rattle.std.proofs.lemmas.Result.{IfOk-weaker}
 use Rattle.kc_minimal.proofs.Comparisons.{compared, told_of}
 use Rattle.kc_minimal.proofs.comparing.compare.Goals as goal
@@ -8,3 +10,6 @@ returns-clause-none c =
     let r = c.args.right.now in
     IfOk-weaker c.differing.result _ _ (λ found is. compared c.differences_tell_minimal_files.ensures l r c.values.ensures.solved c.values-2.ensures.solved c.requires.tree c.requires.profile found.items
     (told_of c.settled.result.now l.system c.values.result.now l.values c.values-2.result.now r.values c.settled.ensures c.values.ensures.values c.values-2.ensures.values found.items is)) c.differing.ensures
+
+pub returns-clause-differences : goal.returns-clause-differences
+returns-clause-differences c = grind (arith, common_steps)

@@ -1,3 +1,5 @@
+use Rattle.std.proofs.Common.{arith}
+use Rattle.std.proofs.lemmas.Grind.{common_steps}
 use Rattle.std.proofs.lemmas.Result.{on_ok_weaker}
 use Rattle.kc_expr.specs.Arena.{stands_for}
 use Rattle.kc_rules.specs.Told.{whole_of, tree_of}
@@ -25,3 +27,36 @@ returns-in-Comment-clause-goes c =
     let m = c.in-Comment in
     on_ok_weaker c.push_title-in-Comment.result (λ h left d. commented (text_of c.args.prefix.now) (whole_of c.args.settled.now) c.args.values.now left c.args.draft.now c.push_title-in-Comment.new.draft m.title.now (stands_for exprs m.dependency) c.applies.result c.applies.ensures
     h.0 h.1 c.push_title-in-Comment.ensures.marks (rw m.is at d)) c.push_title-in-Comment.ensures.goes
+
+pub returns-in-ChoiceBegins-clause-goes : goal.returns-in-ChoiceBegins-clause-goes
+returns-in-ChoiceBegins-clause-goes c = grind (arith, common_steps)
+
+pub both_apply-requires-in-MenuEnds-clause-visible : goal.both_apply-requires-in-MenuEnds-clause-visible
+both_apply-requires-in-MenuEnds-clause-visible c = grind (arith, common_steps)
+
+pub applies-requires : goal.applies-requires
+applies-requires c = grind (arith, common_steps)
+
+pub returns-in-MenuBegins-clause-marks : goal.returns-in-MenuBegins-clause-marks
+returns-in-MenuBegins-clause-marks c = grind (arith, common_steps)
+
+pub returns-in-Comment-clause-marks : goal.returns-in-Comment-clause-marks
+returns-in-Comment-clause-marks c = grind (arith, common_steps)
+
+pub returns-in-Definition-clause-marks : goal.returns-in-Definition-clause-marks
+returns-in-Definition-clause-marks c = grind (arith, common_steps)
+
+pub returns-in-MenuEnds-clause-marks : goal.returns-in-MenuEnds-clause-marks
+returns-in-MenuEnds-clause-marks c = grind (arith, common_steps)
+
+pub both_apply-requires-clause-dependency : goal.both_apply-requires-clause-dependency
+both_apply-requires-clause-dependency c = grind (arith, common_steps)
+
+pub push_definition-requires-clause-symbol : goal.push_definition-requires-clause-symbol
+push_definition-requires-clause-symbol c = grind (arith, common_steps)
+
+pub both_apply-requires-clause-visible : goal.both_apply-requires-clause-visible
+both_apply-requires-clause-visible c = grind (arith, common_steps)
+
+pub both_apply-requires-in-MenuEnds-clause-dependency : goal.both_apply-requires-in-MenuEnds-clause-dependency
+both_apply-requires-in-MenuEnds-clause-dependency c = grind (arith, common_steps)

@@ -1,5 +1,15 @@
-use Rattle.std.proofs.Common.{rules}
+use Rattle.std.proofs.Common.{rules, arith}
+use Rattle.std.proofs.lemmas.Grind.{common_steps}
 use Rattle.kc_minimal.proofs.minimal.has_line.Goals as goal
 
 pub returns-then-is_n : goal.returns-then-is_n
 returns-then-is_n c = search rules
+
+pub is_kept-requires-clause-unit : goal.is_kept-requires-clause-unit
+is_kept-requires-clause-unit c = grind (arith, common_steps)
+
+pub symbol-symbol-requires : goal.symbol-symbol-requires
+symbol-symbol-requires c = grind (arith, common_steps)
+
+pub symbol_seen-requires : goal.symbol_seen-requires
+symbol_seen-requires c = grind (arith, common_steps)

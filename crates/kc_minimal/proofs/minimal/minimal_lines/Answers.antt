@@ -1,4 +1,5 @@
-use Rattle.std.proofs.Common.{rules}
+use Rattle.std.proofs.Common.{rules, arith}
+use Rattle.std.proofs.lemmas.Grind.{common_steps}
 use Rattle.kc_rules.specs.Told.{whole_of, profile_of}
 use Rattle.kc_dotconfig_model.specs.Prefixes.{text_of}
 use Rattle.kc_minimal_model.specs.Spelling.{ended_line}
@@ -14,3 +15,6 @@ loop-number-preserved c =
 
 pub returns : goal.returns
 returns c = search rules
+
+pub push_if_kept-requires-clause-symbol : goal.push_if_kept-requires-clause-symbol
+push_if_kept-requires-clause-symbol c = grind (arith, common_steps)

@@ -1,4 +1,5 @@
-use Rattle.std.proofs.Common.{rules}
+use Rattle.std.proofs.Common.{rules, arith}
+use Rattle.std.proofs.lemmas.Grind.{common_steps}
 use Rattle.kc_rules.specs.Told.{whole_of, profile_of}
 use Rattle.kc_dotconfig_model.specs.Prefixes.{text_of}
 use Rattle.kc_minimal.proofs.MinimisedFiles.{minimised, cut_off}
@@ -23,3 +24,45 @@ returns-in-Err-write_out-clause-fault g c =
 
 pub returns-in-Err-clause-fault : goal.returns-in-Err-clause-fault
 returns-in-Err-clause-fault g c = search rules
+
+pub returns-in-Err-write_out-clause-unfailed : goal.returns-in-Err-write_out-clause-unfailed
+returns-in-Err-write_out-clause-unfailed g c = grind (arith, common_steps)
+
+pub returns-in-Err-clause-one_read : goal.returns-in-Err-clause-one_read
+returns-in-Err-clause-one_read g c = grind (arith, common_steps)
+
+pub returns-in-Err-write_out-clause-minimised : goal.returns-in-Err-write_out-clause-minimised
+returns-in-Err-write_out-clause-minimised g c = grind (arith, common_steps)
+
+pub returns-in-Ok-write_out-clause-unfailed : goal.returns-in-Ok-write_out-clause-unfailed
+returns-in-Ok-write_out-clause-unfailed g c = grind (arith, common_steps)
+
+pub returns-in-Err-clause-one_write : goal.returns-in-Err-clause-one_write
+returns-in-Err-clause-one_write g c = grind (arith, common_steps)
+
+pub returns-in-Err-write_out-clause-reads_unfailed : goal.returns-in-Err-write_out-clause-reads_unfailed
+returns-in-Err-write_out-clause-reads_unfailed g c = grind (arith, common_steps)
+
+pub returns-in-Ok-write_out-clause-one_read : goal.returns-in-Ok-write_out-clause-one_read
+returns-in-Ok-write_out-clause-one_read g c = grind (arith, common_steps)
+
+pub returns-in-Ok-write_out-clause-fault : goal.returns-in-Ok-write_out-clause-fault
+returns-in-Ok-write_out-clause-fault g c = grind (arith, common_steps)
+
+pub returns-in-Err-write_out-clause-one_write : goal.returns-in-Err-write_out-clause-one_write
+returns-in-Err-write_out-clause-one_write g c = grind (arith, common_steps)
+
+pub returns-in-Ok-write_out-clause-one_write : goal.returns-in-Ok-write_out-clause-one_write
+returns-in-Ok-write_out-clause-one_write g c = grind (arith, common_steps)
+
+pub returns-in-Err-write_out-clause-one_read : goal.returns-in-Err-write_out-clause-one_read
+returns-in-Err-write_out-clause-one_read g c = grind (arith, common_steps)
+
+pub returns-in-Ok-write_out-clause-reads_unfailed : goal.returns-in-Ok-write_out-clause-reads_unfailed
+returns-in-Ok-write_out-clause-reads_unfailed g c = grind (arith, common_steps)
+
+pub returns-in-Err-minimal_of-clause-one_read : goal.returns-in-Err-minimal_of-clause-one_read
+returns-in-Err-minimal_of-clause-one_read g c = grind (arith, common_steps)
+
+pub returns-in-Err-minimal_of-clause-one_write : goal.returns-in-Err-minimal_of-clause-one_write
+returns-in-Err-minimal_of-clause-one_write g c = grind (arith, common_steps)

@@ -1,4 +1,5 @@
-use Rattle.std.proofs.Common.{ap, ◌∙◌}
+use Rattle.std.proofs.Common.{ap, ◌∙◌, arith}
+use Rattle.std.proofs.lemmas.Grind.{common_steps, elements}
 use Rattle.std.specs.Option.{option_copied}
 use Rattle.std.proofs.lemmas.Result.{IfOk-weaker}
 use Rattle.kc_tree.specs.Told.{choice_of, symbol_of}
@@ -25,3 +26,12 @@ returns-in-Choice c =
     let t = r.tree.whole in
     let k = choice_of r.tree.exprs c.choice.result in
     ap (λ m. MemberValue m) (c.choice_rule.ensures ∙ ap (λ m. choice_rule_of t k m c.args.values.now) c.assigned_member.ensures) ∙ rule_choice r.profile t c.args.u c.in-Choice.c k (option_copied c.args.user) c.args.values.now c.in-Choice.ensures.unit c.choice.ensures.choice
+
+pub choice-requires : goal.choice-requires
+choice-requires c = grind (arith, elements)
+
+pub symbol-requires : goal.symbol-requires
+symbol-requires c = grind (arith, elements)
+
+pub choice_rule-requires-clause-fits : goal.choice_rule-requires-clause-fits
+choice_rule-requires-clause-fits c = grind (arith, common_steps)

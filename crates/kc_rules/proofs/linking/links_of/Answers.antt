@@ -1,4 +1,5 @@
 use Rattle.std.proofs.Common.{◌∙◌, subst, arith}
+use Rattle.std.proofs.lemmas.Grind.{common_steps}
 use Rattle.kc_rules.specs.checker.Links.{LinksBelow}
 use Rattle.kc_rules.proofs.Chains.{linked}
 use Rattle.kc_rules.proofs.linking.links_of.Goals as goal
@@ -11,3 +12,9 @@ loop-u-preserved c = record {
 
 pub returns : goal.returns
 returns c = subst (λ n. LinksBelow c.args.tree.now.whole n c.loop-u.made.starts.items c.loop-u.made.links.items) (omega (arith, c.loop-u.auto.u-end, c.loop-u-test.false, c.len-u-end.ensures)) c.loop-u.invariant.links
+
+pub needed-requires-clause-unit : goal.needed-requires-clause-unit
+needed-requires-clause-unit c = grind (arith, common_steps)
+
+pub needed-requires-clause-room : goal.needed-requires-clause-room
+needed-requires-clause-room c = grind (arith, common_steps)

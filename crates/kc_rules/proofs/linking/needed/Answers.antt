@@ -1,4 +1,5 @@
-use Rattle.std.proofs.Common.{eqb, rules}
+use Rattle.std.proofs.Common.{eqb, rules, arith}
+use Rattle.std.proofs.lemmas.Grind.{common_steps}
 use Rattle.std.proofs.lemmas.List.Filters.{dedup_is}
 use Rattle.kc_rules.proofs.Chains.{sorted_needs}
 use Rattle.kc_rules.proofs.linking.needed.Goals as goal
@@ -12,3 +13,6 @@ returns-clause-needed c =
 
 pub push_needed-requires-clause-found : goal.push_needed-requires-clause-found
 push_needed-requires-clause-found c = search rules
+
+pub returns-clause-room : goal.returns-clause-room
+returns-clause-room c = grind (arith, common_steps)

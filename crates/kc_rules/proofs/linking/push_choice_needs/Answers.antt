@@ -1,4 +1,5 @@
-use Rattle.std.proofs.Common.{ap}
+use Rattle.std.proofs.Common.{ap, arith}
+use Rattle.std.proofs.lemmas.Grind.{common_steps, elements}
 use Rattle.std.proofs.lemmas.Result.{on_ok_weaker}
 use Rattle.kc_expr.specs.Walked.{some_name}
 use Rattle.kc_rules.specs.checker.Links.{has, is_of}
@@ -11,3 +12,12 @@ returns-clause-units c = λ d.
     (choice_met c.args.tree.now.whole c.args.tree.now.exprs d c.args.choice.now _ _ _ _ (ap (λ us. has us d) c.requires.no_units) (ap (some_name c.args.tree.now.exprs (is_of c.args.tree.now.whole d)) c.requires.no_names)
     (names_met c.args.tree.now.exprs (is_of c.args.tree.now.whole d) c.as_slice.result.now c.push_choice.new.names.items _ c.as_slice.ensures.value (c.in_ok-push_choice.ensures.names (is_of c.args.tree.now.whole d))))
     (c.push_units.ensures.units d)
+
+pub returns-clause-room : goal.returns-clause-room
+returns-clause-room c = grind (arith, common_steps)
+
+pub returns-clause-below : goal.returns-clause-below
+returns-clause-below c = grind (arith, elements)
+
+pub push_choice-requires-clause-fits : goal.push_choice-requires-clause-fits
+push_choice-requires-clause-fits c = grind (arith, elements)

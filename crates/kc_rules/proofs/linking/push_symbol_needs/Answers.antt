@@ -1,4 +1,5 @@
-use Rattle.std.proofs.Common.{ap}
+use Rattle.std.proofs.Common.{ap, arith}
+use Rattle.std.proofs.lemmas.Grind.{common_steps, elements}
 use Rattle.std.proofs.lemmas.Result.{on_ok_weaker}
 use Rattle.kc_expr.specs.Walked.{some_name}
 use Rattle.kc_rules.specs.checker.Links.{has, is_of}
@@ -16,3 +17,18 @@ returns-clause-units c = λ d.
 
 pub returns-clause-room : goal.returns-clause-room
 returns-clause-room c = on_ok_weaker c.push_units.result (λ e. c.in_ok-push_symbol.ensures.found.room) (c.push_units.ensures.units 0)
+
+pub push_forces-requires : goal.push_forces-requires
+push_forces-requires c = grind (arith, elements)
+
+pub push_forces-requires-2 : goal.push_forces-requires-2
+push_forces-requires-2 c = grind (arith, common_steps)
+
+pub push_units-requires : goal.push_units-requires
+push_units-requires c = grind (arith, common_steps)
+
+pub returns-clause-below : goal.returns-clause-below
+returns-clause-below c = grind (arith, common_steps)
+
+pub push_modules-requires : goal.push_modules-requires
+push_modules-requires c = grind (arith, common_steps)

@@ -1,4 +1,5 @@
 use Rattle.std.proofs.Common.{◌||◌, arith}
+use Rattle.std.proofs.lemmas.Grind.{common_steps, elements}
 use Rattle.kc_expr.specs.Arena.{stands_for}
 use Rattle.kc_tree.specs.declared.symbol.Default.{Default}
 use Rattle.kc_expr.specs.Walked.{mentions}
@@ -10,3 +11,12 @@ loop-default-preserved c = record {
   names = λ p. any_pushed (λ (d : Default). mentions p (stands_for c.args.tree.now.exprs d.value) || mentions p (stands_for c.args.tree.now.exprs d.condition)) c.args.defaults.now c.loop-default.default-index c.default-item.result _ _ _ (omega arith) c.default-item.is (two_pushed _ _ _ _ _ (c.in_ok-push_expr.ensures.names p) (c.in_ok-push_expr-2.ensures.names p)) (c.loop-default.invariant.names p);
   found = c.in_ok-push_expr-2.ensures.found;
 }
+
+pub returns-clause-names : goal.returns-clause-names
+returns-clause-names c = grind (arith, elements)
+
+pub push_expr-requires-clause-fits : goal.push_expr-requires-clause-fits
+push_expr-requires-clause-fits c = grind (arith, common_steps)
+
+pub push_expr-requires-in-loop-default-clause-fits : goal.push_expr-requires-in-loop-default-clause-fits
+push_expr-requires-in-loop-default-clause-fits c = grind (arith, common_steps)

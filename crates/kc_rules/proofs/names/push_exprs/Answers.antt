@@ -1,4 +1,5 @@
 use Rattle.std.proofs.Common.{ℕ, arith}
+use Rattle.std.proofs.lemmas.Grind.{common_steps}
 use Rattle.kc_expr.specs.Arena.{stands_for}
 use Rattle.kc_expr.specs.Walked.{mentions}
 use Rattle.kc_rules.proofs.Pushes.{any_pushed}
@@ -9,3 +10,9 @@ loop-id-preserved c = record {
   names = λ p. any_pushed (λ (i : ℕ). mentions p (stands_for c.args.tree.now.exprs i)) c.args.ids.now c.loop-id.id-index c.id-item.result _ _ _ (omega arith) c.id-item.is (c.in_ok-push_expr.ensures.names p) (c.loop-id.invariant.names p);
   found = c.in_ok-push_expr.ensures.found;
 }
+
+pub push_expr-requires-clause-fits : goal.push_expr-requires-clause-fits
+push_expr-requires-clause-fits c = grind (arith, common_steps)
+
+pub returns-clause-names : goal.returns-clause-names
+returns-clause-names c = grind (arith, common_steps)

@@ -1,4 +1,5 @@
 use Rattle.std.proofs.Common.{◌||◌, arith}
+use Rattle.std.proofs.lemmas.Grind.{common_steps, elements}
 use Rattle.std.specs.List.{list_any}
 use Rattle.kc_expr.specs.Arena.{stands_for}
 use Rattle.kc_tree.specs.declared.symbol.MemberDefault.{MemberDefault}
@@ -12,3 +13,12 @@ loop-default-preserved c = record {
   names = λ p. any_pushed (λ (m : MemberDefault). mentions p (stands_for c.args.tree.now.exprs m.condition) || list_any p (prompts_at c.args.tree.now.whole m.member)) c.args.defaults.now c.loop-default.default-index c.default-item.result _ _ _ (omega arith) c.default-item.is (two_pushed _ _ _ _ _ (c.in_ok-push_expr.ensures.names p) (c.in_ok-push_prompts.ensures.names p)) (c.loop-default.invariant.names p);
   found = c.in_ok-push_prompts.ensures.found;
 }
+
+pub push_prompts-requires-clause-fits : goal.push_prompts-requires-clause-fits
+push_prompts-requires-clause-fits c = grind (arith, common_steps)
+
+pub returns-clause-names : goal.returns-clause-names
+returns-clause-names c = grind (arith, elements)
+
+pub push_expr-requires-clause-fits : goal.push_expr-requires-clause-fits
+push_expr-requires-clause-fits c = grind (arith, elements)

@@ -1,4 +1,5 @@
-use Rattle.std.proofs.Common.{sym, ap, ◌∙◌, pos, unwrap_or, rules}
+use Rattle.std.proofs.Common.{sym, ap, ◌∙◌, pos, unwrap_or, rules, arith}
+use Rattle.std.proofs.lemmas.Grind.{common_steps, elements}
 use Rattle.std.proofs.lemmas.Result.{IfOk-weaker}
 use Rattle.std.specs.Option.{option_copied}
 use Rattle.kc_value.specs.Number.{number_of_text}
@@ -18,3 +19,12 @@ returns-then-is_visible c =
 
 pub number_default-requires-in-None-clause-range : goal.number_default-requires-in-None-clause-range
 number_default-requires-in-None-clause-range c = search rules
+
+pub active_range-range-requires : goal.active_range-range-requires
+active_range-range-requires c = grind (arith, elements)
+
+pub returns-in-None : goal.returns-in-None
+returns-in-None c = grind (arith, elements)
+
+pub number_default-requires-clause-range : goal.number_default-requires-clause-range
+number_default-requires-clause-range c = grind (arith, common_steps)

@@ -1,4 +1,5 @@
-use Rattle.std.proofs.Common.{ap, cond, ◌∙◌}
+use Rattle.std.proofs.Common.{ap, cond, ◌∙◌, arith}
+use Rattle.std.proofs.lemmas.Grind.{elements}
 use Rattle.kc_value.specs.Tri.{tri_or}
 use Rattle.kc_tree.specs.Told.{symbol_of}
 use Rattle.kc_rules_model.specs.Kinds.{y_for_m}
@@ -13,3 +14,6 @@ returns c =
     let symbol = symbol_of (exprs_under c.args.under.now) c.args.symbol.now in
     let whole = c.or.ensures.value ∙ ap (λ t. tri_or t c.forced-selected.result) c.base-base.ensures ∙ ap (tri_or (base c.args.profile tree values symbol c.args.user)) c.forced-selected.ensures in
     c.without_m.ensures ∙ ap (λ t. cond (leaves_no_m c.args.profile tree values symbol) (y_for_m t) t) (c.promoted-value.ensures ∙ ap (promoted tree values symbol.kind) whole)
+
+pub forced-selected-requires : goal.forced-selected-requires
+forced-selected-requires c = grind (arith, elements)

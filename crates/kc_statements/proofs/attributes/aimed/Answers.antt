@@ -1,5 +1,6 @@
 use Rattle.kc_statements.proofs.Growing.{grows_on, grows_none}
-use Rattle.std.proofs.Common.{inl, inr, refl, sym, ◌∙◌, length}
+use Rattle.std.proofs.Common.{inl, inr, refl, sym, ◌∙◌, length, arith}
+use Rattle.std.proofs.lemmas.Grind.{common_steps, elements}
 use Rattle.kc_statements.proofs.FormLemmas.{there}
 use Rattle.kc_statements.proofs.Later.{if_held}
 use Rattle.kc_statements.proofs.LineLemmas.{aimed_told, aimed_refused, aimed_other}
@@ -37,3 +38,15 @@ pub returns-in-Ok-intern-clause-gives : goal.returns-in-Ok-intern-clause-gives
 returns-in-Ok-intern-clause-gives c =
     let some = there (length c.args.tokens.now) c.is_empty.result c.is_empty.ensures c.if-is_empty.false in
     λ f. aimed_told c.optional_if.new.arena c.intern.new.self f c.args.tokens.now c.in-Ok-intern.name c.in-Ok.condition some (sym c.is_name.ensures ∙ c.if-not-is_name.false) c.intern.ensures.grows c.in-Ok.ensures.gives c.in-Ok.ensures.held c.in-Ok-intern.ensures.name
+
+pub returns-then-is_empty-clause-gives : goal.returns-then-is_empty-clause-gives
+returns-then-is_empty-clause-gives c = grind (arith, common_steps)
+
+pub optional_if-requires : goal.optional_if-requires
+optional_if-requires c = grind (arith, common_steps)
+
+pub bounds-tokens-0 : goal.bounds-tokens-0
+bounds-tokens-0 c = grind (arith, elements)
+
+pub bounds-tokens-0-2 : goal.bounds-tokens-0-2
+bounds-tokens-0-2 c = grind (arith, common_steps)

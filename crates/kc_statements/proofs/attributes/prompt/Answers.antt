@@ -1,4 +1,5 @@
-use Rattle.std.proofs.Common.{inr, sym, ◌∙◌, length, drop}
+use Rattle.std.proofs.Common.{inr, sym, ◌∙◌, length, drop, arith}
+use Rattle.std.proofs.lemmas.Grind.{common_steps, elements}
 use Rattle.kc_expr.specs.Token.{pieces_of}
 use Rattle.kc_tree_model.specs.Forms.{prompt_line, optional_if}
 use Rattle.kc_tree_model.specs.Statements.{attribute}
@@ -27,3 +28,12 @@ returns-clause-gives c =
     λ f. along (λ d. attribute (f (if_in e d))) c.optional_if.result (prompt_line f (pieces_of c.args.tokens.now)) (stepped (λ x. attribute (f x)) (optional_if ps))
     (prompt_is f c.args.tokens.now some (sym c.is_quoted.ensures ∙ c.if-not-is_quoted.false))
     (given_on (if_in e) (λ x. attribute (f x)) c.optional_if.result (optional_if ps) c.optional_if.ensures.gives)
+
+pub returns-then-is_empty-clause-gives : goal.returns-then-is_empty-clause-gives
+returns-then-is_empty-clause-gives c = grind (arith, elements)
+
+pub optional_if-requires : goal.optional_if-requires
+optional_if-requires c = grind (arith, elements)
+
+pub bounds-tokens-0 : goal.bounds-tokens-0
+bounds-tokens-0 c = grind (arith, common_steps)

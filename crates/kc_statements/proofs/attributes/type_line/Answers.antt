@@ -1,4 +1,5 @@
-use Rattle.std.proofs.Common.{length, inl, inr, ◌∙◌, ap}
+use Rattle.std.proofs.Common.{length, inl, inr, ◌∙◌, ap, arith}
+use Rattle.std.proofs.lemmas.Grind.{common_steps}
 use Rattle.kc_tree_model.specs.Statements.{typed_prompt}
 use Rattle.kc_statements.proofs.FormLemmas.{there, none_there}
 use Rattle.kc_statements.proofs.AttributeLemmas.{type_is}
@@ -22,3 +23,12 @@ returns-then-is_empty-clause-grows c = grows_none c.args.arena.now
 
 pub returns-then-is_empty-clause-gives : goal.returns-then-is_empty-clause-gives
 returns-then-is_empty-clause-gives c = ap (λ ts. type_line c.args.kind (pieces_of ts)) (none_there c.args.tokens.now c.is_empty.result c.is_empty.ensures c.if-is_empty.true)
+
+pub returns-in-Ok-clause-held : goal.returns-in-Ok-clause-held
+returns-in-Ok-clause-held c = grind (arith, common_steps)
+
+pub returns-in-Ok-clause-grows : goal.returns-in-Ok-clause-grows
+returns-in-Ok-clause-grows c = grind (arith, common_steps)
+
+pub returns-in-Err-clause-grows : goal.returns-in-Err-clause-grows
+returns-in-Err-clause-grows c = grind (arith, common_steps)

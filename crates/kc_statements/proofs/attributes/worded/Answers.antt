@@ -1,4 +1,5 @@
-use Rattle.std.proofs.Common.{inr, ap, sym, ◌∙◌, length, drop}
+use Rattle.std.proofs.Common.{inr, ap, sym, ◌∙◌, length, drop, arith}
+use Rattle.std.proofs.lemmas.Grind.{common_steps, elements}
 use Rattle.kc_expr.specs.Token.{pieces_of}
 use Rattle.kc_expr.specs.Arena.{stands_for}
 use Rattle.kc_tree_model.specs.Forms.{worded_line, last_condition}
@@ -30,3 +31,21 @@ returns-clause-gives c =
     λ f. along (λ id. attribute (f (stands_for e id))) c.last_condition.result (worded_line c.args.word.now f (pieces_of c.args.tokens.now)) (stepped (λ x. attribute (f x)) (last_condition ps))
     (worded_is c.args.word.now f c.args.tokens.now some (sym c.is_the_word.ensures ∙ c.if-not-is_the_word.false))
     (given_on (stands_for e) (λ x. attribute (f x)) c.last_condition.result (last_condition ps) c.last_condition.ensures.gives)
+
+pub bounds-tokens-0 : goal.bounds-tokens-0
+bounds-tokens-0 c = grind (arith, common_steps)
+
+pub returns-clause-held : goal.returns-clause-held
+returns-clause-held c = grind (arith, common_steps)
+
+pub returns-then-is_empty-clause-held : goal.returns-then-is_empty-clause-held
+returns-then-is_empty-clause-held c = omega arith
+
+pub returns-clause-grows : goal.returns-clause-grows
+returns-clause-grows c = grind (arith, common_steps)
+
+pub returns-then-not-is_the_word-clause-held : goal.returns-then-not-is_the_word-clause-held
+returns-then-not-is_the_word-clause-held c = omega arith
+
+pub last_condition-requires : goal.last_condition-requires
+last_condition-requires c = grind (arith, elements)

@@ -1,4 +1,5 @@
 use Rattle.std.proofs.Common.{arith, inl, inr, sym, ◌∙◌, drop, ◌+◌}
+use Rattle.std.proofs.lemmas.Grind.{common_steps}
 use Rattle.kc_expr.specs.Token.{pieces_of, piece_of}
 use Rattle.std.specs.Prelude.{slice_index_or}
 use Rattle.kc_statements.proofs.FormLemmas.{front_piece, no_if, if_given, if_refused, some_token}
@@ -25,3 +26,9 @@ returns-then-not-is_the_word-clause-grows c = grows_none c.args.arena.now
 
 pub returns-then-at-tokens-clause-grows : goal.returns-then-at-tokens-clause-grows
 returns-then-at-tokens-clause-grows c = grows_none c.args.arena.now
+
+pub returns-then-at-tokens-clause-gives : goal.returns-then-at-tokens-clause-gives
+returns-then-at-tokens-clause-gives c = grind (arith, common_steps)
+
+pub returns-in-Ok-clause-held : goal.returns-in-Ok-clause-held
+returns-in-Ok-clause-held c = grind (arith, common_steps)

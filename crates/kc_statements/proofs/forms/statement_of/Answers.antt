@@ -1,4 +1,5 @@
-use Rattle.std.proofs.Common.{rules}
+use Rattle.std.proofs.Common.{rules, arith}
+use Rattle.std.proofs.lemmas.Grind.{common_steps}
 use Rattle.kc_expr.specs.Token.{pieces_of}
 use Rattle.kc_statements.proofs.FormLemmas.{by_keyword}
 use Rattle.kc_statements.proofs.Growing.{grows_none}
@@ -99,3 +100,33 @@ returns-in-Option-clause-grows c = grows_none c.args.arena.now
 
 pub returns-in-LeftOut-clause-grows : goal.returns-in-LeftOut-clause-grows
 returns-in-LeftOut-clause-grows c = grows_none c.args.arena.now
+
+pub returns-in-Default-clause-gives : goal.returns-in-Default-clause-gives
+returns-in-Default-clause-gives c = grind (arith, common_steps)
+
+pub returns-in-Type-clause-gives : goal.returns-in-Type-clause-gives
+returns-in-Type-clause-gives c = grind (arith, common_steps)
+
+pub returns-in-Prompt-clause-gives : goal.returns-in-Prompt-clause-gives
+returns-in-Prompt-clause-gives c = grind (arith, common_steps)
+
+pub returns-in-Range-clause-gives : goal.returns-in-Range-clause-gives
+returns-in-Range-clause-gives c = grind (arith, common_steps)
+
+pub returns-in-Imply-clause-gives : goal.returns-in-Imply-clause-gives
+returns-in-Imply-clause-gives c = grind (arith, common_steps)
+
+pub returns-in-Select-clause-gives : goal.returns-in-Select-clause-gives
+returns-in-Select-clause-gives c = grind (arith, common_steps)
+
+pub returns-in-LeftOut-clause-gives : goal.returns-in-LeftOut-clause-gives
+returns-in-LeftOut-clause-gives c = grind (arith, common_steps)
+
+pub returns-in-Depends-clause-gives : goal.returns-in-Depends-clause-gives
+returns-in-Depends-clause-gives c = grind (arith, common_steps)
+
+pub returns-in-Visible-clause-gives : goal.returns-in-Visible-clause-gives
+returns-in-Visible-clause-gives c = grind (arith, common_steps)
+
+pub returns-in-If-clause-gives : goal.returns-in-If-clause-gives
+returns-in-If-clause-gives c = grind (arith, common_steps)

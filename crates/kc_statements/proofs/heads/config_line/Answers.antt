@@ -1,4 +1,4 @@
-use Rattle.std.proofs.Common.{inr, sym, ◌∙◌}
+use Rattle.std.proofs.Common.{inr, sym, ◌∙◌, arith}
 use Rattle.kc_statements.proofs.LineLemmas.{config_long, config_other, config_is}
 use Rattle.kc_statements.proofs.heads.config_line.Goals as goal
 
@@ -10,3 +10,6 @@ returns-then-not-is_name-clause-gives c = λ e. inr (config_other c.args.tokens.
 
 pub returns-clause-gives : goal.returns-clause-gives
 returns-clause-gives c = λ e. config_is c.args.tokens.now c.if-tokens-ne1.false (sym c.is_name.ensures ∙ c.if-not-is_name.false)
+
+pub bounds-tokens-0-2 : goal.bounds-tokens-0-2
+bounds-tokens-0-2 c = omega arith

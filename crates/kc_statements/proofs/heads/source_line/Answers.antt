@@ -1,4 +1,5 @@
-use Rattle.std.proofs.Common.{inr, sym, ◌∙◌}
+use Rattle.std.proofs.Common.{inr, sym, ◌∙◌, arith}
+use Rattle.std.proofs.lemmas.Grind.{common_steps}
 use Rattle.kc_statements.proofs.LineLemmas.{source_long, source_is}
 use Rattle.kc_statements.proofs.heads.source_line.Goals as goal
 
@@ -7,3 +8,15 @@ returns-then-tokens-ne1-clause-gives c = λ e. inr (source_long c.args.tokens.no
 
 pub returns-in-Ok-Some-clause-gives : goal.returns-in-Ok-Some-clause-gives
 returns-in-Ok-Some-clause-gives c = λ e. source_is c.args.tokens.now c.in-Ok-Some.path c.if-tokens-ne1.false (sym c.in-Ok-Some.ensures ∙ c.in-Ok-Some.field-0-is)
+
+pub returns-in-Err-clause-gives : goal.returns-in-Err-clause-gives
+returns-in-Err-clause-gives c = grind (arith, common_steps)
+
+pub returns-in-Ok-None-clause-gives : goal.returns-in-Ok-None-clause-gives
+returns-in-Ok-None-clause-gives c = grind (arith, common_steps)
+
+pub returns-in-Ok-None-clause-held : goal.returns-in-Ok-None-clause-held
+returns-in-Ok-None-clause-held c = omega arith
+
+pub returns-in-Ok-Some-clause-held : goal.returns-in-Ok-Some-clause-held
+returns-in-Ok-Some-clause-held c = omega arith

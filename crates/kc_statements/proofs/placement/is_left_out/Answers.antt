@@ -1,4 +1,5 @@
-use Rattle.std.proofs.Common.{rules, ap, sym, ◌∙◌, length}
+use Rattle.std.proofs.Common.{rules, ap, sym, ◌∙◌, length, arith}
+use Rattle.std.proofs.lemmas.Grind.{common_steps, elements}
 use Rattle.kc_expr.specs.Token.{pieces_of}
 use Rattle.kc_tree_model.specs.Forms.{is_left_out_option}
 use Rattle.kc_tree_model.specs.Keywords.{is_word_kind}
@@ -37,3 +38,12 @@ returns-then-not-is_empty-3 c =
 pub returns-else-not-is_empty-3 : goal.returns-else-not-is_empty-3
 returns-else-not-is_empty-3 c =
     λ read q. first_none is_glob_path c.args.tokens.now c.is_empty-in-Source.result c.is_empty-in-Source.ensures c.if-not-is_empty-3.false ∙ sym (ap (λ k. is_left_out read (meant k) (pieces_of c.args.tokens.now)) c.in-Source.is)
+
+pub bounds-tokens-0 : goal.bounds-tokens-0
+bounds-tokens-0 c = grind (arith, elements)
+
+pub bounds-tokens-0-then-not-is_empty-3 : goal.bounds-tokens-0-then-not-is_empty-3
+bounds-tokens-0-then-not-is_empty-3 c = grind (arith, common_steps)
+
+pub bounds-tokens-0-then-not-is_empty-2 : goal.bounds-tokens-0-then-not-is_empty-2
+bounds-tokens-0-then-not-is_empty-2 c = grind (arith, common_steps)

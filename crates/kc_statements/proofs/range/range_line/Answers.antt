@@ -1,4 +1,5 @@
-use Rattle.std.proofs.Common.{inl, inr, sym, ap, ◌∙◌, Some}
+use Rattle.std.proofs.Common.{inl, inr, sym, ap, ◌∙◌, Some, arith}
+use Rattle.std.proofs.lemmas.Grind.{common_steps, elements}
 use Rattle.kc_statements.specs.Said.{if_in, operand_in}
 use Rattle.kc_statements.proofs.Growing.{grows_on, grows_none}
 use Rattle.kc_statements.proofs.Later.{operand_held, operand_same}
@@ -60,3 +61,30 @@ returns-then-not-is_operand-clause-grows c = grows_none c.args.arena.now
 
 pub returns-then-not-is_operand-2-clause-grows : goal.returns-then-not-is_operand-2-clause-grows
 returns-then-not-is_operand-2-clause-grows c = grows_none c.args.arena.now
+
+pub returns-in-Err-operand-clause-held : goal.returns-in-Err-operand-clause-held
+returns-in-Err-operand-clause-held c = omega arith
+
+pub bounds-tokens-1 : goal.bounds-tokens-1
+bounds-tokens-1 c = omega arith
+
+pub returns-in-Err-optional_if-clause-held : goal.returns-in-Err-optional_if-clause-held
+returns-in-Err-optional_if-clause-held c = omega arith
+
+pub bounds-tokens-0-2 : goal.bounds-tokens-0-2
+bounds-tokens-0-2 c = omega arith
+
+pub returns-in-Err-clause-grows : goal.returns-in-Err-clause-grows
+returns-in-Err-clause-grows c = grind (arith, common_steps)
+
+pub returns-then-tokens-lt2-clause-grows : goal.returns-then-tokens-lt2-clause-grows
+returns-then-tokens-lt2-clause-grows c = grind (arith, common_steps)
+
+pub bounds-tokens-1-2 : goal.bounds-tokens-1-2
+bounds-tokens-1-2 c = omega arith
+
+pub returns-then-tokens-lt2-clause-gives : goal.returns-then-tokens-lt2-clause-gives
+returns-then-tokens-lt2-clause-gives c = grind (arith, elements)
+
+pub optional_if-requires : goal.optional_if-requires
+optional_if-requires c = omega arith

@@ -1,4 +1,5 @@
 use Rattle.std.proofs.Common.{refl, ap, sym, ◌∙◌, length, arith, slice_get}
+use Rattle.std.proofs.lemmas.Grind.{elements}
 use Rattle.kc_system.proofs.changing.choose.Goals as goal
 
 pub write_users-requires-clause-units : goal.write_users-requires-clause-units
@@ -46,3 +47,6 @@ returns-clause-tells g c =
 
 pub returns-clause-err : goal.returns-clause-err
 returns-clause-err g c = tt
+
+pub returns-in_err-write_users-clause-err : goal.returns-in_err-write_users-clause-err
+returns-in_err-write_users-clause-err g c = grind (arith, elements)

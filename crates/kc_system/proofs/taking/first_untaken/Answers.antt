@@ -1,4 +1,5 @@
 use Rattle.std.proofs.Common.{length, arith, get_or, ◌≡◌, sym, ap, ◌∙◌, inl, inr}
+use Rattle.std.proofs.lemmas.Grind.{elements}
 use Rattle.std.proofs.lemmas.Bool.{cases_lt}
 use Rattle.std.proofs.lemmas.Option.{slice_get_within, get_or_from_slice_get}
 use Rattle.kc_system.proofs.taking.first_untaken.Goals as goal
@@ -15,3 +16,9 @@ loop-k-preserved c = λ j d above below e.
 
 pub returns-clause-found : goal.returns-clause-found
 returns-clause-found c = λ d e. absurd (omega (arith, slice_get_within c.args.dependencies.now (length c.args.dependencies.now) d e))
+
+pub bounds-flags-dependencies : goal.bounds-flags-dependencies
+bounds-flags-dependencies c = omega arith
+
+pub returns-then-not-flags-dependencies-clause-found : goal.returns-then-not-flags-dependencies-clause-found
+returns-then-not-flags-dependencies-clause-found c = grind (arith, elements)

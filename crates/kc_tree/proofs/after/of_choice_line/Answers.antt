@@ -1,4 +1,5 @@
-use Rattle.std.proofs.Common.{◌≡◌, ap, sym, ◌∙◌}
+use Rattle.std.proofs.Common.{◌≡◌, ap, sym, ◌∙◌, arith}
+use Rattle.std.proofs.lemmas.Grind.{common_steps}
 use Rattle.std.specs.Prelude.{not, option_map}
 use Rattle.kc_statements.specs.Said.{attribute_in, valued_in}
 use Rattle.kc_tree_model.specs.Statements.{default_of}
@@ -17,3 +18,6 @@ returns c = λ read members h m.
       | in-None w ↦ w.is_no_member-is ∙ ap (is_no_member members) (sym (ap (option_map (valued_in e)) w.in-None.is) ∙ c.default_given.ensures.valued e)
     ] in
     c.of_choice.ensures e ∙ choice_is members c.args.prompted c.match-default_given.is_no_member a no
+
+pub names_member-requires-clause-held : goal.names_member-requires-clause-held
+names_member-requires-clause-held c = grind (arith, common_steps)

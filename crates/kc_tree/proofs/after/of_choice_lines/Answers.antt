@@ -1,4 +1,5 @@
 use Rattle.std.proofs.Common.{◌≡◌, ◌||◌, Some, sym, ap, ◌∙◌, arith}
+use Rattle.std.proofs.lemmas.Grind.{common_steps, elements}
 use Rattle.std.specs.Prelude.{is_some}
 use Rattle.kc_tree_model.specs.declared.fault.TreeFault.{TreeFault}
 use Rattle.kc_tree_model.specs.Statements.{prompt_of}
@@ -30,3 +31,12 @@ loop-i-preserved c = λ read g members h m f.
 
 pub returns : goal.returns
 returns c = λ read g members h m f. sym (c.loop-i.invariant read g members h m f ∙ left_none c.args.listing.now.names.arena g (choice_faults members) c.loop-i.prompted c.args.lines.now c.loop-i.i (omega arith))
+
+pub of_choice_line-requires-clause-many : goal.of_choice_line-requires-clause-many
+of_choice_line-requires-clause-many c = grind (arith, common_steps)
+
+pub of_choice_line-requires-clause-held : goal.of_choice_line-requires-clause-held
+of_choice_line-requires-clause-held c = grind (arith, elements)
+
+pub of_choice_line-requires-clause-shown : goal.of_choice_line-requires-clause-shown
+of_choice_line-requires-clause-shown c = grind (arith, elements)

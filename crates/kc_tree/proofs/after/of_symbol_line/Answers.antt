@@ -1,4 +1,5 @@
-use Rattle.std.proofs.Common.{ap, sym, ◌∙◌}
+use Rattle.std.proofs.Common.{ap, sym, ◌∙◌, arith}
+use Rattle.std.proofs.lemmas.Grind.{elements}
 use Rattle.std.specs.Prelude.{slice_get}
 use Rattle.kc_statements.specs.Said.{attribute_in}
 use Rattle.kc_tree_model.specs.Contents.{contents_of}
@@ -12,3 +13,6 @@ returns-in-Some c = λ read name h m.
     c.of_typed.ensures e
     ∙ typed_is (contents_of read) name c.in-Some.kind c.args.prompted c.args.is_modules c.is_wrong_force-is_wrong.result (attribute_in e c.args.attribute.now) m (c.is_wrong_force-is_wrong.ensures read h)
     ∙ ap (λ k. slice_get (attribute_faults (contents_of read) name k c.args.prompted (attribute_in e c.args.attribute.now)) 0) (sym c.in-Some.is)
+
+pub returns-in-None-2 : goal.returns-in-None-2
+returns-in-None-2 c = grind (arith, elements)

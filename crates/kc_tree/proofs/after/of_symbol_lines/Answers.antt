@@ -1,4 +1,5 @@
 use Rattle.std.proofs.Common.{◌≡◌, ◌||◌, Some, sym, ap, ◌∙◌, arith}
+use Rattle.std.proofs.lemmas.Grind.{common_steps}
 use Rattle.std.specs.Prelude.{is_some}
 use Rattle.kc_tree_model.specs.declared.fault.TreeFault.{TreeFault}
 use Rattle.kc_tree_model.specs.Contents.{contents_of}
@@ -32,3 +33,9 @@ loop-i-preserved c = λ read g name h m f.
 
 pub returns : goal.returns
 returns c = λ read g name h m f. sym (c.loop-i.invariant read g name h m f ∙ left_none c.args.listing.now.names.arena g (attribute_faults (contents_of read) name c.args.kind) c.loop-i.prompted c.args.lines.now c.loop-i.i (omega arith))
+
+pub of_symbol_line-fault-requires-clause-symbols : goal.of_symbol_line-fault-requires-clause-symbols
+of_symbol_line-fault-requires-clause-symbols c = grind (arith, common_steps)
+
+pub of_symbol_line-fault-requires-clause-held : goal.of_symbol_line-fault-requires-clause-held
+of_symbol_line-fault-requires-clause-held c = grind (arith, common_steps)

@@ -1,4 +1,5 @@
 use Rattle.std.proofs.Common.{◌≡◌, ◌+◌, ◌<◌, ◌≤◌, cond, length, ap, sym, ◌∙◌, arith}
+use Rattle.std.proofs.lemmas.Grind.{common_steps}
 use Rattle.std.proofs.lemmas.List.{get_or_read}
 use Rattle.kc_listing.specs.Shown.{Shows}
 use Rattle.kc_tree.specs.checker.Summaries.{is_choice_code, no_group}
@@ -35,3 +36,12 @@ returns c = λ read h.
     let past : length l.groups.items ≤ c.loop-group.group-index = rw (← c.deref-group-items.ensures.value) c.loop-group-test.false in
     let end : c.loop-group.group-index ≤ length l.groups.items = rw (← c.deref-group-items.ensures.value) c.loop-group.auto.group-index-end in
     all_round read c.loop-group.group-index _ _ _ (omega arith) (c.loop-group.invariant.round read h)
+
+pub offset_bounds-group-items-group-index : goal.offset_bounds-group-items-group-index
+offset_bounds-group-items-group-index c = grind (arith, common_steps)
+
+pub overflow_add-choices : goal.overflow_add-choices
+overflow_add-choices c = grind (arith, common_steps)
+
+pub loop-group-init : goal.loop-group-init
+loop-group-init c = grind (arith, common_steps)

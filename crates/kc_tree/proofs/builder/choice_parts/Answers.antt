@@ -1,4 +1,5 @@
-use Rattle.std.proofs.Common.{length, ap, ◌∙◌}
+use Rattle.std.proofs.Common.{length, ap, ◌∙◌, arith}
+use Rattle.std.proofs.lemmas.Grind.{common_steps}
 use Rattle.kc_tree_model.specs.Reading.{reading}
 use Rattle.kc_tree.proofs.AssemblySteps.{faultless_of}
 use Rattle.kc_tree.proofs.ChoiceRowSteps.{as_many_conditions}
@@ -20,3 +21,15 @@ returns c = λ files root w.
       entries = c.in_ok-entries_of.ensures.entries l.names.arena c.args.walked.now.conditions.items (length c.args.walked.now.conditions.items) read w.walk.shows (rw c.as_slice-groups.ensures.value w.walk.shown);
       entries_fit = c.in_ok-entries_of.ensures.fits l.names.arena c.args.walked.now.conditions.items (length c.args.walked.now.conditions.items) read w.walk.shows (rw c.as_slice-groups.ensures.value w.walk.shown);
     }
+
+pub choice_rows-requires : goal.choice_rows-requires
+choice_rows-requires c = grind (arith, common_steps)
+
+pub member_defaults-requires-clause-few : goal.member_defaults-requires-clause-few
+member_defaults-requires-clause-few c = grind (arith, common_steps)
+
+pub entries_of-requires-clause-few : goal.entries_of-requires-clause-few
+entries_of-requires-clause-few c = grind (arith, common_steps)
+
+pub member_defaults-requires-clause-walked : goal.member_defaults-requires-clause-walked
+member_defaults-requires-clause-walked c = grind (arith, common_steps)

@@ -1,4 +1,5 @@
-use Rattle.std.proofs.Common.{◌∙◌}
+use Rattle.std.proofs.Common.{◌∙◌, arith}
+use Rattle.std.proofs.lemmas.Grind.{common_steps}
 use Rattle.kc_tree.specs.checker.Summaries.{IsSummary}
 use Rattle.kc_tree.proofs.builder.symbol_parts.Goals as goal
 
@@ -9,3 +10,9 @@ symbol_rows-requires-clause-symbols c = λ read s. c.as_slice-symbols.ensures.va
 pub units_of-requires-clause-symbols : goal.units_of-requires-clause-symbols
 unfolding IsSummary
 units_of-requires-clause-symbols c = λ read s. c.as_slice-symbols.ensures.value ∙ (c.requires.summary read s).symbols
+
+pub units_of-requires-clause-few : goal.units_of-requires-clause-few
+units_of-requires-clause-few c = grind (arith, common_steps)
+
+pub gather_attributes-requires : goal.gather_attributes-requires
+gather_attributes-requires c = grind (arith, common_steps)

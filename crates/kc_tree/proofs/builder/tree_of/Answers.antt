@@ -1,4 +1,5 @@
-use Rattle.std.proofs.Common.{◌≡◌}
+use Rattle.std.proofs.Common.{◌≡◌, arith}
+use Rattle.std.proofs.lemmas.Grind.{elements}
 use Rattle.std.proofs.lemmas.Result.{IfOk-weaker}
 use Rattle.kc_tree_model.specs.Contents.{tree_of_files}
 use Rattle.kc_tree_model.specs.Reading.{reading}
@@ -26,3 +27,6 @@ returns c = λ files root untold shows.
     let k = c.in_ok-gathered.ensures files root (record { walk = record { shows = c.in-Ok.ensures.shows read shows; shown = c.in-Ok.ensures.walked read shows }; untold = untold }) in
     IfOk-weaker c.into_tree.result (λ (t : Held). t ≡ record { exprs = c.in_ok-gathered.gathered.arena; whole = whole_gathered c.in_ok-gathered.gathered }) (λ (t : Held). t.whole ≡ tree_of_files files root)
     (λ t e. whole_is files root c.in_ok-gathered.gathered t k e) c.into_tree.ensures
+
+pub into_tree-requires-clause-distinct : goal.into_tree-requires-clause-distinct
+into_tree-requires-clause-distinct c = grind (arith, elements)

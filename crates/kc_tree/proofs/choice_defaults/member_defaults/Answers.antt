@@ -1,4 +1,5 @@
 use Rattle.std.proofs.Common.{◌≡◌, ◌<◌, length, ap, sym, ◌∙◌, arith}
+use Rattle.std.proofs.lemmas.Grind.{elements}
 use Rattle.std.proofs.lemmas.List.{get_or_read}
 use Rattle.kc_tree_model.specs.Limits.{names_defined}
 use Rattle.kc_listing.specs.Shown.{Shows}
@@ -45,3 +46,9 @@ loop-i-preserved c =
 pub returns : goal.returns
 returns c = λ read w f.
     all_gathered c.args.listing.now c.args.groups.now c.args.conditions.now read w c.loop-i.i c.loop-i.choices c.loop-i.found (omega (arith, c.loop-i-test.false, c.loop-i.auto.i-end, c.len-i-end.ensures)) (c.loop-i.invariant.counted read w) (c.loop-i.invariant.defaults read w f)
+
+pub put_defaults-requires-clause-held : goal.put_defaults-requires-clause-held
+put_defaults-requires-clause-held c = grind (arith, elements)
+
+pub conditions_of-own-requires-clause-conditioned : goal.conditions_of-own-requires-clause-conditioned
+conditions_of-own-requires-clause-conditioned c = grind (arith, elements)

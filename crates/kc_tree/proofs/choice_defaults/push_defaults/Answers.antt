@@ -1,4 +1,5 @@
-use Rattle.std.proofs.Common.{get_or, ap, ◌∙◌}
+use Rattle.std.proofs.Common.{get_or, ap, ◌∙◌, arith}
+use Rattle.std.proofs.lemmas.Grind.{common_steps, elements}
 use Rattle.kc_tree.specs.checker.ChoiceDefaults.{member_kept}
 use Rattle.kc_tree.proofs.ChoiceDefaultSteps.{items_more, keys_more}
 use Rattle.kc_tree.proofs.choice_defaults.push_defaults.Goals as goal
@@ -14,3 +15,12 @@ loop-i-preserved c =
       keys = keys_more n c.args.choice ls cs i c.index-lines-i.result c.index-conditions-i.result _ _ _ c.member_default.result c.loop-i-test.true c.requires.many e c.loop-i.invariant.keys c.in_ok-push_default.ensures.keys;
       items = items_more n ls cs i c.index-lines-i.result c.index-conditions-i.result _ _ _ c.member_default.result c.loop-i-test.true c.requires.many e c.loop-i.invariant.items c.in_ok-push_default.ensures.items;
     }
+
+pub returns-clause-items : goal.returns-clause-items
+returns-clause-items c = grind (arith, elements)
+
+pub returns-clause-keys : goal.returns-clause-keys
+returns-clause-keys c = grind (arith, common_steps)
+
+pub member_default-requires : goal.member_default-requires
+member_default-requires c = grind (arith, elements)

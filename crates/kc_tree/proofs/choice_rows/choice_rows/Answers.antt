@@ -1,4 +1,5 @@
 use Rattle.std.proofs.Common.{◌≡◌, ◌+◌, ◌<◌, true, false, [], ◌∷◌, ◌++◌, length, ap, sym, subst, ◌∙◌, arith}
+use Rattle.std.proofs.lemmas.Grind.{common_steps}
 use Rattle.std.proofs.lemmas.List.{get_or_read}
 use Rattle.kc_tree.specs.checker.Summaries.{is_choice_code, group_at, no_group}
 use Rattle.kc_tree.proofs.ChoiceRowSteps.{AreRowsTo, rows_more, rows_same, all_rows}
@@ -24,3 +25,9 @@ loop-i-preserved c = λ exprs read s k.
 pub returns : goal.returns
 returns c = λ exprs read s k.
     all_rows c.args.listing.now exprs c.args.groups.now c.args.conditions.now read s k c.loop-i.i c.loop-i.rows.items (omega (arith, c.loop-i-test.false, c.loop-i.auto.i-end, c.len-i-end.ensures)) (c.loop-i.invariant exprs read s k)
+
+pub row_at-requires-clause-here : goal.row_at-requires-clause-here
+row_at-requires-clause-here c = grind (arith, common_steps)
+
+pub loop-i-init : goal.loop-i-init
+loop-i-init c = grind (arith, common_steps)

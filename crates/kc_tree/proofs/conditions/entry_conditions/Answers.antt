@@ -1,3 +1,5 @@
+use Rattle.std.proofs.Common.{arith}
+use Rattle.std.proofs.lemmas.Grind.{common_steps, elements}
 use Rattle.kc_statements.proofs.Growing.{grows_on}
 use Rattle.kc_tree.proofs.Growth.{entry_joined}
 use Rattle.kc_tree.proofs.conditions.entry_conditions.Goals as goal
@@ -18,3 +20,15 @@ returns-in_err-entry-clause-grows c =
 pub returns-clause-grows : goal.returns-clause-grows
 returns-clause-grows c =
     grows_on c.args.arena.now c.with_all.new.arena c.with.new.arena c.with_all.ensures.grows (grows_on c.with_all.new.arena c.with_all-2.new.arena c.with.new.arena c.with_all-2.ensures.grows c.with.ensures.grows)
+
+pub with-requires-clause-more : goal.with-requires-clause-more
+with-requires-clause-more c = grind (arith, common_steps)
+
+pub with_all-requires-2-clause-all : goal.with_all-requires-2-clause-all
+with_all-requires-2-clause-all c = grind (arith, common_steps)
+
+pub with_all-requires-2-clause-held : goal.with_all-requires-2-clause-held
+with_all-requires-2-clause-held c = grind (arith, elements)
+
+pub with-requires-clause-all : goal.with-requires-clause-all
+with-requires-clause-all c = grind (arith, common_steps)

@@ -1,4 +1,5 @@
 use Rattle.std.proofs.Common.{◌≡◌, ◌<◌, ℕ, List, All, get_or, subst, sym, ap, arith, length, length-append, [], ◌∷◌}
+use Rattle.std.proofs.lemmas.Grind.{common_steps}
 use Rattle.std.proofs.lemmas.List.{take_all}
 use Rattle.kc_tree.specs.checker.Conjuncts.{AreBehind}
 use Rattle.kc_statements.proofs.Growing.{grows_on}
@@ -60,3 +61,6 @@ returns-in_err-push-clause-grows c = grows_on c.args.arena.now c.loop-line.arena
 
 pub returns-clause-grows : goal.returns-clause-grows
 returns-clause-grows c = c.loop-line.invariant.grows
+
+pub returns-clause-longer : goal.returns-clause-longer
+returns-clause-longer c = grind (arith, common_steps)

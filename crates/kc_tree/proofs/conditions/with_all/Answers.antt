@@ -1,3 +1,5 @@
+use Rattle.std.proofs.Common.{arith}
+use Rattle.std.proofs.lemmas.Grind.{common_steps}
 use Rattle.kc_tree.specs.checker.Conjunctions.{conjunct}
 use Rattle.kc_statements.proofs.Growing.{grows_on}
 use Rattle.kc_tree.proofs.Growth.{conjoins_there, conjoins_own, with_more}
@@ -15,3 +17,12 @@ loop-line-preserved c =
       all = with_more old mid new c.args.which c.args.lines.now c.loop-line.line-index c.line-item.result c.args.all c.loop-line.joined c.in_ok-joined.joined c.conjunct_in.result
           inv.grows c.requires.held c.loop-line-test.true c.line-item.is c.conjunct_in.ensures inv.all c.in_ok-joined.ensures.ok;
     }
+
+pub with-requires-clause-more : goal.with-requires-clause-more
+with-requires-clause-more c = grind (arith, common_steps)
+
+pub returns-clause-ok : goal.returns-clause-ok
+returns-clause-ok c = grind (arith, common_steps)
+
+pub loop-line-init : goal.loop-line-init
+loop-line-init c = grind (arith, common_steps)

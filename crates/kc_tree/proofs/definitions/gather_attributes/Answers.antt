@@ -1,4 +1,5 @@
 use Rattle.std.proofs.Common.{◌<◌, length, sym, ap, subst, ◌∙◌, arith}
+use Rattle.std.proofs.lemmas.Grind.{common_steps, elements}
 use Rattle.std.specs.Prelude.{All}
 use Rattle.std.proofs.lemmas.List.{get_or_read}
 use Rattle.kc_tree_model.specs.Limits.{names_defined}
@@ -52,3 +53,9 @@ returns c = λ read k.
     let l = c.args.listing.now in
     let n = count_is l.names.arena (names_defined read) l.texts.items l.lines.items l.groups.items read h.groups_are in
     gathered_whole l.names.arena read c.loop-i.i c.loop-i.found (omega arith) (c.loop-i.invariant read k)
+
+pub push_definition-requires-clause-held : goal.push_definition-requires-clause-held
+push_definition-requires-clause-held c = grind (arith, elements)
+
+pub conditions_of-own-requires-clause-conditioned : goal.conditions_of-own-requires-clause-conditioned
+conditions_of-own-requires-clause-conditioned c = grind (arith, common_steps)

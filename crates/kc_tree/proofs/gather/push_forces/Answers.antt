@@ -1,4 +1,5 @@
 use Rattle.std.proofs.Common.{◌≡◌, ℕ, [], ◌∷◌, ◌++◌, get_or, ◌∙◌, sym, ap, arith, append-nil}
+use Rattle.std.proofs.lemmas.Grind.{common_steps, elements}
 use Rattle.std.specs.Prelude.{option_map, option_to_list}
 use Rattle.kc_tree.specs.checker.Gathers.{target_kept, aimed_at, force_kept}
 use Rattle.kc_tree.specs.declared.symbol.Force.{Force}
@@ -35,3 +36,15 @@ loop-i-preserved c =
           ∙ ap (λ o. c.loop-i.found.items.items ++ option_to_list (option_map (λ _. let f : Force = record { by = c.args.symbol; condition = get_or c.args.conditions.now c.loop-i.i 0 } in f) o)) (sym t))
           )
     ]
+
+pub bounds-conditions-i : goal.bounds-conditions-i
+bounds-conditions-i c = grind (arith, common_steps)
+
+pub target_of-requires : goal.target_of-requires
+target_of-requires c = grind (arith, elements)
+
+pub offset_bounds-conditions-i : goal.offset_bounds-conditions-i
+offset_bounds-conditions-i c = grind (arith, common_steps)
+
+pub returns : goal.returns
+returns c = grind (arith, common_steps)

@@ -2,7 +2,7 @@ use Rattle.std.proofs.Common.{◌≡◌, ◌≢◌, ◌⊎◌, inl, inr, ℕ, �
 use Rattle.std.specs.Prelude.{slice_get, ◌==◌}
 use Rattle.std.proofs.Math.ListN.{set}
 use Rattle.std.proofs.lemmas.Bool.{cases_lt, eq-eqb, eqb-true}
-use Rattle.std.proofs.lemmas.Grind.{get_or-set_at}
+use Rattle.std.proofs.lemmas.Grind.{get_or-set_at, common_steps, elements}
 use Rattle.std.proofs.lemmas.List.{get_or-set_other, length-set}
 use Rattle.std.proofs.lemmas.Option.{slice_get_read}
 use Rattle.kc_tree.specs.checker.NameTable.{IsTable}
@@ -49,3 +49,18 @@ loop-s-preserved c =
     subst (λ k. IsTable c.args.names c.args.symbols.now (s + 1) (set c.loop-s.table.items k (Some c.at.result))) (sym n)
     (subst (λ k. IsTable c.args.names c.args.symbols.now (s + 1) (set c.loop-s.table.items row.name (Some k))) (sym c.at.ensures)
     (table_more c.args.names s c.args.symbols.now row c.loop-s.table.items c.requires.differ here within c.loop-s.invariant))
+
+pub bounds-symbols-s : goal.bounds-symbols-s
+bounds-symbols-s c = grind (arith, common_steps)
+
+pub returns : goal.returns
+returns c = grind (arith, elements)
+
+pub index_mut-requires : goal.index_mut-requires
+index_mut-requires c = grind (arith, elements)
+
+pub bounds-symbols-s-in-loop-s : goal.bounds-symbols-s-in-loop-s
+bounds-symbols-s-in-loop-s c = grind (arith, common_steps)
+
+pub loop-s-init : goal.loop-s-init
+loop-s-init c = grind (arith, common_steps)

@@ -1,4 +1,5 @@
-use Rattle.std.proofs.Common.{inr, Some, None}
+use Rattle.std.proofs.Common.{inr, Some, None, arith}
+use Rattle.std.proofs.lemmas.Grind.{common_steps}
 use Rattle.kc_tree.proofs.ReadSteps.{told_of_reading, shown_of_reading, of_reading, told_behind, of_tree}
 use Rattle.kc_tree_model.specs.Reading.{reading}
 use Rattle.kc_tree.proofs.read.read_tree.Goals as goal
@@ -32,3 +33,36 @@ returns-in-Ok-clause-tree c =
     (told_behind c.args.texts.now c.args.root.now c.read_files-listing.result.0 c.read_files-listing.result.1 c.read_files-listing.ensures.fault c.read_files-listing.ensures.read None c.in-None.is
     (rw c.in-Ok-None.field-0-is at (c.in-Ok-None.ensures (reading c.args.texts.now c.args.root.now).read (shown_of_reading c.args.texts.now c.args.root.now c.read_files-listing.result.0 c.read_files-listing.result.1 c.read_files-listing.ensures.fault c.read_files-listing.ensures.read c.in-None.is))))
     (shown_of_reading c.args.texts.now c.args.root.now c.read_files-listing.result.0 c.read_files-listing.result.1 c.read_files-listing.ensures.fault c.read_files-listing.ensures.read c.in-None.is)
+
+pub returns-in-Err-clause-fault : goal.returns-in-Err-clause-fault
+returns-in-Err-clause-fault c = grind (arith, common_steps)
+
+pub returns-in-Err-clause-accepted : goal.returns-in-Err-clause-accepted
+returns-in-Err-clause-accepted c = grind (arith, common_steps)
+
+pub returns-in-Some-clause-accepted : goal.returns-in-Some-clause-accepted
+returns-in-Some-clause-accepted c = grind (arith, common_steps)
+
+pub returns-in-Err-tree_of-clause-fault : goal.returns-in-Err-tree_of-clause-fault
+returns-in-Err-tree_of-clause-fault c = grind (arith, common_steps)
+
+pub returns-in-Ok-Some-clause-accepted : goal.returns-in-Ok-Some-clause-accepted
+returns-in-Ok-Some-clause-accepted c = grind (arith, common_steps)
+
+pub returns-in-Some-clause-tree : goal.returns-in-Some-clause-tree
+returns-in-Some-clause-tree c = grind (arith, common_steps)
+
+pub returns-in-Ok-clause-fault : goal.returns-in-Ok-clause-fault
+returns-in-Ok-clause-fault c = grind (arith, common_steps)
+
+pub returns-in-Err-tree_of-clause-accepted : goal.returns-in-Err-tree_of-clause-accepted
+returns-in-Err-tree_of-clause-accepted c = grind (arith, common_steps)
+
+pub returns-in-Ok-Some-clause-tree : goal.returns-in-Ok-Some-clause-tree
+returns-in-Ok-Some-clause-tree c = grind (arith, common_steps)
+
+pub returns-in-Err-tree_of-clause-tree : goal.returns-in-Err-tree_of-clause-tree
+returns-in-Err-tree_of-clause-tree c = grind (arith, common_steps)
+
+pub returns-in-Err-clause-tree : goal.returns-in-Err-clause-tree
+returns-in-Err-clause-tree c = grind (arith, common_steps)

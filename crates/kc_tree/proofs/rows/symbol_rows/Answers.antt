@@ -1,4 +1,5 @@
 use Rattle.std.proofs.Common.{length, get_or, [], ◌∷◌, ◌++◌, None, ap, ◌∙◌, arith}
+use Rattle.std.proofs.lemmas.Grind.{common_steps}
 use Rattle.kc_listing.specs.Shown.{Shows}
 use Rattle.kc_tree.specs.checker.Rows.{row_kept}
 use Rattle.kc_tree.specs.declared.summary.About.{About}
@@ -29,3 +30,9 @@ returns c = λ read h.
     let l = c.args.listing.now in
     let all = rows_all l.groups.items c.as_slice-names.result.now c.args.symbols.now c.loop-s.rows.items c.loop-s.s (omega arith) (omega arith) c.loop-s.invariant in
     rows_shown l.names.arena _ _ l.texts.items l.lines.items l.groups.items read h c.args.symbols.now c.loop-s.rows.items (c.requires.symbols read h) (rw c.as_slice-names.ensures.value at all)
+
+pub bounds-names-s : goal.bounds-names-s
+bounds-names-s c = grind (arith, common_steps)
+
+pub offset_bounds-symbols-s : goal.offset_bounds-symbols-s
+offset_bounds-symbols-s c = grind (arith, common_steps)

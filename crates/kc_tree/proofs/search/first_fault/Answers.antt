@@ -1,5 +1,5 @@
 use Rattle.std.proofs.Common.{◌≡◌, ◌<◌, ◌+◌, cond, length, sym, subst, ap, ◌∙◌, arith}
-use Rattle.std.proofs.lemmas.Grind.{common_steps}
+use Rattle.std.proofs.lemmas.Grind.{common_steps, elements}
 use Rattle.std.proofs.lemmas.List.{get_or_read}
 use Rattle.kc_tree_model.specs.Limits.{names_defined}
 use Rattle.kc_tree_model.specs.TreeFaults.{tree_faults}
@@ -67,3 +67,24 @@ returns c = λ read h.
 
 pub loop-i-init : goal.loop-i-init
 loop-i-init c = grind (arith, common_steps)
+
+pub of_group-fault-requires-clause-few : goal.of_group-fault-requires-clause-few
+of_group-fault-requires-clause-few c = grind (arith, common_steps)
+
+pub of_group-fault-requires-clause-here : goal.of_group-fault-requires-clause-here
+of_group-fault-requires-clause-here c = grind (arith, common_steps)
+
+pub of_group-fault-requires-clause-small : goal.of_group-fault-requires-clause-small
+of_group-fault-requires-clause-small c = grind (arith, elements)
+
+pub overflow_add-choices : goal.overflow_add-choices
+overflow_add-choices c = grind (arith, common_steps)
+
+pub of_group-fault-requires-clause-counted : goal.of_group-fault-requires-clause-counted
+of_group-fault-requires-clause-counted c = grind (arith, elements)
+
+pub of_group-fault-requires-clause-many : goal.of_group-fault-requires-clause-many
+of_group-fault-requires-clause-many c = grind (arith, common_steps)
+
+pub index-requires : goal.index-requires
+index-requires c = grind (arith, common_steps)

@@ -1,4 +1,5 @@
 use Rattle.std.proofs.Common.{◌≡◌, false, Some, length, map, sym, ap, ◌∙◌, arith}
+use Rattle.std.proofs.lemmas.Grind.{elements}
 use Rattle.std.specs.Prelude.{slice_get, is_some, option_map}
 use Rattle.std.specs.Option.{option_or}
 use Rattle.std.proofs.lemmas.List.{get_or_read, length-map}
@@ -92,3 +93,6 @@ returns c = λ read p h at.
     ∙ ap (λ k. slice_get (faults_of_lines p.group (attribute_faults (contents_of read) name k) false p.group.attributes) 0) kind
     ∙ sym (config_first (contents_of read) p name w.2
     ∙ ap (λ o. option_or (option_map (fault_of p.group p.group.at.line) o) (slice_get (faults_of_lines p.group (attribute_faults (contents_of read) name (kind_of (contents_of read) name)) false p.group.attributes) 0)) (sym told ∙ sym c.in_default.ensures))
+
+pub of_symbol_lines-requires-clause-held : goal.of_symbol_lines-requires-clause-held
+of_symbol_lines-requires-clause-held c = grind (arith, elements)

@@ -1,4 +1,5 @@
 use Rattle.std.proofs.Common.{◌≡◌, ◌<◌, ◌+◌, length, sym, ap, subst, ◌∙◌, arith}
+use Rattle.std.proofs.lemmas.Grind.{common_steps, elements}
 use Rattle.std.specs.Prelude.{All}
 use Rattle.std.proofs.lemmas.List.{get_or_read}
 use Rattle.kc_tree_model.specs.Contents.{contents_of, member_names}
@@ -66,3 +67,12 @@ returns-in_default c =
       many = c.requires.many;
       marks = λ s. at_most_more (is_choice_code (group_at l.groups.items c.args.i).what) _ c.args.choices (c.requires.small s);
     }
+
+pub returns-in-Choice-clause-many : goal.returns-in-Choice-clause-many
+returns-in-Choice-clause-many c = grind (arith, common_steps)
+
+pub returns-in-Config-clause-marks : goal.returns-in-Config-clause-marks
+returns-in-Config-clause-marks c = grind (arith, elements)
+
+pub returns-in-Config-clause-many : goal.returns-in-Config-clause-many
+returns-in-Config-clause-many c = grind (arith, common_steps)

@@ -1,4 +1,5 @@
 use Rattle.std.proofs.Common.{◌≡◌, ◌+◌, ◌<◌, [], ◌∷◌, ◌++◌, length, sym, ap, ◌∙◌, arith}
+use Rattle.std.proofs.lemmas.Grind.{common_steps}
 use Rattle.std.proofs.lemmas.List.{get_or_read, length-map}
 use Rattle.kc_tree_model.specs.Conditions.{placed}
 use Rattle.kc_tree_model.specs.Contents.{contents_of}
@@ -53,3 +54,6 @@ returns-clause-members c = λ read h.
     let l = c.args.listing.now in
     let n = count_is l.names.arena (names_defined read) l.texts.items l.lines.items l.groups.items read h.groups_are in
     (all_members read c.loop-i.i _ _ (omega arith) (c.loop-i.invariant read h)).1
+
+pub loop-i-init : goal.loop-i-init
+loop-i-init c = grind (arith, common_steps)

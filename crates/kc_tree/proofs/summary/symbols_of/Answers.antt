@@ -1,4 +1,5 @@
 use Rattle.std.proofs.Common.{◌≡◌, ◌<◌, None, Some, length, get_or, set, replicate, sym, ap, ◌∙◌, arith}
+use Rattle.std.proofs.lemmas.Grind.{common_steps}
 use Rattle.std.specs.Prelude.{slice_get, filter_map}
 use Rattle.std.proofs.lemmas.List.{get_or_read, length-map}
 use Rattle.kc_tree_model.specs.Conditions.{placed}
@@ -80,3 +81,9 @@ returns c = λ read h.
     let l = c.args.listing.now in
     let n = count_is l.names.arena (names_defined read) l.texts.items l.lines.items l.groups.items read h.groups_are in
     c.loop-i.invariant read h ∙ all_abouts read c.loop-i.i (omega arith)
+
+pub index-requires : goal.index-requires
+index-requires c = grind (arith, common_steps)
+
+pub lines_of-requires-clause-here : goal.lines_of-requires-clause-here
+lines_of-requires-clause-here c = grind (arith, common_steps)

@@ -1,4 +1,5 @@
 use Rattle.std.proofs.Common.{◌≡◌, ◌+◌, ◌<◌, cond, ◌++◌, length, ap, sym, ◌∙◌, arith, append-nil}
+use Rattle.std.proofs.lemmas.Grind.{common_steps}
 use Rattle.std.specs.Prelude.{option_to_list}
 use Rattle.std.proofs.lemmas.List.{get_or_read}
 use Rattle.kc_listing.specs.Shown.{Shows}
@@ -37,3 +38,9 @@ returns c = λ read h.
     let l = c.args.listing.now in
     let n = count_is l.names.arena _ l.texts.items l.lines.items l.groups.items read h.groups_are in
     all_units read c.loop-i.i c.loop-i.units.items c.loop-i.choices (omega arith) (c.loop-i.invariant.units read h)
+
+pub overflow_add-choices : goal.overflow_add-choices
+overflow_add-choices c = grind (arith, common_steps)
+
+pub loop-i-init : goal.loop-i-init
+loop-i-init c = grind (arith, common_steps)

@@ -2,7 +2,7 @@ use Rattle.std.proofs.Common.{◌≡◌, ◌≢◌, ◌⊎◌, inl, inr, ℕ, �
 use Rattle.std.specs.Prelude.{slice_get}
 use Rattle.std.proofs.Math.ListN.{set}
 use Rattle.std.proofs.lemmas.Bool.{cases_lt}
-use Rattle.std.proofs.lemmas.Grind.{get_or-set_at}
+use Rattle.std.proofs.lemmas.Grind.{get_or-set_at, common_steps, elements}
 use Rattle.std.proofs.lemmas.List.{get_or-set_other, length-set}
 use Rattle.std.proofs.lemmas.Option.{slice_get-get_or}
 use Rattle.kc_tree_model.specs.declared.ids.Unit.{Unit as ToldUnit}
@@ -86,3 +86,27 @@ loop-u-preserved c =
           subst (λ xs. AreNumbered c.args.symbols c.args.choices units (u + 1) xs c.match-units-u.of_choice.items) (sym (ap (λ v. v.items) w.of_symbol-is))
           (subst (λ xs. AreNumbered c.args.symbols c.args.choices units (u + 1) c.loop-u.of_symbol.items xs) (sym (ap (λ v. v.items) w.of_choice-is)) more))
     ]
+
+pub overflow_cast-u-in-Choice : goal.overflow_cast-u-in-Choice
+overflow_cast-u-in-Choice c = grind (arith, common_steps)
+
+pub bounds-units-u : goal.bounds-units-u
+bounds-units-u c = grind (arith, common_steps)
+
+pub bounds : goal.bounds
+bounds c = grind (arith, common_steps)
+
+pub overflow_cast-u : goal.overflow_cast-u
+overflow_cast-u c = grind (arith, common_steps)
+
+pub returns : goal.returns
+returns c = grind (arith, common_steps)
+
+pub index_mut-requires : goal.index_mut-requires
+index_mut-requires c = grind (arith, elements)
+
+pub index_mut-requires-in-Choice : goal.index_mut-requires-in-Choice
+index_mut-requires-in-Choice c = grind (arith, elements)
+
+pub overflow_cast-number : goal.overflow_cast-number
+overflow_cast-number c = grind (arith, common_steps)

@@ -1,4 +1,5 @@
-use Rattle.std.proofs.Common.{◌≡◌, refl}
+use Rattle.std.proofs.Common.{◌≡◌, refl, arith}
+use Rattle.std.proofs.lemmas.Grind.{common_steps, elements}
 use Rattle.kc_expr.specs.Arena.{stands_for}
 use Rattle.kc_tree_model.specs.Blocks.{said}
 use Rattle.kc_tree_model.specs.Statements.{choice, condition}
@@ -47,3 +48,21 @@ returns-in-Ends-clause-grows c = grows_same c.args.arena.now
 
 pub returns-in-FileEnd-clause-grows : goal.returns-in-FileEnd-clause-grows
 returns-in-FileEnd-clause-grows c = grows_same c.args.arena.now
+
+pub returns-in-Mainmenu-clause-shown : goal.returns-in-Mainmenu-clause-shown
+returns-in-Mainmenu-clause-shown c = grind (arith, common_steps)
+
+pub returns-in-Config-clause-shown : goal.returns-in-Config-clause-shown
+returns-in-Config-clause-shown c = grind (arith, elements)
+
+pub returns-in-Ends-clause-shown : goal.returns-in-Ends-clause-shown
+returns-in-Ends-clause-shown c = grind (arith, elements)
+
+pub returns-in-Comment-clause-shown : goal.returns-in-Comment-clause-shown
+returns-in-Comment-clause-shown c = grind (arith, common_steps)
+
+pub returns-in-FileEnd-clause-shown : goal.returns-in-FileEnd-clause-shown
+returns-in-FileEnd-clause-shown c = grind (arith, elements)
+
+pub inside_if-requires-clause-condition : goal.inside_if-requires-clause-condition
+inside_if-requires-clause-condition c = grind (arith, common_steps)

@@ -1,4 +1,5 @@
 use Rattle.std.proofs.Common.{◌≡◌, ◌-◌, length, get_or, drop, map, ap, sym, subst, ◌∙◌, arith}
+use Rattle.std.proofs.lemmas.Grind.{common_steps}
 use Rattle.std.specs.Prelude.{All, slice_range}
 use Rattle.std.proofs.lemmas.List.{get_or_read}
 use Rattle.std.proofs.lemmas.List.Elements.{All-take, All-drop}
@@ -70,3 +71,12 @@ returns-clause-walked c = λ names texts read h.
     let n = count_is c.args.arena names texts c.args.lines.now c.args.groups.now read h in
     let i : c.loop-i.i ≡ length read = omega (arith, n, c.loop-i-test.false, c.loop-i.auto.i-end) in
     subst (HasWalked texts c.loop-i.walk) (ap (λ k. read_before k read) i ∙ all_before read) (c.loop-i.invariant.walked names texts read h)
+
+pub returns-clause-grows : goal.returns-clause-grows
+returns-clause-grows c = grind (arith, common_steps)
+
+pub bounds-groups-i : goal.bounds-groups-i
+bounds-groups-i c = grind (arith, common_steps)
+
+pub lines_at-requires-clause-here : goal.lines_at-requires-clause-here
+lines_at-requires-clause-here c = grind (arith, common_steps)

@@ -24,3 +24,9 @@ loop-byte-preserved c =
       rest = sym (goes_on c.args.base (2 ^ 64) c.loop-byte.value (get_or c.args.text.now c.loop-byte.byte-index 0) c.in_ok-value.value (drop (c.loop-byte.byte-index + 1) c.args.text.now) (sym c.in_ok-value.ensures)) ∙ i;
       fits = with_digit_below c.args.base (2 ^ 64) c.loop-byte.value (get_or c.args.text.now c.loop-byte.byte-index 0) c.in_ok-value.value (sym c.in_ok-value.ensures);
     }
+
+pub push_digit-requires-clause-high : goal.push_digit-requires-clause-high
+push_digit-requires-clause-high c = omega arith
+
+pub push_digit-requires-clause-low : goal.push_digit-requires-clause-low
+push_digit-requires-clause-low c = omega arith

@@ -1,4 +1,5 @@
-use Rattle.std.proofs.Common.{◌≡◌, ap, ◌∙◌, Some, rules}
+use Rattle.std.proofs.Common.{◌≡◌, ap, ◌∙◌, Some, rules, arith}
+use Rattle.std.proofs.lemmas.Grind.{common_steps}
 use Rattle.std.proofs.lemmas.Result.{IfOk-weaker}
 use Rattle.std.specs.Prelude.{string_bytes}
 use Rattle.kc_value.specs.Number.{number_of_text, number_spelling}
@@ -14,3 +15,12 @@ pub returns-in-Hex-clause-reads_back : goal.returns-in-Hex-clause-reads_back
 returns-in-Hex-clause-reads_back c =
     IfOk-weaker c.format-in-Hex.result (λ t. string_bytes t ≡ number_spelling c.args.kind c.args.value) (λ t. number_of_text c.args.kind (string_bytes t) ≡ Some c.args.value)
     (λ t e. ap (number_of_text c.args.kind) e ∙ spelling_read_back c.args.kind c.args.value c.requires) (search rules)
+
+pub returns-in-Int-clause-text : goal.returns-in-Int-clause-text
+returns-in-Int-clause-text c = grind (arith, common_steps)
+
+pub returns-in-Hex-clause-text : goal.returns-in-Hex-clause-text
+returns-in-Hex-clause-text c = grind (arith, common_steps)
+
+pub overflow_cast-value : goal.overflow_cast-value
+overflow_cast-value c = grind (arith, common_steps)

@@ -1,4 +1,5 @@
 use Rattle.std.proofs.Common.{◌≡◌, ℕ, ◌||◌, true, ◌∷◌, get_or, length, take, ap, ◌∙◌, arith}
+use Rattle.std.proofs.lemmas.Grind.{common_steps}
 use Rattle.std.specs.Prelude.{◌==◌}
 use Rattle.std.specs.List.{flat_map}
 use Rattle.std.proofs.Math.Seq.{take-length}
@@ -41,3 +42,6 @@ returns-clause-ok c = all_spelled c.args.out.now.items c.as_bytes-byte-items.res
 
 pub returns-clause-kept : goal.returns-clause-kept
 returns-clause-kept c = still_there_before c.args.out.now.items (34 ∷ flat_map escaped_byte (take c.loop-byte.byte-index c.as_bytes-byte-items.result.now)) c.loop-byte.out.items c.push-2.new.self.items 34 c.loop-byte.invariant c.in_ok-push-4.ensures.items
+
+pub returns-in_err-push-clause-ok : goal.returns-in_err-push-clause-ok
+returns-in_err-push-clause-ok c = grind (arith, common_steps)

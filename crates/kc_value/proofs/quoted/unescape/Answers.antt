@@ -1,4 +1,5 @@
-use Rattle.std.proofs.Common.{inl, inr, ◌++◌, false, ap, ◌∙◌}
+use Rattle.std.proofs.Common.{inl, inr, ◌++◌, false, ap, ◌∙◌, arith}
+use Rattle.std.proofs.lemmas.Grind.{elements}
 use Rattle.std.proofs.lemmas.Iterator.{YieldsList-from_chars}
 use Rattle.std.proofs.lemmas.Iterator.Consumers.{YieldsList-turn, YieldsList-end}
 use Rattle.std.proofs.lemmas.List.{length_push}
@@ -26,3 +27,12 @@ pub returns : goal.returns
 returns c =
     let t = YieldsList-end (YieldsList-from_chars c.args.text.now c.utf8.text cc) c.loop-c.yielded _ c.loop-c.yielded_by _ _ c.in-None.is c.next.ensures.steps in
     step_end _ _ _ c.loop-c.escaped _ c.loop-c.invariant t.1
+
+pub loop-c-preserved-then-not-escaped-derived : goal.loop-c-preserved-then-not-escaped-derived
+loop-c-preserved-then-not-escaped-derived c = grind (arith, elements)
+
+pub loop-c-preserved-derived : goal.loop-c-preserved-derived
+loop-c-preserved-derived c = omega arith
+
+pub loop-c-init-derived : goal.loop-c-init-derived
+loop-c-init-derived c = grind (arith, elements)

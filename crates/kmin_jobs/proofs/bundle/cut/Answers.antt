@@ -1,6 +1,7 @@
 use Rattle.kmin_jobs.proofs.Cutting.{found, passed}
 use Rattle.kmin_jobs.proofs.bundle.cut.Goals as goal
-use Rattle.std.proofs.Common.{◌∙◌, sym}
+use Rattle.std.proofs.Common.{◌∙◌, sym, arith}
+use Rattle.std.proofs.lemmas.Grind.{common_steps}
 
 pub returns-then-eq : goal.returns-then-eq
 returns-then-eq c =
@@ -11,3 +12,9 @@ pub loop-line-preserved : goal.loop-line-preserved
 loop-line-preserved c =
     let i = c.loop-line.invariant in
     passed c.args.bundle.now i.0 c.loop-line.rest.now c.in-Some.line.now c.in-Some.after.now i.1 i.2 i.3 c.in-Some.ensures.parts c.in-Some.ensures.shorter c.in-Some.ensures.inline c.in-Some.ensures.line (sym c.eq.ensures ∙ c.if-eq.false)
+
+pub overflow_sub-bundle : goal.overflow_sub-bundle
+overflow_sub-bundle c = grind (arith, common_steps)
+
+pub loop-line-smaller : goal.loop-line-smaller
+loop-line-smaller c = grind (arith, common_steps)

@@ -1,4 +1,5 @@
-use Rattle.std.proofs.Common.{◌∙◌}
+use Rattle.std.proofs.Common.{◌∙◌, arith}
+use Rattle.std.proofs.lemmas.Grind.{common_steps, elements}
 use Rattle.kmin_jobs.proofs.Gathering.{below_again, below_back}
 use Rattle.kmin_jobs.proofs.gather.open_ahead.Goals as goal
 
@@ -11,3 +12,36 @@ loop-number-preserved g c =
       below = below_back (g.F.Files.tells c.args.files.now) (g.F.Files.tells c.loop-number.files) c.args.root.now c.insert_all.new.texts i.same put.below;
       again = below_again (g.F.Files.tells c.loop-number.files) (g.F.Files.tells c.insert_all.new.files) c.args.root.now c.insert_all.new.texts put.same put.below;
     }
+
+pub returns-in_err-insert_all-clause-below : goal.returns-in_err-insert_all-clause-below
+returns-in_err-insert_all-clause-below g c = grind (arith, common_steps)
+
+pub returns-clause-below : goal.returns-clause-below
+returns-clause-below g c = grind (arith, elements)
+
+pub returns-in_err-insert_all-clause-same : goal.returns-in_err-insert_all-clause-same
+returns-in_err-insert_all-clause-same g c = grind (arith, common_steps)
+
+pub returns-in_err-paths-clause-below : goal.returns-in_err-paths-clause-below
+returns-in_err-paths-clause-below g c = grind (arith, elements)
+
+pub insert_all-requires : goal.insert_all-requires
+insert_all-requires g c = grind (arith, common_steps)
+
+pub returns-clause-same : goal.returns-clause-same
+returns-clause-same g c = grind (arith, common_steps)
+
+pub returns-in_err-paths-clause-same : goal.returns-in_err-paths-clause-same
+returns-in_err-paths-clause-same g c = grind (arith, common_steps)
+
+pub returns-in_default-clause-below : goal.returns-in_default-clause-below
+returns-in_default-clause-below g c = grind (arith, elements)
+
+pub returns-then-is_used-clause-below : goal.returns-then-is_used-clause-below
+returns-then-is_used-clause-below g c = grind (arith, elements)
+
+pub returns-in_default-clause-same : goal.returns-in_default-clause-same
+returns-in_default-clause-same g c = grind (arith, elements)
+
+pub returns-then-is_used-clause-same : goal.returns-then-is_used-clause-same
+returns-then-is_used-clause-same g c = grind (arith, common_steps)

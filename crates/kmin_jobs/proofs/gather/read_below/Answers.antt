@@ -1,4 +1,5 @@
-use Rattle.std.proofs.Common.{◌≡◌, ◌++◌, ◌∷◌, [], ℕ, List, ap, ◌∙◌, append_assoc}
+use Rattle.std.proofs.Common.{◌≡◌, ◌++◌, ◌∷◌, [], ℕ, List, ap, ◌∙◌, append_assoc, arith}
+use Rattle.std.proofs.lemmas.Grind.{common_steps, elements}
 use Rattle.kmin_jobs.specs.Files.{OpensAs, below}
 use Rattle.kmin_jobs.proofs.Gathering.{front_read}
 use Rattle.kmin_jobs.proofs.gather.read_below.Goals as goal
@@ -11,3 +12,30 @@ returns-in-Some-clause-bytes g c =
     ∙ append_assoc c.args.root.now (47 ∷ []) c.args.path.now in
     let opens : OpensAs (g.F.Files.tells c.args.files.now (below c.args.root.now c.args.path.now)) _ = rw at at c.in-Some.ensures.opens in
     front_read (g.F.Files.tells c.args.files.now (below c.args.root.now c.args.path.now)) _ _ c.read_front.result opens c.read_front.ensures.bytes
+
+pub returns-in_err-push_str-clause-bytes : goal.returns-in_err-push_str-clause-bytes
+returns-in_err-push_str-clause-bytes g c = grind (arith, common_steps)
+
+pub returns-in_err-place-clause-bytes : goal.returns-in_err-place-clause-bytes
+returns-in_err-place-clause-bytes g c = grind (arith, elements)
+
+pub returns-clause-same : goal.returns-clause-same
+returns-clause-same g c = grind (arith, common_steps)
+
+pub returns-in_err-push_str-2-clause-same : goal.returns-in_err-push_str-2-clause-same
+returns-in_err-push_str-2-clause-same g c = grind (arith, common_steps)
+
+pub returns-clause-bytes : goal.returns-clause-bytes
+returns-clause-bytes g c = grind (arith, common_steps)
+
+pub returns-in-Some-clause-same : goal.returns-in-Some-clause-same
+returns-in-Some-clause-same g c = grind (arith, common_steps)
+
+pub returns-in_err-push_str-2-clause-bytes : goal.returns-in_err-push_str-2-clause-bytes
+returns-in_err-push_str-2-clause-bytes g c = grind (arith, common_steps)
+
+pub returns-in_err-push_str-clause-same : goal.returns-in_err-push_str-clause-same
+returns-in_err-push_str-clause-same g c = grind (arith, common_steps)
+
+pub returns-in_err-place-clause-same : goal.returns-in_err-place-clause-same
+returns-in_err-place-clause-same g c = grind (arith, common_steps)

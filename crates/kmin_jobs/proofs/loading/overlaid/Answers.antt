@@ -1,4 +1,5 @@
 use Rattle.std.proofs.Common.{rules, arith, ◌≡◌, ◌++◌, [], ℕ, List, refl, sym, ap, subst, ◌∙◌, map, take}
+use Rattle.std.proofs.lemmas.Grind.{common_steps}
 use Rattle.std.specs.Borrow.{Bor}
 use Rattle.std.proofs.lemmas.List.{append-nil, append_assoc, take_all}
 use Rattle.kc_rules.specs.Told.{whole_of}
@@ -40,3 +41,12 @@ pub returns-clause-assign : goal.returns-clause-assign
 returns-clause-assign g c = λ before a.
     let all : take c.loop-path.path-index c.args.paths.now ≡ c.args.paths.now = take_all c.loop-path.path-index c.args.paths.now (omega arith) in
     rw all at (c.loop-path.invariant.assign before a)
+
+pub returns-clause-same : goal.returns-clause-same
+returns-clause-same g c = grind (arith, common_steps)
+
+pub returns-clause-solved : goal.returns-clause-solved
+returns-clause-solved g c = grind (arith, common_steps)
+
+pub returns-clause-settled : goal.returns-clause-settled
+returns-clause-settled g c = grind (arith, common_steps)

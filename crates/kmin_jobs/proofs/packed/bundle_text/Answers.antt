@@ -1,4 +1,5 @@
-use Rattle.std.proofs.Common.{refl, rules}
+use Rattle.std.proofs.Common.{refl, rules, arith}
+use Rattle.std.proofs.lemmas.Grind.{common_steps}
 use Rattle.kc_rules.specs.Told.{whole_of}
 use Rattle.kmin_jobs.specs.Bundled.{texts_of}
 use Rattle.kmin_jobs.proofs.Answering.{answers_bundle, refuses_configuration, refuses_tree}
@@ -17,3 +18,9 @@ pub returns-clause-configuration : goal.returns-clause-configuration
 returns-clause-configuration g c = λ e.
     refuses_configuration c.args.bundle.now c.cut.result.0.now c.cut.result.1.now (texts_of c.cut.result.0.now) (whole_of c.in_ok-settled.settled) c.cut.ensures refl
     c.in_ok-settled.ensures.accepted (c.full_over-text.ensures.configuration e)
+
+pub returns-clause-failed : goal.returns-clause-failed
+returns-clause-failed g c = grind (arith, common_steps)
+
+pub returns-clause-tree : goal.returns-clause-tree
+returns-clause-tree g c = grind (arith, common_steps)

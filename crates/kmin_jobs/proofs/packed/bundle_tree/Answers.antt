@@ -1,4 +1,5 @@
-use Rattle.std.proofs.Common.{subst, ◌∙◌, ap, codes, IfOk}
+use Rattle.std.proofs.Common.{subst, ◌∙◌, ap, codes, IfOk, arith}
+use Rattle.std.proofs.lemmas.Grind.{common_steps}
 use Rattle.kc_tree_model.specs.Files.{Files, with_file}
 use Rattle.kc_tree_model.specs.Trees.{Whole}
 use Rattle.kc_rules.specs.Told.{whole_of}
@@ -14,3 +15,9 @@ pub returns-clause-refused : goal.returns-clause-refused
 returns-clause-refused g c = λ e.
     let texts = c.in_ok-insert.ensures.ok ∙ ap (λ (fs : Files). with_file fs (codes "Kconfig") c.args.tree.now) c.with_seed-texts.ensures in
     subst (λ (fs : Files). (whole : Whole) → AreAccepted fs (codes "Kconfig") whole → ⊥) texts (c.settled_tree.ensures.refused e)
+
+pub settled_tree-requires : goal.settled_tree-requires
+settled_tree-requires g c = grind (arith, common_steps)
+
+pub returns-in_err-insert-clause-refused : goal.returns-in_err-insert-clause-refused
+returns-in_err-insert-clause-refused g c = grind (arith, common_steps)

@@ -1,4 +1,5 @@
-use Rattle.std.proofs.Common.{rules, refl, ◌∙◌, Some}
+use Rattle.std.proofs.Common.{rules, refl, ◌∙◌, Some, arith}
+use Rattle.std.proofs.lemmas.Grind.{common_steps}
 use Rattle.kc_rules.specs.Told.{whole_of}
 use Rattle.kc_dotconfig_model.specs.Files.{no_users}
 use Rattle.kc_dotconfig.proofs.Holding.{lies_alone}
@@ -20,3 +21,36 @@ returns-clause-ok g c =
       },
       full_over config c.args.settled.now _ _ _ same plain c.in_ok-text.ensures.text,
     )
+
+pub returns-in_err-text-clause-tree : goal.returns-in_err-text-clause-tree
+returns-in_err-text-clause-tree g c = grind (arith, common_steps)
+
+pub returns-in_err-fragment-clause-tree : goal.returns-in_err-fragment-clause-tree
+returns-in_err-fragment-clause-tree g c = grind (arith, common_steps)
+
+pub returns-in_err-config-clause-tree : goal.returns-in_err-config-clause-tree
+returns-in_err-config-clause-tree g c = grind (arith, common_steps)
+
+pub returns-in_err-fragment-clause-failed : goal.returns-in_err-fragment-clause-failed
+returns-in_err-fragment-clause-failed g c = grind (arith, common_steps)
+
+pub returns-in_err-config-clause-failed : goal.returns-in_err-config-clause-failed
+returns-in_err-config-clause-failed g c = grind (arith, common_steps)
+
+pub returns-in_err-text-clause-failed : goal.returns-in_err-text-clause-failed
+returns-in_err-text-clause-failed g c = grind (arith, common_steps)
+
+pub returns-in_err-text-clause-configuration : goal.returns-in_err-text-clause-configuration
+returns-in_err-text-clause-configuration g c = grind (arith, common_steps)
+
+pub returns-clause-failed : goal.returns-clause-failed
+returns-clause-failed g c = grind (arith, common_steps)
+
+pub returns-in_err-config-clause-configuration : goal.returns-in_err-config-clause-configuration
+returns-in_err-config-clause-configuration g c = grind (arith, common_steps)
+
+pub returns-clause-tree : goal.returns-clause-tree
+returns-clause-tree g c = grind (arith, common_steps)
+
+pub returns-clause-configuration : goal.returns-clause-configuration
+returns-clause-configuration g c = grind (arith, common_steps)

@@ -1,4 +1,5 @@
-use Rattle.std.proofs.Common.{rules, ◌≡◌, ℕ, List, map, refl, sym, ap, ◌∙◌}
+use Rattle.std.proofs.Common.{rules, ◌≡◌, ℕ, List, map, refl, sym, ap, ◌∙◌, arith}
+use Rattle.std.proofs.lemmas.Grind.{common_steps}
 use Rattle.std.specs.Borrow.{Bor}
 use Rattle.kc_rules.specs.Told.{profile_of}
 use Rattle.kmin_jobs.specs.Asked.{asked_of, paths_of}
@@ -14,3 +15,9 @@ returns-clause-answer g c = λ texts accepted.
     (ap (map (λ (path : Bor (List ℕ)). path.now)) items)
     accepted c.requires.one c.requires.profile same c.in_ok-config.ensures.assign c.in_ok-config.ensures.solved
     (c.in_ok-text.ensures (asked_of c.args.job.now) refl profile) refl
+
+pub returns-clause-status : goal.returns-clause-status
+returns-clause-status g c = grind (arith, common_steps)
+
+pub text_of-text-requires : goal.text_of-text-requires
+text_of-text-requires g c = grind (arith, common_steps)

@@ -1,4 +1,5 @@
-use Rattle.std.proofs.Common.{rules, ◌≤◌, subst, sym}
+use Rattle.std.proofs.Common.{rules, ◌≤◌, subst, sym, arith}
+use Rattle.std.proofs.lemmas.Grind.{common_steps}
 use Rattle.kmin_jobs.specs.Asked.{asked_of}
 use Rattle.kmin_jobs.proofs.Answering.{answers_two, status_at_most_one}
 use Rattle.kmin_jobs.proofs.serving.answer_two.Goals as goal
@@ -14,3 +15,6 @@ returns-clause-answer g c = λ texts accepted.
 
 pub returns-clause-status : goal.returns-clause-status
 returns-clause-status g c = subst (λ n. n ≤ 1) (sym c.in_ok-answer.ensures.status) (status_at_most_one _)
+
+pub compared-answer-requires-clause-tree : goal.compared-answer-requires-clause-tree
+compared-answer-requires-clause-tree g c = grind (arith, common_steps)

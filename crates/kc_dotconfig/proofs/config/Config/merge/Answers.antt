@@ -1,4 +1,5 @@
-use Rattle.std.proofs.Common.{◌≡◌, ◌++◌, ℕ, List, Option, IsTrue, length, take, ◌∙◌, sym, ap, subst}
+use Rattle.std.proofs.Common.{◌≡◌, ◌++◌, ℕ, List, Option, IsTrue, length, take, ◌∙◌, sym, ap, subst, arith}
+use Rattle.std.proofs.lemmas.Grind.{common_steps, elements}
 use Rattle.std.specs.Prelude.{filter, is_none}
 use Rattle.kc_system.specs.Changes.{changed_users, FitsChanges, IsTouched, IsCountOf, IsListOf, IsChanged}
 use Rattle.kc_system.specs.Solutions.{user_of}
@@ -79,3 +80,39 @@ returns-in-Err-clause-settled c = ap (λ (s : Configured). s.system) c.self.view
 
 pub returns-in-Err-clause-err : goal.returns-in-Err-clause-err
 returns-in-Err-clause-err c = c.self.view_is
+
+pub returns-in-Err-clause-changed : goal.returns-in-Err-clause-changed
+returns-in-Err-clause-changed c = grind (arith, common_steps)
+
+pub returns-in_err-changes-clause-solved : goal.returns-in_err-changes-clause-solved
+returns-in_err-changes-clause-solved c = grind (arith, elements)
+
+pub returns-in_err-push_users-clause-solved : goal.returns-in_err-push_users-clause-solved
+returns-in_err-push_users-clause-solved c = grind (arith, common_steps)
+
+pub returns-in_err-push_users-clause-settled : goal.returns-in_err-push_users-clause-settled
+returns-in_err-push_users-clause-settled c = grind (arith, common_steps)
+
+pub returns-clause-changed : goal.returns-clause-changed
+returns-clause-changed c = grind (arith, common_steps)
+
+pub returns-clause-evaluated : goal.returns-clause-evaluated
+returns-clause-evaluated c = grind (arith, common_steps)
+
+pub returns-in_err-changes-clause-settled : goal.returns-in_err-changes-clause-settled
+returns-in_err-changes-clause-settled c = grind (arith, common_steps)
+
+pub returns-clause-users : goal.returns-clause-users
+returns-clause-users c = grind (arith, common_steps)
+
+pub returns-in-Err-clause-users : goal.returns-in-Err-clause-users
+returns-in-Err-clause-users c = grind (arith, common_steps)
+
+pub returns-in-Err-clause-evaluated : goal.returns-in-Err-clause-evaluated
+returns-in-Err-clause-evaluated c = grind (arith, common_steps)
+
+pub returns-in-Err-clause-solved : goal.returns-in-Err-clause-solved
+returns-in-Err-clause-solved c = grind (arith, common_steps)
+
+pub returns-in-Ok-apply-clause-err : goal.returns-in-Ok-apply-clause-err
+returns-in-Ok-apply-clause-err c = grind (arith, common_steps)

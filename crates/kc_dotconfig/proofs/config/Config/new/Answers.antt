@@ -1,3 +1,5 @@
+use Rattle.std.proofs.Common.{arith}
+use Rattle.std.proofs.lemmas.Grind.{common_steps}
 use Rattle.kc_dotconfig.proofs.Solving.{solved_as, none_kept}
 use Rattle.kc_dotconfig.proofs.config.Config.new.Goals as goal
 
@@ -12,3 +14,6 @@ returns-clause-solved c = solved_as c.args.settled.now c.in_ok-session.session c
 
 pub returns-clause-users : goal.returns-clause-users
 returns-clause-users c = c.in_ok-session.ensures.users
+
+pub returns-clause-settled : goal.returns-clause-settled
+returns-clause-settled c = grind (arith, common_steps)

@@ -1,4 +1,5 @@
 use Rattle.std.proofs.Common.{◌≡◌, ℕ, List, Option, None, IsTrue, length, replicate, sym, ap, subst, ◌∙◌, arith}
+use Rattle.std.proofs.lemmas.Grind.{common_steps}
 use Rattle.kc_tree_model.specs.Trees.{Whole}
 use Rattle.kc_system.specs.Changes.{changed_users}
 use Rattle.kc_system.specs.Solutions.{FitsUsers}
@@ -40,3 +41,9 @@ returns-clause-solved c = solved_as c.args.settled.now c.in_ok-session.session c
 pub returns-clause-users : goal.returns-clause-users
 returns-clause-users c =
     c.in_ok-session.ensures.users ∙ assigned (whole_of c.args.settled.now) c.len.result c.deref-2.result.now c.args.fragment.now.assigns.items c.in_ok-users.users.items c.in_ok-users.ensures c.deref-2.ensures.value c.len.ensures
+
+pub returns-clause-settled : goal.returns-clause-settled
+returns-clause-settled c = grind (arith, common_steps)
+
+pub holding-requires-clause-order : goal.holding-requires-clause-order
+holding-requires-clause-order c = grind (arith, common_steps)

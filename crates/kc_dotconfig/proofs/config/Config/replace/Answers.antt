@@ -1,4 +1,5 @@
-use Rattle.std.proofs.Common.{◌≡◌, ◌++◌, ℕ, List, Option, IsTrue, length, ◌∙◌, sym, ap, subst}
+use Rattle.std.proofs.Common.{◌≡◌, ◌++◌, ℕ, List, Option, IsTrue, length, ◌∙◌, sym, ap, subst, arith}
+use Rattle.std.proofs.lemmas.Grind.{common_steps, elements}
 use Rattle.kc_system.specs.Changes.{changed_users, FitsChanges, IsListOf, IsChanged, IsTouched, IsCountOf}
 use Rattle.kc_rules_model.specs.Dependencies.{dependencies}
 use Rattle.kc_rules_model.specs.Shapes.{user_fits}
@@ -73,3 +74,30 @@ returns-in_err-report-clause-settled c = ap (λ (s : Configured). s.system) (c.i
 
 pub returns-in_err-report-clause-solved : goal.returns-in_err-report-clause-solved
 returns-in_err-report-clause-solved c = rw c.in_err-report.ensures.err c.self.invariant.solved
+
+pub returns-in_err-push_cleared-clause-solved : goal.returns-in_err-push_cleared-clause-solved
+returns-in_err-push_cleared-clause-solved c = grind (arith, common_steps)
+
+pub returns-in_err-changes-clause-settled : goal.returns-in_err-changes-clause-settled
+returns-in_err-changes-clause-settled c = grind (arith, common_steps)
+
+pub returns-in_err-push_cleared-clause-settled : goal.returns-in_err-push_cleared-clause-settled
+returns-in_err-push_cleared-clause-settled c = grind (arith, common_steps)
+
+pub returns-in_err-push_users-clause-settled : goal.returns-in_err-push_users-clause-settled
+returns-in_err-push_users-clause-settled c = grind (arith, common_steps)
+
+pub returns-in_err-held-clause-solved : goal.returns-in_err-held-clause-solved
+returns-in_err-held-clause-solved c = grind (arith, elements)
+
+pub returns-clause-err : goal.returns-clause-err
+returns-clause-err c = grind (arith, common_steps)
+
+pub returns-in_err-changes-clause-solved : goal.returns-in_err-changes-clause-solved
+returns-in_err-changes-clause-solved c = grind (arith, common_steps)
+
+pub returns-in_err-push_users-clause-solved : goal.returns-in_err-push_users-clause-solved
+returns-in_err-push_users-clause-solved c = grind (arith, common_steps)
+
+pub returns-in_err-held-clause-settled : goal.returns-in_err-held-clause-settled
+returns-in_err-held-clause-settled c = grind (arith, common_steps)

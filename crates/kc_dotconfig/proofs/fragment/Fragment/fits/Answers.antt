@@ -1,4 +1,5 @@
 use Rattle.std.proofs.Common.{inl, inr, length, get_or, refl, sym, ap, ◌∙◌, List, ℕ, arith}
+use Rattle.std.proofs.lemmas.Grind.{common_steps}
 use Rattle.std.proofs.lemmas.Bool.{false≢true}
 use Rattle.kc_tree.specs.Held.{Held}
 use Rattle.kc_rules_model.specs.declared.values.UserValue.{UserValue}
@@ -26,3 +27,9 @@ loop-unit-preserved c = record {
 
 pub returns : goal.returns
 returns c = (λ e. all_fit (whole_of c.args.settled.now) c.args.self.now.assigns.items c.loop-unit.unit-index (let h = c.loop-unit-test.false in let n = ap length c.deref-unit-items.ensures.value in omega (arith, h, n)) c.loop-unit.invariant.rises c.loop-unit.invariant.each, λ fits. refl)
+
+pub overflow_add-next : goal.overflow_add-next
+overflow_add-next c = grind (arith, common_steps)
+
+pub user_fits-requires : goal.user_fits-requires
+user_fits-requires c = grind (arith, common_steps)

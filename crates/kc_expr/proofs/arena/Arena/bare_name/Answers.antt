@@ -1,4 +1,5 @@
-use Rattle.std.proofs.Common.{[], get_or, Some, ap, sym, ◌∙◌}
+use Rattle.std.proofs.Common.{[], get_or, Some, ap, sym, ◌∙◌, arith}
+use Rattle.std.proofs.lemmas.Grind.{common_steps}
 use Rattle.kc_expr.specs.Arena.{Exprs}
 use Rattle.kc_expr.specs.Names.{name_of_operand}
 use Rattle.kc_expr.specs.checker.Nodes.{operand_of}
@@ -27,3 +28,6 @@ returns-in-Name-clause-name c =
     ap (λ i. Some (get_or c.args.self.now.names i [])) c.at.ensures
     ∙ ap (λ (x : Exprs). Some (get_or x.names c.in-Name.index [])) (sym c.self.view_is)
     ∙ ap (option_and_then name_of_operand) (sym (operand_is c.args.self.now c.self.inside.store c.args.id c.index.result c.node.result c.self.view_is c.index.ensures c.self.invariant c.requires c.node.ensures c.in-Alone.leaf c.in-Alone.is ∙ ap (λ l. Some (operand_of (names_held c.self.inside.store) c.self.inside.store.texts.items l)) c.in-Name.is))
+
+pub returns-in-Name-clause-held : goal.returns-in-Name-clause-held
+returns-in-Name-clause-held c = grind (arith, common_steps)

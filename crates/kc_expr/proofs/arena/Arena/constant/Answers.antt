@@ -1,3 +1,5 @@
+use Rattle.std.proofs.Common.{arith}
+use Rattle.std.proofs.lemmas.Grind.{common_steps}
 use Rattle.kc_expr.proofs.StoreLemmas.{grows}
 use Rattle.kc_expr.proofs.arena.Arena.constant.Goals as goal
 
@@ -6,3 +8,12 @@ returns-clause-grows c = rw (← c.self.view_is) (grows c.self.inside.store c.pu
 
 pub returns-clause-ok : goal.returns-clause-ok
 returns-clause-ok c = rw (c.at.ensures) c.in_ok-id.ensures.stands
+
+pub returns-in_err-id-clause-grows : goal.returns-in_err-id-clause-grows
+returns-in_err-id-clause-grows c = grind (arith, common_steps)
+
+pub invariant_of-self-2 : goal.invariant_of-self-2
+invariant_of-self-2 c = grind (arith, common_steps)
+
+pub invariant_of-self : goal.invariant_of-self
+invariant_of-self c = grind (arith, common_steps)

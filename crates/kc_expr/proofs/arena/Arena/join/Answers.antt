@@ -1,3 +1,5 @@
+use Rattle.std.proofs.Common.{arith}
+use Rattle.std.proofs.lemmas.Grind.{common_steps}
 use Rattle.kc_expr.proofs.StoreLemmas.{within_nodes, grows}
 use Rattle.kc_expr.proofs.arena.Arena.join.Goals as goal
 
@@ -12,3 +14,12 @@ returns-clause-grows c = rw (← c.self.view_is) (grows c.self.inside.store c.pu
 
 pub returns-clause-ok : goal.returns-clause-ok
 returns-clause-ok c = rw (← c.self.view_is, ← c.number.ensures, ← c.number-2.ensures, c.at.ensures) c.in_ok-id.ensures.stands
+
+pub invariant_of-self-2 : goal.invariant_of-self-2
+invariant_of-self-2 c = grind (arith, common_steps)
+
+pub returns-in_err-id-clause-grows : goal.returns-in_err-id-clause-grows
+returns-in_err-id-clause-grows c = grind (arith, common_steps)
+
+pub invariant_of-self : goal.invariant_of-self
+invariant_of-self c = grind (arith, common_steps)

@@ -1,4 +1,5 @@
-use Rattle.std.proofs.Common.{[], get_or, ap, ◌∙◌}
+use Rattle.std.proofs.Common.{[], get_or, ap, ◌∙◌, arith}
+use Rattle.std.proofs.lemmas.Grind.{common_steps}
 use Rattle.kc_expr.specs.Arena.{Exprs}
 use Rattle.kc_expr.specs.checker.Store.{names_held}
 use Rattle.kc_expr.proofs.arena.Arena.name.Goals as goal
@@ -8,3 +9,6 @@ returns c =
     c.name.ensures
     ∙ ap (λ i. get_or (names_held c.self.inside.store) i []) c.index.ensures
     ∙ ap (λ (x : Exprs). get_or x.names c.args.id []) c.self.view_is
+
+pub name-requires : goal.name-requires
+name-requires c = grind (arith, common_steps)

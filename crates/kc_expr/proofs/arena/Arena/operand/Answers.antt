@@ -1,4 +1,5 @@
-use Rattle.std.proofs.Common.{[], get_or, Some, ap, sym, ◌∙◌}
+use Rattle.std.proofs.Common.{[], get_or, Some, ap, sym, ◌∙◌, arith}
+use Rattle.std.proofs.lemmas.Grind.{common_steps}
 use Rattle.kc_expr.specs.Arena.{Exprs}
 use Rattle.kc_expr.specs.Expr.{named, quoted}
 use Rattle.kc_expr.specs.checker.Nodes.{operand_of}
@@ -27,3 +28,9 @@ pub returns-in-Quoted-clause-operand : goal.returns-in-Quoted-clause-operand
 returns-in-Quoted-clause-operand c =
     ap (λ x. Some (quoted x)) c.text.ensures
     ∙ sym (operand_is c.args.self.now c.self.inside.store c.args.id c.index.result c.node.result c.self.view_is c.index.ensures c.self.invariant c.requires c.node.ensures c.in-Alone.leaf c.in-Alone.is ∙ ap (λ l. Some (operand_of (names_held c.self.inside.store) c.self.inside.store.texts.items l)) c.in-Quoted.is)
+
+pub text-requires : goal.text-requires
+text-requires c = grind (arith, common_steps)
+
+pub returns-in-Name-clause-held : goal.returns-in-Name-clause-held
+returns-in-Name-clause-held c = grind (arith, common_steps)

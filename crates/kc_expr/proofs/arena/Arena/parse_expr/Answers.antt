@@ -1,4 +1,5 @@
-use Rattle.std.proofs.Common.{◌≡◌, ◌+◌, refl, ap, ◌∙◌, length, take}
+use Rattle.std.proofs.Common.{◌≡◌, ◌+◌, refl, ap, ◌∙◌, length, take, arith}
+use Rattle.std.proofs.lemmas.Grind.{common_steps}
 use Rattle.kc_expr.specs.Grammar.{extent}
 use Rattle.kc_expr.specs.Reading.{expr_end}
 use Rattle.kc_expr.specs.Token.{pieces_of}
@@ -21,3 +22,27 @@ pub returns-in-Err-clause-fault : goal.returns-in-Err-clause-fault
 returns-in-Err-clause-fault c =
     let end : c.args.at + c.extent_len.result ≡ expr_end (pieces_of c.args.tokens.now) c.args.at = ap (λ n. c.args.at + n) (c.extent_len.ensures.count ∙ ap (λ us. length (extent us)) (tail_pieces c.args.tokens.now c.args.at)) in
     line_refused c.args.tokens.now (take (c.args.at + c.extent_len.result) c.args.tokens.now) c.args.at (c.args.at + c.extent_len.result) refl end c.in-Err.fault c.in-Err.ensures.fault
+
+pub parse_whole-requires-clause-sound : goal.parse_whole-requires-clause-sound
+parse_whole-requires-clause-sound c = grind (arith, common_steps)
+
+pub returns-in-Err-clause-grows : goal.returns-in-Err-clause-grows
+returns-in-Err-clause-grows c = grind (arith, common_steps)
+
+pub returns-in-Err-clause-err : goal.returns-in-Err-clause-err
+returns-in-Err-clause-err c = grind (arith, common_steps)
+
+pub returns-in-Ok-clause-names : goal.returns-in-Ok-clause-names
+returns-in-Ok-clause-names c = grind (arith, common_steps)
+
+pub invariant_of-self : goal.invariant_of-self
+invariant_of-self c = grind (arith, common_steps)
+
+pub parse_whole-requires-clause-within : goal.parse_whole-requires-clause-within
+parse_whole-requires-clause-within c = grind (arith, common_steps)
+
+pub invariant_of-self-in-Err : goal.invariant_of-self-in-Err
+invariant_of-self-in-Err c = grind (arith, common_steps)
+
+pub slice_bounds-parse_whole-end : goal.slice_bounds-parse_whole-end
+slice_bounds-parse_whole-end c = grind (arith, common_steps)

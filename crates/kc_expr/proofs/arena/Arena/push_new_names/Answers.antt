@@ -1,4 +1,5 @@
 use Rattle.std.proofs.Common.{ap, length, arith, rules}
+use Rattle.std.proofs.lemmas.Grind.{common_steps}
 use Rattle.kc_expr.specs.Arena.{Exprs}
 use Rattle.kc_expr.proofs.StoreLemmas.{within_nodes, length-nodes}
 use Rattle.kc_expr.proofs.arena.Arena.push_new_names.Goals as goal
@@ -11,3 +12,9 @@ push_unwalked-requires-clause-room c = omega (arith, c.requires.found.room, leng
 
 pub returns-in-Err-clause-err : goal.returns-in-Err-clause-err
 returns-in-Err-clause-err c = search rules
+
+pub returns-in-Ok-clause-held : goal.returns-in-Ok-clause-held
+returns-in-Ok-clause-held c = grind (arith, common_steps)
+
+pub push_unwalked-requires-clause-found : goal.push_unwalked-requires-clause-found
+push_unwalked-requires-clause-found c = grind (arith, common_steps)

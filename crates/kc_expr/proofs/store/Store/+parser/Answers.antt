@@ -1,4 +1,5 @@
 use Rattle.std.proofs.Common.{◌≡◌, ℕ, ◌+◌, ◌-◌, ◌≤◌, List, length, drop, Some, inl, inr, refl, arith, rules}
+use Rattle.std.proofs.lemmas.Grind.{common_steps}
 use Rattle.std.proofs.lemmas.Bool.{both_ways}
 use Rattle.std.proofs.lemmas.List.{length-map}
 use Rattle.std.proofs.lemmas.Result.{err_from_is_err_and}
@@ -263,3 +264,57 @@ parse_factor-returns-else-stands_at-clause-sound t c = c.parse_ors.ensures.sound
 
 pub parse_factor-returns-else-stands_at-clause-extends : goal.parse_factor-returns-else-stands_at-clause-extends
 parse_factor-returns-else-stands_at-clause-extends t c = c.parse_ors.ensures.extends
+
+pub parse_factor-returns-then-depth-eq0-clause-names : goal.parse_factor-returns-then-depth-eq0-clause-names
+parse_factor-returns-then-depth-eq0-clause-names t c = omega arith
+
+pub parse_ands-overflow_add-next : goal.parse_ands-overflow_add-next
+parse_ands-overflow_add-next t c = grind (arith, common_steps)
+
+pub parse_ands-ands-smaller : goal.parse_ands-ands-smaller
+parse_ands-ands-smaller t c = grind (arith, common_steps)
+
+pub parse_factor-overflow_add-at : goal.parse_factor-overflow_add-at
+parse_factor-overflow_add-at t c = omega arith
+
+pub parse_ors-overflow_add-next : goal.parse_ors-overflow_add-next
+parse_ors-overflow_add-next t c = grind (arith, common_steps)
+
+pub parse_factor-overflow_add-at-2 : goal.parse_factor-overflow_add-at-2
+parse_factor-overflow_add-at-2 t c = omega arith
+
+pub parse_factor-overflow_add-result : goal.parse_factor-overflow_add-result
+parse_factor-overflow_add-result t c = grind (arith, common_steps)
+
+pub parse_factor-overflow_sub-depth : goal.parse_factor-overflow_sub-depth
+parse_factor-overflow_sub-depth t c = omega arith
+
+pub parse_factor-overflow_add-at-then-negated : goal.parse_factor-overflow_add-at-then-negated
+parse_factor-overflow_add-at-then-negated t c = omega arith
+
+pub parse_factor-returns-then-depth-eq0-clause-extends : goal.parse_factor-returns-then-depth-eq0-clause-extends
+parse_factor-returns-then-depth-eq0-clause-extends t c = grind (arith, common_steps)
+
+pub parse_ors-ors-smaller : goal.parse_ors-ors-smaller
+parse_ors-ors-smaller t c = grind (arith, common_steps)
+
+pub parse_factor-returns-else-stands_at-clause-names : goal.parse_factor-returns-else-stands_at-clause-names
+parse_factor-returns-else-stands_at-clause-names t c = omega arith
+
+pub parse_ands-parse_factor-requires : goal.parse_ands-parse_factor-requires
+parse_ands-parse_factor-requires t c = grind (arith, common_steps)
+
+pub parse_ors-parse_ands-requires : goal.parse_ors-parse_ands-requires
+parse_ors-parse_ands-requires t c = grind (arith, common_steps)
+
+pub parse_factor-overflow_sub-depth-2 : goal.parse_factor-overflow_sub-depth-2
+parse_factor-overflow_sub-depth-2 t c = omega arith
+
+pub parse_factor-parse_ors-requires : goal.parse_factor-parse_ors-requires
+parse_factor-parse_ors-requires t c = grind (arith, common_steps)
+
+pub parse_factor-too_deep-requires : goal.parse_factor-too_deep-requires
+parse_factor-too_deep-requires t c = grind (arith, common_steps)
+
+pub parse_factor-parse_factor-requires : goal.parse_factor-parse_factor-requires
+parse_factor-parse_factor-requires t c = grind (arith, common_steps)

@@ -1,4 +1,5 @@
 use Rattle.std.proofs.Common.{◌-◌, arith}
+use Rattle.std.proofs.lemmas.Grind.{common_steps}
 use Rattle.std.specs.Prelude.{string_bytes}
 use Rattle.std.proofs.lemmas.List.{length-map}
 use Rattle.kc_expr.specs.checker.Store.{names_held}
@@ -10,3 +11,15 @@ returns-then-has_at c = record { place = place_of_held (names_held c.args.self.n
 
 pub returns-then-has_at-2 : goal.returns-then-has_at-2
 returns-then-has_at-2 c = record { place = place_of_held (names_held c.args.self.now) (c.len-count.result - 2) c.args.name.now c.requires.distinct (omega (arith, length-map c.args.self.now.names.keys string_bytes)) (c.has_at-then-count-gt1.ensures c.if-has_at-2.true) }
+
+pub overflow_sub-result-then-has_at-2 : goal.overflow_sub-result-then-has_at-2
+overflow_sub-result-then-has_at-2 c = omega arith
+
+pub overflow_sub-result : goal.overflow_sub-result
+overflow_sub-result c = omega arith
+
+pub has_at-requires-then-count-gt1 : goal.has_at-requires-then-count-gt1
+has_at-requires-then-count-gt1 c = grind (arith, common_steps)
+
+pub has_at-requires : goal.has_at-requires
+has_at-requires c = grind (arith, common_steps)

@@ -1,4 +1,5 @@
-use Rattle.std.proofs.Common.{[], ◌∷◌, refl}
+use Rattle.std.proofs.Common.{[], ◌∷◌, refl, arith}
+use Rattle.std.proofs.lemmas.Grind.{common_steps}
 use Rattle.std.proofs.Math.Seq.{take-append_seam, take-length}
 use Rattle.kc_expr.specs.checker.Store.{Extends}
 use Rattle.kc_expr.proofs.StoreLemmas.{extends_self, sound_on}
@@ -18,3 +19,15 @@ returns-in_err-id-clause-sound c = c.requires
 
 pub returns-in_err-id-clause-extends : goal.returns-in_err-id-clause-extends
 returns-in_err-id-clause-extends c = extends_self c.args.self.now
+
+pub returns-clause-within : goal.returns-clause-within
+returns-clause-within c = grind (arith, common_steps)
+
+pub returns-clause-text : goal.returns-clause-text
+returns-clause-text c = grind (arith, common_steps)
+
+pub returns-in_err-push-clause-extends : goal.returns-in_err-push-clause-extends
+returns-in_err-push-clause-extends c = grind (arith, common_steps)
+
+pub returns-clause-memory : goal.returns-clause-memory
+returns-clause-memory c = omega arith

@@ -1,4 +1,5 @@
-use Rattle.std.proofs.Common.{sym, ◌∙◌, inl}
+use Rattle.std.proofs.Common.{sym, ◌∙◌, inl, arith}
+use Rattle.std.proofs.lemmas.Grind.{common_steps}
 use Rattle.kc_expr.specs.checker.Nodes.{operand_of}
 use Rattle.kc_expr.specs.checker.Store.{names_held}
 use Rattle.kc_expr.specs.Token.{pieces_of}
@@ -119,3 +120,12 @@ returns-clause-sound c = c.push.ensures.sound
 
 pub returns-clause-extends : goal.returns-clause-extends
 returns-clause-extends c = extends_on c.args.self.now c.leaf_at-2.new.self c.push.new.self (extends_on c.args.self.now c.leaf_at.new.self c.leaf_at-2.new.self c.leaf_at.ensures.extends c.leaf_at-2.ensures.extends) c.push.ensures.extends
+
+pub returns-in_default-2-clause-names : goal.returns-in_default-2-clause-names
+returns-in_default-2-clause-names c = omega arith
+
+pub push-requires-clause-fits : goal.push-requires-clause-fits
+push-requires-clause-fits c = grind (arith, common_steps)
+
+pub overflow_add-result : goal.overflow_add-result
+overflow_add-result c = omega arith

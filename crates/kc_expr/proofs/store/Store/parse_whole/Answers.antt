@@ -1,4 +1,5 @@
 use Rattle.std.proofs.Common.{◌≡◌, Ok, drop, sym, ◌∙◌, arith, length-drop}
+use Rattle.std.proofs.lemmas.Grind.{common_steps}
 use Rattle.std.proofs.lemmas.Result.{err_from_is_err_and, IfOk-weaker}
 use Rattle.std.proofs.lemmas.List.{length-map}
 use Rattle.kc_expr.specs.Expr.{alone, named}
@@ -28,3 +29,18 @@ returns-in-Some-clause-ok c =
     let reads : whole_read c.args.depth (drop c.args.at (pieces_of c.args.tokens.now)) ≡ Ok (alone (constant_or named c.in-Some.text.now)) =
     word_whole (drop c.args.at (pieces_of c.args.tokens.now)) (constant_or named c.in-Some.text.now) e.kind e.operand (sym (drop_one c.args.at (pieces_of c.args.tokens.now)) ∙ e.last) c.args.depth in
     IfOk-weaker c.parse_word.result _ _ (λ id s. record { expr = alone (constant_or named c.in-Some.text.now); reads = reads; stands = s }) c.parse_word.ensures.stands
+
+pub returns-in-Some-clause-fault : goal.returns-in-Some-clause-fault
+returns-in-Some-clause-fault c = grind (arith, common_steps)
+
+pub parse_ors-requires-clause-sound : goal.parse_ors-requires-clause-sound
+parse_ors-requires-clause-sound c = grind (arith, common_steps)
+
+pub returns-clause-sound : goal.returns-clause-sound
+returns-clause-sound c = grind (arith, common_steps)
+
+pub returns-in-Some-clause-sound : goal.returns-in-Some-clause-sound
+returns-in-Some-clause-sound c = grind (arith, common_steps)
+
+pub returns-then-next-tokens-clause-sound : goal.returns-then-next-tokens-clause-sound
+returns-then-next-tokens-clause-sound c = grind (arith, common_steps)

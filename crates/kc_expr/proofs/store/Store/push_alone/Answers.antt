@@ -1,4 +1,5 @@
-use Rattle.std.proofs.Common.{◌≡◌, ap, sym, ◌∙◌, subst}
+use Rattle.std.proofs.Common.{◌≡◌, ap, sym, ◌∙◌, subst, arith}
+use Rattle.std.proofs.lemmas.Grind.{common_steps}
 use Rattle.std.proofs.lemmas.Result.{IfOk-weaker}
 use Rattle.kc_value.specs.declared.tri.Tri.TheVariants.{M}
 use Rattle.kc_expr.specs.Arena.{Stands, stands_for}
@@ -70,3 +71,9 @@ returns-clause-sound c = c.push-3.ensures.sound
 
 pub returns-clause-extends : goal.returns-clause-extends
 returns-clause-extends c = extends_on c.args.self.now c.push-2.new.self c.push-3.new.self (extends_on c.args.self.now c.intern.new.self c.push-2.new.self (extends_on c.args.self.now c.push.new.self c.intern.new.self c.push.ensures.extends c.intern.ensures.extends) c.push-2.ensures.extends) c.push-3.ensures.extends
+
+pub returns-clause-memory : goal.returns-clause-memory
+returns-clause-memory c = grind (arith, common_steps)
+
+pub returns-clause-names : goal.returns-clause-names
+returns-clause-names c = grind (arith, common_steps)

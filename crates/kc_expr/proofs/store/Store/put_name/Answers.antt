@@ -1,4 +1,5 @@
 use Rattle.std.proofs.Common.{◌≡◌, ℕ, ap, sym, ◌∙◌, refl, Some, map, List, subst, length, ◌≤◌, ◌^◌, arith}
+use Rattle.std.proofs.lemmas.Grind.{common_steps}
 use Rattle.std.specs.Prelude.{String, string_bytes, bytes_eq}
 use Rattle.std.proofs.Math.Seq.{take-length}
 use Rattle.std.specs.List.{list_any}
@@ -62,3 +63,54 @@ returns-in_err-from_str-clause-sound c = c.requires
 
 pub returns-in_err-from_str-clause-extends : goal.returns-in_err-from_str-clause-extends
 returns-in_err-from_str-clause-extends c = extends_self c.args.self.now
+
+pub returns-clause-nodes : goal.returns-clause-nodes
+returns-clause-nodes c = grind (arith, common_steps)
+
+pub returns-in_err-from_str-clause-nodes : goal.returns-in_err-from_str-clause-nodes
+returns-in_err-from_str-clause-nodes c = grind (arith, common_steps)
+
+pub returns-in_err-from_str-clause-memory : goal.returns-in_err-from_str-clause-memory
+returns-in_err-from_str-clause-memory c = grind (arith, common_steps)
+
+pub returns-in_err-number_at-clause-nodes : goal.returns-in_err-number_at-clause-nodes
+returns-in_err-number_at-clause-nodes c = grind (arith, common_steps)
+
+pub returns-in_err-index-clause-memory : goal.returns-in_err-index-clause-memory
+returns-in_err-index-clause-memory c = grind (arith, common_steps)
+
+pub returns-in_err-index-clause-texts : goal.returns-in_err-index-clause-texts
+returns-in_err-index-clause-texts c = grind (arith, common_steps)
+
+pub returns-clause-err : goal.returns-clause-err
+returns-clause-err c = omega arith
+
+pub returns-clause-texts : goal.returns-clause-texts
+returns-clause-texts c = grind (arith, common_steps)
+
+pub returns-in_err-from_str-clause-texts : goal.returns-in_err-from_str-clause-texts
+returns-in_err-from_str-clause-texts c = grind (arith, common_steps)
+
+pub returns-clause-memory : goal.returns-clause-memory
+returns-clause-memory c = omega arith
+
+pub returns-in_err-index-clause-sound : goal.returns-in_err-index-clause-sound
+returns-in_err-index-clause-sound c = grind (arith, common_steps)
+
+pub returns-in_err-number_at-clause-texts : goal.returns-in_err-number_at-clause-texts
+returns-in_err-number_at-clause-texts c = grind (arith, common_steps)
+
+pub returns-in_err-index-clause-extends : goal.returns-in_err-index-clause-extends
+returns-in_err-index-clause-extends c = grind (arith, common_steps)
+
+pub returns-in_err-index-clause-err : goal.returns-in_err-index-clause-err
+returns-in_err-index-clause-err c = grind (arith, common_steps)
+
+pub returns-in_err-index-clause-nodes : goal.returns-in_err-index-clause-nodes
+returns-in_err-index-clause-nodes c = grind (arith, common_steps)
+
+pub returns-in_err-number_at-clause-memory : goal.returns-in_err-number_at-clause-memory
+returns-in_err-number_at-clause-memory c = grind (arith, common_steps)
+
+pub overflow_cast-result : goal.overflow_cast-result
+overflow_cast-result c = grind (arith, common_steps)

@@ -1,4 +1,5 @@
 use Rattle.std.proofs.Common.{◌≡◌, ◌<◌, replicate, arith}
+use Rattle.std.proofs.lemmas.Grind.{common_steps}
 use Rattle.std.proofs.lemmas.List.Elements.{All-replicate}
 use Rattle.kc_expr.proofs.WalkLemmas.{none_stamped}
 use Rattle.kc_expr.proofs.walks.Walk.begin.Goals.{then-self, else-self}
@@ -11,3 +12,9 @@ returns-clause-none c = none_stamped _ _ (elim c.if-self.branch [
       rw (w.self-inside-is, zeros) (All-replicate (λ s. s < 1) (c.self.inside.stamps.len) 0 (omega arith))
   | else-self w ↦ rw w.self-inside-is (λ k d l. omega (arith, c.self.invariant k d l))
 ])
+
+pub returns-clause-room : goal.returns-clause-room
+returns-clause-room c = grind (arith, common_steps)
+
+pub invariant_of-self : goal.invariant_of-self
+invariant_of-self c = grind (arith, common_steps)

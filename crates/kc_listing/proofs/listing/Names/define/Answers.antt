@@ -14,3 +14,12 @@ returns-clause-named c = λ name names h p n.
     (let k = c.in-Ok.ensures.few (omega arith) in omega arith)
     c.in-Ok.ensures.same
     (search rules) h n)
+
+pub returns-in_default-clause-named : goal.returns-in_default-clause-named
+returns-in_default-clause-named c = omega arith
+
+pub returns-in_default-push-clause-named : goal.returns-in_default-push-clause-named
+returns-in_default-push-clause-named c = omega arith
+
+pub returns-clause-number : goal.returns-clause-number
+returns-clause-number c = omega arith

@@ -1,4 +1,5 @@
 use Rattle.std.proofs.Common.{◌≡◌, ◌∙◌, sym, refl, inr, arith, Some, None}
+use Rattle.std.proofs.lemmas.Grind.{common_steps}
 use Rattle.kc_expr.specs.Lookup.{place_of}
 use Rattle.kc_listing.proofs.NameLemmas.{full_there, with_there, place_get, names_later}
 use Rattle.kc_listing.proofs.SymbolSteps.{place_known, told_full, told_new}
@@ -27,3 +28,18 @@ returns-clause-told c = λ names h.
     told_new c.intern.new.self c.args.self.now.symbols.items c.args.self.now.numbers.items names c.args.name.now l none c.define.new.self c.define.result
     (let t = c.if-len-ge-MAX_SYMBOLS.false in let k = c.len.ensures in omega arith)
     c.define.ensures.number (c.define.ensures.named c.args.name.now names l c.in-Ok.ensures.place none) c.define.ensures.memory
+
+pub returns-then-len-ge-MAX_SYMBOLS-clause-grows : goal.returns-then-len-ge-MAX_SYMBOLS-clause-grows
+returns-then-len-ge-MAX_SYMBOLS-clause-grows c = grind (arith, common_steps)
+
+pub returns-in_default-clause-told : goal.returns-in_default-clause-told
+returns-in_default-clause-told c = grind (arith, common_steps)
+
+pub returns-in-Some-clause-grows : goal.returns-in-Some-clause-grows
+returns-in-Some-clause-grows c = grind (arith, common_steps)
+
+pub returns-in_default-clause-grows : goal.returns-in_default-clause-grows
+returns-in_default-clause-grows c = grind (arith, common_steps)
+
+pub returns-clause-grows : goal.returns-clause-grows
+returns-clause-grows c = grind (arith, common_steps)

@@ -1,4 +1,5 @@
-use Rattle.std.proofs.Common.{◌∙◌}
+use Rattle.std.proofs.Common.{◌∙◌, arith}
+use Rattle.std.proofs.lemmas.Grind.{common_steps, elements}
 use Rattle.kc_tree.specs.Told.{symbol_of, choice_of}
 use Rattle.kc_rules.proofs.UserFits.{fits_symbol, fits_choice}
 use Rattle.kc_rules.proofs.rules.Settled.user_fits.Goals as goal
@@ -12,3 +13,9 @@ pub returns-in-Choice : goal.returns-in-Choice
 returns-in-Choice c =
     let t = c.args.self.now.rules.tree in
     c.is_choice_fit.ensures ∙ fits_choice t.whole c.args.u c.in-Choice.c (choice_of t.exprs c.choice.result) c.args.value.now c.in-Choice.ensures.unit c.choice.ensures.choice
+
+pub symbol-requires : goal.symbol-requires
+symbol-requires c = grind (arith, elements)
+
+pub choice-requires : goal.choice-requires
+choice-requires c = grind (arith, common_steps)

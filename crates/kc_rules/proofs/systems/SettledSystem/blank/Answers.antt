@@ -1,4 +1,5 @@
-use Rattle.std.proofs.Common.{ap}
+use Rattle.std.proofs.Common.{ap, arith}
+use Rattle.std.proofs.lemmas.Grind.{elements}
 use Rattle.kc_rules_model.specs.Kinds.{is_tri_kind}
 use Rattle.kc_rules.proofs.Blanks.{blank_tri, blank_text, blank_member}
 use Rattle.kc_rules.proofs.systems.SettledSystem.blank.Goals as goal
@@ -20,3 +21,6 @@ returns-in_ok-copied-in-Hex c = rw c.in_ok-copied-in-Hex.ensures (blank_text c.a
 
 pub returns-in-Choice : goal.returns-in-Choice
 returns-in-Choice c = blank_member c.args.self.now.rules.tree.whole c.args.u _ c.in-Choice.ensures.unit
+
+pub symbol-requires : goal.symbol-requires
+symbol-requires c = grind (arith, elements)

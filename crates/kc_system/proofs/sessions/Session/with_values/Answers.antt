@@ -1,4 +1,5 @@
 use Rattle.std.proofs.Common.{arith}
+use Rattle.std.proofs.lemmas.Grind.{common_steps}
 use Rattle.kc_system.proofs.sessions.Session.with_values.Goals as goal
 
 pub make_plan-requires : goal.make_plan-requires
@@ -15,3 +16,6 @@ invariant_of-result g c =
       none = c.in_ok-pending.ensures.none;
       gives = rw same c.requires.gives;
     }
+
+pub returns : goal.returns
+returns g c = grind (arith, common_steps)

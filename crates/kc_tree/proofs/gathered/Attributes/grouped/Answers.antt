@@ -1,3 +1,5 @@
+use Rattle.std.proofs.Common.{arith}
+use Rattle.std.proofs.lemmas.Grind.{common_steps}
 use Rattle.kc_tree.proofs.gathered.Attributes.grouped.Goals as goal
 
 pub grouped-requires-clause-keys : goal.grouped-requires-clause-keys
@@ -27,3 +29,9 @@ returns c = record {
   impliers = c.in_ok-grouped-5.ensures;
   direct = c.in_ok-grouped-6.ensures;
 }
+
+pub grouped-requires-3-clause-few : goal.grouped-requires-3-clause-few
+grouped-requires-3-clause-few c = grind (arith, common_steps)
+
+pub grouped-requires-4-clause-few : goal.grouped-requires-4-clause-few
+grouped-requires-4-clause-few c = grind (arith, common_steps)

@@ -1,4 +1,5 @@
-use Rattle.std.proofs.Common.{◌∙◌, ap, sym, subst}
+use Rattle.std.proofs.Common.{◌∙◌, ap, sym, subst, arith}
+use Rattle.std.proofs.lemmas.Grind.{common_steps}
 use Rattle.kc_tree_model.specs.Trees.{Whole}
 use Rattle.kc_tree.specs.Held.{Held}
 use Rattle.kc_tree.specs.checker.GatheredLists.{parts_made}
@@ -25,3 +26,6 @@ returns c =
     let held : Whole → Held = λ w. record { exprs = g.arena; whole = w } in
     let seen : Parts → Held = λ q. record { exprs = q.arena; whole = whole_from q } in
     c.of.ensures ∙ ap seen c.into_parts.ensures ∙ ap held (whole_same p g.attributes g.members g.member_defaults l.attributes l.members l.member_defaults)
+
+pub made-requires-clause-distinct : goal.made-requires-clause-distinct
+made-requires-clause-distinct c = grind (arith, common_steps)

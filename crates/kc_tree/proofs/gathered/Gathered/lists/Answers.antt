@@ -1,4 +1,5 @@
 use Rattle.std.proofs.Common.{◌≡◌, arith, length}
+use Rattle.std.proofs.lemmas.Grind.{common_steps, elements}
 use Rattle.kc_tree.proofs.gathered.Gathered.lists.Goals as goal
 
 pub returns : goal.returns
@@ -11,3 +12,12 @@ returns c =
       members = rw k at c.in_ok-grouped.ensures;
       member_defaults = rw k at c.in_ok-grouped-2.ensures;
     }
+
+pub grouped-requires-2-clause-keys : goal.grouped-requires-2-clause-keys
+grouped-requires-2-clause-keys c = grind (arith, elements)
+
+pub grouped-requires-clause-keys : goal.grouped-requires-clause-keys
+grouped-requires-clause-keys c = grind (arith, common_steps)
+
+pub grouped-requires-3-clause-keys : goal.grouped-requires-3-clause-keys
+grouped-requires-3-clause-keys c = grind (arith, common_steps)

@@ -1,4 +1,5 @@
-use Rattle.std.proofs.Common.{refl}
+use Rattle.std.proofs.Common.{refl, arith}
+use Rattle.std.proofs.lemmas.Grind.{common_steps, elements}
 use Rattle.std.proofs.lemmas.Option.{slice_get_read}
 use Rattle.kc_tree_model.proofs.Consistency.Lists.{map-get}
 use Rattle.kc_tree.specs.checker.PartsView.{entry_seen}
@@ -33,3 +34,27 @@ returns-in-Comment-clause-entry c =
     let p = c.args.self.now in
     let at = slice_get_read p.entries.items _ c.args.i c.index.result.now refl c.requires.there c.index.ensures in
     rw c.title-in-Comment.ensures (map-get (entry_seen p.arena p.titles.items) p.entries.items c.args.i _ (rw c.in-Comment.is at at))
+
+pub returns-in-MenuEnds-clause-fits : goal.returns-in-MenuEnds-clause-fits
+returns-in-MenuEnds-clause-fits c = grind (arith, elements)
+
+pub returns-in-Comment-clause-fits : goal.returns-in-Comment-clause-fits
+returns-in-Comment-clause-fits c = grind (arith, common_steps)
+
+pub returns-in-Definition-clause-fits : goal.returns-in-Definition-clause-fits
+returns-in-Definition-clause-fits c = grind (arith, common_steps)
+
+pub title-requires-in-MenuEnds : goal.title-requires-in-MenuEnds
+title-requires-in-MenuEnds c = grind (arith, common_steps)
+
+pub title-requires-in-Comment : goal.title-requires-in-Comment
+title-requires-in-Comment c = grind (arith, common_steps)
+
+pub returns-in-MenuBegins-clause-fits : goal.returns-in-MenuBegins-clause-fits
+returns-in-MenuBegins-clause-fits c = grind (arith, common_steps)
+
+pub returns-in-ChoiceBegins-clause-fits : goal.returns-in-ChoiceBegins-clause-fits
+returns-in-ChoiceBegins-clause-fits c = grind (arith, elements)
+
+pub title-requires : goal.title-requires
+title-requires c = grind (arith, common_steps)

@@ -1,4 +1,5 @@
 use Rattle.std.proofs.Common.{refl, arith, ap, sym, ◌∙◌, Some}
+use Rattle.std.proofs.lemmas.Grind.{common_steps}
 use Rattle.std.proofs.lemmas.Option.{slice_get_read}
 use Rattle.std.specs.Prelude.{option_map}
 use Rattle.kc_tree_model.specs.Trees as tree
@@ -11,3 +12,6 @@ returns c =
     let p = c.args.self.now in
     ap (option_map (λ (t : tree.Symbol). t.name)) (seen_get (symbol_seen p) 0 p.symbols.items c.args.s c.args.s c.index.result.now (omega arith) (slice_get_read p.symbols.items _ c.args.s c.index.result.now refl c.requires.there c.index.ensures))
     ∙ ap Some (sym c.name.ensures)
+
+pub name-requires : goal.name-requires
+name-requires c = grind (arith, common_steps)

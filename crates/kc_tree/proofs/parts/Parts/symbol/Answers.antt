@@ -1,4 +1,5 @@
 use Rattle.std.proofs.Common.{refl, arith}
+use Rattle.std.proofs.lemmas.Grind.{common_steps}
 use Rattle.std.proofs.lemmas.Option.{slice_get_read}
 use Rattle.std.proofs.lemmas.List.Elements.{All-get_or}
 use Rattle.std.specs.Prelude.{◌<◌, length}
@@ -28,3 +29,6 @@ returns-clause-fits c =
       impliers = rw c.get-5.ensures (all_at (ForceFits (length p.arena.nodes) (length p.symbols.items)) p.impliers.starts.items p.impliers.items.items c.args.s f.impliers);
       direct = rw c.get-6.ensures (all_at (λ i. i < length p.arena.nodes) p.direct.starts.items p.direct.items.items c.args.s f.direct);
     }
+
+pub returns-clause-within : goal.returns-clause-within
+returns-clause-within c = grind (arith, common_steps)

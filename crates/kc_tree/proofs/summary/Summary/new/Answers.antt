@@ -1,3 +1,5 @@
+use Rattle.std.proofs.Common.{arith}
+use Rattle.std.proofs.lemmas.Grind.{common_steps}
 use Rattle.kc_tree.specs.checker.Summaries.{IsSummary}
 use Rattle.kc_tree.proofs.summary.Summary.new.Goals as goal
 
@@ -10,3 +12,9 @@ returns-clause-summary c = λ read h. record {
   member_keys = c.in_ok-members.ensures.keys read h;
   members = c.in_ok-members.ensures.members read h;
 }
+
+pub returns-clause-few : goal.returns-clause-few
+returns-clause-few c = grind (arith, common_steps)
+
+pub members_of-requires-clause-around : goal.members_of-requires-clause-around
+members_of-requires-clause-around c = grind (arith, common_steps)

@@ -1,3 +1,5 @@
+use Rattle.std.proofs.Common.{arith}
+use Rattle.std.proofs.lemmas.Grind.{elements}
 use Rattle.kc_tree.proofs.Seen.{symbols_length, choices_length}
 use Rattle.kc_tree.proofs.tree.Tree.entry.Goals as goal
 
@@ -6,3 +8,6 @@ returns-clause-fits c = rw (← c.self.view_is, symbols_length c.self.inside.par
 
 pub returns-clause-entry : goal.returns-clause-entry
 returns-clause-entry c = rw (← c.self.view_is) c.entry.ensures.entry
+
+pub entry-requires-clause-there : goal.entry-requires-clause-there
+entry-requires-clause-there c = grind (arith, elements)

@@ -1,4 +1,5 @@
-use Rattle.std.proofs.Common.{◌∙◌, sym, ◌≡◌, Some}
+use Rattle.std.proofs.Common.{◌∙◌, sym, ◌≡◌, Some, arith}
+use Rattle.std.proofs.lemmas.Grind.{common_steps}
 use Rattle.kc_expr.specs.Lookup.{place_of}
 use Rattle.kc_tree.specs.checker.PartsView.{whole_from}
 use Rattle.kc_tree.proofs.Named.{told_by_place}
@@ -12,3 +13,6 @@ returns-clause-symbol c =
 
 pub returns-clause-there : goal.returns-clause-there
 returns-clause-there c = c.symbol_at.ensures.there
+
+pub returns-in_err-id-clause-there : goal.returns-in_err-id-clause-there
+returns-in_err-id-clause-there c = grind (arith, common_steps)

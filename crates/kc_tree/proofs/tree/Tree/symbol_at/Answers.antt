@@ -1,4 +1,5 @@
 use Rattle.std.proofs.Common.{arith}
+use Rattle.std.proofs.lemmas.Grind.{elements}
 use Rattle.kc_tree.specs.checker.PartsView.{whole_from}
 use Rattle.kc_tree.proofs.Named.{told_at, told_past, told_there}
 use Rattle.kc_tree.proofs.tree.Tree.symbol_at.Goals as goal
@@ -12,3 +13,6 @@ pub returns-else-index-count-clause-symbol : goal.returns-else-index-count-claus
 returns-else-index-count-clause-symbol c =
     let p = c.self.inside.parts in
     rw (← c.self.view_is, ← c.index-index.ensures) (told_past (whole_from p) p.arena.names p.symbol_of_name.items c.index-index.result c.self.invariant.table (omega arith))
+
+pub returns-then-index-count-clause-symbol : goal.returns-then-index-count-clause-symbol
+returns-then-index-count-clause-symbol c = grind (arith, elements)

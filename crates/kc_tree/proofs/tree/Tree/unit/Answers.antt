@@ -1,3 +1,5 @@
+use Rattle.std.proofs.Common.{arith}
+use Rattle.std.proofs.lemmas.Grind.{common_steps}
 use Rattle.kc_tree.proofs.Seen.{symbols_length, choices_length}
 use Rattle.kc_tree.proofs.tree.Tree.unit.Goals as goal
 
@@ -9,3 +11,6 @@ returns-clause-symbol c = λ s e. rw (← c.self.view_is, symbols_length c.self.
 
 pub returns-clause-choice : goal.returns-clause-choice
 returns-clause-choice c = λ k e. rw (← c.self.view_is, choices_length c.self.inside.parts) (c.unit.ensures.choice k e)
+
+pub unit-requires-clause-there : goal.unit-requires-clause-there
+unit-requires-clause-there c = grind (arith, common_steps)

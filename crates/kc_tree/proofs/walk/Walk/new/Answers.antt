@@ -1,4 +1,5 @@
-use Rattle.std.proofs.Common.{rules}
+use Rattle.std.proofs.Common.{rules, arith}
+use Rattle.std.proofs.lemmas.Grind.{common_steps}
 use Rattle.kc_expr.proofs.StoreLemmas.{stands_on}
 use Rattle.kc_tree.proofs.walk.Walk.new.Goals as goal
 
@@ -9,3 +10,6 @@ returns-clause-walked c = λ texts later g. record {
   stack_is = search rules;
   groups_are = search rules;
 }
+
+pub returns-clause-empty : goal.returns-clause-empty
+returns-clause-empty c = grind (arith, common_steps)

@@ -1,4 +1,5 @@
 use Rattle.std.proofs.Common.{◌≡◌, ◌∙◌, List, None, [], length, reverse, arith, refl, sym, subst}
+use Rattle.std.proofs.lemmas.Grind.{common_steps}
 use Rattle.std.specs.Prelude.{slice_get}
 use Rattle.kc_expr.specs.Arena.{Grows}
 use Rattle.kc_expr.proofs.StoreLemmas.{stands_on}
@@ -162,3 +163,15 @@ returns-clause-grows c =
     let far = c.push_conditions.new.arena in
     let g = grows_on w.arena mid far c.entry_conditions.ensures.grows c.push_conditions.ensures.grows in
     subst (λ e. Grows w.arena e) (sym (c.put.ensures.arena ∙ c.enter.ensures.arena)) (grows_on w.arena far c.inside.new.arena g c.inside.ensures.grows)
+
+pub returns-then-ends-clause-more : goal.returns-then-ends-clause-more
+returns-then-ends-clause-more c = grind (arith, common_steps)
+
+pub inside-requires-clause-held : goal.inside-requires-clause-held
+inside-requires-clause-held c = grind (arith, common_steps)
+
+pub first_behind-prompt-requires : goal.first_behind-prompt-requires
+first_behind-prompt-requires c = grind (arith, common_steps)
+
+pub returns-clause-more : goal.returns-clause-more
+returns-clause-more c = grind (arith, common_steps)

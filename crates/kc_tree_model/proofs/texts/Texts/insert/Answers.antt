@@ -1,4 +1,5 @@
-use Rattle.std.proofs.Common.{ap, ◌∙◌, map}
+use Rattle.std.proofs.Common.{ap, ◌∙◌, map, arith}
+use Rattle.std.proofs.lemmas.Grind.{common_steps}
 use Rattle.kc_tree_model.specs.checker.TextsView.{file_of}
 use Rattle.kc_tree_model.specs.Files.{with_file}
 use Rattle.kc_tree_model.proofs.TextsLemmas.{insert_files}
@@ -11,3 +12,12 @@ returns-clause-ok c =
     ∙ ap (λ p. with_file (map file_of c.self.inside.files.entries) p c.in_ok-bytes.bytes.items) c.in_ok-path.ensures.ok
     ∙ ap (λ b. with_file (map file_of c.self.inside.files.entries) c.args.path.now b) c.in_ok-bytes.ensures.items
     ∙ ap (λ fs. with_file fs c.args.path.now c.args.bytes.now) c.self.view_is
+
+pub returns-clause-err : goal.returns-clause-err
+returns-clause-err c = omega arith
+
+pub returns-in_err-path-clause-err : goal.returns-in_err-path-clause-err
+returns-in_err-path-clause-err c = grind (arith, common_steps)
+
+pub returns-in_err-path-clause-ok : goal.returns-in_err-path-clause-ok
+returns-in_err-path-clause-ok c = grind (arith, common_steps)

@@ -1,0 +1,12 @@
+use Rattle.std.proofs.Common.{arith}
+use Rattle.std.proofs.lemmas.Grind.{common_steps, elements}
+use Rattle.kc_value.proofs.number.push_digit.Goals as goal
+
+pub returns : goal.returns
+returns c = grind (arith, common_steps)
+
+pub returns-in_err-checked_mul : goal.returns-in_err-checked_mul
+returns-in_err-checked_mul c = grind (arith, common_steps)
+
+pub returns-in_err-digit : goal.returns-in_err-digit
+returns-in_err-digit c = grind (arith, elements)
