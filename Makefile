@@ -16,7 +16,7 @@ build/kmin: $(SOURCES)
 	cp crates/kmin/out/kmin build/kmin
 
 test:
-	rt ci
+	tests/prove
 	tests/run_rows
 	tests/check_minimal_files
 	tests/cut_trees
