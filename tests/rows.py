@@ -18,6 +18,7 @@ pieces each of which fails in turn; '-- large' that its allocations, reads and w
 '-- memory N' gives the program N kibibytes of memory and no more; such a row counts as large.
 """
 import concurrent.futures
+import contextlib
 import multiprocessing
 import os
 import re
@@ -70,9 +71,11 @@ def side_by_side(call, *items):
 
 
 def put(folder, name, data):
-    """Writes a file below a folder."""
+    """Writes a file below a folder, in place of one that is there (to write over that would wait for the disk)."""
     path = f"{folder}/{name}"
     os.makedirs(os.path.dirname(path), exist_ok=True)
+    with contextlib.suppress(FileNotFoundError):
+        os.unlink(path)
     with open(path, "wb") as it:
         it.write(data)
 
