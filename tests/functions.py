@@ -76,9 +76,9 @@ def sources_of(folder):
 
 
 def empty_but(crate, folder, kept):
-    """Takes body and proof away from the functions of a crate's copy, but those whose title is kept: an empty one gives nothing, and
-    a hole stands for its proof. What the others are proved from, its contract, stays, and so does the number of each line. Constant
-    functions, those that call each other, and those of traits stay as they are."""
+    """Takes body and proof away from the functions of a crate's copy, but those whose title is kept: what stands for a body says
+    that it is never reached, and what stands for a proof is a hole. Contracts, from which the others are proved, stay, and so do
+    the numbers of the lines. Constant functions, those that call each other, and those of traits stay as they are."""
     sources = sources_of(folder)
     homes = {it[1]: module_of(path) for path, text in sources.items() for it in TYPE.finditer(text)}
     for path, text in sources.items():
