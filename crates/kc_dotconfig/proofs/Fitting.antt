@@ -3,20 +3,20 @@ use Rattle.std.proofs.Common.{◌≡◌, ℕ, zero, suc, ◌+◌, ◌<◌, true,
 use Rattle.std.specs.Prelude.{slice_get, slice_set, slice_index, replicate}
 use Rattle.std.specs.List.Sorted.{IsStrictlyIncreasing}
 use Rattle.std.proofs.lemmas.List.{get_or-set_same, length-set}
-use Rattle.kc_tree_model.specs.Trees.{Whole}
+use Rattle.kc_tree_model.specs.Trees.{Tree}
 use Rattle.kc_tree_model.specs.TreeLookup.{IsConsistent}
 use Rattle.kc_system.specs.Changes.{changed_users}
 use Rattle.kc_system.specs.Solutions.{user_of}
 use Rattle.kc_rules_model.specs.declared.values.UserValue.{UserValue}
 use Rattle.kc_rules_model.specs.Shapes.{user_fits}
-use Rattle.kc_dotconfig_model.specs.Names.{is_prefix}
-use Rattle.kc_dotconfig_model.specs.Lines.{Saying}
-use Rattle.kc_dotconfig_model.specs.Files.{FileSays, file_users, no_users}
+use Rattle.kc_dotconfig_model.specs.PrefixGrammar.{is_prefix}
+use Rattle.kc_dotconfig_model.specs.ConfigLines.{LineMeaning}
+use Rattle.kc_dotconfig_model.specs.ConfigFiles.{FileMeans, file_assignment, empty_assignment}
 use Rattle.kc_dotconfig_model.specs.LoadFaults.{IsAccepted}
 use Rattle.kc_dotconfig_model.proofs.AcceptedLines.{accepted_utf8}
 use Rattle.kc_dotconfig_model.proofs.FittingFiles.{file_fits}
 use Rattle.kc_dotconfig.specs.Fragments.{FitsTree, changes_of, users_of}
-use Rattle.kc_dotconfig.specs.checker.Rising.{Rises, Below}
+use Rattle.kc_dotconfig.specs.checker.Ascending.{Rises, Below}
 use Rattle.kc_dotconfig.specs.checker.Configs.{units_of}
 use Rattle.kc_dotconfig.proofs.Insertions.{later_set}
 
@@ -63,8 +63,8 @@ no_length : (n : ℕ) → length {A = Option UserValue} (replicate n None) ≡ n
 no_length zero = refl
 no_length (suc n) = let rest = no_length n in omega (arith, rest)
 
-pub fragment_fits : (prefix : List ℕ) (tree : Whole) (told : List ℕ) (sayings : List Saying) (es : List (ℕ × UserValue)) → is_prefix prefix ≡ true → IsConsistent tree
-    → IsAccepted prefix tree told → FileSays prefix tree told sayings → users_of tree es ≡ file_users tree sayings → Rises es → Below (length tree.units) es → FitsTree tree es
+pub fragment_fits : (prefix : List ℕ) (tree : Tree) (told : List ℕ) (sayings : List LineMeaning) (es : List (ℕ × UserValue)) → is_prefix prefix ≡ true → IsConsistent tree
+    → IsAccepted prefix tree told → FileMeans prefix tree told sayings → users_of tree es ≡ file_assignment tree sayings → Rises es → Below (length tree.units) es → FitsTree tree es
 fragment_fits prefix tree told sayings es valid sound accepted says users r b =
     let fits = file_fits prefix tree told sayings sound (accepted_utf8 prefix tree told valid accepted) says in
     record {
@@ -72,6 +72,6 @@ fragment_fits prefix tree told sayings es valid sound accepted says users r b =
       each = λ k u x at.
           let within = below_at (length tree.units) es k u x b at in
           let n = no_length (length tree.units) in
-          let is : user_of (file_users tree sayings) u ≡ Some x = ap (λ l. user_of l u) (sym users) ∙ held_at es (no_users tree) k u x r (omega (arith, within, n)) at in
+          let is : user_of (file_assignment tree sayings) u ≡ Some x = ap (λ l. user_of l u) (sym users) ∙ held_at es (empty_assignment tree) k u x r (omega (arith, within, n)) at in
           (within, subst (λ o. IfSome o (λ y. IsTrue (user_fits tree u y))) is (fits.1 u within));
     }

@@ -3,7 +3,7 @@ use Rattle.std.proofs.Common.{◌≡◌, ◌⊎◌, inl, inr, ℕ, zero, suc, �
 use Rattle.std.specs.Prelude.{slice_get, slice_index}
 use Rattle.std.specs.List.Sorted.{IsStrictlyIncreasing}
 use Rattle.std.proofs.lemmas.Bool.{cases_lt, false≢true}
-use Rattle.kc_tree_model.specs.Trees.{Whole}
+use Rattle.kc_tree_model.specs.Trees.{Tree}
 use Rattle.kc_rules_model.specs.declared.values.UserValue.{UserValue}
 use Rattle.kc_rules_model.specs.Shapes.{user_fits}
 use Rattle.kc_dotconfig.specs.Fragments.{FitsTree}
@@ -36,7 +36,7 @@ not_below es (suc k) u x at rises low =
     let is : slice_index (units_of es) (k + 1) ≡ u = ap (slice_index (units_of es)) n ∙ unit_is es (suc k) u x at in
     omega (arith, less, is, low)
 
-pub unfit : (tree : Whole) (es : List (ℕ × UserValue)) (i u : ℕ) (x : UserValue) → slice_get es i ≡ Some (u, x)
+pub unfit : (tree : Tree) (es : List (ℕ × UserValue)) (i u : ℕ) (x : UserValue) → slice_get es i ≡ Some (u, x)
     → (u < next_at (units_of es) i) ⊎ ((length tree.units ≤ u) ⊎ (user_fits tree u x ≡ false)) → FitsTree tree es → ⊥
 unfit tree es i u x at why fits = elim why [
   | inl low ↦ not_below es i u x at fits.ascending low
@@ -58,7 +58,7 @@ next_rises es i k u x at low before h = elim (cases_lt (k + 1) i) [
       omega (arith, is, bound)
 ]
 
-pub next_each : (tree : Whole) (es : List (ℕ × UserValue)) (i : ℕ) (v : ℕ) (y : UserValue) → slice_get es i ≡ Some (v, y) → v < length tree.units → user_fits tree v y ≡ true
+pub next_each : (tree : Tree) (es : List (ℕ × UserValue)) (i : ℕ) (v : ℕ) (y : UserValue) → slice_get es i ≡ Some (v, y) → v < length tree.units → user_fits tree v y ≡ true
     → ((k u : ℕ) (x : UserValue) → k < i → slice_get es k ≡ Some (u, x) → (u < length tree.units) × IsTrue (user_fits tree u x))
     → (k u : ℕ) (x : UserValue) → k < i + 1 → slice_get es k ≡ Some (u, x) → (u < length tree.units) × IsTrue (user_fits tree u x)
 next_each tree es i v y here low fits before k u x h at = elim (cases_lt k i) [
@@ -77,7 +77,7 @@ next_is es i u x at =
     let n : i + 1 ≡ suc i = omega arith in
     ap (λ v. v + 1) (sym (unit_is es i u x at)) ∙ sym (ap (next_at (units_of es)) n)
 
-pub all_fit : (tree : Whole) (es : List (ℕ × UserValue)) (i : ℕ) → length es ≤ i → ((k : ℕ) → k + 1 < i → slice_index (units_of es) k < slice_index (units_of es) (k + 1))
+pub all_fit : (tree : Tree) (es : List (ℕ × UserValue)) (i : ℕ) → length es ≤ i → ((k : ℕ) → k + 1 < i → slice_index (units_of es) k < slice_index (units_of es) (k + 1))
     → ((k u : ℕ) (x : UserValue) → k < i → slice_get es k ≡ Some (u, x) → (u < length tree.units) × IsTrue (user_fits tree u x)) → FitsTree tree es
 all_fit tree es i end rises each = record {
   ascending = λ k h. rises k (let n = same es in omega (arith, h, n, end));

@@ -3,14 +3,14 @@ use Rattle.std.proofs.Common.{◌≡◌, ◌≢◌, ◌⊎◌, inl, inr, ℕ, ze
 use Rattle.std.specs.Prelude.{slice_get, slice_set, slice_index_or, replicate, Contains, filter}
 use Rattle.std.proofs.lemmas.Bool.{cases_eq}
 use Rattle.std.proofs.lemmas.List.{get_or-set_other, length-set}
-use Rattle.kc_tree_model.specs.Trees.{Whole}
+use Rattle.kc_tree_model.specs.Trees.{Tree}
 use Rattle.kc_system.specs.Changes.{changed_users, FitsChanges}
 use Rattle.kc_system.specs.Solutions.{user_of, FitsUsers}
 use Rattle.kc_system.proofs.Lists.{none_fits}
 use Rattle.kc_system.proofs.UserChanges.{changed_fits}
 use Rattle.kc_rules_model.specs.declared.values.UserValue.{UserValue}
 use Rattle.kc_rules_model.specs.Shapes.{user_fits}
-use Rattle.kc_dotconfig_model.specs.Files.{no_users, laid_over}
+use Rattle.kc_dotconfig_model.specs.ConfigFiles.{empty_assignment, overlay}
 use Rattle.kc_dotconfig.specs.Fragments.{FitsTree, changes_of, users_of}
 use Rattle.kc_dotconfig.specs.checker.Configs.{clears_of, units_of}
 
@@ -23,7 +23,7 @@ pub assigned_push : (es : List (ℕ × UserValue)) (a : ℕ × UserValue) (users
 assigned_push [] a users = refl
 assigned_push (e ∷ es) a users = assigned_push es a (slice_set users e.0 (Some e.1))
 
--- a list's first element, and those behind it
+-- a list's first element, and those after it
 pub first_in : (x : ℕ) (xs : List ℕ) → Contains (x ∷ xs) x
 first_in x xs = (0, omega arith, refl)
 
@@ -79,11 +79,11 @@ cleared (w ∷ units) users covers = cleared units (slice_set users w None) rest
   ]
 
 -- changes of user values lie over what was held
-none_over : (users : List (Option UserValue)) → laid_over (replicate (length users) None) users ≡ users
+none_over : (users : List (Option UserValue)) → overlay (replicate (length users) None) users ≡ users
 none_over [] = refl
 none_over (x ∷ users) = ap (λ l. x ∷ l) (none_over users)
 
-set_over : (over users : List (Option UserValue)) (u : ℕ) (x : UserValue) → length over ≡ length users → slice_set (laid_over over users) u (Some x) ≡ laid_over (slice_set over u (Some x)) users
+set_over : (over users : List (Option UserValue)) (u : ℕ) (x : UserValue) → length over ≡ length users → slice_set (overlay over users) u (Some x) ≡ overlay (slice_set over u (Some x)) users
 set_over [] [] u x e = refl
 set_over [] (y ∷ users) u x e = absurd (omega (arith, e))
 set_over (o ∷ over) [] u x e = absurd (omega (arith, e))
@@ -92,7 +92,7 @@ set_over (None ∷ over) (y ∷ users) (suc u) x e = ap (λ l. y ∷ l) (set_ove
 set_over (Some o ∷ over) (y ∷ users) zero x e = refl
 set_over (Some o ∷ over) (y ∷ users) (suc u) x e = ap (λ l. Some o ∷ l) (set_over over users u x (omega (arith, e)))
 
-changes_over : (es : List (ℕ × UserValue)) (over users : List (Option UserValue)) → length over ≡ length users → changed_users (changes_of es) (laid_over over users) ≡ laid_over (changed_users (changes_of es) over) users
+changes_over : (es : List (ℕ × UserValue)) (over users : List (Option UserValue)) → length over ≡ length users → changed_users (changes_of es) (overlay over users) ≡ overlay (changed_users (changes_of es) over) users
 changes_over [] over users e = refl
 changes_over (a ∷ es) over users e =
     ap (changed_users (changes_of es)) (set_over over users a.0 a.1 e) ∙ changes_over es (slice_set over a.0 (Some a.1)) users (length-set over a.0 (Some a.1) ∙ e)
@@ -101,14 +101,14 @@ none_length : (n : ℕ) → length {A = Option UserValue} (replicate n None) ≡
 none_length zero = refl
 none_length (suc n) = let rest = none_length n in omega (arith, rest)
 
-pub lies_over : (tree : Whole) (es : List (ℕ × UserValue)) (users : List (Option UserValue)) → length users ≡ length tree.units → changed_users (changes_of es) users ≡ laid_over (users_of tree es) users
+pub lies_over : (tree : Tree) (es : List (ℕ × UserValue)) (users : List (Option UserValue)) → length users ≡ length tree.units → changed_users (changes_of es) users ≡ overlay (users_of tree es) users
 lies_over tree es users same =
-    ap (changed_users (changes_of es)) (sym (none_over users) ∙ ap (λ n. laid_over (replicate n None) users) same)
-    ∙ changes_over es (no_users tree) users (none_length (length tree.units) ∙ sym same)
+    ap (changed_users (changes_of es)) (sym (none_over users) ∙ ap (λ n. overlay (replicate n None) users) same)
+    ∙ changes_over es (empty_assignment tree) users (none_length (length tree.units) ∙ sym same)
 
 -- the assignment of user values and no others lies over that of none
-pub lies_alone : (tree : Whole) (es : List (ℕ × UserValue)) → users_of tree es ≡ laid_over (users_of tree es) (no_users tree)
-lies_alone tree es = lies_over tree es (no_users tree) (none_length (length tree.units))
+pub lies_alone : (tree : Tree) (es : List (ℕ × UserValue)) → users_of tree es ≡ overlay (users_of tree es) (empty_assignment tree)
+lies_alone tree es = lies_over tree es (empty_assignment tree) (none_length (length tree.units))
 
 -- fitting user values are fitting changes
 same_pair : (p q : ℕ × Option UserValue) → Some p ≡ Some q → p ≡ q
@@ -123,17 +123,17 @@ at_of (a ∷ assigns) zero u x e =
     (a.1, ap (λ (v : ℕ). Some (v, a.1)) first, sym second)
 at_of (a ∷ assigns) (suc k) u x e = at_of assigns k u x e
 
-pub fits_changes : (tree : Whole) (es : List (ℕ × UserValue)) → FitsTree tree es → FitsChanges (length tree.units) (λ u x. IsTrue (user_fits tree u x)) (changes_of es)
+pub fits_changes : (tree : Tree) (es : List (ℕ × UserValue)) → FitsTree tree es → FitsChanges (length tree.units) (λ u x. IsTrue (user_fits tree u x)) (changes_of es)
 fits_changes tree es f k u x e =
     let at = at_of es k u x e in
     let each = f.each k u at.0 at.1 in
     (each.0, subst (λ o. IfSome o (λ y. IsTrue (user_fits tree u y))) (sym at.2) each.1)
 
 -- an assignment of fitting user values fits
-pub users_fit : (tree : Whole) (es : List (ℕ × UserValue)) → FitsTree tree es → FitsUsers (length tree.units) (λ u x. IsTrue (user_fits tree u x)) (users_of tree es)
+pub users_fit : (tree : Tree) (es : List (ℕ × UserValue)) → FitsTree tree es → FitsUsers (length tree.units) (λ u x. IsTrue (user_fits tree u x)) (users_of tree es)
 users_fit tree es f =
-    changed_fits (length tree.units) (λ u x. IsTrue (user_fits tree u x)) (changes_of es) (no_users tree) (fits_changes tree es f)
-    (none_fits (λ u x. IsTrue (user_fits tree u x)) (no_users tree) (length tree.units) (length tree.units) refl refl)
+    changed_fits (length tree.units) (λ u x. IsTrue (user_fits tree u x)) (changes_of es) (empty_assignment tree) (fits_changes tree es f)
+    (none_fits (λ u x. IsTrue (user_fits tree u x)) (empty_assignment tree) (length tree.units) (length tree.units) refl refl)
 
 -- clearing units of the tree, and then fitting changes
 pub fits_both : (size : ℕ) (fits : ℕ → UserValue → Type 0) (units : List ℕ) (b : List (ℕ × Option UserValue)) → ((u : ℕ) → Contains units u → u < size) → FitsChanges size fits b → FitsChanges size fits (clears_of units ++ b)
@@ -151,7 +151,7 @@ unit_at [] k u h e = absurd (omega (arith, h))
 unit_at (a ∷ es) zero u h e = (a.1, ap (λ (v : ℕ). Some (v, a.1)) e)
 unit_at (a ∷ es) (suc k) u h e = unit_at es k u (omega (arith, h)) e
 
-pub units_within : (tree : Whole) (es : List (ℕ × UserValue)) → FitsTree tree es → (u : ℕ) → Contains (units_of es) u → u < length tree.units
+pub units_within : (tree : Tree) (es : List (ℕ × UserValue)) → FitsTree tree es → (u : ℕ) → Contains (units_of es) u → u < length tree.units
 units_within tree es f u (k, h, is) = let at = unit_at es k u h is in (f.each k u at.0 at.1).0
 
 -- what a longer list has

@@ -10,14 +10,14 @@ use Rattle.std.proofs.lemmas.List.{set_comm}
 use Rattle.kc_system.specs.Changes.{changed_users}
 use Rattle.kc_rules_model.specs.declared.values.UserValue.{UserValue}
 use Rattle.kc_dotconfig.specs.Fragments.{changes_of, users_of, notice_pair}
-use Rattle.kc_dotconfig.specs.checker.Gathered.{IsGathered}
-use Rattle.kc_dotconfig.specs.checker.Rising.{Above, Rises, Below}
-use Rattle.kc_tree_model.specs.Trees.{Whole}
+use Rattle.kc_dotconfig.specs.checker.Accumulation.{IsGathered}
+use Rattle.kc_dotconfig.specs.checker.Ascending.{Above, Rises, Below}
+use Rattle.kc_tree_model.specs.Trees.{Tree}
 use Rattle.kc_dotconfig_model.specs.declared.notice.Notice.{Notice}
 use Rattle.kc_dotconfig_model.specs.declared.notice.NoticeKind.{NoticeKind}
-use Rattle.kc_dotconfig.specs.declared.gathering.Gathering.{Gathering}
-use Rattle.kc_dotconfig_model.specs.Lines.{Saying, assigns, notice, silent}
-use Rattle.kc_dotconfig_model.specs.Files.{assigned, assigned_over, no_users, notices_from}
+use Rattle.kc_dotconfig.specs.declared.accumulator.Accumulator.{Accumulator}
+use Rattle.kc_dotconfig_model.specs.ConfigLines.{LineMeaning, assigns, notice, silent}
+use Rattle.kc_dotconfig_model.specs.ConfigFiles.{assigned, assigned_over, empty_assignment, notices_from}
 use Rattle.std.proofs.lemmas.List.{append-nil}
 use Rattle.kc_dotconfig_model.proofs.Cuts.{split}
 
@@ -83,29 +83,29 @@ below_insert n (e ∷ es) u x h b = by (nat_cmp u e.0) (below_insert n es u x h 
   by Equal rest = (b.0, b.1)
   by Greater rest = (b.0, rest)
 
-over_more : (sayings : List Saying) (s : Saying) (users : List (Option UserValue)) → assigned_over (sayings ++ s ∷ []) users ≡ assigned s (assigned_over sayings users)
+over_more : (sayings : List LineMeaning) (s : LineMeaning) (users : List (Option UserValue)) → assigned_over (sayings ++ s ∷ []) users ≡ assigned s (assigned_over sayings users)
 over_more [] s users = refl
 over_more (x ∷ sayings) s users = over_more sayings s (assigned x users)
 
-notices_more : (n : ℕ) (a b : List Saying) → notices_from n (a ++ b) ≡ notices_from n a ++ notices_from (n + length a) b
+notices_more : (n : ℕ) (a b : List LineMeaning) → notices_from n (a ++ b) ≡ notices_from n a ++ notices_from (n + length a) b
 notices_more n [] b = ap (λ m. notices_from m b) (let e : n ≡ n + 0 = omega arith in e)
 notices_more n (assigns u x ∷ a) b = notices_more (n + 1) a b ∙ ap (λ m. notices_from (n + 1) a ++ notices_from m b) (let e : (n + 1) + length a ≡ n + suc (length a) = omega arith in e)
 notices_more n (notice kind ∷ a) b = ap (λ l. (n, kind) ∷ l) (notices_more (n + 1) a b ∙ ap (λ m. notices_from (n + 1) a ++ notices_from m b) (let e : (n + 1) + length a ≡ n + suc (length a) = omega arith in e))
 notices_more n (silent ∷ a) b = notices_more (n + 1) a b ∙ ap (λ m. notices_from (n + 1) a ++ notices_from m b) (let e : (n + 1) + length a ≡ n + suc (length a) = omega arith in e)
 
 -- one line more
-pub gathers_user : (tree : Whole) (sayings : List Saying) (g h : Gathering) (u : ℕ) (x : UserValue) → u < length tree.units → IsGathered tree sayings g → h.assigns ≡ insert_entry nat_cmp g.assigns u x → h.notices.items ≡ g.notices.items → h.lines ≡ g.lines + 1 → IsGathered tree (sayings ++ assigns u x ∷ []) h
+pub gathers_user : (tree : Tree) (sayings : List LineMeaning) (g h : Accumulator) (u : ℕ) (x : UserValue) → u < length tree.units → IsGathered tree sayings g → h.assigns ≡ insert_entry nat_cmp g.assigns u x → h.notices.items ≡ g.notices.items → h.lines ≡ g.lines + 1 → IsGathered tree (sayings ++ assigns u x ∷ []) h
 gathers_user tree sayings g h u x within is entries notices lines = record {
-  users = ap (users_of tree) entries ∙ insert_set g.assigns u x (no_users tree) is.rises ∙ ap (λ l. slice_set l u (Some x)) is.users ∙ sym (over_more sayings (assigns u x) (no_users tree));
+  users = ap (users_of tree) entries ∙ insert_set g.assigns u x (empty_assignment tree) is.rises ∙ ap (λ l. slice_set l u (Some x)) is.users ∙ sym (over_more sayings (assigns u x) (empty_assignment tree));
   noted = ap (map notice_pair) notices ∙ is.noted ∙ sym (notices_more 1 sayings (assigns u x ∷ []) ∙ append-nil (notices_from 1 sayings));
   counted = (let e = is.counted in let n = length-append sayings (assigns u x ∷ []) in omega arith);
   rises = subst Rises (sym entries) (rises_insert g.assigns u x is.rises);
   below = subst (Below (length tree.units)) (sym entries) (below_insert (length tree.units) g.assigns u x within is.below);
 }
 
-pub gathers_nothing : (tree : Whole) (sayings : List Saying) (g h : Gathering) → IsGathered tree sayings g → h.assigns ≡ g.assigns → h.notices.items ≡ g.notices.items → h.lines ≡ g.lines + 1 → IsGathered tree (sayings ++ silent ∷ []) h
+pub gathers_nothing : (tree : Tree) (sayings : List LineMeaning) (g h : Accumulator) → IsGathered tree sayings g → h.assigns ≡ g.assigns → h.notices.items ≡ g.notices.items → h.lines ≡ g.lines + 1 → IsGathered tree (sayings ++ silent ∷ []) h
 gathers_nothing tree sayings g h is entries notices lines = record {
-  users = ap (users_of tree) entries ∙ is.users ∙ sym (over_more sayings silent (no_users tree));
+  users = ap (users_of tree) entries ∙ is.users ∙ sym (over_more sayings silent (empty_assignment tree));
   noted = ap (map notice_pair) notices ∙ is.noted ∙ sym (notices_more 1 sayings (silent ∷ []) ∙ append-nil (notices_from 1 sayings));
   counted = (let e = is.counted in let n = length-append sayings (silent ∷ []) in omega arith);
   rises = subst Rises (sym entries) is.rises;
@@ -116,9 +116,9 @@ pairs_more : (a : List Notice) (b : Notice) → map notice_pair (a ++ b ∷ []) 
 pairs_more [] b = refl
 pairs_more (x ∷ a) b = ap (λ l. notice_pair x ∷ l) (pairs_more a b)
 
-pub gathers_notice : (tree : Whole) (sayings : List Saying) (g h : Gathering) (kind : NoticeKind) → IsGathered tree sayings g → h.assigns ≡ g.assigns → h.notices.items ≡ g.notices.items ++ record { line = g.lines + 1; kind = kind } ∷ [] → h.lines ≡ g.lines + 1 → IsGathered tree (sayings ++ notice kind ∷ []) h
+pub gathers_notice : (tree : Tree) (sayings : List LineMeaning) (g h : Accumulator) (kind : NoticeKind) → IsGathered tree sayings g → h.assigns ≡ g.assigns → h.notices.items ≡ g.notices.items ++ record { line = g.lines + 1; kind = kind } ∷ [] → h.lines ≡ g.lines + 1 → IsGathered tree (sayings ++ notice kind ∷ []) h
 gathers_notice tree sayings g h kind is entries notices lines = record {
-  users = ap (users_of tree) entries ∙ is.users ∙ sym (over_more sayings (notice kind) (no_users tree));
+  users = ap (users_of tree) entries ∙ is.users ∙ sym (over_more sayings (notice kind) (empty_assignment tree));
   noted =
       let number : g.lines + 1 ≡ 1 + length sayings = (let e = is.counted in omega arith) in
       ap (map notice_pair) notices ∙ pairs_more g.notices.items (record { line = g.lines + 1; kind = kind }) ∙ ap (λ l. l ++ (g.lines + 1, kind) ∷ []) is.noted ∙ ap (λ n. notices_from 1 sayings ++ (n, kind) ∷ []) number ∙ sym (notices_more 1 sayings (notice kind ∷ []));

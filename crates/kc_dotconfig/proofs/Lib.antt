@@ -1,11 +1,11 @@
 pub mod Insertions
-pub mod Takings
+pub mod Accumulating
 pub mod ReadingSteps
-pub mod ReadingWhole
-pub mod Sayings
+pub mod WholeReads
+pub mod LineMeanings
 pub mod Fitting
 pub mod LineParts
 pub mod Holding
 pub mod FragmentFits
 pub mod Solving
-pub mod Rising
+pub mod AscendingUnits

@@ -7,24 +7,24 @@ use Rattle.std.proofs.lemmas.List.{get_or_append_left}
 use Rattle.std.specs.Option.{option_and_then}
 use Rattle.std.specs.List.{position_or_len, before_first, after_first}
 use Rattle.std.proofs.lemmas.Bool.{eqb-true, eq-eqb, lt-ltb}
-use Rattle.kc_dotconfig_model.specs.checker.Reading.{behind, cut_at, if_named, named_before}
+use Rattle.kc_dotconfig_model.specs.checker.LineMeanings.{after_front, split_at_byte, if_named, named_before}
 
-behind_front : (front rest : List ℕ) → behind front (front ++ rest) ≡ Some rest
+behind_front : (front rest : List ℕ) → after_front front (front ++ rest) ≡ Some rest
 behind_front [] rest = refl
-behind_front (a ∷ front) rest = ap (λ t. cond t (behind front (front ++ rest)) None) (eq-eqb a a refl) ∙ behind_front front rest
+behind_front (a ∷ front) rest = ap (λ t. cond t (after_front front (front ++ rest)) None) (eq-eqb a a refl) ∙ behind_front front rest
 
-behind_is : (front text rest : List ℕ) → behind front text ≡ Some rest → text ≡ front ++ rest
+behind_is : (front text rest : List ℕ) → after_front front text ≡ Some rest → text ≡ front ++ rest
 behind_is [] text rest e = cc
 behind_is (a ∷ front) [] rest e = cc
 behind_is (a ∷ front) (b ∷ text) rest e = go (a == b) refl e (behind_is front text rest) where
-  go : (t : Bool) → (a == b) ≡ t → cond t (behind front text) None ≡ Some rest → (behind front text ≡ Some rest → text ≡ front ++ rest) → b ∷ text ≡ a ∷ (front ++ rest)
+  go : (t : Bool) → (a == b) ≡ t → cond t (after_front front text) None ≡ Some rest → (after_front front text ≡ Some rest → text ≡ front ++ rest) → b ∷ text ≡ a ∷ (front ++ rest)
   go true same e next = ap (λ c. c ∷ text) (sym (eqb-true a b same)) ∙ ap (λ l. a ∷ l) (next e)
   go false same e next = cc
 
-pub behind_some : (front text rest : List ℕ) → text ≡ front ++ rest → behind front text ≡ Some rest
-behind_some front text rest is = ap (behind front) is ∙ behind_front front rest
+pub behind_some : (front text rest : List ℕ) → text ≡ front ++ rest → after_front front text ≡ Some rest
+behind_some front text rest is = ap (after_front front) is ∙ behind_front front rest
 
--- a text may be cut behind a front of ASCII
+-- a text may be cut after a front of ASCII
 pub front_boundary : (front text : List ℕ) → IsAscii front → IsUtf8 text → text ≡ front ++ drop (length front) text → 0 < length front → IsCharBoundary text (length front)
 front_boundary front text low utf8 is some =
     let n : (length front - 1) + 1 ≡ length front = omega (arith, some) in
@@ -39,30 +39,30 @@ pub if_none : {T : Type 0} (r : Option T) (P : Type 0) → P → IfNone r P
 if_none None P p = p
 if_none (Some x) P p = tt
 
-pub behind_none : (front text : List ℕ) → ((rest : List ℕ) → text ≡ front ++ rest → ⊥) → behind front text ≡ None
-behind_none front text other = go (behind front text) refl where
-  go : (o : Option (List ℕ)) → behind front text ≡ o → behind front text ≡ None
+pub behind_none : (front text : List ℕ) → ((rest : List ℕ) → text ≡ front ++ rest → ⊥) → after_front front text ≡ None
+behind_none front text other = go (after_front front text) refl where
+  go : (o : Option (List ℕ)) → after_front front text ≡ o → after_front front text ≡ None
   go None e = e
   go (Some rest) e = absurd (other rest (behind_is front text rest e))
 
--- one front behind another
-pub behind_both : (a b text : List ℕ) → behind (a ++ b) text ≡ option_and_then (behind b) (behind a text)
+-- one front after another
+pub behind_both : (a b text : List ℕ) → after_front (a ++ b) text ≡ option_and_then (after_front b) (after_front a text)
 behind_both [] b text = refl
 behind_both (x ∷ a) b [] = refl
 behind_both (x ∷ a) b (y ∷ text) = go (x == y) (behind_both a b text) where
-  go : (t : Bool) → behind (a ++ b) text ≡ option_and_then (behind b) (behind a text) → cond t (behind (a ++ b) text) None ≡ option_and_then (behind b) (cond t (behind a text) None)
+  go : (t : Bool) → after_front (a ++ b) text ≡ option_and_then (after_front b) (after_front a text) → cond t (after_front (a ++ b) text) None ≡ option_and_then (after_front b) (cond t (after_front a text) None)
   go true e = e
   go false e = refl
 
 abbrev Parts : Type 0
 Parts = List ℕ × List ℕ
 
-pub cut_is : (b : ℕ) (text : List ℕ) → position_or_len (λ c. c == b) text < length text → cut_at b text ≡ Some (before_first (λ c. c == b) text, after_first (λ c. c == b) text)
+pub cut_is : (b : ℕ) (text : List ℕ) → position_or_len (λ c. c == b) text < length text → split_at_byte b text ≡ Some (before_first (λ c. c == b) text, after_first (λ c. c == b) text)
 cut_is b [] h = absurd (omega (arith, h))
 cut_is b (c ∷ text) h = go (c == b) h (cut_is b text) where
   go : (t : Bool) → cond (not t) (1 + position_or_len (λ c. c == b) text) 0 < length (c ∷ text)
-      → (position_or_len (λ c. c == b) text < length text → cut_at b text ≡ Some (before_first (λ c. c == b) text, after_first (λ c. c == b) text))
-      → cond {A = Option Parts} t (Some ([], text)) (option_map (λ (q : Parts). (c ∷ q.0, q.1)) (cut_at b text))
+      → (position_or_len (λ c. c == b) text < length text → split_at_byte b text ≡ Some (before_first (λ c. c == b) text, after_first (λ c. c == b) text))
+      → cond {A = Option Parts} t (Some ([], text)) (option_map (λ (q : Parts). (c ∷ q.0, q.1)) (split_at_byte b text))
       ≡ Some (take (cond (not t) (1 + position_or_len (λ c. c == b) text) 0) (c ∷ text), drop (cond (not t) (1 + position_or_len (λ c. c == b) text) 0 + 1) (c ∷ text))
   go true h next = refl
   go false h next =
@@ -73,24 +73,24 @@ cut_is b (c ∷ text) h = go (c == b) h (cut_is b text) where
       ∙ ap {B = Option Parts} (λ k. Some (c ∷ take n text, drop k (c ∷ text))) f
       ∙ ap {B = Option Parts} (λ k. Some (take k (c ∷ text), drop ((1 + n) + 1) (c ∷ text))) (sym e)
 
-pub cut_none : (b : ℕ) (text : List ℕ) → position_or_len (λ c. c == b) text ≡ length text → cut_at b text ≡ None
+pub cut_none : (b : ℕ) (text : List ℕ) → position_or_len (λ c. c == b) text ≡ length text → split_at_byte b text ≡ None
 cut_none b [] e = refl
 cut_none b (c ∷ text) e = go (c == b) e (cut_none b text) where
-  go : (t : Bool) → cond (not t) (1 + position_or_len (λ c. c == b) text) 0 ≡ length (c ∷ text) → (position_or_len (λ c. c == b) text ≡ length text → cut_at b text ≡ None)
-      → cond {A = Option Parts} t (Some ([], text)) (option_map (λ (q : Parts). (c ∷ q.0, q.1)) (cut_at b text)) ≡ None
+  go : (t : Bool) → cond (not t) (1 + position_or_len (λ c. c == b) text) 0 ≡ length (c ∷ text) → (position_or_len (λ c. c == b) text ≡ length text → split_at_byte b text ≡ None)
+      → cond {A = Option Parts} t (Some ([], text)) (option_map (λ (q : Parts). (c ∷ q.0, q.1)) (split_at_byte b text)) ≡ None
   go true e next = absurd (omega (arith, e))
   go false e next = ap (option_map (λ (q : Parts). (c ∷ q.0, q.1))) (next (omega (arith, e)))
 
 -- the parts round the first such byte
-pub cut_parts : (b : ℕ) (text name rest : List ℕ) → name ≡ before_first (λ c. c == b) text → rest ≡ after_first (λ c. c == b) text → position_or_len (λ c. c == b) text < length text → cut_at b text ≡ Some (name, rest)
+pub cut_parts : (b : ℕ) (text name rest : List ℕ) → name ≡ before_first (λ c. c == b) text → rest ≡ after_first (λ c. c == b) text → position_or_len (λ c. c == b) text < length text → split_at_byte b text ≡ Some (name, rest)
 cut_parts b text name rest front back h =
     cut_is b text h ∙ ap {B = Option Parts} (λ x. Some (x, after_first (λ c. c == b) text)) (sym front) ∙ ap {B = Option Parts} (λ x. Some (name, x)) (sym back)
 
 -- a name is there if it isn't empty
-pub named_is : (b : ℕ) (text name rest : List ℕ) → cut_at b text ≡ Some (name, rest) → (length name == 0) ≡ false → named_before b text ≡ Some (name, rest)
+pub named_is : (b : ℕ) (text name rest : List ℕ) → split_at_byte b text ≡ Some (name, rest) → (length name == 0) ≡ false → named_before b text ≡ Some (name, rest)
 named_is b text [] rest e some = cc
 named_is b text (c ∷ name) rest e some = ap (option_and_then if_named) e ∙ ap (λ t. cond {A = Option Parts} t (Some (c ∷ name, rest)) None) (lt-ltb 0 (length (c ∷ name)) (omega arith))
 
-pub not_named : (b : ℕ) (text name rest : List ℕ) → cut_at b text ≡ Some (name, rest) → (length name == 0) ≡ true → named_before b text ≡ None
+pub not_named : (b : ℕ) (text name rest : List ℕ) → split_at_byte b text ≡ Some (name, rest) → (length name == 0) ≡ true → named_before b text ≡ None
 not_named b text [] rest e none = ap (option_and_then if_named) e
 not_named b text (c ∷ name) rest e none = let n = eqb-true (length (c ∷ name)) 0 none in absurd (omega arith)

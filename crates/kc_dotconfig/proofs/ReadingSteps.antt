@@ -6,16 +6,16 @@ use Rattle.std.proofs.lemmas.Bool.{and_from, and_parts, eqb-true}
 use Rattle.std.proofs.lemmas.List.{append-nil, take-append-drop, length-take-le}
 use Rattle.std.proofs.lemmas.Grind.{common_steps}
 use Rattle.memchr.specs.Find.{IsFirstByte, is_byte}
-use Rattle.kc_tree_model.specs.Trees.{Whole}
+use Rattle.kc_tree_model.specs.Trees.{Tree}
 use Rattle.kc_dotconfig_model.specs.declared.fault.LoadKind.{LoadKind}
 use Rattle.kc_dotconfig_model.specs.declared.fault.LoadKind.TheVariants.{Malformed, NotUtf8, LineTooLong, TooManyLines, OutOfMemory, TooLarge}
-use Rattle.kc_dotconfig.specs.declared.gathering.Gathering.{Gathering}
-use Rattle.kc_dotconfig_model.specs.Names.{lacks}
-use Rattle.kc_dotconfig_model.specs.Lines.{Saying, Says, IsMalformed, without_white_end}
-use Rattle.kc_dotconfig_model.specs.Files.{FileSays}
-use Rattle.kc_dotconfig_model.specs.LoadFaults.{complete, MOST_BYTES, MOST_LINES, MOST_LINE_BYTES, IsFirstFault}
+use Rattle.kc_dotconfig.specs.declared.accumulator.Accumulator.{Accumulator}
+use Rattle.kc_dotconfig_model.specs.PrefixGrammar.{lacks}
+use Rattle.kc_dotconfig_model.specs.ConfigLines.{LineMeaning, Means, IsMalformed, without_white_end}
+use Rattle.kc_dotconfig_model.specs.ConfigFiles.{FileMeans}
+use Rattle.kc_dotconfig_model.specs.LoadFaults.{complete, MAX_BYTES, MAX_LINES, MAX_LINE_BYTES, IsFirstFault}
 use Rattle.kc_dotconfig_model.specs.checker.Cutting.{IsSound, IsCut}
-use Rattle.kc_dotconfig.specs.checker.Gathered.{IsGathered, Holds, GoesOn, StopsIn, Takes, Refuses, EndsWell, EndsBadly}
+use Rattle.kc_dotconfig.specs.checker.Accumulation.{IsGathered, Holds, GoesOn, StopsIn, AcceptsBytes, Refuses, EndsWell, EndsBadly}
 use Rattle.kc_dotconfig_model.proofs.FaultsAtCuts.{too_many, too_long, too_large, not_utf8, malformed, held, line_ended, accepted, file_says}
 
 no_bytes : (line : List ℕ) → (0 < length line → ⊥) → line ≡ []
@@ -43,31 +43,31 @@ cut_piece (suc k) (b ∷ piece) h one =
     (rest.0, rest.1, ap (λ l. b ∷ l) rest.2, and_from (not (b == 10)) (lacks 10 (take k piece)) parts.0 rest.3, rest.4, (let e = rest.5 in omega arith))
 
 -- lines are at their limit
-pub many_stops : (old piece : List ℕ) (lines : ℕ) → 0 < length piece → lines ≡ MOST_LINES → StopsIn old piece lines TooManyLines
+pub many_stops : (old piece : List ℕ) (lines : ℕ) → 0 < length piece → lines ≡ MAX_LINES → StopsIn old piece lines TooManyLines
 many_stops old piece lines some full prefix tree told rest sayings c same room =
     let none : old ≡ [] = no_bytes old (λ h. (let r = c.room h in omega arith)) in
     let here = too_many prefix tree told old sayings c (piece ++ rest) none (same ∙ full) (omega arith) (let e = length-append piece rest in omega arith) in
     subst (λ n. IsFirstFault prefix tree complete (told ++ (piece ++ rest)) TooManyLines (n + 1)) same here
 
 -- a line passes its limit
-pub long_stops : (old piece : List ℕ) (lines : ℕ) → MOST_LINE_BYTES < length old + length piece → lacks 10 piece ≡ true → lines < MOST_LINES → StopsIn old piece lines LineTooLong
+pub long_stops : (old piece : List ℕ) (lines : ℕ) → MAX_LINE_BYTES < length old + length piece → lacks 10 piece ≡ true → lines < MAX_LINES → StopsIn old piece lines LineTooLong
 long_stops old piece lines long one few prefix tree told rest sayings c same room =
     let short = c.short in
-    let cut = cut_piece (MOST_LINE_BYTES - length old) piece (omega arith) one in
-    let front = take (MOST_LINE_BYTES - length old) piece in
+    let cut = cut_piece (MAX_LINE_BYTES - length old) piece (omega arith) one in
+    let front = take (MAX_LINE_BYTES - length old) piece in
     let n = cut.5 in
     let whole = ap length cut.2 ∙ length-append front (cut.0 ∷ cut.1) in
-    let fits : length old + length front ≤ MOST_LINE_BYTES = omega arith in
-    let full : length (old ++ front) ≡ MOST_LINE_BYTES = (let e = length-append old front in omega arith) in
+    let fits : length old + length front ≤ MAX_LINE_BYTES = omega arith in
+    let full : length (old ++ front) ≡ MAX_LINE_BYTES = (let e = length-append old front in omega arith) in
     let kept = held prefix tree told old sayings c front cut.3 fits (omega arith) (omega arith) in
-    let less : length (told ++ front) < MOST_BYTES = (let e = length-append told front in omega arith) in
+    let less : length (told ++ front) < MAX_BYTES = (let e = length-append told front in omega arith) in
     let here = too_long prefix tree (told ++ front) (old ++ front) sayings kept cut.0 (cut.1 ++ rest) full cut.4 less in
     let bytes : (told ++ front) ++ (cut.0 ∷ (cut.1 ++ rest)) ≡ told ++ (piece ++ rest) =
     append_assoc told front (cut.0 ∷ (cut.1 ++ rest)) ∙ ap (λ x. told ++ x) (sym (append_assoc front (cut.0 ∷ cut.1) rest)) ∙ ap (λ x. told ++ (x ++ rest)) (sym cut.2) in
     subst (λ m. IsFirstFault prefix tree complete (told ++ (piece ++ rest)) LineTooLong (m + 1)) same (subst (λ b. IsFirstFault prefix tree complete b LineTooLong (length sayings + 1)) bytes here)
 
-pub push_stops : {T : Type 0} (r : Result T LoadKind) (old piece : List ℕ) (lines : ℕ) → (r ≡ Err LineTooLong → MOST_LINE_BYTES < length old + length piece) → IfErr r (λ kind. (kind ≡ LineTooLong) ⊎ (kind ≡ OutOfMemory))
-    → lacks 10 piece ≡ true → lines < MOST_LINES → IfErr r (λ kind. (kind ≡ OutOfMemory) ⊎ StopsIn old piece lines kind)
+pub push_stops : {T : Type 0} (r : Result T LoadKind) (old piece : List ℕ) (lines : ℕ) → (r ≡ Err LineTooLong → MAX_LINE_BYTES < length old + length piece) → IfErr r (λ kind. (kind ≡ LineTooLong) ⊎ (kind ≡ OutOfMemory))
+    → lacks 10 piece ≡ true → lines < MAX_LINES → IfErr r (λ kind. (kind ≡ OutOfMemory) ⊎ StopsIn old piece lines kind)
 push_stops (Ok x) old piece lines long kinds one few = tt
 push_stops {T} (Err kind) old piece lines long kinds one few = elim kinds [
   | inl e ↦ inr (subst (StopsIn old piece lines) (sym e) (long_stops old piece lines (long (ap (λ (k : LoadKind). let r : Result T LoadKind = Err k in r) e)) one few))
@@ -78,24 +78,24 @@ seam : (told piece rest : List ℕ) → told ++ ((piece ++ 10 ∷ []) ++ rest) �
 seam told piece rest = ap (λ x. told ++ x) (append_assoc piece (10 ∷ []) rest)
 
 -- a fault in a piece is one of the line
-pub stops_refuses : (prefix : List ℕ) (tree : Whole) (old : List ℕ) (g : Gathering) (piece : List ℕ) (kind : LoadKind) (lines : ℕ) → lines ≡ g.lines → StopsIn old piece lines kind → Refuses prefix tree old g (piece ++ 10 ∷ []) kind g.lines
+pub stops_refuses : (prefix : List ℕ) (tree : Tree) (old : List ℕ) (g : Accumulator) (piece : List ℕ) (kind : LoadKind) (lines : ℕ) → lines ≡ g.lines → StopsIn old piece lines kind → Refuses prefix tree old g (piece ++ 10 ∷ []) kind g.lines
 stops_refuses prefix tree old g piece kind lines same stops told rest (sayings, c, gathered) room =
     let n = length-append piece (10 ∷ []) in
     let here = stops prefix tree told (10 ∷ rest) sayings c (let e = gathered.counted in omega arith) (omega arith) in
     subst (λ m. IsFirstFault prefix tree complete (told ++ ((piece ++ 10 ∷ []) ++ rest)) kind (m + 1)) same (subst (λ b. IsFirstFault prefix tree complete b kind (lines + 1)) (sym (seam told piece rest)) here)
 
--- and of the bytes behind it
-pub stops_last : (prefix : List ℕ) (tree : Whole) (old : List ℕ) (g : Gathering) (piece : List ℕ) (kind : LoadKind) → StopsIn old piece g.lines kind → Refuses prefix tree old g piece kind g.lines
+-- and of the bytes after it
+pub stops_last : (prefix : List ℕ) (tree : Tree) (old : List ℕ) (g : Accumulator) (piece : List ℕ) (kind : LoadKind) → StopsIn old piece g.lines kind → Refuses prefix tree old g piece kind g.lines
 stops_last prefix tree old g piece kind stops told rest (sayings, c, gathered) room = stops prefix tree told rest sayings c (sym gathered.counted) room
 
-pub many_refuses : (prefix : List ℕ) (tree : Whole) (old : List ℕ) (g : Gathering) (piece : List ℕ) → g.lines ≡ MOST_LINES → Refuses prefix tree old g (piece ++ 10 ∷ []) TooManyLines g.lines
+pub many_refuses : (prefix : List ℕ) (tree : Tree) (old : List ℕ) (g : Accumulator) (piece : List ℕ) → g.lines ≡ MAX_LINES → Refuses prefix tree old g (piece ++ 10 ∷ []) TooManyLines g.lines
 many_refuses prefix tree old g piece full told rest (sayings, c, gathered) room =
     many_stops old (piece ++ 10 ∷ []) g.lines (let e = length-append piece (10 ∷ []) in omega arith) full prefix tree told rest sayings c (sym gathered.counted) room
 
 -- a line that is taken
-pub line_taken : (prefix : List ℕ) (tree : Whole) (old : List ℕ) (g : Gathering) (piece line : List ℕ) (g_new : Gathering) → line ≡ old ++ piece → length line ≤ MOST_LINE_BYTES → lacks 10 piece ≡ true → g.lines < MOST_LINES
-    → IsUtf8 line × ((x : Saying) × Says prefix tree (without_white_end line) x × ((sayings : List Saying) → IsGathered tree sayings g → IsGathered tree (sayings ++ x ∷ []) g_new))
-    → Takes prefix tree old g (piece ++ 10 ∷ []) [] g_new
+pub line_taken : (prefix : List ℕ) (tree : Tree) (old : List ℕ) (g : Accumulator) (piece line : List ℕ) (g_new : Accumulator) → line ≡ old ++ piece → length line ≤ MAX_LINE_BYTES → lacks 10 piece ≡ true → g.lines < MAX_LINES
+    → IsUtf8 line × ((x : LineMeaning) × Means prefix tree (without_white_end line) x × ((sayings : List LineMeaning) → IsGathered tree sayings g → IsGathered tree (sayings ++ x ∷ []) g_new))
+    → AcceptsBytes prefix tree old g (piece ++ 10 ∷ []) [] g_new
 line_taken prefix tree old g piece line g_new is short one few (text, said) told (sayings, c, gathered) room =
     let n = length-append piece (10 ∷ []) in
     let counted = gathered.counted in
@@ -107,7 +107,7 @@ line_taken prefix tree old g piece line g_new is short one few (text, said) told
     (sayings ++ said.0 ∷ [], subst (λ b. IsCut prefix tree b [] (sayings ++ said.0 ∷ [])) (append_assoc told piece (10 ∷ [])) done, said.2 sayings gathered)
 
 -- a line that is refused
-pub line_refused : (prefix : List ℕ) (tree : Whole) (old : List ℕ) (g : Gathering) (piece line : List ℕ) (kind : LoadKind) (lines : ℕ) → line ≡ old ++ piece → length line ≤ MOST_LINE_BYTES → lacks 10 piece ≡ true → g.lines < MOST_LINES → lines ≡ g.lines
+pub line_refused : (prefix : List ℕ) (tree : Tree) (old : List ℕ) (g : Accumulator) (piece line : List ℕ) (kind : LoadKind) (lines : ℕ) → line ≡ old ++ piece → length line ≤ MAX_LINE_BYTES → lacks 10 piece ≡ true → g.lines < MAX_LINES → lines ≡ g.lines
     → (kind ≡ NotUtf8 → IsUtf8 line → ⊥) → (kind ≡ Malformed → IsUtf8 line × IsMalformed prefix tree line) → (kind ≡ NotUtf8) ⊎ (kind ≡ Malformed) ⊎ (kind ≡ OutOfMemory)
     → (kind ≡ OutOfMemory) ⊎ Refuses prefix tree old g (piece ++ 10 ∷ []) kind lines
 line_refused prefix tree old g piece line kind lines is short one few same odd bad kinds = elim kinds [
@@ -119,10 +119,10 @@ line_refused prefix tree old g piece line kind lines is short one few same odd b
     | inr e ↦ inl e
   ]
 ] where
-  under : (told : List ℕ) → length told + length (piece ++ 10 ∷ []) ≤ MOST_BYTES → length (told ++ piece) < MOST_BYTES
+  under : (told : List ℕ) → length told + length (piece ++ 10 ∷ []) ≤ MAX_BYTES → length (told ++ piece) < MAX_BYTES
   under told room = let n = length-append piece (10 ∷ []) in let e = length-append told piece in omega arith
 
-  kept : (told : List ℕ) → (h : Holds prefix tree told old g) → length told + length (piece ++ 10 ∷ []) ≤ MOST_BYTES → IsCut prefix tree (told ++ piece) (old ++ piece) h.0
+  kept : (told : List ℕ) → (h : Holds prefix tree told old g) → length told + length (piece ++ 10 ∷ []) ≤ MAX_BYTES → IsCut prefix tree (told ++ piece) (old ++ piece) h.0
   kept told h room =
       let n = length-append piece (10 ∷ []) in
       let counted = h.2.counted in
@@ -137,14 +137,14 @@ line_refused prefix tree old g piece line kind lines is short one few same odd b
       (subst (λ b. IsFirstFault prefix tree complete b from (length h.0 + 1)) (append_assoc told piece (10 ∷ rest) ∙ sym (seam told piece rest)) fault))
 
 -- what is taken in two parts
-pub both_taken : (prefix : List ℕ) (tree : Whole) (a : List ℕ) (g : Gathering) (front : List ℕ) (b : List ℕ) (h : Gathering) (back c : List ℕ) (k : Gathering) → Takes prefix tree a g front b h → Takes prefix tree b h back c k → Takes prefix tree a g (front ++ back) c k
+pub both_taken : (prefix : List ℕ) (tree : Tree) (a : List ℕ) (g : Accumulator) (front : List ℕ) (b : List ℕ) (h : Accumulator) (back c : List ℕ) (k : Accumulator) → AcceptsBytes prefix tree a g front b h → AcceptsBytes prefix tree b h back c k → AcceptsBytes prefix tree a g (front ++ back) c k
 both_taken prefix tree a g front b h back c k first second told holds room =
     let n = length-append front back in
     let e = length-append told front in
     subst (λ t. Holds prefix tree t c k) (append_assoc told front back) (second (told ++ front) (first told holds (omega arith)) (omega arith))
 
--- a fault behind what is taken
-pub later_refused : (prefix : List ℕ) (tree : Whole) (a : List ℕ) (g : Gathering) (front b : List ℕ) (h : Gathering) (back more : List ℕ) (kind : LoadKind) (lines : ℕ) → Takes prefix tree a g front b h → Refuses prefix tree b h back kind lines → Refuses prefix tree a g (front ++ (back ++ more)) kind lines
+-- a fault after what is taken
+pub later_refused : (prefix : List ℕ) (tree : Tree) (a : List ℕ) (g : Accumulator) (front b : List ℕ) (h : Accumulator) (back more : List ℕ) (kind : LoadKind) (lines : ℕ) → AcceptsBytes prefix tree a g front b h → Refuses prefix tree b h back kind lines → Refuses prefix tree a g (front ++ (back ++ more)) kind lines
 later_refused prefix tree a g front b h back more kind lines first second told rest holds room =
     let n = length-append front (back ++ more) in
     let m = length-append back more in
@@ -154,14 +154,14 @@ later_refused prefix tree a g front b h back more kind lines first second told r
     subst (λ x. IsFirstFault prefix tree complete x kind (lines + 1)) bytes (second (told ++ front) (more ++ rest) (first told holds (omega arith)) (omega arith))
 
 -- a last piece that goes on
-pub piece_taken : (prefix : List ℕ) (tree : Whole) (a : List ℕ) (g : Gathering) (piece b : List ℕ) → GoesOn a b piece g.lines → Takes prefix tree a g piece b g
+pub piece_taken : (prefix : List ℕ) (tree : Tree) (a : List ℕ) (g : Accumulator) (piece b : List ℕ) → GoesOn a b piece g.lines → AcceptsBytes prefix tree a g piece b g
 piece_taken prefix tree a g piece b goes told (sayings, c, gathered) room = (sayings, goes prefix tree told sayings c (sym gathered.counted) room, gathered)
 
-pub nothing_taken : (prefix : List ℕ) (tree : Whole) (a : List ℕ) (g : Gathering) → Takes prefix tree a g [] a g
+pub nothing_taken : (prefix : List ℕ) (tree : Tree) (a : List ℕ) (g : Accumulator) → AcceptsBytes prefix tree a g [] a g
 nothing_taken prefix tree a g told holds room = subst (λ t. Holds prefix tree t a g) (sym (append-nil told)) holds
 
 -- the file is past its size
-pub past_size : (prefix : List ℕ) (tree : Whole) (a : List ℕ) (g : Gathering) (front b : List ℕ) (h : Gathering) (more : List ℕ) (size : ℕ) → Takes prefix tree a g front b h → size + length front ≡ MOST_BYTES → 0 < length more
+pub past_size : (prefix : List ℕ) (tree : Tree) (a : List ℕ) (g : Accumulator) (front b : List ℕ) (h : Accumulator) (more : List ℕ) (size : ℕ) → AcceptsBytes prefix tree a g front b h → size + length front ≡ MAX_BYTES → 0 < length more
     → (told rest : List ℕ) → Holds prefix tree told a g → length told ≡ size → IsFirstFault prefix tree complete (told ++ ((front ++ more) ++ rest)) TooLarge (h.lines + 1)
 past_size prefix tree a g front b h more size takes full some told rest holds is =
     let e = length-append told front in
@@ -172,19 +172,19 @@ past_size prefix tree a g front b h more size takes full some told rest holds is
     (subst (λ x. IsFirstFault prefix tree complete x TooLarge (length now.0 + 1)) (append_assoc told front (more ++ rest) ∙ ap (λ x. told ++ x) (sym (append_assoc front more rest))) here)
 
 -- the end of the file
-pub ends_empty : (prefix : List ℕ) (tree : Whole) (g : Gathering) → EndsWell prefix tree [] g g
+pub ends_empty : (prefix : List ℕ) (tree : Tree) (g : Accumulator) → EndsWell prefix tree [] g g
 ends_empty prefix tree g told (sayings, c, gathered) =
-    (sayings, accepted prefix tree told [] sayings c [] (inl (refl, refl)), subst (FileSays prefix tree told) (append-nil sayings) (file_says prefix tree told [] sayings c [] (inl (refl, refl))), gathered)
+    (sayings, accepted prefix tree told [] sayings c [] (inl (refl, refl)), subst (FileMeans prefix tree told) (append-nil sayings) (file_says prefix tree told [] sayings c [] (inl (refl, refl))), gathered)
 
-pub ends_line : (prefix : List ℕ) (tree : Whole) (line : List ℕ) (g g_new : Gathering) → 0 < length line → length line ≤ MOST_LINE_BYTES
-    → IsUtf8 line × ((x : Saying) × Says prefix tree (without_white_end line) x × ((sayings : List Saying) → IsGathered tree sayings g → IsGathered tree (sayings ++ x ∷ []) g_new))
+pub ends_line : (prefix : List ℕ) (tree : Tree) (line : List ℕ) (g g_new : Accumulator) → 0 < length line → length line ≤ MAX_LINE_BYTES
+    → IsUtf8 line × ((x : LineMeaning) × Means prefix tree (without_white_end line) x × ((sayings : List LineMeaning) → IsGathered tree sayings g → IsGathered tree (sayings ++ x ∷ []) g_new))
     → EndsWell prefix tree line g g_new
 ends_line prefix tree line g g_new some short (text, said) told (sayings, c, gathered) =
     let sound : IsSound prefix tree line said.0 = record { text = text; short = short; says = said.1 } in
     let last = inr (some, (said.0, refl, sound)) in
     (sayings ++ said.0 ∷ [], accepted prefix tree told line sayings c (said.0 ∷ []) last, file_says prefix tree told line sayings c (said.0 ∷ []) last, said.2 sayings gathered)
 
-pub ends_refused : (prefix : List ℕ) (tree : Whole) (line : List ℕ) (g : Gathering) (kind : LoadKind) (lines : ℕ) → 0 < length line → lines ≡ g.lines
+pub ends_refused : (prefix : List ℕ) (tree : Tree) (line : List ℕ) (g : Accumulator) (kind : LoadKind) (lines : ℕ) → 0 < length line → lines ≡ g.lines
     → (kind ≡ NotUtf8 → IsUtf8 line → ⊥) → (kind ≡ Malformed → IsUtf8 line × IsMalformed prefix tree line) → (kind ≡ NotUtf8) ⊎ (kind ≡ Malformed) ⊎ (kind ≡ OutOfMemory)
     → (kind ≡ OutOfMemory) ⊎ EndsBadly prefix tree line g kind lines
 ends_refused prefix tree line g kind lines some same odd bad kinds = elim kinds [
@@ -205,38 +205,38 @@ ends_refused prefix tree line g kind lines some same odd bad kinds = elim kinds 
 abbrev AsErr : (T : Type 0) → LoadKind → Result T LoadKind
 AsErr T kind = Err kind
 
-pub result_refused : {T : Type 0} (r : Result T LoadKind) (prefix : List ℕ) (tree : Whole) (old : List ℕ) (g : Gathering) (piece line : List ℕ) (lines : ℕ) → line ≡ old ++ piece → length line ≤ MOST_LINE_BYTES → lacks 10 piece ≡ true → g.lines < MOST_LINES
+pub result_refused : {T : Type 0} (r : Result T LoadKind) (prefix : List ℕ) (tree : Tree) (old : List ℕ) (g : Accumulator) (piece line : List ℕ) (lines : ℕ) → line ≡ old ++ piece → length line ≤ MAX_LINE_BYTES → lacks 10 piece ≡ true → g.lines < MAX_LINES
     → (r ≡ Err NotUtf8 → IsUtf8 line → ⊥) → (r ≡ Err Malformed → IsUtf8 line × IsMalformed prefix tree line) → IfErr r (λ kind. (kind ≡ NotUtf8) ⊎ (kind ≡ Malformed) ⊎ (kind ≡ OutOfMemory)) → OnErr r (lines ≡ g.lines)
     → IfErr r (λ kind. (kind ≡ OutOfMemory) ⊎ Refuses prefix tree old g (piece ++ 10 ∷ []) kind lines)
 result_refused (Ok x) prefix tree old g piece line lines is short one few odd bad kinds same = tt
 result_refused {T} (Err kind) prefix tree old g piece line lines is short one few odd bad kinds same =
     line_refused prefix tree old g piece line kind lines is short one few same (λ e. odd (ap (AsErr T) e)) (λ e. bad (ap (AsErr T) e)) kinds
 
-pub push_refused : {T : Type 0} (r : Result T LoadKind) (prefix : List ℕ) (tree : Whole) (old : List ℕ) (g : Gathering) (piece : List ℕ) → (r ≡ Err LineTooLong → MOST_LINE_BYTES < length old + length piece) → IfErr r (λ kind. (kind ≡ LineTooLong) ⊎ (kind ≡ OutOfMemory))
-    → lacks 10 piece ≡ true → g.lines < MOST_LINES → IfErr r (λ kind. (kind ≡ OutOfMemory) ⊎ Refuses prefix tree old g (piece ++ 10 ∷ []) kind g.lines)
+pub push_refused : {T : Type 0} (r : Result T LoadKind) (prefix : List ℕ) (tree : Tree) (old : List ℕ) (g : Accumulator) (piece : List ℕ) → (r ≡ Err LineTooLong → MAX_LINE_BYTES < length old + length piece) → IfErr r (λ kind. (kind ≡ LineTooLong) ⊎ (kind ≡ OutOfMemory))
+    → lacks 10 piece ≡ true → g.lines < MAX_LINES → IfErr r (λ kind. (kind ≡ OutOfMemory) ⊎ Refuses prefix tree old g (piece ++ 10 ∷ []) kind g.lines)
 push_refused (Ok x) prefix tree old g piece long kinds one few = tt
 push_refused {T} (Err kind) prefix tree old g piece long kinds one few = elim kinds [
   | inl e ↦ inr (subst (λ k. Refuses prefix tree old g (piece ++ 10 ∷ []) k g.lines) (sym e) (stops_refuses prefix tree old g piece LineTooLong g.lines refl (long_stops old piece g.lines (long (ap (AsErr T) e)) one few)))
   | inr e ↦ inl e
 ]
 
-pub result_taken : {T : Type 0} (r : Result T LoadKind) (prefix : List ℕ) (tree : Whole) (old : List ℕ) (g : Gathering) (piece line after : List ℕ) (g_new : Gathering) → line ≡ old ++ piece → length line ≤ MOST_LINE_BYTES → lacks 10 piece ≡ true → g.lines < MOST_LINES → after ≡ []
-    → OnOk r (IsUtf8 line × ((x : Saying) × Says prefix tree (without_white_end line) x × ((sayings : List Saying) → IsGathered tree sayings g → IsGathered tree (sayings ++ x ∷ []) g_new)))
-    → OnOk r (Takes prefix tree old g (piece ++ 10 ∷ []) after g_new)
-result_taken (Ok x) prefix tree old g piece line after g_new is short one few empty said = subst (λ a. Takes prefix tree old g (piece ++ 10 ∷ []) a g_new) (sym empty) (line_taken prefix tree old g piece line g_new is short one few said)
+pub result_taken : {T : Type 0} (r : Result T LoadKind) (prefix : List ℕ) (tree : Tree) (old : List ℕ) (g : Accumulator) (piece line after : List ℕ) (g_new : Accumulator) → line ≡ old ++ piece → length line ≤ MAX_LINE_BYTES → lacks 10 piece ≡ true → g.lines < MAX_LINES → after ≡ []
+    → OnOk r (IsUtf8 line × ((x : LineMeaning) × Means prefix tree (without_white_end line) x × ((sayings : List LineMeaning) → IsGathered tree sayings g → IsGathered tree (sayings ++ x ∷ []) g_new)))
+    → OnOk r (AcceptsBytes prefix tree old g (piece ++ 10 ∷ []) after g_new)
+result_taken (Ok x) prefix tree old g piece line after g_new is short one few empty said = subst (λ a. AcceptsBytes prefix tree old g (piece ++ 10 ∷ []) a g_new) (sym empty) (line_taken prefix tree old g piece line g_new is short one few said)
 result_taken (Err e) prefix tree old g piece line after g_new is short one few empty said = tt
 
-pub lines_bound : {T : Type 0} (r : Result T LoadKind) (a b : ℕ) → OnOk r (b ≡ a + 1) → OnErr r (b ≡ a) → a < MOST_LINES → b ≤ MOST_LINES
+pub lines_bound : {T : Type 0} (r : Result T LoadKind) (a b : ℕ) → OnOk r (b ≡ a + 1) → OnErr r (b ≡ a) → a < MAX_LINES → b ≤ MAX_LINES
 lines_bound (Ok x) a b ok err few = omega arith
 lines_bound (Err e) a b ok err few = omega arith
 
-pub result_ends : {T : Type 0} (r : Result T LoadKind) (prefix : List ℕ) (tree : Whole) (old line : List ℕ) (g g_new : Gathering) → line ≡ old → 0 < length line → length old ≤ MOST_LINE_BYTES
-    → OnOk r (IsUtf8 line × ((x : Saying) × Says prefix tree (without_white_end line) x × ((sayings : List Saying) → IsGathered tree sayings g → IsGathered tree (sayings ++ x ∷ []) g_new)))
+pub result_ends : {T : Type 0} (r : Result T LoadKind) (prefix : List ℕ) (tree : Tree) (old line : List ℕ) (g g_new : Accumulator) → line ≡ old → 0 < length line → length old ≤ MAX_LINE_BYTES
+    → OnOk r (IsUtf8 line × ((x : LineMeaning) × Means prefix tree (without_white_end line) x × ((sayings : List LineMeaning) → IsGathered tree sayings g → IsGathered tree (sayings ++ x ∷ []) g_new)))
     → OnOk r (EndsWell prefix tree old g g_new)
-result_ends (Ok x) prefix tree old line g g_new is some short said = subst (λ l. EndsWell prefix tree l g g_new) is (ends_line prefix tree line g g_new some (subst (λ l. length l ≤ MOST_LINE_BYTES) (sym is) short) said)
+result_ends (Ok x) prefix tree old line g g_new is some short said = subst (λ l. EndsWell prefix tree l g g_new) is (ends_line prefix tree line g g_new some (subst (λ l. length l ≤ MAX_LINE_BYTES) (sym is) short) said)
 result_ends (Err e) prefix tree old line g g_new is some short said = tt
 
-pub result_ends_badly : {T : Type 0} (r : Result T LoadKind) (prefix : List ℕ) (tree : Whole) (old line : List ℕ) (g : Gathering) (lines : ℕ) → line ≡ old → 0 < length line
+pub result_ends_badly : {T : Type 0} (r : Result T LoadKind) (prefix : List ℕ) (tree : Tree) (old line : List ℕ) (g : Accumulator) (lines : ℕ) → line ≡ old → 0 < length line
     → (r ≡ Err NotUtf8 → IsUtf8 line → ⊥) → (r ≡ Err Malformed → IsUtf8 line × IsMalformed prefix tree line) → IfErr r (λ kind. (kind ≡ NotUtf8) ⊎ (kind ≡ Malformed) ⊎ (kind ≡ OutOfMemory)) → OnErr r (lines ≡ g.lines)
     → IfErr r (λ kind. (kind ≡ OutOfMemory) ⊎ EndsBadly prefix tree old g kind lines)
 result_ends_badly (Ok x) prefix tree old line g lines is some odd bad kinds same = tt
@@ -244,7 +244,7 @@ result_ends_badly {T} (Err kind) prefix tree old line g lines is some odd bad ki
     subst (λ l. (kind ≡ OutOfMemory) ⊎ EndsBadly prefix tree l g kind lines) is
     (ends_refused prefix tree line g kind lines some same (λ e. odd (ap (AsErr T) e)) (λ e. bad (ap (AsErr T) e)) kinds)
 
--- the bytes up to the first newline, and those behind it
+-- the bytes up to the first newline, and those after it
 newline_at : (rest : List ℕ) (at : ℕ) → at < length rest → (slice_index rest at == 10) ≡ true → ((k : ℕ) → k < at → (slice_index rest k == 10) ≡ true → ⊥) → (rest ≡ take at rest ++ 10 ∷ drop (at + 1) rest) × (lacks 10 (take at rest) ≡ true)
 newline_at [] at h e none = absurd (omega arith)
 newline_at (b ∷ rest) zero h e none = (ap (λ c. c ∷ rest) (eqb-true b 10 e), refl)
@@ -274,30 +274,30 @@ rest_is rest n = grind (arith, common_steps)
 line_of : (rest : List ℕ) (at : ℕ) → IsFirstByte (is_byte 10) rest (Some at) → rest ≡ (take at rest ++ 10 ∷ []) ++ drop (at + 1) rest
 line_of rest at first = (first_newline rest at first).0 ∙ sym (append_assoc (take at rest) (10 ∷ []) (drop (at + 1) rest))
 
-pub step_taken : (prefix : List ℕ) (tree : Whole) (a : List ℕ) (g : Gathering) (bytes rest : List ℕ) (at : ℕ) (b : List ℕ) (h : Gathering) (c : List ℕ) (k : Gathering)
-    → (front : List ℕ) × (bytes ≡ front ++ rest) × Takes prefix tree a g front b h → IsFirstByte (is_byte 10) rest (Some at) → Takes prefix tree b h (take at rest ++ 10 ∷ []) c k
-    → (front : List ℕ) × (bytes ≡ front ++ take (length rest - (at + 1)) (drop (at + 1) rest)) × Takes prefix tree a g front c k
+pub step_taken : (prefix : List ℕ) (tree : Tree) (a : List ℕ) (g : Accumulator) (bytes rest : List ℕ) (at : ℕ) (b : List ℕ) (h : Accumulator) (c : List ℕ) (k : Accumulator)
+    → (front : List ℕ) × (bytes ≡ front ++ rest) × AcceptsBytes prefix tree a g front b h → IsFirstByte (is_byte 10) rest (Some at) → AcceptsBytes prefix tree b h (take at rest ++ 10 ∷ []) c k
+    → (front : List ℕ) × (bytes ≡ front ++ take (length rest - (at + 1)) (drop (at + 1) rest)) × AcceptsBytes prefix tree a g front c k
 step_taken prefix tree a g bytes rest at b h c k (front, is, takes) first second = (
   front ++ (take at rest ++ 10 ∷ []),
   is ∙ ap (λ r. front ++ r) (line_of rest at first) ∙ sym (append_assoc front (take at rest ++ 10 ∷ []) (drop (at + 1) rest)) ∙ ap (λ r. (front ++ (take at rest ++ 10 ∷ [])) ++ r) (sym (rest_is rest (at + 1))),
   both_taken prefix tree a g front b h (take at rest ++ 10 ∷ []) c k takes second,
 )
 
-pub step_refused : (prefix : List ℕ) (tree : Whole) (a : List ℕ) (g : Gathering) (bytes rest : List ℕ) (at : ℕ) (b : List ℕ) (h : Gathering) (kind : LoadKind) (lines : ℕ)
-    → (front : List ℕ) × (bytes ≡ front ++ rest) × Takes prefix tree a g front b h → IsFirstByte (is_byte 10) rest (Some at) → (kind ≡ OutOfMemory) ⊎ Refuses prefix tree b h (take at rest ++ 10 ∷ []) kind lines
+pub step_refused : (prefix : List ℕ) (tree : Tree) (a : List ℕ) (g : Accumulator) (bytes rest : List ℕ) (at : ℕ) (b : List ℕ) (h : Accumulator) (kind : LoadKind) (lines : ℕ)
+    → (front : List ℕ) × (bytes ≡ front ++ rest) × AcceptsBytes prefix tree a g front b h → IsFirstByte (is_byte 10) rest (Some at) → (kind ≡ OutOfMemory) ⊎ Refuses prefix tree b h (take at rest ++ 10 ∷ []) kind lines
     → (kind ≡ OutOfMemory) ⊎ Refuses prefix tree a g bytes kind lines
 step_refused prefix tree a g bytes rest at b h kind lines (front, is, takes) first fault = elim fault [
   | inl e ↦ inl e
   | inr refuses ↦ inr (subst (λ x. Refuses prefix tree a g x kind lines) (sym (is ∙ ap (λ r. front ++ r) (line_of rest at first))) (later_refused prefix tree a g front b h (take at rest ++ 10 ∷ []) (drop (at + 1) rest) kind lines takes refuses))
 ]
 
-pub last_taken : {T : Type 0} (r : Result T LoadKind) (prefix : List ℕ) (tree : Whole) (a : List ℕ) (g : Gathering) (bytes rest b : List ℕ) (h : Gathering) (c : List ℕ)
-    → (front : List ℕ) × (bytes ≡ front ++ rest) × Takes prefix tree a g front b h → OnOk r (GoesOn b c rest h.lines) → OnOk r (Takes prefix tree a g bytes c h)
-last_taken (Ok x) prefix tree a g bytes rest b h c (front, is, takes) goes = subst (λ x. Takes prefix tree a g x c h) (sym is) (both_taken prefix tree a g front b h rest c h takes (piece_taken prefix tree b h rest c goes))
+pub last_taken : {T : Type 0} (r : Result T LoadKind) (prefix : List ℕ) (tree : Tree) (a : List ℕ) (g : Accumulator) (bytes rest b : List ℕ) (h : Accumulator) (c : List ℕ)
+    → (front : List ℕ) × (bytes ≡ front ++ rest) × AcceptsBytes prefix tree a g front b h → OnOk r (GoesOn b c rest h.lines) → OnOk r (AcceptsBytes prefix tree a g bytes c h)
+last_taken (Ok x) prefix tree a g bytes rest b h c (front, is, takes) goes = subst (λ x. AcceptsBytes prefix tree a g x c h) (sym is) (both_taken prefix tree a g front b h rest c h takes (piece_taken prefix tree b h rest c goes))
 last_taken (Err e) prefix tree a g bytes rest b h c taken goes = tt
 
-pub last_refused : {T : Type 0} (r : Result T LoadKind) (prefix : List ℕ) (tree : Whole) (a : List ℕ) (g : Gathering) (bytes rest b : List ℕ) (h : Gathering)
-    → (front : List ℕ) × (bytes ≡ front ++ rest) × Takes prefix tree a g front b h → IfErr r (λ kind. (kind ≡ OutOfMemory) ⊎ StopsIn b rest h.lines kind) → IfErr r (λ kind. (kind ≡ OutOfMemory) ⊎ Refuses prefix tree a g bytes kind h.lines)
+pub last_refused : {T : Type 0} (r : Result T LoadKind) (prefix : List ℕ) (tree : Tree) (a : List ℕ) (g : Accumulator) (bytes rest b : List ℕ) (h : Accumulator)
+    → (front : List ℕ) × (bytes ≡ front ++ rest) × AcceptsBytes prefix tree a g front b h → IfErr r (λ kind. (kind ≡ OutOfMemory) ⊎ StopsIn b rest h.lines kind) → IfErr r (λ kind. (kind ≡ OutOfMemory) ⊎ Refuses prefix tree a g bytes kind h.lines)
 last_refused (Ok x) prefix tree a g bytes rest b h taken fault = tt
 last_refused (Err kind) prefix tree a g bytes rest b h (front, is, takes) fault = elim fault [
   | inl e ↦ inl e
@@ -305,7 +305,7 @@ last_refused (Err kind) prefix tree a g bytes rest b h (front, is, takes) fault 
 ]
 
 -- a block's end is past the size
-pub block_refused : (prefix : List ℕ) (tree : Whole) (a : List ℕ) (g : Gathering) (front : List ℕ) (more : List ℕ) (kind : LoadKind) (size lines : ℕ) → size + length front ≤ MOST_BYTES → (kind ≡ OutOfMemory) ⊎ Refuses prefix tree a g front kind lines
+pub block_refused : (prefix : List ℕ) (tree : Tree) (a : List ℕ) (g : Accumulator) (front : List ℕ) (more : List ℕ) (kind : LoadKind) (size lines : ℕ) → size + length front ≤ MAX_BYTES → (kind ≡ OutOfMemory) ⊎ Refuses prefix tree a g front kind lines
     → (kind ≡ OutOfMemory) ⊎ ((told rest : List ℕ) → Holds prefix tree told a g → length told ≡ size → IsFirstFault prefix tree complete (told ++ ((front ++ more) ++ rest)) kind (lines + 1))
 block_refused prefix tree a g front more kind size lines room fault = elim fault [
   | inl e ↦ inl e
@@ -313,7 +313,7 @@ block_refused prefix tree a g front more kind size lines room fault = elim fault
 ]
 
 -- a block within the size
-pub block_faulty : {T : Type 0} (r : Result T LoadKind) (prefix : List ℕ) (tree : Whole) (a : List ℕ) (g : Gathering) (block : List ℕ) (size lines : ℕ) → size ≤ MOST_BYTES → length block ≤ MOST_BYTES - size
+pub block_faulty : {T : Type 0} (r : Result T LoadKind) (prefix : List ℕ) (tree : Tree) (a : List ℕ) (g : Accumulator) (block : List ℕ) (size lines : ℕ) → size ≤ MAX_BYTES → length block ≤ MAX_BYTES - size
     → IfErr r (λ kind. (kind ≡ OutOfMemory) ⊎ Refuses prefix tree a g block kind lines)
     → IfErr r (λ kind. (kind ≡ OutOfMemory) ⊎ ((told rest : List ℕ) → Holds prefix tree told a g → length told ≡ size → IsFirstFault prefix tree complete (told ++ (block ++ rest)) kind (lines + 1)))
 block_faulty (Ok x) prefix tree a g block size lines small short fault = tt
@@ -323,19 +323,19 @@ block_faulty (Err kind) prefix tree a g block size lines small short fault = eli
 ]
 
 -- of a block that reaches past the size, the part within it
-pub part_refused : (prefix : List ℕ) (tree : Whole) (a : List ℕ) (g : Gathering) (block : List ℕ) (kind : LoadKind) (size lines : ℕ) → size ≤ MOST_BYTES → MOST_BYTES - size < length block → (kind ≡ OutOfMemory) ⊎ Refuses prefix tree a g (take (MOST_BYTES - size) block) kind lines
+pub part_refused : (prefix : List ℕ) (tree : Tree) (a : List ℕ) (g : Accumulator) (block : List ℕ) (kind : LoadKind) (size lines : ℕ) → size ≤ MAX_BYTES → MAX_BYTES - size < length block → (kind ≡ OutOfMemory) ⊎ Refuses prefix tree a g (take (MAX_BYTES - size) block) kind lines
     → (kind ≡ OutOfMemory) ⊎ ((told rest : List ℕ) → Holds prefix tree told a g → length told ≡ size → IsFirstFault prefix tree complete (told ++ (block ++ rest)) kind (lines + 1))
 part_refused prefix tree a g block kind size lines small long fault =
-    let n = length-take-le (MOST_BYTES - size) block (omega arith) in
-    subst (λ x. (kind ≡ OutOfMemory) ⊎ ((told rest : List ℕ) → Holds prefix tree told a g → length told ≡ size → IsFirstFault prefix tree complete (told ++ (x ++ rest)) kind (lines + 1))) (take-append-drop (MOST_BYTES - size) block)
-    (block_refused prefix tree a g (take (MOST_BYTES - size) block) (drop (MOST_BYTES - size) block) kind size lines (omega arith) fault)
+    let n = length-take-le (MAX_BYTES - size) block (omega arith) in
+    subst (λ x. (kind ≡ OutOfMemory) ⊎ ((told rest : List ℕ) → Holds prefix tree told a g → length told ≡ size → IsFirstFault prefix tree complete (told ++ (x ++ rest)) kind (lines + 1))) (take-append-drop (MAX_BYTES - size) block)
+    (block_refused prefix tree a g (take (MAX_BYTES - size) block) (drop (MAX_BYTES - size) block) kind size lines (omega arith) fault)
 
-pub part_too_large : (prefix : List ℕ) (tree : Whole) (a : List ℕ) (g : Gathering) (block b : List ℕ) (h : Gathering) (size : ℕ) → size ≤ MOST_BYTES → MOST_BYTES - size < length block → Takes prefix tree a g (take (MOST_BYTES - size) block) b h
+pub part_too_large : (prefix : List ℕ) (tree : Tree) (a : List ℕ) (g : Accumulator) (block b : List ℕ) (h : Accumulator) (size : ℕ) → size ≤ MAX_BYTES → MAX_BYTES - size < length block → AcceptsBytes prefix tree a g (take (MAX_BYTES - size) block) b h
     → (told rest : List ℕ) → Holds prefix tree told a g → length told ≡ size → IsFirstFault prefix tree complete (told ++ (block ++ rest)) TooLarge (h.lines + 1)
 part_too_large prefix tree a g block b h size small long takes told rest holds is =
-    let n = length-take-le (MOST_BYTES - size) block (omega arith) in
-    let whole = take-append-drop (MOST_BYTES - size) block in
+    let n = length-take-le (MAX_BYTES - size) block (omega arith) in
+    let whole = take-append-drop (MAX_BYTES - size) block in
     let all = ap length whole in
-    let sum = length-append (take (MOST_BYTES - size) block) (drop (MOST_BYTES - size) block) in
+    let sum = length-append (take (MAX_BYTES - size) block) (drop (MAX_BYTES - size) block) in
     subst (λ x. IsFirstFault prefix tree complete (told ++ (x ++ rest)) TooLarge (h.lines + 1)) whole
-    (past_size prefix tree a g (take (MOST_BYTES - size) block) b h (drop (MOST_BYTES - size) block) size takes (omega arith) (omega arith) told rest holds is)
+    (past_size prefix tree a g (take (MAX_BYTES - size) block) b h (drop (MAX_BYTES - size) block) size takes (omega arith) (omega arith) told rest holds is)

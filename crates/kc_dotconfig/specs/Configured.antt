@@ -1,27 +1,27 @@
--- What a configuration holds.
+-- The state of a configuration.
 use Rattle.std.specs.Prelude.{length, IsTrue}
-use Rattle.kc_system.specs.Held.{Held}
-use Rattle.kc_system.specs.Solutions.{Gives, FitsUsers, FitsValues}
-use Rattle.kc_tree_model.specs.Trees.{Whole}
+use Rattle.kc_system.specs.SessionState.{SessionState}
+use Rattle.kc_system.specs.Solutions.{UniquelySolves, FitsUsers, FitsValues}
+use Rattle.kc_tree_model.specs.Trees.{Tree}
 use Rattle.kc_rules_model.specs.declared.values.UnitValue.{UnitValue}
 use Rattle.kc_rules_model.specs.declared.values.UserValue.{UserValue}
 use Rattle.kc_rules_model.specs.Rule.{rule}
 use Rattle.kc_rules_model.specs.Shapes.{user_fits, value_fits}
 use Rattle.kc_rules_model.specs.SettledTrees.{IsSettledTree}
 use Rattle.kc_rules.specs.declared.rules.Settled.{Settled}
-use Rattle.kc_rules.specs.Told.{whole_of, profile_of}
+use Rattle.kc_rules.specs.SettledViews.{tree_of_settled, profile_of}
 
 -- a settled tree, an assignment and its values
 abbrev pub Configured : Type 0
-Configured = Held Settled UnitValue UserValue
+Configured = SessionState Settled UnitValue UserValue
 
 -- the tree of a configuration
-abbrev pub tree_in : Configured → Whole
-tree_in c = whole_of c.system
+abbrev pub tree_in : Configured → Tree
+tree_in c = tree_of_settled c.system
 
 -- the assignment held fits the tree, and the values held are the only ones that it gives
 pub record IsSolved (c : Configured) : Type 0 where
   pub settled : IsSettledTree (tree_in c)
   pub fits : FitsUsers (length (tree_in c).units) (λ u x. IsTrue (user_fits (tree_in c) u x)) c.users
   pub fits_values : FitsValues (length (tree_in c).units) (λ u v. IsTrue (value_fits (tree_in c) u v)) c.values
-  pub gives : Gives (length (tree_in c).units) (rule (profile_of c.system) (tree_in c)) c.users c.values
+  pub gives : UniquelySolves (length (tree_in c).units) (rule (profile_of c.system) (tree_in c)) c.users c.values

@@ -1,28 +1,28 @@
--- What a fragment assigns, and which fragments fit a tree.
+-- The assignment of a fragment, and the fragments that fit a tree.
 use Rattle.std.specs.Prelude.{◌≡◌, ℕ, ◌<◌, List, Option, Some, length, map, slice_get, IsTrue}
 use Rattle.std.specs.List.Sorted.{IsStrictlyIncreasing}
-use Rattle.kc_tree_model.specs.Trees.{Whole}
+use Rattle.kc_tree_model.specs.Trees.{Tree}
 use Rattle.kc_system.specs.Changes.{changed_users}
 use Rattle.kc_rules_model.specs.declared.values.UserValue.{UserValue}
 use Rattle.kc_rules_model.specs.Shapes.{user_fits}
 use Rattle.kc_dotconfig_model.specs.declared.notice.Notice.{Notice}
 use Rattle.kc_dotconfig_model.specs.declared.notice.NoticeKind.{NoticeKind}
-use Rattle.kc_dotconfig_model.specs.Files.{no_users}
+use Rattle.kc_dotconfig_model.specs.ConfigFiles.{empty_assignment}
 
 -- the changes that a list of user values makes
 abbrev pub changes_of : List (ℕ × UserValue) → List (ℕ × Option UserValue)
 changes_of assigns = map (λ (a : ℕ × UserValue). (a.0, Some a.1)) assigns
 
 -- the assignment of these user values and no others
-abbrev pub users_of : Whole → List (ℕ × UserValue) → List (Option UserValue)
-users_of tree assigns = changed_users (changes_of assigns) (no_users tree)
+abbrev pub users_of : Tree → List (ℕ × UserValue) → List (Option UserValue)
+users_of tree assigns = changed_users (changes_of assigns) (empty_assignment tree)
 
 -- a notice as the line with its kind
 abbrev pub notice_pair : Notice → ℕ × NoticeKind
 notice_pair notice = (notice.line, notice.kind)
 
--- the units ascend, so that each stands once, and each user value is of a unit and has its shape
-pub record FitsTree (tree : Whole) (assigns : List (ℕ × UserValue)) : Type 0 where
+-- the units ascend strictly, and each user value has the shape of its unit
+pub record FitsTree (tree : Tree) (assigns : List (ℕ × UserValue)) : Type 0 where
   pub ascending : IsStrictlyIncreasing (map (λ (a : ℕ × UserValue). a.0) assigns)
   pub each : (k u : ℕ) (x : UserValue) → slice_get assigns k ≡ Some (u, x)
       → (u < length tree.units) × IsTrue (user_fits tree u x)

@@ -1,4 +1,4 @@
-pub mod Sayings
-pub mod Gathered
+pub mod MeaningViews
+pub mod Accumulation
 pub mod Configs
-pub mod Rising
+pub mod Ascending

@@ -10,7 +10,7 @@ use kc_rules_model::UserValue;
 use kc_system::System;
 use std::alloc::{AllocError, Global};
 
-/// Puts user values behind some changes.
+/// Appends user values to some changes.
 pub(crate) fn push_users(
     alloc: Global,
     changes: &mut Vec<(u32, Option<UserValue>)>,
@@ -25,7 +25,7 @@ pub(crate) fn push_users(
     Ok(())
 }
 
-/// Puts behind some changes that units have no user value.
+/// Puts after some changes that units have no user value.
 pub(crate) fn push_cleared(
     changes: &mut Vec<(u32, Option<UserValue>)>,
     units: &[u32],
@@ -80,8 +80,8 @@ pub(crate) fn users_assigned(
     Ok(users)
 }
 
-/// Puts the units of user values behind those held, but for those that have one.
-pub(crate) fn hold(
+/// Appends the units of user values to some held, but for those that have one.
+pub(crate) fn merge_units(
     held: &mut Vec<u32>,
     users: &[Option<UserValue>],
     assigns: &[(u32, UserValue)],

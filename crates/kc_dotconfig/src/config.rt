@@ -4,16 +4,16 @@ ghost use Rattle.std.specs.Option.{option_and_then};
 ghost use Rattle.kc_system.specs.Changes.{IsTouched, IsChanged, IsCountOf, IsListOf};
 ghost use Rattle.kc_tree_model.specs.TreeLookup.{symbol_named};
 ghost use Rattle.kc_rules_model.specs.Dependencies.{dependencies};
-ghost use Rattle.kc_rules_model.specs.SymbolValues.{symbol_seen};
-ghost use Rattle.kc_rules.specs.Told.{whole_of, value_seen, value_lent};
-ghost use Rattle.kc_dotconfig_model.specs.Files.{no_users, laid_over};
+ghost use Rattle.kc_rules_model.specs.SymbolValues.{value_of_symbol};
+ghost use Rattle.kc_rules.specs.SettledViews.{tree_of_settled, value_view, value_of_ref};
+ghost use Rattle.kc_dotconfig_model.specs.ConfigFiles.{empty_assignment, overlay};
 ghost use Rattle.kc_dotconfig_model.specs.Missed.{missed};
 ghost use Rattle.kc_dotconfig.specs.Fragments.{FitsTree, users_of};
 ghost use Rattle.kc_dotconfig.specs.Configured.{tree_in, IsSolved};
 
-use super::changes::{hold, push_cleared, push_users, units_assigned, users_assigned};
+use super::changes::{merge_units, push_cleared, push_users, units_assigned, users_assigned};
 use super::fragment::Fragment;
-use super::missing::missed_symbols;
+use super::missed::missed_symbols;
 use kc_rules::{Settled, Steps};
 use kc_rules_model::{UnitValue, UserValue};
 use kc_system::{Graph, Report, Session};
@@ -36,7 +36,7 @@ pub struct Config<'a> {
 
 impl<'a> Model for Config<'a> {
     ghost use Rattle.kc_dotconfig.specs.Configured.{Configured};
-    ghost use Rattle.kc_dotconfig.specs.checker.Configs.{IsKept};
+    ghost use Rattle.kc_dotconfig.specs.checker.Configs.{IsSoundConfig};
 
     ghost Value = { Configured };
 
@@ -47,14 +47,14 @@ impl<'a> Model for Config<'a> {
 
     ghost view = { λ c. c.session };
 
-    ghost invariant = { λ c. IsKept c.settled.now c.session c.held.items };
+    ghost invariant = { λ c. IsSoundConfig c.settled.now c.session c.held.items };
 }
 
 impl<'a> Config<'a> {
-    /// A configuration without any user value, or want of memory.
+    /// A configuration without any user value, or out of memory.
     pub fn new(alloc: Global, settled: &'a Settled) -> Result<Config<'a>, AllocError>
         ensures settled { IfOk result (λ c. c.system ≡ settled.now) }
-        ensures users { IfOk result (λ c. c.users ≡ no_users (whole_of settled.now)) }
+        ensures users { IfOk result (λ c. c.users ≡ empty_assignment (tree_of_settled settled.now)) }
         ensures solved { IfOk result (λ c. IsSolved c) }
     {
         let _ = settled.tree();
@@ -70,16 +70,16 @@ impl<'a> Config<'a> {
         })
     }
 
-    /// A configuration that holds what a fragment assigns and nothing else, or want of memory. The caller owes a
+    /// A configuration that holds what a fragment assigns and nothing else, or out of memory. The caller owes a
     /// fragment that fits.
     pub fn of(
         alloc: Global,
         settled: &'a Settled,
         fragment: &Fragment,
     ) -> Result<Config<'a>, AllocError>
-        requires { FitsTree (whole_of settled.now) fragment.now.assigns.items }
+        requires { FitsTree (tree_of_settled settled.now) fragment.now.assigns.items }
         ensures settled { IfOk result (λ c. c.system ≡ settled.now) }
-        ensures users { IfOk result (λ c. c.users ≡ users_of (whole_of settled.now) fragment.now.assigns.items) }
+        ensures users { IfOk result (λ c. c.users ≡ users_of (tree_of_settled settled.now) fragment.now.assigns.items) }
         ensures solved { IfOk result (λ c. IsSolved c) }
     {
         let _ = settled.tree();
@@ -97,8 +97,9 @@ impl<'a> Config<'a> {
         })
     }
 
-    /// Holds what a fragment assigns and nothing else, and tells which units' values differ from those before and how
-    /// many units were evaluated. After want of memory the configuration is as before. The caller owes a fragment that
+    /// Holds what a fragment assigns and nothing else, and reports which units' values differ from those before and how
+    /// many units were evaluated. After running out of memory the configuration is as before. The caller owes a
+    /// fragment that
     /// fits.
     pub fn replace(&mut self, fragment: &Fragment) -> Result<Report, AllocError>
         requires { FitsTree (tree_in self.old) fragment.now.assigns.items }
@@ -118,12 +119,13 @@ impl<'a> Config<'a> {
         Ok(report)
     }
 
-    /// Holds what a fragment assigns over what is held, and tells the same. After want of memory the configuration is as
+    /// Lays what a fragment assigns over what is held, and reports likewise. After running out of memory the
+    /// configuration is as
     /// before. The caller owes a fragment that fits.
     pub fn merge(&mut self, fragment: &Fragment) -> Result<Report, AllocError>
         requires { FitsTree (tree_in self.old) fragment.now.assigns.items }
         ensures settled { self.new.system ≡ self.old.system }
-        ensures users { OnOk result (self.new.users ≡ laid_over (users_of (tree_in self.old) fragment.now.assigns.items) self.old.users) }
+        ensures users { OnOk result (self.new.users ≡ overlay (users_of (tree_in self.old) fragment.now.assigns.items) self.old.users) }
         ensures solved { IsSolved self.new }
         ensures changed { IfOk result (λ report. IsListOf (length (tree_in self.old).units) (IsChanged self.old.values self.new.values) report.changed.items) }
         ensures evaluated { IfOk result (λ report. IsCountOf (length (tree_in self.old).units) (IsTouched (dependencies (tree_in self.old)) self.old.users self.new.users self.old.values self.new.values) report.evaluated) }
@@ -132,7 +134,7 @@ impl<'a> Config<'a> {
         let mut changes = Vec::with_capacity(self.alloc, fragment.assigns.len())?;
         push_users(self.alloc, &mut changes, &fragment.assigns)?;
         let count = self.held.len();
-        match hold(&mut self.held, self.session.users(), &fragment.assigns) {
+        match merge_units(&mut self.held, self.session.users(), &fragment.assigns) {
             Ok(()) => {}
             Err(fault) => {
                 self.held.truncate(count);
@@ -148,7 +150,7 @@ impl<'a> Config<'a> {
         }
     }
 
-    /// A configuration of the same tree that holds the same, or want of memory.
+    /// A configuration of the same tree that holds the same, or out of memory.
     pub fn copy(&self) -> Result<Config<'a>, AllocError>
         ensures { IfOk result (λ copy. copy ≡ self.now) }
     {
@@ -178,7 +180,7 @@ impl<'a> Config<'a> {
         self.session.values()
     }
 
-    /// What is held: each unit's user value, or none.
+    /// The assignment held: each unit's user value, or none.
     pub fn users(&self) -> &[Option<UserValue>]
         ensures users { result.now ≡ self.now.users }
         ensures solved { IsSolved self.now }
@@ -189,14 +191,14 @@ impl<'a> Config<'a> {
 
     /// The value of the symbol of a name; `None` exactly if no entry of the tree defines it. Takes no memory.
     pub fn value(&self, name: &str) -> Option<ValueRef<'_>>
-        ensures { option_map value_lent result ≡ option_and_then (λ s. option_map value_seen (symbol_seen (tree_in self.now) self.now.values s)) (symbol_named (tree_in self.now) name.now) }
+        ensures { option_map value_of_ref result ≡ option_and_then (λ s. option_map value_view (value_of_symbol (tree_in self.now) self.now.values s)) (symbol_named (tree_in self.now) name.now) }
     {
         let s = self.settled.tree().find(name)?;
         Some(self.settled.symbol_value(s, self.session.values()))
     }
 
     /// The symbols outside choices whose user value isn't their value, and of each choice the user's member if it isn't
-    /// selected, in order of first definition. An `Err` is want of memory.
+    /// selected, in order of first definition. An `Err` means out of memory.
     pub fn missed(&self) -> Result<Vec<Sym>, AllocError>
         ensures { IfOk result (λ found. found.items ≡ missed (tree_in self.now) self.now.users self.now.values) }
     {

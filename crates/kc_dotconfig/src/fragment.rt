@@ -1,6 +1,6 @@
-//! What a configuration file assigns.
+//! The assignment of a configuration file.
 ghost use Rattle.std.specs.Prelude.{◌↔◌, IsTrue};
-ghost use Rattle.kc_rules.specs.Told.{whole_of};
+ghost use Rattle.kc_rules.specs.SettledViews.{tree_of_settled};
 ghost use Rattle.kc_dotconfig.specs.Fragments.{FitsTree};
 
 use kc_dotconfig_model::Notice;
@@ -17,7 +17,7 @@ pub struct Fragment {
 impl Fragment {
     /// Whether the units ascend, each once, and each user value has the shape of its unit. Takes no memory.
     pub fn fits(&self, settled: &Settled) -> bool
-        ensures { IsTrue result ↔ FitsTree (whole_of settled.now) self.now.assigns.items }
+        ensures { IsTrue result ↔ FitsTree (tree_of_settled settled.now) self.now.assigns.items }
     {
         let mut next = 0;
         for (unit, user) in &self.assigns {

@@ -1,17 +1,17 @@
 //! Configuration files read line by line, and a configuration that holds what files assign with its values.
 #![tactic(auto)]
 
-mod assigned;
+mod accumulate;
+mod accumulator;
+mod assigned_values;
 mod changes;
 mod config;
-mod cutting;
 mod fragment;
-mod gathering;
-mod missing;
-mod parts;
+mod line_buffer;
+mod line_parts;
+mod meanings;
+mod missed;
 mod reading;
-mod said;
-mod taking;
 
 pub use config::Config;
 pub use fragment::Fragment;

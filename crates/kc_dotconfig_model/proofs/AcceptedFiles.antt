@@ -4,14 +4,14 @@ use Rattle.std.specs.Prelude.{slice_get}
 use Rattle.std.specs.List.{onto_first}
 use Rattle.std.proofs.lemmas.Bool.{eqb-true, and_from}
 use Rattle.std.proofs.lemmas.List.Sums.{sum_by-cons, sum_by-append}
-use Rattle.kc_tree_model.specs.Trees.{Whole}
+use Rattle.kc_tree_model.specs.Trees.{Tree}
 use Rattle.kc_dotconfig_model.specs.declared.fault.LoadKind.TheVariants.{Malformed}
-use Rattle.kc_dotconfig_model.specs.Names.{lacks}
-use Rattle.kc_dotconfig_model.specs.Lines.{Saying, IsMalformed, without_white_end}
-use Rattle.kc_dotconfig_model.specs.Files.{file_lines, FileSays}
+use Rattle.kc_dotconfig_model.specs.PrefixGrammar.{lacks}
+use Rattle.kc_dotconfig_model.specs.ConfigLines.{LineMeaning, IsMalformed, without_white_end}
+use Rattle.kc_dotconfig_model.specs.ConfigFiles.{file_lines, FileMeans}
 use Rattle.kc_dotconfig_model.specs.LoadFaults.{IsLineAt, newlines}
-use Rattle.kc_dotconfig_model.specs.checker.Reading.{line_saying, with_rest, sayings_of_lines, file_sayings}
-use Rattle.kc_dotconfig_model.specs.Laws.{AcceptedFilesAreRead}
+use Rattle.kc_dotconfig_model.specs.checker.LineMeanings.{line_meaning, with_rest, meanings_of_lines, file_meanings}
+use Rattle.kc_dotconfig_model.specs.FileLaws.{AcceptedFilesAreRead}
 use Rattle.kc_dotconfig_model.proofs.LineLaws.{line_read, file_read}
 
 count_more : (b : ℕ) (bytes : List ℕ) → newlines (b ∷ bytes) ≡ cond (b == 10) 1 0 + newlines bytes
@@ -20,7 +20,7 @@ count_more b bytes = sum_by-cons (λ c. cond (c == 10) 1 0) b bytes
 count_ends : (earlier : List ℕ) → newlines (earlier ++ 10 ∷ []) ≡ newlines earlier + 1
 count_ends earlier = sum_by-append (λ c. cond (c == 10) 1 0) earlier (10 ∷ [])
 
--- behind one more line
+-- after one more line
 behind_newline : (bytes line : List ℕ) (n start : ℕ) → IsLineAt bytes line n start → IsLineAt (10 ∷ bytes) line (n + 1) (start + 1)
 behind_newline bytes line n start a = record {
   front = 10 ∷ a.front;
@@ -33,7 +33,7 @@ behind_newline bytes line n start a = record {
   one_line = a.one_line;
 }
 
--- behind one more byte of an earlier line
+-- after one more byte of an earlier line
 behind_byte : (b : ℕ) (bytes line : List ℕ) (n start : ℕ) → (b == 10) ≡ false → 1 < n → IsLineAt bytes line n start → IsLineAt (b ∷ bytes) line n (start + 1)
 behind_byte b bytes line n start other later a =
     let same : newlines (b ∷ a.front) ≡ newlines a.front = count_more b a.front ∙ ap (λ t. cond t 1 0 + newlines a.front) other ∙ (omega arith) in
@@ -111,19 +111,19 @@ placed (b ∷ bytes) k n line e at = go (b == 10) refl (file_lines bytes) refl k
       (below.0 + 1, behind_byte b bytes line n below.0 other (omega arith) below.1)
 
 -- a line that says nothing, where the lines together say nothing
-unread : (prefix : List ℕ) (tree : Whole) (lines : List (List ℕ)) → sayings_of_lines prefix tree lines ≡ None → (k : ℕ) × (line : List ℕ) × (slice_get lines k ≡ Some line) × (line_saying prefix tree (without_white_end line) ≡ None)
+unread : (prefix : List ℕ) (tree : Tree) (lines : List (List ℕ)) → meanings_of_lines prefix tree lines ≡ None → (k : ℕ) × (line : List ℕ) × (slice_get lines k ≡ Some line) × (line_meaning prefix tree (without_white_end line) ≡ None)
 unread prefix tree [] e = cc
-unread prefix tree (line ∷ lines) e = go (line_saying prefix tree (without_white_end line)) refl (sayings_of_lines prefix tree lines) refl e (unread prefix tree lines) where
-  go : (o : Option Saying) → line_saying prefix tree (without_white_end line) ≡ o → (os : Option (List Saying)) → sayings_of_lines prefix tree lines ≡ os → with_rest o os ≡ None
-      → (sayings_of_lines prefix tree lines ≡ None → (k : ℕ) × (l : List ℕ) × (slice_get lines k ≡ Some l) × (line_saying prefix tree (without_white_end l) ≡ None))
-      → (k : ℕ) × (l : List ℕ) × (slice_get (line ∷ lines) k ≡ Some l) × (line_saying prefix tree (without_white_end l) ≡ None)
+unread prefix tree (line ∷ lines) e = go (line_meaning prefix tree (without_white_end line)) refl (meanings_of_lines prefix tree lines) refl e (unread prefix tree lines) where
+  go : (o : Option LineMeaning) → line_meaning prefix tree (without_white_end line) ≡ o → (os : Option (List LineMeaning)) → meanings_of_lines prefix tree lines ≡ os → with_rest o os ≡ None
+      → (meanings_of_lines prefix tree lines ≡ None → (k : ℕ) × (l : List ℕ) × (slice_get lines k ≡ Some l) × (line_meaning prefix tree (without_white_end l) ≡ None))
+      → (k : ℕ) × (l : List ℕ) × (slice_get (line ∷ lines) k ≡ Some l) × (line_meaning prefix tree (without_white_end l) ≡ None)
   go None a os b e next = (0, line, refl, a)
   go (Some saying) a None b e next = let later = next b in (suc later.0, later.1, later.2, later.3)
   go (Some saying) a (Some sayings) b e next = cc
 
 pub accepted_read : AcceptedFilesAreRead
-accepted_read prefix tree bytes valid accepted = go (file_sayings prefix tree bytes) refl where
-  go : (o : Option (List Saying)) → file_sayings prefix tree bytes ≡ o → (sayings : List Saying) × FileSays prefix tree bytes sayings
+accepted_read prefix tree bytes valid accepted = go (file_meanings prefix tree bytes) refl where
+  go : (o : Option (List LineMeaning)) → file_meanings prefix tree bytes ≡ o → (sayings : List LineMeaning) × FileMeans prefix tree bytes sayings
   go (Some sayings) e = (sayings, (file_read prefix tree bytes sayings valid).0 e)
   go None e =
       let lost = unread prefix tree (file_lines bytes) e in

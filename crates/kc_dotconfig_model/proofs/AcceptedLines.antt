@@ -7,17 +7,17 @@ use Rattle.std.specs.List.{list_all, onto_first}
 use Rattle.std.proofs.lemmas.Bool.{and_parts, and_from, not-true, cases_Bool, cases_lt, eq-eqb, false≢true}
 use Rattle.std.proofs.lemmas.List.Sums.{sum_by-cons, sum_by-append}
 use Rattle.std.proofs.lemmas.Option.{slice_get_within}
-use Rattle.kc_tree_model.specs.Trees.{Whole}
+use Rattle.kc_tree_model.specs.Trees.{Tree}
 use Rattle.kc_dotconfig_model.specs.declared.fault.LoadKind.TheVariants.{Malformed, NotUtf8, LineTooLong, TooManyLines, Read, OutOfMemory, TooLarge}
 use Rattle.kc_system.proofs.Lists.{get-some}
-use Rattle.kc_dotconfig_model.specs.Names.{lacks, is_prefix}
-use Rattle.kc_dotconfig_model.specs.Lines.{Saying, Says, IsMalformed, without_white_end}
-use Rattle.kc_dotconfig_model.specs.Files.{file_lines, has_utf8_lines}
-use Rattle.kc_dotconfig_model.specs.Laws.{IsGoodLine, AcceptedFilesHaveGoodLines}
-use Rattle.kc_dotconfig_model.specs.checker.Reading.{line_saying}
+use Rattle.kc_dotconfig_model.specs.PrefixGrammar.{lacks, is_prefix}
+use Rattle.kc_dotconfig_model.specs.ConfigLines.{LineMeaning, Means, IsMalformed, without_white_end}
+use Rattle.kc_dotconfig_model.specs.ConfigFiles.{file_lines, has_utf8_lines}
+use Rattle.kc_dotconfig_model.specs.FileLaws.{IsGoodLine, AcceptedFilesHaveGoodLines}
+use Rattle.kc_dotconfig_model.specs.checker.LineMeanings.{line_meaning}
 use Rattle.kc_dotconfig_model.proofs.LineLaws.{line_read}
 use Rattle.kc_dotconfig_model.proofs.AcceptedFiles.{placed}
-use Rattle.kc_dotconfig_model.specs.LoadFaults.{IsLineAt, newlines, IsAccepted, MOST_BYTES, MOST_LINES, MOST_LINE_BYTES}
+use Rattle.kc_dotconfig_model.specs.LoadFaults.{IsLineAt, newlines, IsAccepted, MAX_BYTES, MAX_LINES, MAX_LINE_BYTES}
 
 count_more : (b : ℕ) (bytes : List ℕ) → newlines (b ∷ bytes) ≡ cond (b == 10) 1 0 + newlines bytes
 count_more b bytes = sum_by-cons (λ c. cond (c == 10) 1 0) b bytes
@@ -54,7 +54,7 @@ first_line (c ∷ cs) rest none ends =
       go (d ∷ ds) (inl e) next = onto_head c (file_lines ((d ∷ ds) ++ rest)) (d ∷ ds) (next (inl (e.0, omega arith)))
       go (d ∷ ds) (inr e) next = onto_head c (file_lines ((d ∷ ds) ++ rest)) (d ∷ ds) (next (inr e))
 
--- the line behind some lines, at their number
+-- the line after some lines, at their number
 later_line : (front line rest : List ℕ) → Begins front → lacks 10 line ≡ true → Ends line rest → slice_get (file_lines (front ++ (line ++ rest))) (newlines front) ≡ Some line
 later_line [] line rest begins none ends = first_line line rest none ends
 later_line (b ∷ front) line rest (inl e) none ends = cc
@@ -83,7 +83,7 @@ pub line_listed : (bytes line : List ℕ) (number start : ℕ) → IsLineAt byte
 line_listed bytes line number start at =
     (newlines at.front, ap (λ b. slice_get (file_lines b) (newlines at.front)) at.whole ∙ later_line at.front line at.rest at.begins at.one_line at.ends, at.number_is)
 
-pub accepted_of_lines : (prefix : List ℕ) (tree : Whole) (bytes : List ℕ) → length bytes ≤ MOST_BYTES → length (file_lines bytes) ≤ MOST_LINES
+pub accepted_of_lines : (prefix : List ℕ) (tree : Tree) (bytes : List ℕ) → length bytes ≤ MAX_BYTES → length (file_lines bytes) ≤ MAX_LINES
     → ((i : ℕ) (line : List ℕ) → slice_get (file_lines bytes) i ≡ Some line → IsGoodLine prefix tree line)
     → IsAccepted prefix tree bytes
 accepted_of_lines prefix tree bytes small few good TooLarge byte number c = let long = c.0 in absurd (omega (arith, long, small))
@@ -104,20 +104,20 @@ accepted_of_lines prefix tree bytes small few good Read byte number c = absurd c
 accepted_of_lines prefix tree bytes small few good OutOfMemory byte number c = absurd c
 
 -- a line that says nothing is malformed
-says_something : (prefix : List ℕ) (tree : Whole) (line : List ℕ) → is_prefix prefix ≡ true → (IsMalformed prefix tree line → ⊥) → (saying : Saying) × Says prefix tree (without_white_end line) saying
-says_something prefix tree line valid good = go (line_saying prefix tree (without_white_end line)) refl where
-  go : (o : Option Saying) → line_saying prefix tree (without_white_end line) ≡ o → (saying : Saying) × Says prefix tree (without_white_end line) saying
+says_something : (prefix : List ℕ) (tree : Tree) (line : List ℕ) → is_prefix prefix ≡ true → (IsMalformed prefix tree line → ⊥) → (saying : LineMeaning) × Means prefix tree (without_white_end line) saying
+says_something prefix tree line valid good = go (line_meaning prefix tree (without_white_end line)) refl where
+  go : (o : Option LineMeaning) → line_meaning prefix tree (without_white_end line) ≡ o → (saying : LineMeaning) × Means prefix tree (without_white_end line) saying
   go (Some saying) e = (saying, (line_read prefix tree (without_white_end line) saying valid).0 e)
   go None e = absurd (good (λ saying says. let read = (line_read prefix tree (without_white_end line) saying valid).1 says in cc (read, e)))
 
 -- each line of an accepted file is good
-pub accepted_line : (prefix : List ℕ) (tree : Whole) (bytes : List ℕ) → is_prefix prefix ≡ true → IsAccepted prefix tree bytes → (i : ℕ) (line : List ℕ) → slice_get (file_lines bytes) i ≡ Some line → IsGoodLine prefix tree line
+pub accepted_line : (prefix : List ℕ) (tree : Tree) (bytes : List ℕ) → is_prefix prefix ≡ true → IsAccepted prefix tree bytes → (i : ℕ) (line : List ℕ) → slice_get (file_lines bytes) i ≡ Some line → IsGoodLine prefix tree line
 accepted_line prefix tree bytes valid accepted i line at =
     let place = placed bytes i (i + 1) line refl at in
     let some = says_something prefix tree line valid (λ bad. accepted Malformed (place.0 + length line) (i + 1) (line, place.0, place.1, bad, refl)) in
     record {
-      short = elim (cases_lt MOST_LINE_BYTES (length line)) [
-        | inl long ↦ absurd (accepted LineTooLong (place.0 + MOST_LINE_BYTES) (i + 1) (line, place.0, place.1, long, refl))
+      short = elim (cases_lt MAX_LINE_BYTES (length line)) [
+        | inl long ↦ absurd (accepted LineTooLong (place.0 + MAX_LINE_BYTES) (i + 1) (line, place.0, place.1, long, refl))
         | inr short ↦ short
       ];
       utf8 = elim (cases_Bool (is_utf8 line)) [
@@ -129,18 +129,18 @@ accepted_line prefix tree bytes valid accepted i line at =
     }
 
 -- an accepted file is within the limits
-pub accepted_size : (prefix : List ℕ) (tree : Whole) (bytes : List ℕ) → IsAccepted prefix tree bytes → length bytes ≤ MOST_BYTES
-accepted_size prefix tree bytes accepted = elim (cases_lt MOST_BYTES (length bytes)) [
-  | inl large ↦ absurd (accepted TooLarge MOST_BYTES (newlines (take MOST_BYTES bytes) + 1) (large, refl, refl))
+pub accepted_size : (prefix : List ℕ) (tree : Tree) (bytes : List ℕ) → IsAccepted prefix tree bytes → length bytes ≤ MAX_BYTES
+accepted_size prefix tree bytes accepted = elim (cases_lt MAX_BYTES (length bytes)) [
+  | inl large ↦ absurd (accepted TooLarge MAX_BYTES (newlines (take MAX_BYTES bytes) + 1) (large, refl, refl))
   | inr small ↦ small
 ]
 
-pub accepted_count : (prefix : List ℕ) (tree : Whole) (bytes : List ℕ) → IsAccepted prefix tree bytes → length (file_lines bytes) ≤ MOST_LINES
-accepted_count prefix tree bytes accepted = elim (cases_lt MOST_LINES (length (file_lines bytes))) [
+pub accepted_count : (prefix : List ℕ) (tree : Tree) (bytes : List ℕ) → IsAccepted prefix tree bytes → length (file_lines bytes) ≤ MAX_LINES
+accepted_count prefix tree bytes accepted = elim (cases_lt MAX_LINES (length (file_lines bytes))) [
   | inl many ↦
-      let line = get-some (file_lines bytes) MOST_LINES many in
-      let place = placed bytes MOST_LINES (MOST_LINES + 1) line.0 refl line.1 in
-      absurd (accepted TooManyLines place.0 (MOST_LINES + 1) (line.0, place.1, refl))
+      let line = get-some (file_lines bytes) MAX_LINES many in
+      let place = placed bytes MAX_LINES (MAX_LINES + 1) line.0 refl line.1 in
+      absurd (accepted TooManyLines place.0 (MAX_LINES + 1) (line.0, place.1, refl))
   | inr few ↦ few
 ]
 
@@ -156,5 +156,5 @@ each_passes p [] each = refl
 each_passes p (line ∷ lines) each = and_from (p line) (list_all p lines) (each 0 line refl) (each_passes p lines (λ i l at. each (suc i) l at))
 
 -- an accepted file is UTF-8
-pub accepted_utf8 : (prefix : List ℕ) (tree : Whole) (bytes : List ℕ) → is_prefix prefix ≡ true → IsAccepted prefix tree bytes → has_utf8_lines bytes ≡ true
+pub accepted_utf8 : (prefix : List ℕ) (tree : Tree) (bytes : List ℕ) → is_prefix prefix ≡ true → IsAccepted prefix tree bytes → has_utf8_lines bytes ≡ true
 accepted_utf8 prefix tree bytes valid accepted = each_passes is_utf8 (file_lines bytes) (λ i line at. is_utf8-from_IsUtf8 line (accepted_line prefix tree bytes valid accepted i line at).utf8)

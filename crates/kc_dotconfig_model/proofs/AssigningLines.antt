@@ -11,31 +11,31 @@ use Rattle.kc_value.specs.declared.tri.Tri.TheVariants.{N}
 use Rattle.kc_value.specs.declared.value.Kind.TheVariants.{Text}
 use Rattle.kc_value.specs.Quoted.{IsQuoted}
 use Rattle.kc_value.specs.Number.{number_of_text}
-use Rattle.kc_tree_model.specs.Trees.{Whole, Symbol, of_symbol}
-use Rattle.kc_tree_model.specs.TreeLookup.{IsConsistent, unit_of, found_at, symbol_named}
+use Rattle.kc_tree_model.specs.Trees.{Tree, Symbol, of_symbol}
+use Rattle.kc_tree_model.specs.TreeLookup.{IsConsistent, unit_of, index_if_found, symbol_named}
 use Rattle.kc_system.specs.Solutions.{user_of}
 use Rattle.kc_rules_model.specs.declared.values.UserValue.{UserValue}
 use Rattle.kc_rules_model.specs.declared.values.UserValue.TheVariants.{Tri as TriUser, Text as TextUser}
 use Rattle.kc_rules_model.specs.Kinds.{is_tri_kind}
 use Rattle.kc_tree_model.proofs.Lookups.{unit_is}
-use Rattle.kc_dotconfig_model.specs.Lines.{Saying, assigns, notice, silent, unset_saying, ValueSays, tri, chosen, not_chosen, quoted, number, no_int, no_hex, no_tri, no_text, no_number, Says, value, unset, unknown_value, unknown_unset, empty, comment, without_white_end}
-use Rattle.kc_dotconfig_model.specs.Files.{assigned_over}
+use Rattle.kc_dotconfig_model.specs.ConfigLines.{LineMeaning, assigns, notice, silent, unset_meaning, ValueMeans, tri, chosen, not_chosen, quoted, number, no_int, no_hex, no_tri, no_text, no_number, Means, value, unset, unknown_value, unknown_unset, empty, comment, without_white_end}
+use Rattle.kc_dotconfig_model.specs.ConfigFiles.{assigned_over}
 
-abbrev Reads : List ℕ → Whole → List (List ℕ) → List Saying → Type 0
-Reads prefix tree lines sayings = AllZip (λ line saying. Says prefix tree (without_white_end line) saying) lines sayings
+abbrev Reads : List ℕ → Tree → List (List ℕ) → List LineMeaning → Type 0
+Reads prefix tree lines sayings = AllZip (λ line saying. Means prefix tree (without_white_end line) saying) lines sayings
 
 -- a line that assigns this to the unit
-pub record HasAssigningLine (prefix : List ℕ) (tree : Whole) (lines : List (List ℕ)) (u : ℕ) (x : UserValue) : Type 0 where
+pub record HasAssigningLine (prefix : List ℕ) (tree : Tree) (lines : List (List ℕ)) (u : ℕ) (x : UserValue) : Type 0 where
   pub number : ℕ
   pub line : List ℕ
   pub at : slice_get lines number ≡ Some line
-  pub says : Says prefix tree (without_white_end line) (assigns u x)
+  pub says : Means prefix tree (without_white_end line) (assigns u x)
 
-one_further : (prefix : List ℕ) (tree : Whole) (first : List ℕ) (lines : List (List ℕ)) (u : ℕ) (x : UserValue) → HasAssigningLine prefix tree lines u x → HasAssigningLine prefix tree (first ∷ lines) u x
+one_further : (prefix : List ℕ) (tree : Tree) (first : List ℕ) (lines : List (List ℕ)) (u : ℕ) (x : UserValue) → HasAssigningLine prefix tree lines u x → HasAssigningLine prefix tree (first ∷ lines) u x
 one_further prefix tree first lines u x h = record { number = suc h.number; line = h.line; at = h.at; says = h.says }
 
 -- what is held after some lines was held before, or one of them assigns it
-pub assigning_line : (prefix : List ℕ) (tree : Whole) (lines : List (List ℕ)) (sayings : List Saying) (held : List (Option UserValue)) (u : ℕ) (x : UserValue) → Reads prefix tree lines sayings → u < length held
+pub assigning_line : (prefix : List ℕ) (tree : Tree) (lines : List (List ℕ)) (sayings : List LineMeaning) (held : List (Option UserValue)) (u : ℕ) (x : UserValue) → Reads prefix tree lines sayings → u < length held
     → user_of (assigned_over sayings held) u ≡ Some x → (user_of held u ≡ Some x) ⊎ HasAssigningLine prefix tree lines u x
 assigning_line prefix tree [] [] held u x reads inside has = inl has
 assigning_line prefix tree [] (saying ∷ sayings) held u x reads inside has = absurd reads
@@ -55,14 +55,14 @@ assigning_line prefix tree (line ∷ lines) (assigns w y ∷ sayings) held u x r
         | inl same ↦
             let here : user_of (slice_set held w (Some y)) u ≡ Some y = ap (λ k. user_of (slice_set held k (Some y)) u) (sym same) ∙ get_or-set_same held u (Some y) None inside in
             let value : y ≡ x = cc (here, before) in
-            inr (record { number = 0; line = line; at = refl; says = subst (λ k. Says prefix tree (without_white_end line) (assigns k x)) (sym same) (subst (λ z. Says prefix tree (without_white_end line) (assigns w z)) value reads.0) })
+            inr (record { number = 0; line = line; at = refl; says = subst (λ k. Means prefix tree (without_white_end line) (assigns k x)) (sym same) (subst (λ z. Means prefix tree (without_white_end line) (assigns w z)) value reads.0) })
         | inr other ↦ inl (sym (get_or-set_other held w u (Some y) None other) ∙ before)
       ]
       | inr later ↦ inr (one_further prefix tree line lines u x later)
     ]
 
 -- a symbol and the text after `=` by which a line assigns a text
-pub record IsTextLine (prefix : List ℕ) (tree : Whole) (line : List ℕ) (u : ℕ) (means : List ℕ) : Type 0 where
+pub record IsTextLine (prefix : List ℕ) (tree : Tree) (line : List ℕ) (u : ℕ) (means : List ℕ) : Type 0 where
   pub name : List ℕ
   pub text : List ℕ
   pub s : ℕ
@@ -73,10 +73,10 @@ pub record IsTextLine (prefix : List ℕ) (tree : Whole) (line : List ℕ) (u : 
   pub unit : unit_of tree s ≡ u
   pub says : (IsQuoted text means × (symbol.kind ≡ Text)) ⊎ ((text ≡ means) × (is_some (number_of_text symbol.kind text) ≡ true))
 
-abbrev TextSays : Whole → ℕ → Symbol → List ℕ → ℕ → List ℕ → Type 0
+abbrev TextSays : Tree → ℕ → Symbol → List ℕ → ℕ → List ℕ → Type 0
 TextSays tree s symbol text u means = (unit_of tree s ≡ u) × ((IsQuoted text means × (symbol.kind ≡ Text)) ⊎ ((text ≡ means) × (is_some (number_of_text symbol.kind text) ≡ true)))
 
-text_says : (tree : Whole) (s : ℕ) (symbol : Symbol) (text : List ℕ) (saying : Saying) (u : ℕ) (means : List ℕ) → ValueSays tree s symbol text saying → saying ≡ assigns u (TextUser means) → TextSays tree s symbol text u means
+text_says : (tree : Tree) (s : ℕ) (symbol : Symbol) (text : List ℕ) (saying : LineMeaning) (u : ℕ) (means : List ℕ) → ValueMeans tree s symbol text saying → saying ≡ assigns u (TextUser means) → TextSays tree s symbol text u means
 text_says tree s symbol text saying u means (tri _ t out meant) e = cc
 text_says tree s symbol text saying u means (chosen c _ within meant) e = cc
 text_says tree s symbol text saying u means (not_chosen c _ t within meant other) e = cc
@@ -94,14 +94,14 @@ text_says tree s symbol text saying u means (no_tri _ small meant) e = cc
 text_says tree s symbol text saying u means (no_text _ is without) e = cc
 text_says tree s symbol text saying u means (no_number b rest large other without) e = cc
 
-unset_no_text : (tree : Whole) (s : ℕ) (symbol : Symbol) (o : Option ℕ) (u : ℕ) (means : List ℕ) → unset_saying tree s symbol o ≡ assigns u (TextUser means) → ⊥
+unset_no_text : (tree : Tree) (s : ℕ) (symbol : Symbol) (o : Option ℕ) (u : ℕ) (means : List ℕ) → unset_meaning tree s symbol o ≡ assigns u (TextUser means) → ⊥
 unset_no_text tree s symbol (Some c) u means e = cc
 unset_no_text tree s symbol None u means e = go (is_tri_kind symbol.kind) e where
   go : (t : Bool) → cond t (assigns (unit_of tree s) (TriUser N)) silent ≡ assigns u (TextUser means) → ⊥
   go true e = cc
   go false e = cc
 
-says_text : (prefix : List ℕ) (tree : Whole) (line : List ℕ) (saying : Saying) (u : ℕ) (means : List ℕ) → Says prefix tree line saying → saying ≡ assigns u (TextUser means) → IsTextLine prefix tree line u means
+says_text : (prefix : List ℕ) (tree : Tree) (line : List ℕ) (saying : LineMeaning) (u : ℕ) (means : List ℕ) → Means prefix tree line saying → saying ≡ assigns u (TextUser means) → IsTextLine prefix tree line u means
 says_text prefix tree line saying u means (value _ name text s symbol _ is named at says) e =
     let t = text_says tree s symbol text saying u means says e in
     record { name = name; text = text; s = s; symbol = symbol; whole = is.2; named = named; at = at; unit = t.0; says = t.1 }
@@ -112,17 +112,17 @@ says_text prefix tree line saying u means empty e = cc
 says_text prefix tree line saying u means (comment _ hash without) e = cc
 
 -- a line that assigns a text is a value line
-pub text_line : (prefix : List ℕ) (tree : Whole) (line : List ℕ) (u : ℕ) (means : List ℕ) → Says prefix tree line (assigns u (TextUser means)) → IsTextLine prefix tree line u means
+pub text_line : (prefix : List ℕ) (tree : Tree) (line : List ℕ) (u : ℕ) (means : List ℕ) → Means prefix tree line (assigns u (TextUser means)) → IsTextLine prefix tree line u means
 text_line prefix tree line u means says = says_text prefix tree line (assigns u (TextUser means)) u means says refl
 
 -- the symbol of a name has that name
-pub named_so : (tree : Whole) (name : List ℕ) (s : ℕ) (symbol : Symbol) → symbol_named tree name ≡ Some s → slice_get tree.symbols s ≡ Some symbol → name ≡ symbol.name
+pub named_so : (tree : Tree) (name : List ℕ) (s : ℕ) (symbol : Symbol) → symbol_named tree name ≡ Some s → slice_get tree.symbols s ≡ Some symbol → name ≡ symbol.name
 named_so tree name s symbol named at = go (position_or_len (λ (t : Symbol). bytes_eq name t.name) tree.symbols) refl named where
   within : (place count : ℕ) (t : Bool) → cond t (Some place) None ≡ Some s → (t ≡ true) × (place ≡ s)
   within place count true e = (refl, cc)
   within place count false e = cc
 
-  go : (place : ℕ) → position_or_len (λ (t : Symbol). bytes_eq name t.name) tree.symbols ≡ place → found_at place (length tree.symbols) ≡ Some s → name ≡ symbol.name
+  go : (place : ℕ) → position_or_len (λ (t : Symbol). bytes_eq name t.name) tree.symbols ≡ place → index_if_found place (length tree.symbols) ≡ Some s → name ≡ symbol.name
   go place is found =
       let p = within place (length tree.symbols) _ found in
       let below = ltb-true place (length tree.symbols) p.0 in
@@ -131,7 +131,7 @@ named_so tree name s symbol named at = go (position_or_len (λ (t : Symbol). byt
       (bytes_eq-Decides name symbol.name).0 (ap (λ (t : Symbol). bytes_eq name t.name) (sym here) ∙ passes)
 
 -- two symbols outside choices of one unit are one
-pub same_symbol : (tree : Whole) → IsConsistent tree → (s t : ℕ) (a b : Symbol) → slice_get tree.symbols s ≡ Some a → slice_get tree.symbols t ≡ Some b → a.choice ≡ None → b.choice ≡ None → unit_of tree s ≡ unit_of tree t → s ≡ t
+pub same_symbol : (tree : Tree) → IsConsistent tree → (s t : ℕ) (a b : Symbol) → slice_get tree.symbols s ≡ Some a → slice_get tree.symbols t ≡ Some b → a.choice ≡ None → b.choice ≡ None → unit_of tree s ≡ unit_of tree t → s ≡ t
 same_symbol tree sound s t a b first second out without same =
     let x = sound.own_units s a first out in
     let y = sound.own_units t b second without in

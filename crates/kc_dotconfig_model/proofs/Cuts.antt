@@ -4,8 +4,8 @@ use Rattle.std.specs.List.{onto_first, AllZip}
 use Rattle.std.proofs.lemmas.Bool.{eqb-true, false≢true, and_from, and_parts}
 use Rattle.std.proofs.lemmas.List.{append-nil}
 use Rattle.std.proofs.lemmas.List.Sums.{sum_by-cons, sum_by-append}
-use Rattle.kc_dotconfig_model.specs.Names.{lacks}
-use Rattle.kc_dotconfig_model.specs.Files.{file_lines}
+use Rattle.kc_dotconfig_model.specs.PrefixGrammar.{lacks}
+use Rattle.kc_dotconfig_model.specs.ConfigFiles.{file_lines}
 use Rattle.kc_dotconfig_model.specs.LoadFaults.{newlines}
 use Rattle.kc_dotconfig_model.specs.checker.Cutting.{IsEnded}
 
@@ -37,7 +37,7 @@ none_in_line (c ∷ line) e =
       go true e rest = absurd (false≢true e)
       go false e rest = omega arith
 
--- the first line of bytes, and the lines behind it
+-- the first line of bytes, and the lines after it
 pub first_of_lines : (line rest : List ℕ) → lacks 10 line ≡ true → file_lines (line ++ 10 ∷ rest) ≡ line ∷ file_lines rest
 first_of_lines [] rest e = refl
 first_of_lines (c ∷ line) rest e =
@@ -67,7 +67,7 @@ no_lines (c ∷ a) b e = go (c == 10) (file_lines (a ++ b ∷ [])) e where
   go false [] e = cc
   go false (l ∷ ls) e = cc
 
--- lines behind whole lines
+-- lines after whole lines
 pub behind_lines : (earlier rest : List ℕ) → file_lines ((earlier ++ 10 ∷ []) ++ rest) ≡ file_lines (earlier ++ 10 ∷ []) ++ file_lines rest
 behind_lines [] rest = refl
 behind_lines (c ∷ earlier) rest = go (c == 10) (file_lines (earlier ++ 10 ∷ [])) (file_lines ((earlier ++ 10 ∷ []) ++ rest)) (behind_lines earlier rest) (no_lines earlier 10) where
@@ -116,7 +116,7 @@ ended_count front ended = elim ended [
   | inr some ↦ ap (λ f. length (file_lines f)) some.1 ∙ line_count some.0 ∙ ap newlines (sym some.1)
 ]
 
--- A line of the file stands in the complete lines, or it is the line so far and goes on, or it begins behind it.
+-- A line of the file stands in the complete lines, or it is the line so far and goes on, or it begins after it.
 pub data Stands (front line : List ℕ) (more found : List ℕ) (f r : List ℕ) : Type 0 where
   earlier : (g : List ℕ) → front ≡ f ++ (found ++ 10 ∷ g) → Stands front line more found f r
   this : f ≡ front → found ++ r ≡ line ++ more → Stands front line more found f r

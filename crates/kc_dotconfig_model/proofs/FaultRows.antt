@@ -1,4 +1,4 @@
--- The first fault of small files, and of the same files where a read failed behind them.
+-- The first fault of small files, and of the same files where a read failed after them.
 use Rattle.std.proofs.Common.{◌≡◌, inl, inr, ℕ, ◌≤◌, true, false, List, [], ◌∷◌, ◌++◌, Some, None, length, refl, sym, ◌∙◌, arith}
 use Rattle.std.specs.Prelude.{codes}
 use Rattle.std.specs.Str.{is_utf8, chars}
@@ -8,10 +8,10 @@ use Rattle.kc_value.specs.declared.tri.Tri.TheVariants.{Y}
 use Rattle.kc_rules_model.specs.declared.values.UserValue.TheVariants.{Tri as TriUser}
 use Rattle.kc_rules_model.proofs.RowTrees.{tree_a}
 use Rattle.kc_dotconfig_model.specs.declared.fault.LoadKind.TheVariants.{Malformed, NotUtf8, Read}
-use Rattle.kc_dotconfig_model.specs.Names.{lacks}
-use Rattle.kc_dotconfig_model.specs.Lines.{Saying, assigns}
+use Rattle.kc_dotconfig_model.specs.PrefixGrammar.{lacks}
+use Rattle.kc_dotconfig_model.specs.ConfigLines.{LineMeaning, assigns}
 use Rattle.kc_dotconfig_model.specs.LoadFaults.{complete, cut_short, IsFirstFault, IsAccepted}
-use Rattle.kc_dotconfig_model.specs.checker.Reading.{line_saying}
+use Rattle.kc_dotconfig_model.specs.checker.LineMeanings.{line_meaning}
 use Rattle.kc_dotconfig_model.specs.checker.Cutting.{IsSound, IsCut}
 use Rattle.kc_dotconfig_model.proofs.LineLaws.{line_read}
 use Rattle.kc_dotconfig_model.proofs.TrimmedLines.{low_utf8}
@@ -25,11 +25,11 @@ plain = codes "CONFIG_"
 abbrev front : List ℕ
 front = codes "CONFIG_A=y\n"
 
-abbrev first : List Saying
+abbrev first : List LineMeaning
 first = assigns 0 (TriUser Y) ∷ []
 
-first_read : line_saying plain tree_a (codes "CONFIG_A=y") ≡ Some (assigns 0 (TriUser Y))
-unfolding line_saying
+first_read : line_meaning plain tree_a (codes "CONFIG_A=y") ≡ Some (assigns 0 (TriUser Y))
+unfolding line_meaning
 first_read = refl
 
 first_sound : IsSound plain tree_a (codes "CONFIG_A=y") (assigns 0 (TriUser Y))
@@ -55,12 +55,12 @@ told_front = record {
 front_accepted : IsAccepted plain tree_a front
 front_accepted = accepted plain tree_a front [] first told_front [] (inl (refl, refl))
 
--- behind it a line that isn't whole
+-- after it a line that isn't whole
 told_more : (line : List ℕ) → length line ≤ 8 → lacks 10 line ≡ true → IsCut plain tree_a (front ++ line) ([] ++ line) first
 told_more line few one = held plain tree_a front [] first told_front line one (omega arith) (omega arith) (omega arith)
 
-none_read : line_saying plain tree_a (codes "CON") ≡ None
-unfolding line_saying
+none_read : line_meaning plain tree_a (codes "CON") ≡ None
+unfolding line_meaning
 none_read = refl
 
 -- at the file's end it is malformed, and where a read failed it counts for nothing

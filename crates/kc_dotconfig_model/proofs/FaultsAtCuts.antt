@@ -7,21 +7,21 @@ use Rattle.std.proofs.lemmas.List.{append-nil}
 use Rattle.std.proofs.Math.Seq.{take-append_seam}
 use Rattle.std.proofs.lemmas.Str.{IsUtf8-nil}
 use Rattle.std.proofs.lemmas.List.Folds.{list_all-append}
-use Rattle.kc_tree_model.specs.Trees.{Whole}
+use Rattle.kc_tree_model.specs.Trees.{Tree}
 use Rattle.kc_dotconfig_model.specs.declared.fault.LoadKind.{LoadKind}
 use Rattle.kc_dotconfig_model.specs.declared.fault.LoadKind.TheVariants.{Malformed, NotUtf8, LineTooLong, TooManyLines, Read, OutOfMemory, TooLarge}
-use Rattle.kc_dotconfig_model.specs.Names.{lacks}
-use Rattle.kc_dotconfig_model.specs.Lines.{Saying, Says, silent, empty, IsMalformed, without_white_end}
-use Rattle.kc_dotconfig_model.specs.Files.{file_lines, FileSays}
-use Rattle.kc_dotconfig_model.specs.LoadFaults.{complete, newlines, MOST_BYTES, MOST_LINES, MOST_LINE_BYTES, IsLineAt, ComesAt, rank_of, IsFirstFault, IsAccepted}
+use Rattle.kc_dotconfig_model.specs.PrefixGrammar.{lacks}
+use Rattle.kc_dotconfig_model.specs.ConfigLines.{LineMeaning, Means, silent, empty, IsMalformed, without_white_end}
+use Rattle.kc_dotconfig_model.specs.ConfigFiles.{file_lines, FileMeans}
+use Rattle.kc_dotconfig_model.specs.LoadFaults.{complete, newlines, MAX_BYTES, MAX_LINES, MAX_LINE_BYTES, IsLineAt, OccursAt, rank_of, IsFirstFault, IsAccepted}
 use Rattle.kc_dotconfig_model.specs.checker.Cutting.{IsSound, IsEnded, IsCut}
 use Rattle.kc_dotconfig_model.proofs.Cuts.{split, Stands, earlier, this, later, stands, Ends, no_shorter, no_longer, same_front, a_line, newlines_append, none_in_line, first_of_lines, last_of_lines, lines_behind, one_of, zip_length, zip_append, ended_count}
 
-abbrev Part : List ℕ → Whole → List ℕ → List ℕ → List Saying → List ℕ → List ℕ → Type 0
+abbrev Part : List ℕ → Tree → List ℕ → List ℕ → List LineMeaning → List ℕ → List ℕ → Type 0
 Part prefix tree told line sayings more bytes = IsCut prefix tree told line sayings × (bytes ≡ told ++ more)
 
--- What is known of a part of a file, and of the bytes behind it.
-module _ (prefix : List ℕ) (tree : Whole) (told line : List ℕ) (sayings : List Saying) (c : IsCut prefix tree told line sayings) where
+-- What is known of a part of a file, and of the bytes after it.
+module _ (prefix : List ℕ) (tree : Tree) (told line : List ℕ) (sayings : List LineMeaning) (c : IsCut prefix tree told line sayings) where
   whole_is : (more : List ℕ) → told ++ more ≡ c.front ++ (line ++ more)
   whole_is more = ap (λ t. t ++ more) c.whole ∙ append_assoc c.front line more
 
@@ -42,7 +42,7 @@ module _ (prefix : List ℕ) (tree : Whole) (told line : List ℕ) (sayings : Li
   stands_in : (more found : List ℕ) (n s : ℕ) → (at : IsLineAt (told ++ more) found n s) → Stands c.front line more found at.front at.rest
   stands_in more found n s at = stands c.front line more found at.front at.rest c.ended c.one_line at.one_line at.ends at.begins (sym (whole_is more) ∙ at.whole)
 
-  earlier_sound : (found f g : List ℕ) → IsEnded f → lacks 10 found ≡ true → c.front ≡ f ++ (found ++ 10 ∷ g) → (x : Saying) × IsSound prefix tree found x
+  earlier_sound : (found f g : List ℕ) → IsEnded f → lacks 10 found ≡ true → c.front ≡ f ++ (found ++ 10 ∷ g) → (x : LineMeaning) × IsSound prefix tree found x
   earlier_sound found f g ended one is =
       let lines : file_lines c.front ≡ file_lines f ++ (found ∷ file_lines g) = ap file_lines is ∙ lines_behind f (found ++ 10 ∷ g) ended ∙ ap (λ ls. file_lines f ++ ls) (first_of_lines found g one) in
       one_of (IsSound prefix tree) (file_lines f) found (file_lines g) sayings (subst (λ ls. AllZip (IsSound prefix tree) ls sayings) lines c.sound)
@@ -61,7 +61,7 @@ module _ (prefix : List ℕ) (tree : Whole) (told line : List ℕ) (sayings : Li
   earlier_length found f g is = let a = ap length is in let b = length-append f (found ++ 10 ∷ g) in let d = length-append found (10 ∷ g) in omega arith
 
   -- no fault comes at a byte that was told, whatever follows
-  pub clean : (more : List ℕ) (kind : LoadKind) (byte number : ℕ) → ComesAt prefix tree (told ++ more) kind byte number → length told ≤ byte
+  pub clean : (more : List ℕ) (kind : LoadKind) (byte number : ℕ) → OccursAt prefix tree (told ++ more) kind byte number → length told ≤ byte
   clean more TooLarge byte number h = let s = c.small in let e = h.1 in omega arith
   clean more TooManyLines byte number (found, at, most) =
       let n = at.number_is in
@@ -100,9 +100,9 @@ module _ (prefix : List ℕ) (tree : Whole) (told line : List ℕ) (sayings : Li
   clean more Read byte number h = absurd h
   clean more OutOfMemory byte number h = absurd h
 
-  -- a fault behind what was told is the first, if no other on its byte goes before it
-  first_by : (more : List ℕ) (kind : LoadKind) (number : ℕ) → ComesAt prefix tree (told ++ more) kind (length told) number
-      → ((other : LoadKind) (other_number : ℕ) → ComesAt prefix tree (told ++ more) other (length told) other_number → rank_of kind ≤ rank_of other)
+  -- a fault after what was told is the first, if no other on its byte goes before it
+  first_by : (more : List ℕ) (kind : LoadKind) (number : ℕ) → OccursAt prefix tree (told ++ more) kind (length told) number
+      → ((other : LoadKind) (other_number : ℕ) → OccursAt prefix tree (told ++ more) other (length told) other_number → rank_of kind ≤ rank_of other)
       → IsFirstFault prefix tree complete (told ++ more) kind number
   first_by more kind number comes rank = record {
     byte = length told;
@@ -112,20 +112,20 @@ module _ (prefix : List ℕ) (tree : Whole) (told line : List ℕ) (sayings : Li
     parted : (a b : ℕ) → a ≤ b → (a < b) ⊎ (a ≡ b)
     parted a b h = grind arith
 
-    go : (other : LoadKind) (ob on : ℕ) → ComesAt prefix tree (told ++ more) other ob on → length told ≤ ob → (length told < ob) ⊎ ((length told ≡ ob) × (rank_of kind ≤ rank_of other))
+    go : (other : LoadKind) (ob on : ℕ) → OccursAt prefix tree (told ++ more) other ob on → length told ≤ ob → (length told < ob) ⊎ ((length told ≡ ob) × (rank_of kind ≤ rank_of other))
     go other ob on at h = elim (parted (length told) ob h) [
       | inl less ↦ inl less
-      | inr same ↦ inr (same, rank other on (subst (λ k. ComesAt prefix tree (told ++ more) other k on) (sym same) at))
+      | inr same ↦ inr (same, rank other on (subst (λ k. OccursAt prefix tree (told ++ more) other k on) (sym same) at))
     ]
 
-  -- what can't come on the first byte behind what was told
-  not_large : (more : List ℕ) (number : ℕ) → (length told < MOST_BYTES) ⊎ (more ≡ []) → ComesAt prefix tree (told ++ more) TooLarge (length told) number → ⊥
+  -- what can't come on the first byte after what was told
+  not_large : (more : List ℕ) (number : ℕ) → (length told < MAX_BYTES) ⊎ (more ≡ []) → OccursAt prefix tree (told ++ more) TooLarge (length told) number → ⊥
   not_large more number room h = elim room [
     | inl less ↦ (let e = h.1 in omega arith)
     | inr none ↦ (let a = h.0 in let b = length-append told more in let d = ap length none in let s = c.small in omega arith)
   ]
 
-  not_many : (more : List ℕ) (number : ℕ) → 0 < length line → ComesAt prefix tree (told ++ more) TooManyLines (length told) number → ⊥
+  not_many : (more : List ℕ) (number : ℕ) → 0 < length line → OccursAt prefix tree (told ++ more) TooManyLines (length told) number → ⊥
   not_many more number some (found, at, most) =
       let s = at.starts in
       let t = told_length in
@@ -135,7 +135,7 @@ module _ (prefix : List ℕ) (tree : Whole) (told line : List ℕ) (sayings : Li
         | later h ↦ omega arith
       ]
 
-  not_long : (more : List ℕ) (number : ℕ) → (more ≡ []) ⊎ ((next : List ℕ) × (more ≡ 10 ∷ next)) → ComesAt prefix tree (told ++ more) LineTooLong (length told) number → ⊥
+  not_long : (more : List ℕ) (number : ℕ) → (more ≡ []) ⊎ ((next : List ℕ) × (more ≡ 10 ∷ next)) → OccursAt prefix tree (told ++ more) LineTooLong (length told) number → ⊥
   not_long more number ends (found, start, at, long, is_byte) =
       let s = at.starts in
       let t = told_length in
@@ -145,7 +145,7 @@ module _ (prefix : List ℕ) (tree : Whole) (told line : List ℕ) (sayings : Li
         | later h ↦ omega arith
       ]
 
-  not_odd : (more : List ℕ) (number : ℕ) → IsUtf8 line → ComesAt prefix tree (told ++ more) NotUtf8 (length told) number → ⊥
+  not_odd : (more : List ℕ) (number : ℕ) → IsUtf8 line → OccursAt prefix tree (told ++ more) NotUtf8 (length told) number → ⊥
   not_odd more number text (found, start, at, bad, is_byte) =
       let s = at.starts in
       let t = told_length in
@@ -168,13 +168,13 @@ module _ (prefix : List ℕ) (tree : Whole) (told line : List ℕ) (sayings : Li
     one_line = c.one_line;
   }
 
-  pub too_large : (more : List ℕ) → length told ≡ MOST_BYTES → 0 < length more → IsFirstFault prefix tree complete (told ++ more) TooLarge (length sayings + 1)
+  pub too_large : (more : List ℕ) → length told ≡ MAX_BYTES → 0 < length more → IsFirstFault prefix tree complete (told ++ more) TooLarge (length sayings + 1)
   too_large more full some = first_by more TooLarge (length sayings + 1)
       ((let a = length-append told more in omega arith), full, sym (ap (λ k. newlines (take k (told ++ more)) + 1) (sym full) ∙ ap (λ b. newlines b + 1) (take-append_seam told more) ∙ ap (λ n. n + 1) told_newlines))
       (λ other on at. omega arith)
 
   -- the rank is at least that of kinds that can't come
-  after_large : (more : List ℕ) (n : ℕ) → (ComesAt prefix tree (told ++ more) TooLarge (length told) n → ⊥) → (other : LoadKind) → ComesAt prefix tree (told ++ more) other (length told) n → 1 ≤ rank_of other
+  after_large : (more : List ℕ) (n : ℕ) → (OccursAt prefix tree (told ++ more) TooLarge (length told) n → ⊥) → (other : LoadKind) → OccursAt prefix tree (told ++ more) other (length told) n → 1 ≤ rank_of other
   after_large more n a TooLarge at = absurd (a at)
   after_large more n a TooManyLines at = omega arith
   after_large more n a LineTooLong at = omega arith
@@ -183,8 +183,8 @@ module _ (prefix : List ℕ) (tree : Whole) (told line : List ℕ) (sayings : Li
   after_large more n a Read at = omega arith
   after_large more n a OutOfMemory at = omega arith
 
-  after_many : (more : List ℕ) (n : ℕ) → (ComesAt prefix tree (told ++ more) TooLarge (length told) n → ⊥) → (ComesAt prefix tree (told ++ more) TooManyLines (length told) n → ⊥)
-      → (other : LoadKind) → ComesAt prefix tree (told ++ more) other (length told) n → 2 ≤ rank_of other
+  after_many : (more : List ℕ) (n : ℕ) → (OccursAt prefix tree (told ++ more) TooLarge (length told) n → ⊥) → (OccursAt prefix tree (told ++ more) TooManyLines (length told) n → ⊥)
+      → (other : LoadKind) → OccursAt prefix tree (told ++ more) other (length told) n → 2 ≤ rank_of other
   after_many more n a b TooLarge at = absurd (a at)
   after_many more n a b TooManyLines at = absurd (b at)
   after_many more n a b LineTooLong at = omega arith
@@ -193,8 +193,8 @@ module _ (prefix : List ℕ) (tree : Whole) (told line : List ℕ) (sayings : Li
   after_many more n a b Read at = omega arith
   after_many more n a b OutOfMemory at = omega arith
 
-  after_long : (more : List ℕ) (n : ℕ) → (ComesAt prefix tree (told ++ more) TooLarge (length told) n → ⊥) → (ComesAt prefix tree (told ++ more) TooManyLines (length told) n → ⊥) → (ComesAt prefix tree (told ++ more) LineTooLong (length told) n → ⊥)
-      → (other : LoadKind) → ComesAt prefix tree (told ++ more) other (length told) n → 3 ≤ rank_of other
+  after_long : (more : List ℕ) (n : ℕ) → (OccursAt prefix tree (told ++ more) TooLarge (length told) n → ⊥) → (OccursAt prefix tree (told ++ more) TooManyLines (length told) n → ⊥) → (OccursAt prefix tree (told ++ more) LineTooLong (length told) n → ⊥)
+      → (other : LoadKind) → OccursAt prefix tree (told ++ more) other (length told) n → 3 ≤ rank_of other
   after_long more n a b d TooLarge at = absurd (a at)
   after_long more n a b d TooManyLines at = absurd (b at)
   after_long more n a b d LineTooLong at = absurd (d at)
@@ -203,8 +203,8 @@ module _ (prefix : List ℕ) (tree : Whole) (told line : List ℕ) (sayings : Li
   after_long more n a b d Read at = omega arith
   after_long more n a b d OutOfMemory at = omega arith
 
-  after_odd : (more : List ℕ) (n : ℕ) → (ComesAt prefix tree (told ++ more) TooLarge (length told) n → ⊥) → (ComesAt prefix tree (told ++ more) TooManyLines (length told) n → ⊥) → (ComesAt prefix tree (told ++ more) LineTooLong (length told) n → ⊥)
-      → (ComesAt prefix tree (told ++ more) NotUtf8 (length told) n → ⊥) → (other : LoadKind) → ComesAt prefix tree (told ++ more) other (length told) n → 4 ≤ rank_of other
+  after_odd : (more : List ℕ) (n : ℕ) → (OccursAt prefix tree (told ++ more) TooLarge (length told) n → ⊥) → (OccursAt prefix tree (told ++ more) TooManyLines (length told) n → ⊥) → (OccursAt prefix tree (told ++ more) LineTooLong (length told) n → ⊥)
+      → (OccursAt prefix tree (told ++ more) NotUtf8 (length told) n → ⊥) → (other : LoadKind) → OccursAt prefix tree (told ++ more) other (length told) n → 4 ≤ rank_of other
   after_odd more n a b d e TooLarge at = absurd (a at)
   after_odd more n a b d e TooManyLines at = absurd (b at)
   after_odd more n a b d e LineTooLong at = absurd (d at)
@@ -213,7 +213,7 @@ module _ (prefix : List ℕ) (tree : Whole) (told line : List ℕ) (sayings : Li
   after_odd more n a b d e Read at = omega arith
   after_odd more n a b d e OutOfMemory at = omega arith
 
-  pub too_many : (more : List ℕ) → line ≡ [] → length sayings ≡ MOST_LINES → length told < MOST_BYTES → 0 < length more → IsFirstFault prefix tree complete (told ++ more) TooManyLines (length sayings + 1)
+  pub too_many : (more : List ℕ) → line ≡ [] → length sayings ≡ MAX_LINES → length told < MAX_BYTES → 0 < length more → IsFirstFault prefix tree complete (told ++ more) TooManyLines (length sayings + 1)
   too_many more none full less some =
       let found = a_line more some in
       let front_is : told ≡ c.front = c.whole ∙ ap (λ l. c.front ++ l) none ∙ append-nil c.front in
@@ -230,11 +230,11 @@ module _ (prefix : List ℕ) (tree : Whole) (told line : List ℕ) (sayings : Li
       first_by more TooManyLines (length sayings + 1) (found.0, at, ap (λ n. n + 1) full)
       (λ other on at. after_large more on (not_large more on (inl less)) other at)
 
-  pub too_long : (b : ℕ) (more : List ℕ) → length line ≡ MOST_LINE_BYTES → (b == 10) ≡ false → length told < MOST_BYTES → IsFirstFault prefix tree complete (told ++ b ∷ more) LineTooLong (length sayings + 1)
+  pub too_long : (b : ℕ) (more : List ℕ) → length line ≡ MAX_LINE_BYTES → (b == 10) ≡ false → length told < MAX_BYTES → IsFirstFault prefix tree complete (told ++ b ∷ more) LineTooLong (length sayings + 1)
   too_long b more full other less =
       let found = a_line (b ∷ more) (omega arith) in
       let some : 0 < length found.0 = first_some found.0 found.1 found.2 found.4 in
-      let long : MOST_LINE_BYTES < length (line ++ found.0) = (let a = length-append line found.0 in omega arith) in
+      let long : MAX_LINE_BYTES < length (line ++ found.0) = (let a = length-append line found.0 in omega arith) in
       let at : IsLineAt (told ++ b ∷ more) (line ++ found.0) (length sayings + 1) (length c.front) = record {
         front = c.front;
         rest = found.1;
@@ -245,7 +245,7 @@ module _ (prefix : List ℕ) (tree : Whole) (told line : List ℕ) (sayings : Li
         ends = elim found.4 [ inl last ↦ inl (last.0, omega arith) | inr next ↦ inr next ];
         one_line = list_all-append (λ c. not (c == 10)) line found.0 ∙ and_from (lacks 10 line) (lacks 10 found.0) c.one_line found.3;
       } in
-      let here : length told ≡ length c.front + MOST_LINE_BYTES = (let t = told_length in omega arith) in
+      let here : length told ≡ length c.front + MAX_LINE_BYTES = (let t = told_length in omega arith) in
       first_by (b ∷ more) LineTooLong (length sayings + 1) (line ++ found.0, length c.front, at, long, here)
       (λ o on at. after_many (b ∷ more) on (not_large (b ∷ more) on (inl less)) (not_many (b ∷ more) on (omega arith)) o at) where
         first_some : (found r : List ℕ) → b ∷ more ≡ found ++ r → Ends found r → 0 < length found
@@ -257,7 +257,7 @@ module _ (prefix : List ℕ) (tree : Whole) (told line : List ℕ) (sayings : Li
 
   -- the end of the line so far: a newline, or the end of the file
   abbrev pub AtEnd : List ℕ → Type 0
-  AtEnd more = ((more ≡ []) × (0 < length line)) ⊎ ((next : List ℕ) × (more ≡ 10 ∷ next) × (length told < MOST_BYTES))
+  AtEnd more = ((more ≡ []) × (0 < length line)) ⊎ ((next : List ℕ) × (more ≡ 10 ∷ next) × (length told < MAX_BYTES))
 
   ends_of : (more : List ℕ) → AtEnd more → Ends line more
   ends_of more (inl last) = inl last
@@ -267,7 +267,7 @@ module _ (prefix : List ℕ) (tree : Whole) (told line : List ℕ) (sayings : Li
   stops_of more (inl last) = inl last.0
   stops_of more (inr next) = inr (next.0, next.1)
 
-  room_of : (more : List ℕ) → AtEnd more → (length told < MOST_BYTES) ⊎ (more ≡ [])
+  room_of : (more : List ℕ) → AtEnd more → (length told < MAX_BYTES) ⊎ (more ≡ [])
   room_of more (inl last) = inr last.0
   room_of more (inr next) = inl next.2
 
@@ -285,23 +285,23 @@ module _ (prefix : List ℕ) (tree : Whole) (told line : List ℕ) (sayings : Li
 
   pub malformed : (more : List ℕ) → AtEnd more → IsUtf8 line → IsMalformed prefix tree line → IsFirstFault prefix tree complete (told ++ more) Malformed (length sayings + 1)
   malformed more ends text bad =
-      let some = some_bytes (λ l. (saying : Saying) × Says prefix tree (without_white_end l) saying) (silent, empty) (λ says. bad says.0 says.1) in
+      let some = some_bytes (λ l. (saying : LineMeaning) × Means prefix tree (without_white_end l) saying) (silent, empty) (λ says. bad says.0 says.1) in
       first_by more Malformed (length sayings + 1) (line, length c.front, this_line more (ends_of more ends), bad, told_length)
       (λ o on at. after_odd more on (not_large more on (room_of more ends)) (not_many more on some) (not_long more on (stops_of more ends)) (not_odd more on text) o at)
 
   -- the line so far says something, or there is none
-  abbrev pub SaysLast : List Saying → Type 0
-  SaysLast last = ((line ≡ []) × (last ≡ [])) ⊎ ((0 < length line) × ((x : Saying) × (last ≡ x ∷ []) × IsSound prefix tree line x))
+  abbrev pub SaysLast : List LineMeaning → Type 0
+  SaysLast last = ((line ≡ []) × (last ≡ [])) ⊎ ((0 < length line) × ((x : LineMeaning) × (last ≡ x ∷ []) × IsSound prefix tree line x))
 
-  last_sound : (last : List Saying) → SaysLast last → 0 < length line → (x : Saying) × IsSound prefix tree line x
+  last_sound : (last : List LineMeaning) → SaysLast last → 0 < length line → (x : LineMeaning) × IsSound prefix tree line x
   last_sound last (inl none) some = (let e = ap length none.0 in absurd (omega arith))
   last_sound last (inr says) some = (says.1.0, says.1.2)
 
   -- the file ends here without a fault
-  pub accepted : (last : List Saying) → SaysLast last → IsAccepted prefix tree told
+  pub accepted : (last : List LineMeaning) → SaysLast last → IsAccepted prefix tree told
   accepted last says kind byte number comes =
       let whole : told ++ [] ≡ told = append-nil told in
-      go kind byte number (subst (λ b. ComesAt prefix tree b kind byte number) (sym whole) comes) where
+      go kind byte number (subst (λ b. OccursAt prefix tree b kind byte number) (sym whole) comes) where
         at_end : (found : List ℕ) (n s : ℕ) → (at : IsLineAt (told ++ []) found n s) → s + length found + length at.rest ≡ length told
         at_end found n s at =
             let a = ap length at.whole in
@@ -311,7 +311,7 @@ module _ (prefix : List ℕ) (tree : Whole) (told line : List ℕ) (sayings : Li
             let f = at.starts in
             omega arith
 
-        found_sound : (found : List ℕ) (n s : ℕ) → (at : IsLineAt (told ++ []) found n s) → (x : Saying) × IsSound prefix tree found x
+        found_sound : (found : List ℕ) (n s : ℕ) → (at : IsLineAt (told ++ []) found n s) → (x : LineMeaning) × IsSound prefix tree found x
         found_sound found n s at =
             let t = told_length in
             let s_is = at.starts in
@@ -329,7 +329,7 @@ module _ (prefix : List ℕ) (tree : Whole) (told line : List ℕ) (sayings : Li
               | later h ↦ absurd (omega arith)
             ]
 
-        go : (kind : LoadKind) (byte number : ℕ) → ComesAt prefix tree (told ++ []) kind byte number → ⊥
+        go : (kind : LoadKind) (byte number : ℕ) → OccursAt prefix tree (told ++ []) kind byte number → ⊥
         go TooLarge byte number h = (let s = c.small in let a = h.0 in let b = ap length (append-nil told) in omega arith)
         go TooManyLines byte number (found, at, most) =
             let h = clean [] TooManyLines byte number (found, at, most) in
@@ -341,25 +341,25 @@ module _ (prefix : List ℕ) (tree : Whole) (told line : List ℕ) (sayings : Li
         go Read byte number h = h
         go OutOfMemory byte number h = h
 
-  all_say : (lines : List (List ℕ)) (all : List Saying) → AllZip (IsSound prefix tree) lines all → AllZip (λ l x. Says prefix tree (without_white_end l) x) lines all
+  all_say : (lines : List (List ℕ)) (all : List LineMeaning) → AllZip (IsSound prefix tree) lines all → AllZip (λ l x. Means prefix tree (without_white_end l) x) lines all
   all_say [] [] h = tt
   all_say [] (x ∷ all) h = absurd h
   all_say (l ∷ lines) [] h = absurd h
   all_say (l ∷ lines) (x ∷ all) h = (h.0.says, all_say lines all h.1)
 
   -- and says what its lines say
-  pub file_says : (last : List Saying) → SaysLast last → FileSays prefix tree told (sayings ++ last)
+  pub file_says : (last : List LineMeaning) → SaysLast last → FileMeans prefix tree told (sayings ++ last)
   file_says last (inl none) =
-      subst (λ b. FileSays prefix tree b (sayings ++ last)) (sym (c.whole ∙ ap (λ l. c.front ++ l) none.0 ∙ append-nil c.front))
-      (subst (λ all. FileSays prefix tree c.front all) (sym (ap (λ l. sayings ++ l) none.1 ∙ append-nil sayings)) (all_say (file_lines c.front) sayings c.sound))
+      subst (λ b. FileMeans prefix tree b (sayings ++ last)) (sym (c.whole ∙ ap (λ l. c.front ++ l) none.0 ∙ append-nil c.front))
+      (subst (λ all. FileMeans prefix tree c.front all) (sym (ap (λ l. sayings ++ l) none.1 ∙ append-nil sayings)) (all_say (file_lines c.front) sayings c.sound))
   file_says last (inr (some, (x, is, sound))) =
       let lines : file_lines told ≡ file_lines c.front ++ line ∷ [] = ap file_lines c.whole ∙ lines_behind c.front line c.ended ∙ ap (λ ls. file_lines c.front ++ ls) (last_of_lines line c.one_line some) in
-      subst (λ all. FileSays prefix tree told (sayings ++ all)) (sym is)
-      (subst (λ ls. AllZip (λ l x. Says prefix tree (without_white_end l) x) ls (sayings ++ x ∷ [])) (sym lines)
+      subst (λ all. FileMeans prefix tree told (sayings ++ all)) (sym is)
+      (subst (λ ls. AllZip (λ l x. Means prefix tree (without_white_end l) x) ls (sayings ++ x ∷ [])) (sym lines)
       (all_say (file_lines c.front ++ line ∷ []) (sayings ++ x ∷ []) (zip_append (IsSound prefix tree) (file_lines c.front) sayings line x c.sound sound)))
 
   -- a piece of the line goes on
-  pub held : (piece : List ℕ) → lacks 10 piece ≡ true → length line + length piece ≤ MOST_LINE_BYTES → length sayings < MOST_LINES → length told + length piece ≤ MOST_BYTES → IsCut prefix tree (told ++ piece) (line ++ piece) sayings
+  pub held : (piece : List ℕ) → lacks 10 piece ≡ true → length line + length piece ≤ MAX_LINE_BYTES → length sayings < MAX_LINES → length told + length piece ≤ MAX_BYTES → IsCut prefix tree (told ++ piece) (line ++ piece) sayings
   held piece one short room small = record {
     front = c.front;
     whole = ap (λ t. t ++ piece) c.whole ∙ append_assoc c.front line piece;
@@ -373,7 +373,7 @@ module _ (prefix : List ℕ) (tree : Whole) (told line : List ℕ) (sayings : Li
   }
 
   -- the line ends
-  pub line_ended : (x : Saying) → IsSound prefix tree line x → length sayings < MOST_LINES → length told < MOST_BYTES → IsCut prefix tree (told ++ 10 ∷ []) [] (sayings ++ x ∷ [])
+  pub line_ended : (x : LineMeaning) → IsSound prefix tree line x → length sayings < MAX_LINES → length told < MAX_BYTES → IsCut prefix tree (told ++ 10 ∷ []) [] (sayings ++ x ∷ [])
   line_ended x sound room small =
       let lines : file_lines (told ++ 10 ∷ []) ≡ file_lines c.front ++ line ∷ [] = ap file_lines (whole_is (10 ∷ [])) ∙ lines_behind c.front (line ++ 10 ∷ []) c.ended ∙ ap (λ ls. file_lines c.front ++ ls) (first_of_lines line [] c.one_line) in
       record {
@@ -388,5 +388,5 @@ module _ (prefix : List ℕ) (tree : Whole) (told line : List ℕ) (sayings : Li
         short = omega arith;
       }
 
-pub nothing_told : (prefix : List ℕ) (tree : Whole) → IsCut prefix tree [] [] []
+pub nothing_told : (prefix : List ℕ) (tree : Tree) → IsCut prefix tree [] [] []
 nothing_told prefix tree = record { front = []; whole = refl; ended = inl refl; one_line = refl; sound = tt; few = omega arith; room = λ h. absurd (omega arith); small = omega arith; short = omega arith }

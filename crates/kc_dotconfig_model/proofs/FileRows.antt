@@ -4,31 +4,31 @@ use Rattle.std.specs.Prelude.{codes}
 use Rattle.std.specs.Option.{option_map}
 use Rattle.kc_value.specs.declared.tri.Tri.TheVariants.{N, M, Y}
 use Rattle.kc_value.specs.Number.{int_text}
-use Rattle.kc_tree_model.specs.Trees.{Whole}
+use Rattle.kc_tree_model.specs.Trees.{Tree}
 use Rattle.kc_rules_model.specs.declared.values.UserValue.{UserValue}
 use Rattle.kc_rules_model.specs.declared.values.UserValue.TheVariants.{Tri as TriUser, Member as MemberUser}
 use Rattle.kc_rules_model.proofs.RowTrees.{sets, writes, tree_a, tree_int, tree_string, tree_pick, tree_imply, tree_titled}
 use Rattle.kc_dotconfig_model.specs.declared.notice.NoticeKind.{NoticeKind}
 use Rattle.kc_dotconfig_model.specs.declared.notice.NoticeKind.TheVariants.{UnknownSymbol, NotOfType}
-use Rattle.kc_dotconfig_model.specs.Lines.{Saying, assigns, notice, silent}
-use Rattle.kc_dotconfig_model.specs.Files.{file_users, assigned_over, laid_over, notices_from}
-use Rattle.kc_dotconfig_model.specs.checker.Reading.{line_saying, file_sayings}
+use Rattle.kc_dotconfig_model.specs.ConfigLines.{LineMeaning, assigns, notice, silent}
+use Rattle.kc_dotconfig_model.specs.ConfigFiles.{file_assignment, assigned_over, overlay, notices_from}
+use Rattle.kc_dotconfig_model.specs.checker.LineMeanings.{line_meaning, file_meanings}
 
 -- a file's assignment and its notices, if no line is malformed
-abbrev read : List ℕ → Whole → List ℕ → Option (List (Option UserValue) × List (ℕ × NoticeKind))
-read prefix tree bytes = option_map (λ (sayings : List Saying). (file_users tree sayings, notices_from 1 sayings)) (file_sayings prefix tree bytes)
+abbrev read : List ℕ → Tree → List ℕ → Option (List (Option UserValue) × List (ℕ × NoticeKind))
+read prefix tree bytes = option_map (λ (sayings : List LineMeaning). (file_assignment tree sayings, notices_from 1 sayings)) (file_meanings prefix tree bytes)
 
 abbrev assigning : List (Option UserValue) → Option (List (Option UserValue) × List (ℕ × NoticeKind))
 assigning users = Some (users, [])
 
 unset_lines : (read (codes "CONFIG_") tree_a (codes "# CONFIG_A is not set\n") ≡ assigning (sets N ∷ [])) × (read (codes "CONFIG_") tree_a [] ≡ assigning (None ∷ []))
     × (read (codes "CONFIG_") tree_imply (codes "CONFIG_FOO=y\nCONFIG_BAR=m\n# CONFIG_BAZ is not set\n") ≡ assigning (None ∷ sets Y ∷ sets M ∷ sets N ∷ []))
-unfolding line_saying
+unfolding line_meaning
 unset_lines = (refl, refl, refl)
 
 ints : (read (codes "CONFIG_") tree_int (codes "CONFIG_N=25\n") ≡ assigning (writes (codes "25") ∷ [])) × (read (codes "CONFIG_") tree_int (codes "CONFIG_N=010\n") ≡ assigning (writes (codes "010") ∷ []))
     × (read (codes "CONFIG_") tree_int (codes "CONFIG_N=\n") ≡ assigning (None ∷ [])) × (read (codes "CONFIG_") tree_int (codes "CONFIG_N=1x\n") ≡ Some (None ∷ [], (1, NotOfType) ∷ []))
-unfolding line_saying int_text
+unfolding line_meaning int_text
 ints = (refl, refl, refl, refl)
 
 strings : (read (codes "CONFIG_") tree_string (codes "CONFIG_S=\"\"\n") ≡ assigning (writes [] ∷ []))
@@ -36,7 +36,7 @@ strings : (read (codes "CONFIG_") tree_string (codes "CONFIG_S=\"\"\n") ≡ assi
     × (read (codes "CONFIG_") tree_string (codes "CONFIG_S=\"a\"b\"\n") ≡ Some (None ∷ [], (1, NotOfType) ∷ []))
     × (read (codes "CONFIG_") tree_string (codes "CONFIG_S=\"a\"b\n") ≡ Some (None ∷ [], (1, NotOfType) ∷ []))
     × (read (codes "CONFIG_") tree_string (codes "CONFIG_S=\"ab") ≡ Some (None ∷ [], (1, NotOfType) ∷ []))
-unfolding line_saying
+unfolding line_meaning
 strings = (refl, refl, refl, refl, refl)
 
 -- the member last assigned `y`; `n` of a member assigns nothing
@@ -44,52 +44,52 @@ members : (read (codes "CONFIG_") tree_pick (codes "CONFIG_A=y\nCONFIG_C=y\n") �
     × (read (codes "CONFIG_") tree_pick (codes "CONFIG_C=y\nCONFIG_A=y\nCONFIG_A=n\n# CONFIG_A is not set\n") ≡ assigning (Some (MemberUser 0) ∷ None ∷ []))
     × (read (codes "CONFIG_") tree_pick (codes "# CONFIG_B is not set\n") ≡ assigning (None ∷ None ∷ []))
     × (read (codes "CONFIG_") tree_pick (codes "CONFIG_X=y\nCONFIG_C=y\n") ≡ assigning (Some (MemberUser 2) ∷ sets Y ∷ []))
-unfolding line_saying
+unfolding line_meaning
 members = (refl, refl, refl, refl)
 
 later_lines_win : read (codes "CONFIG_") tree_a (codes "CONFIG_A=y\nCONFIG_A=n\nCONFIG_A=y\n") ≡ assigning (sets Y ∷ [])
-unfolding line_saying
+unfolding line_meaning
 later_lines_win = refl
 
 -- a line that assigns nothing leaves what was assigned
 notices_leave_assignments : (read (codes "CONFIG_") tree_a (codes "CONFIG_GONE=1\nCONFIG_A=m\n") ≡ Some (None ∷ [], (1, UnknownSymbol) ∷ (2, NotOfType) ∷ []))
     × (read (codes "CONFIG_") tree_a (codes "CONFIG_A=y\nCONFIG_A=m\n# CONFIG_GONE is not set\n") ≡ Some (sets Y ∷ [], (2, NotOfType) ∷ (3, UnknownSymbol) ∷ []))
-unfolding line_saying
+unfolding line_meaning
 notices_leave_assignments = (refl, refl)
 
 comments_and_white_ends : (read (codes "CONFIG_") tree_a (codes "#\n# Automatically generated file; DO NOT EDIT.\n#\nCONFIG_A=y  \t\r\n\n") ≡ assigning (sets Y ∷ []))
     × (read (codes "CONFIG_") tree_a (codes "CONFIG_A=y") ≡ assigning (sets Y ∷ []))
-unfolding line_saying
+unfolding line_meaning
 comments_and_white_ends = (refl, refl)
 
-malformed_lines : (read (codes "CONFIG_") tree_a (codes "CONFIG_A=n\n# x\nFOO=y\n") ≡ None) × (line_saying (codes "CONFIG_") tree_a (codes "FOO=y") ≡ None) × (line_saying (codes "CONFIG_") tree_a (codes "CONFIG_=A=y") ≡ None)
-    × (line_saying (codes "CONFIG_") tree_a (codes " CONFIG_A=y") ≡ None) × (line_saying (codes "CONFIG_") tree_a (codes "CONFIG_A") ≡ None)
-unfolding line_saying
+malformed_lines : (read (codes "CONFIG_") tree_a (codes "CONFIG_A=n\n# x\nFOO=y\n") ≡ None) × (line_meaning (codes "CONFIG_") tree_a (codes "FOO=y") ≡ None) × (line_meaning (codes "CONFIG_") tree_a (codes "CONFIG_=A=y") ≡ None)
+    × (line_meaning (codes "CONFIG_") tree_a (codes " CONFIG_A=y") ≡ None) × (line_meaning (codes "CONFIG_") tree_a (codes "CONFIG_A") ≡ None)
+unfolding line_meaning
 malformed_lines = (refl, refl, refl, refl, refl)
 
-names_are_what_stands_there : (line_saying (codes "CONFIG_") tree_a (codes "CONFIG_A =y") ≡ Some (notice UnknownSymbol)) × (line_saying (codes "CONFIG_") tree_a (codes "# CONFIG_A=B is not set") ≡ Some (notice UnknownSymbol))
-    × (line_saying (codes "CONFIG_") tree_a (codes "# CONFIG_A is not set is not set") ≡ Some silent) × (line_saying (codes "CONFIG_") tree_a (codes " # CONFIG_A is not set") ≡ Some silent)
-    × (line_saying (codes "CONFIG_") tree_a (codes "#CONFIG_A is not set") ≡ Some silent)
-unfolding line_saying
+names_are_what_stands_there : (line_meaning (codes "CONFIG_") tree_a (codes "CONFIG_A =y") ≡ Some (notice UnknownSymbol)) × (line_meaning (codes "CONFIG_") tree_a (codes "# CONFIG_A=B is not set") ≡ Some (notice UnknownSymbol))
+    × (line_meaning (codes "CONFIG_") tree_a (codes "# CONFIG_A is not set is not set") ≡ Some silent) × (line_meaning (codes "CONFIG_") tree_a (codes " # CONFIG_A is not set") ≡ Some silent)
+    × (line_meaning (codes "CONFIG_") tree_a (codes "#CONFIG_A is not set") ≡ Some silent)
+unfolding line_meaning
 names_are_what_stands_there = (refl, refl, refl, refl, refl)
 
 -- the eleven bytes of `CONFIG_A=y` and a newline, cut
-cut_files : (line_saying (codes "CONFIG_") tree_a (codes "C") ≡ None) × (line_saying (codes "CONFIG_") tree_a (codes "CONFIG_A") ≡ None)
-    × (line_saying (codes "CONFIG_") tree_a (codes "CONFIG_A=") ≡ Some (notice NotOfType)) × (line_saying (codes "CONFIG_") tree_a (codes "CONFIG_A=y") ≡ Some (assigns 0 (TriUser Y)))
-unfolding line_saying
+cut_files : (line_meaning (codes "CONFIG_") tree_a (codes "C") ≡ None) × (line_meaning (codes "CONFIG_") tree_a (codes "CONFIG_A") ≡ None)
+    × (line_meaning (codes "CONFIG_") tree_a (codes "CONFIG_A=") ≡ Some (notice NotOfType)) × (line_meaning (codes "CONFIG_") tree_a (codes "CONFIG_A=y") ≡ Some (assigns 0 (TriUser Y)))
+unfolding line_meaning
 cut_files = (refl, refl, refl, refl)
 
 other_prefixes : (read (codes "BOARD_") tree_a (codes "BOARD_A=y\n") ≡ assigning (sets Y ∷ [])) × (read (codes "BOARD_") tree_a (codes "CONFIG_A=y\n") ≡ None)
     × (read (codes "C") tree_a (codes "CONFIG_A=y\n") ≡ Some (None ∷ [], (1, UnknownSymbol) ∷ []))
-unfolding line_saying
+unfolding line_meaning
 other_prefixes = (refl, refl, refl)
 
 -- titles of menus are read as nothing
 headings : (read (codes "CONFIG_") (tree_titled (codes "CONFIG_A is not set")) (codes "\n#\n#  CONFIG_A is not set\n#\nCONFIG_A=y\n# end of CONFIG_A is not set\n") ≡ assigning (sets Y ∷ []))
     × (read (codes "end") (tree_titled (codes "CONFIG_A is not set")) (codes "\n#\n# CONFIG_A is not set\n#\nendA=y\n# end of CONFIG_A is not set\n") ≡ assigning (sets Y ∷ []))
-unfolding line_saying
+unfolding line_meaning
 headings = (refl, refl)
 
 -- a later file over an earlier one
-later_files_win : (assigned_over (assigns 0 (TriUser N) ∷ []) (file_users tree_a (assigns 0 (TriUser Y) ∷ [])) ≡ sets N ∷ []) × (laid_over (sets N ∷ []) (sets Y ∷ []) ≡ sets N ∷ []) × (laid_over (None ∷ []) (sets Y ∷ []) ≡ sets Y ∷ [])
+later_files_win : (assigned_over (assigns 0 (TriUser N) ∷ []) (file_assignment tree_a (assigns 0 (TriUser Y) ∷ [])) ≡ sets N ∷ []) × (overlay (sets N ∷ []) (sets Y ∷ []) ≡ sets N ∷ []) × (overlay (None ∷ []) (sets Y ∷ []) ≡ sets Y ∷ [])
 later_files_win = (refl, refl, refl)

@@ -3,12 +3,12 @@ use Rattle.std.proofs.Common.{◌≡◌, inl, inr, ℕ, zero, suc, ◌+◌, ◌�
 use Rattle.std.proofs.lemmas.Bool.{and_parts, not-true, cases_lt}
 use Rattle.std.proofs.Math.Seq.{take-length}
 use Rattle.std.proofs.lemmas.List.Sums.{sum_by-cons}
-use Rattle.kc_tree_model.specs.Trees.{Whole}
+use Rattle.kc_tree_model.specs.Trees.{Tree}
 use Rattle.kc_dotconfig_model.specs.declared.fault.LoadKind.{LoadKind}
 use Rattle.kc_dotconfig_model.specs.declared.fault.LoadKind.TheVariants.{Malformed, NotUtf8, LineTooLong, TooManyLines, Read, OutOfMemory, TooLarge}
-use Rattle.kc_dotconfig_model.specs.Names.{lacks}
-use Rattle.kc_dotconfig_model.specs.LoadFaults.{Extent, complete, cut_short, IsLineAt, ComesAt, CountsAt, rank_of, newlines, MOST_LINE_BYTES}
-use Rattle.kc_dotconfig_model.specs.Laws.{OneFaultIsFirst, FaultyFilesAreRefused, FailedReadsAreTold}
+use Rattle.kc_dotconfig_model.specs.PrefixGrammar.{lacks}
+use Rattle.kc_dotconfig_model.specs.LoadFaults.{InputEnd, complete, cut_short, IsLineAt, OccursAt, IsConsideredAt, rank_of, newlines, MAX_LINE_BYTES}
+use Rattle.kc_dotconfig_model.specs.FileLaws.{OneFaultIsFirst, FaultyFilesAreRefused, FailedReadsAreReported}
 
 count_more : (b : ℕ) (bytes : List ℕ) → newlines (b ∷ bytes) ≡ cond (b == 10) 1 0 + newlines bytes
 count_more b bytes = sum_by-cons (λ c. cond (c == 10) 1 0) b bytes
@@ -34,10 +34,10 @@ line_counts bytes line number start k byte at h e =
     at.number_is ∙ ap (λ n. n + 1) (sym (ap (λ b. newlines (take byte b)) at.whole ∙ front_counts at.front line at.rest k byte at.one_line h place))
 
 -- and so is that of each fault
-number_at : (prefix : List ℕ) (tree : Whole) (bytes : List ℕ) (kind : LoadKind) (byte number : ℕ) → ComesAt prefix tree bytes kind byte number → number ≡ newlines (take byte bytes) + 1
+number_at : (prefix : List ℕ) (tree : Tree) (bytes : List ℕ) (kind : LoadKind) (byte number : ℕ) → OccursAt prefix tree bytes kind byte number → number ≡ newlines (take byte bytes) + 1
 number_at prefix tree bytes TooLarge byte number c = c.2 ∙ ap (λ k. newlines (take k bytes) + 1) (sym c.1)
 number_at prefix tree bytes TooManyLines byte number c = line_counts bytes c.0 number byte 0 byte c.1 (omega arith) (omega arith)
-number_at prefix tree bytes LineTooLong byte number c = line_counts bytes c.0 number c.1 MOST_LINE_BYTES byte c.2 (let long = c.3 in omega arith) c.4
+number_at prefix tree bytes LineTooLong byte number c = line_counts bytes c.0 number c.1 MAX_LINE_BYTES byte c.2 (let long = c.3 in omega arith) c.4
 number_at prefix tree bytes NotUtf8 byte number c = line_counts bytes c.0 number c.1 (length c.0) byte c.2 (omega arith) c.4
 number_at prefix tree bytes Malformed byte number c = line_counts bytes c.0 number c.1 (length c.0) byte c.2 (omega arith) c.4
 number_at prefix tree bytes Read byte number c = absurd c
@@ -56,7 +56,7 @@ kind_back Read = refl
 kind_back OutOfMemory = refl
 
 -- each fault that counts is told with the line on which its byte stands
-pub number_told : (prefix : List ℕ) (tree : Whole) (extent : Extent) (bytes : List ℕ) (kind : LoadKind) (byte number : ℕ) → CountsAt prefix tree extent bytes kind byte number → number ≡ newlines (take byte bytes) + 1
+pub number_told : (prefix : List ℕ) (tree : Tree) (extent : InputEnd) (bytes : List ℕ) (kind : LoadKind) (byte number : ℕ) → IsConsideredAt prefix tree extent bytes kind byte number → number ≡ newlines (take byte bytes) + 1
 number_told prefix tree complete bytes kind byte number comes = number_at prefix tree bytes kind byte number comes
 number_told prefix tree cut_short bytes kind byte number (inl comes) = number_at prefix tree bytes kind byte number comes.0
 number_told prefix tree cut_short bytes kind byte number (inr read) = read.2 ∙ ap (λ b. newlines b + 1) (sym (ap (λ k. take k bytes) read.1 ∙ take-length bytes))
@@ -76,12 +76,12 @@ one_is_first prefix tree extent bytes k l m n a b =
 pub refused : FaultyFilesAreRefused
 refused prefix tree bytes kind number fault accepted = accepted kind fault.byte number fault.comes
 
--- a failed read comes behind all bytes
-read_last : (prefix : List ℕ) (tree : Whole) (bytes : List ℕ) (byte number : ℕ) → CountsAt prefix tree cut_short bytes Read byte number → (byte ≡ length bytes) × (number ≡ newlines bytes + 1)
+-- a failed read comes after all bytes
+read_last : (prefix : List ℕ) (tree : Tree) (bytes : List ℕ) (byte number : ℕ) → IsConsideredAt prefix tree cut_short bytes Read byte number → (byte ≡ length bytes) × (number ≡ newlines bytes + 1)
 read_last prefix tree bytes byte number (inl comes) = absurd comes.0
 read_last prefix tree bytes byte number (inr read) = (read.1, read.2)
 
-pub failed_reads : FailedReadsAreTold
+pub failed_reads : FailedReadsAreReported
 failed_reads prefix tree bytes number = (
   λ fault. let read = read_last prefix tree bytes fault.byte number fault.comes in (
     λ kind byte other comes. elim (cases_lt byte (length bytes)) [

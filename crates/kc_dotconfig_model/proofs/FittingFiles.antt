@@ -15,7 +15,7 @@ use Rattle.kc_value.specs.declared.tri.Tri.TheVariants.{N, Y}
 use Rattle.kc_value.specs.declared.value.Kind.{Kind}
 use Rattle.kc_value.specs.declared.value.Kind.TheVariants.{Bool as Boolean, Tristate, Text, Int, Hex}
 use Rattle.kc_value.specs.Quoted.{IsBody, none, plain, pair, IsQuoted}
-use Rattle.kc_tree_model.specs.Trees.{Whole, Symbol}
+use Rattle.kc_tree_model.specs.Trees.{Tree, Symbol}
 use Rattle.kc_tree_model.specs.TreeLookup.{has_newline, IsConsistent, unit_of}
 use Rattle.kc_system.specs.Solutions.{user_of, FitsUsers}
 use Rattle.kc_rules_model.specs.declared.values.UserValue.{UserValue}
@@ -24,25 +24,25 @@ use Rattle.kc_rules_model.specs.Kinds.{is_m, is_tri_kind}
 use Rattle.kc_value.specs.Number.{number_of_text}
 use Rattle.kc_rules_model.specs.Shapes.{user_fits, unit_user_fits, symbol_user_fits, is_member, tri_fits, user_text_fits}
 use Rattle.kc_tree_model.proofs.Lookups.{unit_is}
-use Rattle.kc_dotconfig_model.specs.Names.{lacks}
-use Rattle.kc_dotconfig_model.specs.Lines.{Saying, assigns, notice, silent, tri_meant, ValueSays, tri, chosen, not_chosen, quoted, number, no_int, no_hex, no_tri, no_text, no_number, unset_saying, Says, value, unset, unknown_value, unknown_unset, empty, comment, without_white_end}
-use Rattle.kc_dotconfig_model.specs.Files.{file_lines, assigned_over, no_users}
-use Rattle.kc_dotconfig_model.specs.Laws.{FilesFit}
+use Rattle.kc_dotconfig_model.specs.PrefixGrammar.{lacks}
+use Rattle.kc_dotconfig_model.specs.ConfigLines.{LineMeaning, assigns, notice, silent, tri_of_text, ValueMeans, tri, chosen, not_chosen, quoted, number, no_int, no_hex, no_tri, no_text, no_number, unset_meaning, Means, value, unset, unknown_value, unknown_unset, empty, comment, without_white_end}
+use Rattle.kc_dotconfig_model.specs.ConfigFiles.{file_lines, assigned_over, empty_assignment}
+use Rattle.kc_dotconfig_model.specs.FileLaws.{FilesFit}
 
 -- what a saying assigns fits
-abbrev SayingFits : Whole → Saying → Type 0
+abbrev SayingFits : Tree → LineMeaning → Type 0
 SayingFits tree (assigns u x) = user_fits tree u x ≡ true
 SayingFits tree (notice kind) = Unit {0}
 SayingFits tree silent = Unit {0}
 
-bool_meant : (text : List ℕ) (t : Tri) → tri_meant Boolean text ≡ Some t → not (is_m t) ≡ true
+bool_meant : (text : List ℕ) (t : Tri) → tri_of_text Boolean text ≡ Some t → not (is_m t) ≡ true
 bool_meant text t e = go (bytes_eq text (codes "y")) (bytes_eq text (codes "n")) e where
   go : (a b : Bool) → cond a (Some Y) (cond b (Some N) None) ≡ Some t → not (is_m t) ≡ true
   go true b e = let same : Y ≡ t = cc in ap (λ s. not (is_m s)) (sym same)
   go false true e = let same : N ≡ t = cc in ap (λ s. not (is_m s)) (sym same)
   go false false e = cc
 
-tri_meant_fits : (kind : Kind) (text : List ℕ) (t : Tri) → tri_meant kind text ≡ Some t → tri_fits kind t ≡ true
+tri_meant_fits : (kind : Kind) (text : List ℕ) (t : Tri) → tri_of_text kind text ≡ Some t → tri_fits kind t ≡ true
 tri_meant_fits Boolean text t e = bool_meant text t e
 tri_meant_fits Tristate text t e = refl
 tri_meant_fits Text text t e = cc
@@ -79,7 +79,7 @@ first_lacks xs ys one = (and_parts (lacks 10 xs) (lacks 10 ys) (sym (list_all-ap
 quoted_one_line : (text means : List ℕ) → IsQuoted text means → lacks 10 text ≡ true → has_newline means ≡ false
 quoted_one_line text means q one = body_one_line q.0 means q.2 (first_lacks q.0 (34 ∷ []) (second_lacks (34 ∷ []) (q.0 ++ 34 ∷ []) (ap (lacks 10) (sym q.1) ∙ one)))
 
--- what stands behind a byte below 128 is UTF-8
+-- what stands after a byte below 128 is UTF-8
 utf8_behind : (bytes front back : List ℕ) (b : ℕ) → b < 128 → IsUtf8 bytes → bytes ≡ front ++ b ∷ back → IsUtf8 back
 utf8_behind bytes front back b low u is =
     let v = subst IsUtf8 is u in
@@ -89,7 +89,7 @@ utf8_behind bytes front back b low u is =
     let whole : (front ++ b ∷ []) ++ back ≡ front ++ b ∷ back = append_assoc front (b ∷ []) back in
     subst IsUtf8 (ap (drop (length front + 1)) (sym whole) ∙ drop_at (front ++ b ∷ []) back (length front + 1) (length-append front (b ∷ []))) (IsUtf8-drop (front ++ b ∷ back) (length front + 1) v cut)
 
-module _ (tree : Whole) (sound : IsConsistent tree) (s : ℕ) (symbol : Symbol) (at : slice_get tree.symbols s ≡ Some symbol) where
+module _ (tree : Tree) (sound : IsConsistent tree) (s : ℕ) (symbol : Symbol) (at : slice_get tree.symbols s ≡ Some symbol) where
   outside_fits : (x : UserValue) → symbol.choice ≡ None → symbol_user_fits (Some symbol) x ≡ true → user_fits tree (unit_of tree s) x ≡ true
   unfolding user_fits
   outside_fits x out fits =
@@ -108,7 +108,7 @@ module _ (tree : Whole) (sound : IsConsistent tree) (s : ℕ) (symbol : Symbol) 
   outside None e other = e
   outside (Some c) e other = absurd (other (sound.bool_members s c symbol at e))
 
-  value_fits_unit : (text : List ℕ) (saying : Saying) → lacks 10 text ≡ true → IsUtf8 text → ValueSays tree s symbol text saying → SayingFits tree saying
+  value_fits_unit : (text : List ℕ) (saying : LineMeaning) → lacks 10 text ≡ true → IsUtf8 text → ValueMeans tree s symbol text saying → SayingFits tree saying
   value_fits_unit text saying one utf8 (tri _ t out meant) = outside_fits (TriUser t) out (tri_meant_fits symbol.kind text t meant)
   value_fits_unit text saying one utf8 (chosen c _ within meant) = member_fits c within
   value_fits_unit text saying one utf8 (not_chosen c _ t within meant other) = tt
@@ -122,13 +122,13 @@ module _ (tree : Whole) (sound : IsConsistent tree) (s : ℕ) (symbol : Symbol) 
   value_fits_unit text saying one utf8 (no_text _ is without) = tt
   value_fits_unit text saying one utf8 (no_number b rest large other without) = tt
 
-  unset_fits : (o : Option ℕ) → symbol.choice ≡ o → (t : Bool) → is_tri_kind symbol.kind ≡ t → SayingFits tree (unset_saying tree s symbol o)
+  unset_fits : (o : Option ℕ) → symbol.choice ≡ o → (t : Bool) → is_tri_kind symbol.kind ≡ t → SayingFits tree (unset_meaning tree s symbol o)
   unset_fits (Some c) e t small = tt
   unset_fits None e true small = subst (λ b. SayingFits tree (cond b (assigns (unit_of tree s) (TriUser N)) silent)) (sym small) (outside_fits (TriUser N) e (n_fits symbol.kind small))
   unset_fits None e false small = subst (λ b. SayingFits tree (cond b (assigns (unit_of tree s) (TriUser N)) silent)) (sym small) tt
 
-module _ (prefix : List ℕ) (tree : Whole) (sound : IsConsistent tree) where
-  line_fits : (line : List ℕ) (saying : Saying) → lacks 10 line ≡ true → IsUtf8 line → Says prefix tree line saying → SayingFits tree saying
+module _ (prefix : List ℕ) (tree : Tree) (sound : IsConsistent tree) where
+  line_fits : (line : List ℕ) (saying : LineMeaning) → lacks 10 line ≡ true → IsUtf8 line → Means prefix tree line saying → SayingFits tree saying
   line_fits line saying one utf8 (value _ name text s symbol _ is named at says) =
       let behind_name = second_lacks name (61 ∷ text) (second_lacks prefix (name ++ (61 ∷ text)) (ap (lacks 10) (sym is.2) ∙ one)) in
       let parted : line ≡ (prefix ++ name) ++ 61 ∷ text = is.2 ∙ sym (append_assoc prefix name (61 ∷ text)) in
@@ -156,7 +156,7 @@ module _ (prefix : List ℕ) (tree : Whole) (sound : IsConsistent tree) where
     go true e all = (refl, all)
     go false e all = onto_lacks b (file_lines bytes) e all
 
-  sayings_fit : (lines : List (List ℕ)) (sayings : List Saying) → AllByRecursion (λ line. lacks 10 line ≡ true) lines → list_all is_utf8 lines ≡ true → AllZip (λ line saying. Says prefix tree (without_white_end line) saying) lines sayings → AllByRecursion (SayingFits tree) sayings
+  sayings_fit : (lines : List (List ℕ)) (sayings : List LineMeaning) → AllByRecursion (λ line. lacks 10 line ≡ true) lines → list_all is_utf8 lines ≡ true → AllZip (λ line saying. Means prefix tree (without_white_end line) saying) lines sayings → AllByRecursion (SayingFits tree) sayings
   sayings_fit [] [] one utf8 all = tt
   sayings_fit [] (saying ∷ sayings) one utf8 all = absurd all
   sayings_fit (line ∷ lines) [] one utf8 all = absurd all
@@ -176,7 +176,7 @@ module _ (prefix : List ℕ) (tree : Whole) (sound : IsConsistent tree) where
     ],
   )
 
-  over_fits : (sayings : List Saying) (users : List (Option UserValue)) → FitsUsers (length tree.units) (λ w y. IsTrue (user_fits tree w y)) users → AllByRecursion (SayingFits tree) sayings → FitsUsers (length tree.units) (λ w y. IsTrue (user_fits tree w y)) (assigned_over sayings users)
+  over_fits : (sayings : List LineMeaning) (users : List (Option UserValue)) → FitsUsers (length tree.units) (λ w y. IsTrue (user_fits tree w y)) users → AllByRecursion (SayingFits tree) sayings → FitsUsers (length tree.units) (λ w y. IsTrue (user_fits tree w y)) (assigned_over sayings users)
   over_fits [] users fitting all = fitting
   over_fits (assigns u x ∷ sayings) users fitting all = over_fits sayings (slice_set users u (Some x)) (set_fits users u x fitting all.0) all.1
   over_fits (notice kind ∷ sayings) users fitting all = over_fits sayings users fitting all.1
@@ -193,6 +193,6 @@ none_length (suc n) = let rest = none_length n in omega arith
 
 pub file_fits : FilesFit
 file_fits prefix tree bytes sayings sound utf8 says =
-    over_fits prefix tree sound sayings (no_users tree)
+    over_fits prefix tree sound sayings (empty_assignment tree)
     (none_length (length tree.units), λ u h. subst (λ o. IfSome o (λ y. IsTrue (user_fits tree u y))) (sym (none_held (length tree.units) u)) tt)
     (sayings_fit prefix tree sound (file_lines bytes) sayings (lines_lack prefix tree sound bytes) utf8 says)

@@ -4,34 +4,34 @@ use Rattle.std.specs.Str.{IsUtf8, is_utf8}
 use Rattle.std.proofs.lemmas.Bool.{cases_Bool, cases_lt, false≢true, and_from, eqb-true}
 use Rattle.std.proofs.lemmas.List.{append-nil}
 use Rattle.std.proofs.lemmas.Str.{IsUtf8-from_is_utf8, is_utf8-from_IsUtf8}
-use Rattle.kc_tree_model.specs.Trees.{Whole}
+use Rattle.kc_tree_model.specs.Trees.{Tree}
 use Rattle.kc_dotconfig_model.specs.declared.fault.LoadKind.{LoadKind}
 use Rattle.kc_dotconfig_model.specs.declared.fault.LoadKind.TheVariants.{Malformed, NotUtf8, LineTooLong, TooManyLines, Read, TooLarge}
-use Rattle.kc_dotconfig_model.specs.Names.{is_prefix, lacks}
-use Rattle.kc_dotconfig_model.specs.Lines.{Saying, without_white_end}
-use Rattle.kc_dotconfig_model.specs.LoadFaults.{complete, cut_short, newlines, ComesAt, IsFirstFault, IsAccepted, MOST_BYTES, MOST_LINES, MOST_LINE_BYTES}
-use Rattle.kc_dotconfig_model.specs.Laws.{EachFileIsJudged, EachCutFileIsJudged}
-use Rattle.kc_dotconfig_model.specs.checker.Reading.{line_saying}
+use Rattle.kc_dotconfig_model.specs.PrefixGrammar.{is_prefix, lacks}
+use Rattle.kc_dotconfig_model.specs.ConfigLines.{LineMeaning, without_white_end}
+use Rattle.kc_dotconfig_model.specs.LoadFaults.{complete, cut_short, newlines, OccursAt, IsFirstFault, IsAccepted, MAX_BYTES, MAX_LINES, MAX_LINE_BYTES}
+use Rattle.kc_dotconfig_model.specs.FileLaws.{EachFileIsJudged, EachCutFileIsJudged}
+use Rattle.kc_dotconfig_model.specs.checker.LineMeanings.{line_meaning}
 use Rattle.kc_dotconfig_model.specs.checker.Cutting.{IsSound, IsCut}
 use Rattle.kc_dotconfig_model.proofs.LineLaws.{line_read}
 use Rattle.kc_dotconfig_model.proofs.FirstFaults.{failed_reads}
 use Rattle.kc_dotconfig_model.proofs.FaultsAtCuts.{AtEnd, too_large, too_many, too_long, not_utf8, malformed, accepted, held, line_ended, nothing_told}
 
-abbrev Judged : List ℕ → Whole → List ℕ → Type 0
+abbrev Judged : List ℕ → Tree → List ℕ → Type 0
 Judged prefix tree bytes = IsAccepted prefix tree bytes ⊎ ((kind : LoadKind) × (number : ℕ) × IsFirstFault prefix tree complete bytes kind number)
 
 no_length : (line : List ℕ) → length line ≤ 0 → line ≡ []
 no_length [] h = refl
 no_length (b ∷ line) h = absurd (omega arith)
 
-module _ (prefix : List ℕ) (valid : is_prefix prefix ≡ true) (tree : Whole) (told line : List ℕ) (sayings : List Saying) (c : IsCut prefix tree told line sayings) where
+module _ (prefix : List ℕ) (valid : is_prefix prefix ≡ true) (tree : Tree) (told line : List ℕ) (sayings : List LineMeaning) (c : IsCut prefix tree told line sayings) where
   -- the line so far has a fault at its end, or what follows judges
-  at_line_end : (more : List ℕ) → AtEnd prefix tree told line sayings c more → ((x : Saying) → IsSound prefix tree line x → Judged prefix tree (told ++ more)) → Judged prefix tree (told ++ more)
+  at_line_end : (more : List ℕ) → AtEnd prefix tree told line sayings c more → ((x : LineMeaning) → IsSound prefix tree line x → Judged prefix tree (told ++ more)) → Judged prefix tree (told ++ more)
   at_line_end more ends next = elim (cases_Bool (is_utf8 line)) [
-    | inl is ↦ read (line_saying prefix tree (without_white_end line)) refl (IsUtf8-from_is_utf8 line is)
+    | inl is ↦ read (line_meaning prefix tree (without_white_end line)) refl (IsUtf8-from_is_utf8 line is)
     | inr odd ↦ inr (NotUtf8, length sayings + 1, not_utf8 prefix tree told line sayings c more ends (λ u. false≢true (sym odd ∙ is_utf8-from_IsUtf8 line u)))
   ] where
-    read : (o : Option Saying) → line_saying prefix tree (without_white_end line) ≡ o → IsUtf8 line → IsAccepted prefix tree (told ++ more) ⊎ ((kind : LoadKind) × (number : ℕ) × IsFirstFault prefix tree complete (told ++ more) kind number)
+    read : (o : Option LineMeaning) → line_meaning prefix tree (without_white_end line) ≡ o → IsUtf8 line → IsAccepted prefix tree (told ++ more) ⊎ ((kind : LoadKind) × (number : ℕ) × IsFirstFault prefix tree complete (told ++ more) kind number)
     read (Some x) e text = next x (record { text = text; short = c.short; says = (line_read prefix tree (without_white_end line) x valid).0 e })
     read None e text = inr (Malformed, length sayings + 1, malformed prefix tree told line sayings c more ends text (λ x says. let some = (line_read prefix tree (without_white_end line) x valid).1 says in cc (some, e)))
 
@@ -43,16 +43,16 @@ module _ (prefix : List ℕ) (valid : is_prefix prefix ≡ true) (tree : Whole) 
   ]
 
   -- a byte follows that is within the size, and either it is too many or goes on
-  at_byte : (b : ℕ) (rest : List ℕ) → length told < MOST_BYTES
-      → (((line_new : List ℕ) (sayings_new : List Saying) → IsCut prefix tree (told ++ b ∷ []) line_new sayings_new → Judged prefix tree (told ++ b ∷ rest)))
+  at_byte : (b : ℕ) (rest : List ℕ) → length told < MAX_BYTES
+      → (((line_new : List ℕ) (sayings_new : List LineMeaning) → IsCut prefix tree (told ++ b ∷ []) line_new sayings_new → Judged prefix tree (told ++ b ∷ rest)))
       → Judged prefix tree (told ++ b ∷ rest)
-  at_byte b rest less next = elim (cases_lt (length sayings) MOST_LINES) [
+  at_byte b rest less next = elim (cases_lt (length sayings) MAX_LINES) [
     | inl room ↦ elim (cases_Bool (b == 10)) [
       | inl newline ↦
           let is = eqb-true b 10 newline in
           at_line_end (b ∷ rest) (inr (rest, (ap (λ x. x ∷ rest) is), less))
           (λ x sound. next [] (sayings ++ x ∷ []) (subst (λ y. IsCut prefix tree (told ++ y ∷ []) [] (sayings ++ x ∷ [])) (sym is) (line_ended prefix tree told line sayings c x sound room less)))
-      | inr other ↦ elim (cases_lt (length line) MOST_LINE_BYTES) [
+      | inr other ↦ elim (cases_lt (length line) MAX_LINE_BYTES) [
         | inl short ↦
             let one : lacks 10 (b ∷ []) ≡ true = and_from (not (b == 10)) true (ap not other) refl in
             next (line ++ b ∷ []) sayings (held prefix tree told line sayings c (b ∷ []) one (omega arith) room (omega arith))
@@ -65,12 +65,12 @@ module _ (prefix : List ℕ) (valid : is_prefix prefix ≡ true) (tree : Whole) 
   ]
 
 -- what was told goes on by these bytes
-judge : (prefix : List ℕ) → is_prefix prefix ≡ true → (tree : Whole) (more told line : List ℕ) (sayings : List Saying) → IsCut prefix tree told line sayings → Judged prefix tree (told ++ more)
+judge : (prefix : List ℕ) → is_prefix prefix ≡ true → (tree : Tree) (more told line : List ℕ) (sayings : List LineMeaning) → IsCut prefix tree told line sayings → Judged prefix tree (told ++ more)
 judge prefix valid tree [] told line sayings c = at_file_end prefix valid tree told line sayings c
 judge prefix valid tree (b ∷ rest) told line sayings c =
-    let later : (line_new : List ℕ) (sayings_new : List Saying) → IsCut prefix tree (told ++ b ∷ []) line_new sayings_new → Judged prefix tree (told ++ b ∷ rest) =
+    let later : (line_new : List ℕ) (sayings_new : List LineMeaning) → IsCut prefix tree (told ++ b ∷ []) line_new sayings_new → Judged prefix tree (told ++ b ∷ rest) =
     λ l s d. subst (Judged prefix tree) (append_assoc told (b ∷ []) rest) (judge prefix valid tree rest (told ++ b ∷ []) l s d) in
-    elim (cases_lt (length told) MOST_BYTES) [
+    elim (cases_lt (length told) MAX_BYTES) [
       | inl less ↦ at_byte prefix valid tree told line sayings c b rest less later
       | inr full ↦ inr (TooLarge, length sayings + 1, too_large prefix tree told line sayings c (b ∷ rest) (let h = c.small in omega (arith, h, full)) (omega arith))
     ]
@@ -79,7 +79,7 @@ pub judged : EachFileIsJudged
 judged prefix tree bytes valid = judge prefix valid tree bytes [] [] [] (nothing_told prefix tree)
 
 -- a failed read is the first fault where no other comes before it
-read_first : (prefix : List ℕ) (tree : Whole) (bytes : List ℕ) → ((kind : LoadKind) (byte other : ℕ) → ComesAt prefix tree bytes kind byte other → length bytes ≤ byte) → (kind : LoadKind) × (number : ℕ) × IsFirstFault prefix tree cut_short bytes kind number
+read_first : (prefix : List ℕ) (tree : Tree) (bytes : List ℕ) → ((kind : LoadKind) (byte other : ℕ) → OccursAt prefix tree bytes kind byte other → length bytes ≤ byte) → (kind : LoadKind) × (number : ℕ) × IsFirstFault prefix tree cut_short bytes kind number
 read_first prefix tree bytes late = (Read, newlines bytes + 1, (failed_reads prefix tree bytes (newlines bytes + 1)).1 (late, refl))
 
 pub cut_judged : EachCutFileIsJudged

@@ -4,62 +4,62 @@ use Rattle.std.specs.Prelude.{codes, nat_lt, bytes_eq, option_map}
 use Rattle.std.specs.Option.{option_and_then}
 use Rattle.std.proofs.lemmas.Bool.{eqb-true, eq-eqb, and_parts, and_from, not-true, ltb-true, lt-ltb}
 use Rattle.std.proofs.lemmas.Slice.Eq.{bytes_eq-Decides}
-use Rattle.kc_dotconfig_model.specs.Names.{lacks}
-use Rattle.kc_dotconfig_model.specs.Lines.{IsValueLine, IsUnsetLine}
-use Rattle.kc_dotconfig_model.specs.checker.Reading.{behind, cut_at, if_named, named_before, value_parts, if_not_set, unset_name}
+use Rattle.kc_dotconfig_model.specs.PrefixGrammar.{lacks}
+use Rattle.kc_dotconfig_model.specs.ConfigLines.{IsValueLine, IsUnsetLine}
+use Rattle.kc_dotconfig_model.specs.checker.LineMeanings.{after_front, split_at_byte, if_named, named_before, value_parts, if_not_set, unset_name}
 
-behind_is : (front text rest : List ℕ) → behind front text ≡ Some rest → text ≡ front ++ rest
+behind_is : (front text rest : List ℕ) → after_front front text ≡ Some rest → text ≡ front ++ rest
 behind_is [] text rest e = cc
 behind_is (a ∷ front) [] rest e = cc
 behind_is (a ∷ front) (b ∷ text) rest e = go (a == b) refl e (behind_is front text rest) where
-  go : (t : Bool) → (a == b) ≡ t → cond t (behind front text) None ≡ Some rest → (behind front text ≡ Some rest → text ≡ front ++ rest) → b ∷ text ≡ a ∷ (front ++ rest)
+  go : (t : Bool) → (a == b) ≡ t → cond t (after_front front text) None ≡ Some rest → (after_front front text ≡ Some rest → text ≡ front ++ rest) → b ∷ text ≡ a ∷ (front ++ rest)
   go true same e next = ap (λ c. c ∷ text) (sym (eqb-true a b same)) ∙ ap (λ l. a ∷ l) (next e)
   go false same e next = cc
 
-behind_front : (front rest : List ℕ) → behind front (front ++ rest) ≡ Some rest
+behind_front : (front rest : List ℕ) → after_front front (front ++ rest) ≡ Some rest
 behind_front [] rest = refl
-behind_front (a ∷ front) rest = ap (λ t. cond t (behind front (front ++ rest)) None) (eq-eqb a a refl) ∙ behind_front front rest
+behind_front (a ∷ front) rest = ap (λ t. cond t (after_front front (front ++ rest)) None) (eq-eqb a a refl) ∙ behind_front front rest
 
 abbrev Parts : Type 0
 Parts = List ℕ × List ℕ
 
-cut_is : (b : ℕ) (text : List ℕ) (parts : Parts) → cut_at b text ≡ Some parts → (text ≡ parts.0 ++ b ∷ parts.1) × (lacks b parts.0 ≡ true)
+cut_is : (b : ℕ) (text : List ℕ) (parts : Parts) → split_at_byte b text ≡ Some parts → (text ≡ parts.0 ++ b ∷ parts.1) × (lacks b parts.0 ≡ true)
 cut_is b [] parts e = cc
 cut_is b (c ∷ text) parts e = go (c == b) refl e (cut_is b text) where
   some_after : (o : Option Parts) (p : Parts) → option_map (λ (q : Parts). (c ∷ q.0, q.1)) o ≡ Some p → (q : Parts) × (o ≡ Some q) × (p.0 ≡ c ∷ q.0) × (p.1 ≡ q.1)
   some_after None p e = cc
   some_after (Some q) p e = let same : (c ∷ q.0, q.1) ≡ p = cc in (q, refl, ap (λ (r : Parts). r.0) (sym same), ap (λ (r : Parts). r.1) (sym same))
 
-  go : (t : Bool) → (c == b) ≡ t → cond t (Some ([], text)) (option_map (λ (q : Parts). (c ∷ q.0, q.1)) (cut_at b text)) ≡ Some parts
-      → ((p : Parts) → cut_at b text ≡ Some p → (text ≡ p.0 ++ b ∷ p.1) × (lacks b p.0 ≡ true)) → (c ∷ text ≡ parts.0 ++ b ∷ parts.1) × (lacks b parts.0 ≡ true)
+  go : (t : Bool) → (c == b) ≡ t → cond t (Some ([], text)) (option_map (λ (q : Parts). (c ∷ q.0, q.1)) (split_at_byte b text)) ≡ Some parts
+      → ((p : Parts) → split_at_byte b text ≡ Some p → (text ≡ p.0 ++ b ∷ p.1) × (lacks b p.0 ≡ true)) → (c ∷ text ≡ parts.0 ++ b ∷ parts.1) × (lacks b parts.0 ≡ true)
   go true same e next =
       let whole : ([], text) ≡ parts = cc in
       (ap (λ x. x ∷ text) (eqb-true c b same) ∙ ap (λ (p : Parts). p.0 ++ b ∷ p.1) whole, ap (λ (p : Parts). lacks b p.0) (sym whole))
   go false other e next =
-      let o = some_after (cut_at b text) parts e in
+      let o = some_after (split_at_byte b text) parts e in
       let rest = next o.0 o.1 in
       (ap (λ l. c ∷ l) rest.0 ∙ ap (λ l. l ++ b ∷ o.0.1) (sym o.2) ∙ ap (λ l. parts.0 ++ b ∷ l) (sym o.3), ap (lacks b) o.2 ∙ and_from (not (c == b)) (lacks b o.0.0) (ap not other) rest.1)
 
-cut_front : (b : ℕ) (before after : List ℕ) → lacks b before ≡ true → cut_at b (before ++ b ∷ after) ≡ Some (before, after)
-cut_front b [] after all = ap (λ t. cond t (Some ([], after)) (option_map (λ (q : Parts). (b ∷ q.0, q.1)) (cut_at b after))) (eq-eqb b b refl)
+cut_front : (b : ℕ) (before after : List ℕ) → lacks b before ≡ true → split_at_byte b (before ++ b ∷ after) ≡ Some (before, after)
+cut_front b [] after all = ap (λ t. cond t (Some ([], after)) (option_map (λ (q : Parts). (b ∷ q.0, q.1)) (split_at_byte b after))) (eq-eqb b b refl)
 cut_front b (c ∷ before) after all =
     let parts = and_parts (not (c == b)) (lacks b before) all in
-    ap (λ t. cond t (Some ([], before ++ b ∷ after)) (option_map (λ (q : Parts). (c ∷ q.0, q.1)) (cut_at b (before ++ b ∷ after)))) (not-true (c == b) parts.0)
+    ap (λ t. cond t (Some ([], before ++ b ∷ after)) (option_map (λ (q : Parts). (c ∷ q.0, q.1)) (split_at_byte b (before ++ b ∷ after)))) (not-true (c == b) parts.0)
     ∙ ap (option_map (λ (q : Parts). (c ∷ q.0, q.1))) (cut_front b before after parts.1)
 
--- what is read before and behind the first such byte
+-- what is read before and after the first such byte
 record IsCut (b : ℕ) (text : List ℕ) (parts : Parts) : Type 0 where
   some : 0 < length parts.0
   lacking : lacks b parts.0 ≡ true
   whole : text ≡ parts.0 ++ b ∷ parts.1
 
 named_is : (b : ℕ) (text : List ℕ) (parts : Parts) → named_before b text ≡ Some parts → IsCut b text parts
-named_is b text parts e = go (cut_at b text) refl e where
+named_is b text parts e = go (split_at_byte b text) refl e where
   test : (t : Bool) (p : Parts) → nat_lt 0 (length p.0) ≡ t → cond t (Some p) None ≡ Some parts → (p ≡ parts) × (0 < length p.0)
   test true p some e = (cc, ltb-true 0 (length p.0) some)
   test false p some e = cc
 
-  go : (o : Option Parts) → cut_at b text ≡ o → option_and_then if_named o ≡ Some parts → IsCut b text parts
+  go : (o : Option Parts) → split_at_byte b text ≡ o → option_and_then if_named o ≡ Some parts → IsCut b text parts
   go None c e = cc
   go (Some p) c e =
       let named = test (nat_lt 0 (length p.0)) p refl e in
@@ -76,7 +76,7 @@ some_and_then f (Some x) y e = (x, refl, e)
 -- a line is read as a name and a text exactly where it is of that form
 pub value_line_is : (prefix line : List ℕ) (parts : Parts) → value_parts prefix line ≡ Some parts → IsValueLine prefix line parts.0 parts.1
 value_line_is prefix line parts e =
-    let rest = some_and_then (named_before 61) (behind prefix line) parts e in
+    let rest = some_and_then (named_before 61) (after_front prefix line) parts e in
     let cut = named_is 61 rest.0 parts rest.2 in
     (cut.some, cut.lacking, behind_is prefix line rest.0 rest.1 ∙ ap (λ l. prefix ++ l) cut.whole)
 
@@ -92,8 +92,8 @@ if_not_set_is parts name e = go (bytes_eq parts.1 (codes "is not set")) refl e w
 
 pub unset_line_is : (prefix line name : List ℕ) → unset_name prefix line ≡ Some name → IsUnsetLine prefix line name
 unset_line_is prefix line name e =
-    let cut = some_and_then if_not_set (option_and_then (named_before 32) (behind (codes "# " ++ prefix) line)) name e in
-    let rest = some_and_then (named_before 32) (behind (codes "# " ++ prefix) line) cut.0 cut.1 in
+    let cut = some_and_then if_not_set (option_and_then (named_before 32) (after_front (codes "# " ++ prefix) line)) name e in
+    let rest = some_and_then (named_before 32) (after_front (codes "# " ++ prefix) line) cut.0 cut.1 in
     let form = named_is 32 rest.0 cut.0 rest.2 in
     let parts = if_not_set_is cut.0 name cut.2 in (
       subst (λ l. 0 < length l) parts.0 form.some,

@@ -6,14 +6,14 @@ use Rattle.std.specs.List.{AllZip, list_all}
 use Rattle.std.proofs.lemmas.Bool.{cases_Bool, false≢true, eqb-true, and_parts, ltb-true}
 use Rattle.std.proofs.lemmas.Option.{slice_get_cases}
 use Rattle.kc_expr.specs.Token.{is_white_byte}
-use Rattle.kc_tree_model.specs.Trees.{Whole, Symbol}
-use Rattle.kc_tree_model.specs.TreeLookup.{is_name_byte, symbol_named, found_at}
-use Rattle.kc_dotconfig_model.specs.Names.{is_prefix}
-use Rattle.kc_dotconfig_model.specs.Lines.{Saying, silent, Says, value, unset, unknown_value, unknown_unset, empty, comment, IsValueLine, IsUnsetLine, unset_saying, without_white_end}
-use Rattle.kc_dotconfig_model.specs.Files.{file_lines}
-use Rattle.kc_dotconfig_model.specs.checker.Reading.{value_saying, value_parts, unset_name, named_before, behind, of_symbol_at, of_named, is_hash, of_other, of_unset, of_value, line_saying, with_rest, sayings_of_lines}
-use Rattle.kc_dotconfig_model.specs.checker.ReadingLaws.{LinesAreRead, FilesAreRead}
-use Rattle.kc_dotconfig_model.specs.Laws.{LinesSayOneThing, FilesSayOneThing}
+use Rattle.kc_tree_model.specs.Trees.{Tree, Symbol}
+use Rattle.kc_tree_model.specs.TreeLookup.{is_name_byte, symbol_named, index_if_found}
+use Rattle.kc_dotconfig_model.specs.PrefixGrammar.{is_prefix}
+use Rattle.kc_dotconfig_model.specs.ConfigLines.{LineMeaning, silent, Means, value, unset, unknown_value, unknown_unset, empty, comment, IsValueLine, IsUnsetLine, unset_meaning, without_white_end}
+use Rattle.kc_dotconfig_model.specs.ConfigFiles.{file_lines}
+use Rattle.kc_dotconfig_model.specs.checker.LineMeanings.{value_meaning, value_parts, unset_name, named_before, after_front, of_symbol_at, of_named, is_hash, of_other, of_unset, of_value, line_meaning, with_rest, meanings_of_lines}
+use Rattle.kc_dotconfig_model.specs.checker.LineMeaningLaws.{LinesAreRead, FilesAreRead}
+use Rattle.kc_dotconfig_model.specs.FileLaws.{LinesHaveOneMeaning, FilesHaveOneMeaning}
 use Rattle.kc_dotconfig_model.proofs.ValueLaws.{value_says, value_said}
 use Rattle.kc_dotconfig_model.proofs.LineForms.{value_line_is, value_line_read, unset_line_is, unset_line_read}
 
@@ -40,7 +40,7 @@ head_of (b ∷ rest) e = (b, record { rest = rest; whole = refl; word = (and_par
 no_value_line : (prefix : List ℕ) → is_prefix prefix ≡ true → (b : ℕ) (line : List ℕ) → is_name_byte b ≡ false → value_parts prefix (b ∷ line) ≡ None
 no_value_line prefix valid b line fails =
     let head = head_of prefix valid in
-    ap (λ p. value_parts p (b ∷ line)) head.1.whole ∙ ap (λ t. option_and_then (named_before 61) (cond t (behind head.1.rest line) None)) (isn't b head.0 fails head.1.word)
+    ap (λ p. value_parts p (b ∷ line)) head.1.whole ∙ ap (λ t. option_and_then (named_before 61) (cond t (after_front head.1.rest line) None)) (isn't b head.0 fails head.1.word)
 
 no_value_in_nothing : (prefix : List ℕ) → is_prefix prefix ≡ true → value_parts prefix [] ≡ None
 no_value_in_nothing prefix valid = let head = head_of prefix valid in ap (λ p. value_parts p []) head.1.whole
@@ -56,14 +56,14 @@ no_value_in_comment prefix valid line hash (Some parts) e =
     let same : head.0 ≡ 35 = cc in
     absurd (false≢true (sym (ap is_name_byte same) ∙ head.1.word))
 
-found_below : (place count s : ℕ) → found_at place count ≡ Some s → s < count
+found_below : (place count s : ℕ) → index_if_found place count ≡ Some s → s < count
 found_below place count s e = go (nat_lt place count) refl e where
   go : (t : Bool) → nat_lt place count ≡ t → cond t (Some place) None ≡ Some s → s < count
   go true below e = let same : place ≡ s = cc in subst (λ k. k < count) same (ltb-true place count below)
   go false below e = cc
 
--- a name stands for a symbol that is there
-named_inside : (tree : Whole) (name : List ℕ) (s : ℕ) → symbol_named tree name ≡ Some s → slice_get tree.symbols s ≡ None → ⊥
+-- a name means a symbol that is there
+named_inside : (tree : Tree) (name : List ℕ) (s : ℕ) → symbol_named tree name ≡ Some s → slice_get tree.symbols s ≡ None → ⊥
 named_inside tree name s named past =
     let below : s < length tree.symbols = found_below _ (length tree.symbols) s named in
     elim (slice_get_cases tree.symbols s).1 [
@@ -71,18 +71,18 @@ named_inside tree name s named past =
       | inr beyond ↦ (let past_end : length tree.symbols ≤ s = beyond.0 in omega arith)
     ]
 
-module _ (prefix : List ℕ) (tree : Whole) where
-  value_sound : (line : List ℕ) (parts : List ℕ × List ℕ) → IsValueLine prefix line parts.0 parts.1 → (o : Option ℕ) → symbol_named tree parts.0 ≡ o → Says prefix tree line (of_named tree (λ s symbol. value_saying tree s symbol parts.1) o)
+module _ (prefix : List ℕ) (tree : Tree) where
+  value_sound : (line : List ℕ) (parts : List ℕ × List ℕ) → IsValueLine prefix line parts.0 parts.1 → (o : Option ℕ) → symbol_named tree parts.0 ≡ o → Means prefix tree line (of_named tree (λ s symbol. value_meaning tree s symbol parts.1) o)
   value_sound line parts is None named = unknown_value line parts.0 parts.1 is named
   value_sound line parts is (Some s) named = go (slice_get tree.symbols s) refl where
-    go : (o : Option Symbol) → slice_get tree.symbols s ≡ o → Says prefix tree line (of_symbol_at (λ s symbol. value_saying tree s symbol parts.1) s o)
+    go : (o : Option Symbol) → slice_get tree.symbols s ≡ o → Means prefix tree line (of_symbol_at (λ s symbol. value_meaning tree s symbol parts.1) s o)
     go None at = absurd (named_inside tree parts.0 s named at)
-    go (Some symbol) at = value line parts.0 parts.1 s symbol (value_saying tree s symbol parts.1) is named at (value_says tree s symbol parts.1)
+    go (Some symbol) at = value line parts.0 parts.1 s symbol (value_meaning tree s symbol parts.1) is named at (value_says tree s symbol parts.1)
 
-  unset_sound : (line name : List ℕ) → IsUnsetLine prefix line name → (o : Option ℕ) → symbol_named tree name ≡ o → Says prefix tree line (of_named tree (λ s symbol. unset_saying tree s symbol symbol.choice) o)
+  unset_sound : (line name : List ℕ) → IsUnsetLine prefix line name → (o : Option ℕ) → symbol_named tree name ≡ o → Means prefix tree line (of_named tree (λ s symbol. unset_meaning tree s symbol symbol.choice) o)
   unset_sound line name is None named = unknown_unset line name is named
   unset_sound line name is (Some s) named = go (slice_get tree.symbols s) refl where
-    go : (o : Option Symbol) → slice_get tree.symbols s ≡ o → Says prefix tree line (of_symbol_at (λ s symbol. unset_saying tree s symbol symbol.choice) s o)
+    go : (o : Option Symbol) → slice_get tree.symbols s ≡ o → Means prefix tree line (of_symbol_at (λ s symbol. unset_meaning tree s symbol symbol.choice) s o)
     go None at = absurd (named_inside tree name s named at)
     go (Some symbol) at = unset line name s symbol is named at
 
@@ -90,26 +90,26 @@ module _ (prefix : List ℕ) (tree : Whole) where
   hash_found None e = absurd (false≢true e)
   hash_found (Some b) e = ap Some (eqb-true b 35 e)
 
-  other_sound : (line : List ℕ) (saying : Saying) → unset_name prefix line ≡ None → of_other line ≡ Some saying → Says prefix tree line saying
-  other_sound [] saying unnamed e = let same : silent ≡ saying = cc in subst (Says prefix tree []) same empty
+  other_sound : (line : List ℕ) (saying : LineMeaning) → unset_name prefix line ≡ None → of_other line ≡ Some saying → Means prefix tree line saying
+  other_sound [] saying unnamed e = let same : silent ≡ saying = cc in subst (Means prefix tree []) same empty
   other_sound (b ∷ line) saying unnamed e = go (is_hash (find (λ c. not (is_white_byte c)) (b ∷ line))) refl e where
-    go : (t : Bool) → is_hash (find (λ c. not (is_white_byte c)) (b ∷ line)) ≡ t → cond t (Some silent) None ≡ Some saying → Says prefix tree (b ∷ line) saying
+    go : (t : Bool) → is_hash (find (λ c. not (is_white_byte c)) (b ∷ line)) ≡ t → cond t (Some silent) None ≡ Some saying → Means prefix tree (b ∷ line) saying
     go true hash e =
         let same : silent ≡ saying = cc in
-        subst (Says prefix tree (b ∷ line)) same (comment (b ∷ line) (hash_found _ hash) (λ name is. let read = unset_line_read prefix (b ∷ line) name is in cc))
+        subst (Means prefix tree (b ∷ line)) same (comment (b ∷ line) (hash_found _ hash) (λ name is. let read = unset_line_read prefix (b ∷ line) name is in cc))
     go false hash e = cc
 
-  unset_form_sound : (line : List ℕ) (saying : Saying) (o : Option (List ℕ)) → unset_name prefix line ≡ o → of_unset tree line o ≡ Some saying → Says prefix tree line saying
+  unset_form_sound : (line : List ℕ) (saying : LineMeaning) (o : Option (List ℕ)) → unset_name prefix line ≡ o → of_unset tree line o ≡ Some saying → Means prefix tree line saying
   unset_form_sound line saying None e f = other_sound line saying e f
   unset_form_sound line saying (Some name) e f =
-      let same : of_named tree (λ s symbol. unset_saying tree s symbol symbol.choice) (symbol_named tree name) ≡ saying = cc in
-      subst (Says prefix tree line) same (unset_sound line name (unset_line_is prefix line name e) (symbol_named tree name) refl)
+      let same : of_named tree (λ s symbol. unset_meaning tree s symbol symbol.choice) (symbol_named tree name) ≡ saying = cc in
+      subst (Means prefix tree line) same (unset_sound line name (unset_line_is prefix line name e) (symbol_named tree name) refl)
 
-  form_sound : (line : List ℕ) (saying : Saying) (o : Option (List ℕ × List ℕ)) → value_parts prefix line ≡ o → of_value prefix tree line o ≡ Some saying → Says prefix tree line saying
+  form_sound : (line : List ℕ) (saying : LineMeaning) (o : Option (List ℕ × List ℕ)) → value_parts prefix line ≡ o → of_value prefix tree line o ≡ Some saying → Means prefix tree line saying
   form_sound line saying None e f = unset_form_sound line saying (unset_name prefix line) refl f
   form_sound line saying (Some parts) e f =
-      let same : of_named tree (λ s symbol. value_saying tree s symbol parts.1) (symbol_named tree parts.0) ≡ saying = cc in
-      subst (Says prefix tree line) same (value_sound line parts (value_line_is prefix line parts e) (symbol_named tree parts.0) refl)
+      let same : of_named tree (λ s symbol. value_meaning tree s symbol parts.1) (symbol_named tree parts.0) ≡ saying = cc in
+      subst (Means prefix tree line) same (value_sound line parts (value_line_is prefix line parts e) (symbol_named tree parts.0) refl)
 
   no_name : (line : List ℕ) → ((name : List ℕ) → IsUnsetLine prefix line name → ⊥) → (o : Option (List ℕ)) → unset_name prefix line ≡ o → o ≡ None
   no_name line lacks None e = refl
@@ -120,49 +120,49 @@ module _ (prefix : List ℕ) (tree : Whole) where
   other_of (b ∷ line) hash = ap (λ o. cond (is_hash o) (Some silent) None) hash
 
   module _ (valid : is_prefix prefix ≡ true) where
-    of_unset_line : (line name : List ℕ) → IsUnsetLine prefix line name → of_value prefix tree line (value_parts prefix line) ≡ Some (of_named tree (λ s symbol. unset_saying tree s symbol symbol.choice) (symbol_named tree name))
+    of_unset_line : (line name : List ℕ) → IsUnsetLine prefix line name → of_value prefix tree line (value_parts prefix line) ≡ Some (of_named tree (λ s symbol. unset_meaning tree s symbol symbol.choice) (symbol_named tree name))
     of_unset_line line name is =
         ap (of_value prefix tree line) (ap (value_parts prefix) is.2 ∙ no_value_line prefix valid 35 (32 ∷ (prefix ++ (name ++ codes " is not set"))) refl)
         ∙ ap (of_unset tree line) (unset_line_read prefix line name is)
 
-    form_complete : (line : List ℕ) (saying : Saying) → Says prefix tree line saying → of_value prefix tree line (value_parts prefix line) ≡ Some saying
+    form_complete : (line : List ℕ) (saying : LineMeaning) → Means prefix tree line saying → of_value prefix tree line (value_parts prefix line) ≡ Some saying
     form_complete line saying (value _ name text s symbol _ is named at says) =
-        ap (of_value prefix tree line) (value_line_read prefix line name text is) ∙ ap (λ o. Some (of_named tree (λ s symbol. value_saying tree s symbol text) o)) named
-        ∙ ap (λ o. Some (of_symbol_at (λ s symbol. value_saying tree s symbol text) s o)) at ∙ ap Some (value_said tree s symbol text saying says)
+        ap (of_value prefix tree line) (value_line_read prefix line name text is) ∙ ap (λ o. Some (of_named tree (λ s symbol. value_meaning tree s symbol text) o)) named
+        ∙ ap (λ o. Some (of_symbol_at (λ s symbol. value_meaning tree s symbol text) s o)) at ∙ ap Some (value_said tree s symbol text saying says)
     form_complete line saying (unset _ name s symbol is named at) =
-        of_unset_line line name is ∙ ap (λ o. Some (of_named tree (λ s symbol. unset_saying tree s symbol symbol.choice) o)) named ∙ ap (λ o. Some (of_symbol_at (λ s symbol. unset_saying tree s symbol symbol.choice) s o)) at
+        of_unset_line line name is ∙ ap (λ o. Some (of_named tree (λ s symbol. unset_meaning tree s symbol symbol.choice) o)) named ∙ ap (λ o. Some (of_symbol_at (λ s symbol. unset_meaning tree s symbol symbol.choice) s o)) at
     form_complete line saying (unknown_value _ name text is named) =
-        ap (of_value prefix tree line) (value_line_read prefix line name text is) ∙ ap (λ o. Some (of_named tree (λ s symbol. value_saying tree s symbol text) o)) named
+        ap (of_value prefix tree line) (value_line_read prefix line name text is) ∙ ap (λ o. Some (of_named tree (λ s symbol. value_meaning tree s symbol text) o)) named
     form_complete line saying (unknown_unset _ name is named) =
-        of_unset_line line name is ∙ ap (λ o. Some (of_named tree (λ s symbol. unset_saying tree s symbol symbol.choice) o)) named
+        of_unset_line line name is ∙ ap (λ o. Some (of_named tree (λ s symbol. unset_meaning tree s symbol symbol.choice) o)) named
     form_complete line saying empty = ap (of_value prefix tree []) (no_value_in_nothing prefix valid)
     form_complete line saying (comment _ hash lacks) =
         ap (of_value prefix tree line) (no_value_in_comment prefix valid line hash (value_parts prefix line) refl) ∙ ap (of_unset tree line) (no_name line lacks (unset_name prefix line) refl) ∙ other_of line hash
 
 pub line_read : LinesAreRead
-unfolding line_saying
+unfolding line_meaning
 line_read prefix tree line saying valid = (form_sound prefix tree line saying (value_parts prefix line) refl, form_complete prefix tree valid line saying)
 
-lines_sound : (prefix : List ℕ) (tree : Whole) → is_prefix prefix ≡ true → (lines : List (List ℕ)) (sayings : List Saying) → sayings_of_lines prefix tree lines ≡ Some sayings → AllZip (λ line saying. Says prefix tree (without_white_end line) saying) lines sayings
+lines_sound : (prefix : List ℕ) (tree : Tree) → is_prefix prefix ≡ true → (lines : List (List ℕ)) (sayings : List LineMeaning) → meanings_of_lines prefix tree lines ≡ Some sayings → AllZip (λ line saying. Means prefix tree (without_white_end line) saying) lines sayings
 lines_sound prefix tree valid [] [] e = tt
 lines_sound prefix tree valid [] (saying ∷ sayings) e = cc
 lines_sound prefix tree valid (line ∷ lines) sayings e =
-    go (line_saying prefix tree (without_white_end line)) (sayings_of_lines prefix tree lines) refl refl e (lines_sound prefix tree valid lines) where
-      go : (o : Option Saying) (os : Option (List Saying)) → line_saying prefix tree (without_white_end line) ≡ o → sayings_of_lines prefix tree lines ≡ os → with_rest o os ≡ Some sayings
-          → ((rest : List Saying) → sayings_of_lines prefix tree lines ≡ Some rest → AllZip (λ line saying. Says prefix tree (without_white_end line) saying) lines rest)
-          → AllZip (λ line saying. Says prefix tree (without_white_end line) saying) (line ∷ lines) sayings
+    go (line_meaning prefix tree (without_white_end line)) (meanings_of_lines prefix tree lines) refl refl e (lines_sound prefix tree valid lines) where
+      go : (o : Option LineMeaning) (os : Option (List LineMeaning)) → line_meaning prefix tree (without_white_end line) ≡ o → meanings_of_lines prefix tree lines ≡ os → with_rest o os ≡ Some sayings
+          → ((rest : List LineMeaning) → meanings_of_lines prefix tree lines ≡ Some rest → AllZip (λ line saying. Means prefix tree (without_white_end line) saying) lines rest)
+          → AllZip (λ line saying. Means prefix tree (without_white_end line) saying) (line ∷ lines) sayings
       go None os a b e next = cc
       go (Some saying) None a b e next = cc
       go (Some saying) (Some rest) a b e next =
           let same : saying ∷ rest ≡ sayings = cc in
-          subst (AllZip (λ line saying. Says prefix tree (without_white_end line) saying) (line ∷ lines)) same ((line_read prefix tree (without_white_end line) saying valid).0 a, next rest b)
+          subst (AllZip (λ line saying. Means prefix tree (without_white_end line) saying) (line ∷ lines)) same ((line_read prefix tree (without_white_end line) saying valid).0 a, next rest b)
 
-lines_complete : (prefix : List ℕ) (tree : Whole) → is_prefix prefix ≡ true → (lines : List (List ℕ)) (sayings : List Saying) → AllZip (λ line saying. Says prefix tree (without_white_end line) saying) lines sayings → sayings_of_lines prefix tree lines ≡ Some sayings
+lines_complete : (prefix : List ℕ) (tree : Tree) → is_prefix prefix ≡ true → (lines : List (List ℕ)) (sayings : List LineMeaning) → AllZip (λ line saying. Means prefix tree (without_white_end line) saying) lines sayings → meanings_of_lines prefix tree lines ≡ Some sayings
 lines_complete prefix tree valid [] [] all = refl
 lines_complete prefix tree valid [] (saying ∷ sayings) all = absurd all
 lines_complete prefix tree valid (line ∷ lines) [] all = absurd all
 lines_complete prefix tree valid (line ∷ lines) (saying ∷ sayings) all =
-    ap (λ o. with_rest o (sayings_of_lines prefix tree lines)) ((line_read prefix tree (without_white_end line) saying valid).1 all.0) ∙ ap (with_rest (Some saying)) (lines_complete prefix tree valid lines sayings all.1)
+    ap (λ o. with_rest o (meanings_of_lines prefix tree lines)) ((line_read prefix tree (without_white_end line) saying valid).1 all.0) ∙ ap (with_rest (Some saying)) (lines_complete prefix tree valid lines sayings all.1)
 
 pub file_read : FilesAreRead
 file_read prefix tree bytes sayings valid = (lines_sound prefix tree valid (file_lines bytes) sayings, lines_complete prefix tree valid (file_lines bytes) sayings)
@@ -170,10 +170,10 @@ file_read prefix tree bytes sayings valid = (lines_sound prefix tree valid (file
 same_told : {X : Type 0} (a b : X) (o : Option X) → o ≡ Some a → o ≡ Some b → a ≡ b
 same_told a b o p q = cc
 
-pub line_says_one : LinesSayOneThing
+pub line_says_one : LinesHaveOneMeaning
 line_says_one prefix tree line a b valid of_a of_b =
-    same_told a b (line_saying prefix tree line) ((line_read prefix tree line a valid).1 of_a) ((line_read prefix tree line b valid).1 of_b)
+    same_told a b (line_meaning prefix tree line) ((line_read prefix tree line a valid).1 of_a) ((line_read prefix tree line b valid).1 of_b)
 
-pub file_says_one : FilesSayOneThing
+pub file_says_one : FilesHaveOneMeaning
 file_says_one prefix tree bytes a b valid of_a of_b =
-    same_told a b (sayings_of_lines prefix tree (file_lines bytes)) ((file_read prefix tree bytes a valid).1 of_a) ((file_read prefix tree bytes b valid).1 of_b)
+    same_told a b (meanings_of_lines prefix tree (file_lines bytes)) ((file_read prefix tree bytes a valid).1 of_a) ((file_read prefix tree bytes b valid).1 of_b)

@@ -3,11 +3,11 @@ use Rattle.std.proofs.Common.{◌≡◌, ℕ, zero, suc, List, [], ◌∷◌, Op
 use Rattle.std.specs.Prelude.{slice_set, replicate}
 use Rattle.std.proofs.lemmas.List.{length-set}
 use Rattle.kc_rules_model.specs.declared.values.UserValue.{UserValue}
-use Rattle.kc_dotconfig_model.specs.Lines.{Saying, assigns, notice, silent}
-use Rattle.kc_dotconfig_model.specs.Files.{assigned_over, laid_over, no_users}
-use Rattle.kc_dotconfig_model.specs.Laws.{FilesLieOverAssignments}
+use Rattle.kc_dotconfig_model.specs.ConfigLines.{LineMeaning, assigns, notice, silent}
+use Rattle.kc_dotconfig_model.specs.ConfigFiles.{assigned_over, overlay, empty_assignment}
+use Rattle.kc_dotconfig_model.specs.FileLaws.{FilesLieOverAssignments}
 
-none_over : (n : ℕ) (users : List (Option UserValue)) → length users ≡ n → laid_over (replicate n None) users ≡ users
+none_over : (n : ℕ) (users : List (Option UserValue)) → length users ≡ n → overlay (replicate n None) users ≡ users
 none_over zero users e = refl
 none_over (suc n) [] e = absurd (omega arith)
 none_over (suc n) (x ∷ users) e = ap (λ l. x ∷ l) (none_over n users (omega arith))
@@ -16,7 +16,7 @@ none_length : (n : ℕ) → length {A = Option UserValue} (replicate n None) ≡
 none_length zero = refl
 none_length (suc n) = let rest = none_length n in omega arith
 
-set_over : (over users : List (Option UserValue)) (u : ℕ) (x : UserValue) → length over ≡ length users → slice_set (laid_over over users) u (Some x) ≡ laid_over (slice_set over u (Some x)) users
+set_over : (over users : List (Option UserValue)) (u : ℕ) (x : UserValue) → length over ≡ length users → slice_set (overlay over users) u (Some x) ≡ overlay (slice_set over u (Some x)) users
 set_over [] [] u x e = refl
 set_over [] (y ∷ users) u x e = absurd (omega arith)
 set_over (o ∷ over) [] u x e = absurd (omega arith)
@@ -25,7 +25,7 @@ set_over (None ∷ over) (y ∷ users) (suc u) x e = ap (λ l. y ∷ l) (set_ove
 set_over (Some o ∷ over) (y ∷ users) zero x e = refl
 set_over (Some o ∷ over) (y ∷ users) (suc u) x e = ap (λ l. Some o ∷ l) (set_over over users u x (omega arith))
 
-lines_over : (sayings : List Saying) (over users : List (Option UserValue)) → length over ≡ length users → assigned_over sayings (laid_over over users) ≡ laid_over (assigned_over sayings over) users
+lines_over : (sayings : List LineMeaning) (over users : List (Option UserValue)) → length over ≡ length users → assigned_over sayings (overlay over users) ≡ overlay (assigned_over sayings over) users
 lines_over [] over users e = refl
 lines_over (assigns u x ∷ sayings) over users e =
     ap (assigned_over sayings) (set_over over users u x e) ∙ lines_over sayings (slice_set over u (Some x)) users (length-set over u (Some x) ∙ e)
@@ -34,4 +34,4 @@ lines_over (silent ∷ sayings) over users e = lines_over sayings over users e
 
 pub file_over : FilesLieOverAssignments
 file_over tree sayings users e =
-    ap (assigned_over sayings) (sym (none_over (length tree.units) users e)) ∙ lines_over sayings (no_users tree) users (none_length (length tree.units) ∙ sym e)
+    ap (assigned_over sayings) (sym (none_over (length tree.units) users e)) ∙ lines_over sayings (empty_assignment tree) users (none_length (length tree.units) ∙ sym e)

@@ -8,16 +8,16 @@ use Rattle.kc_value.specs.declared.value.Kind.{Kind}
 use Rattle.kc_value.specs.declared.value.Kind.TheVariants.{Bool as Boolean, Tristate, Text, Int, Hex}
 use Rattle.kc_value.specs.Number.{int_text, hex_text}
 use Rattle.kc_value.specs.Quoted.{IsBody, none, plain, pair, IsQuoted}
-use Rattle.kc_tree_model.specs.Trees.{Whole, Symbol}
+use Rattle.kc_tree_model.specs.Trees.{Tree, Symbol}
 use Rattle.kc_tree_model.specs.TreeLookup.{unit_of}
 use Rattle.kc_rules_model.specs.declared.values.UserValue.TheVariants.{Text as TextUser, Member as MemberUser}
 use Rattle.kc_rules_model.specs.Kinds.{is_y, is_tri_kind}
 use Rattle.kc_value.specs.Number.{number_of_text}
 use Rattle.kc_dotconfig_model.specs.declared.notice.NoticeKind.TheVariants.{NotOfType}
-use Rattle.kc_dotconfig_model.specs.Lines.{Saying, assigns, notice, silent, tri_meant, ValueSays, tri, chosen, not_chosen, quoted, number, no_int, no_hex, no_tri, no_text, no_number}
-use Rattle.kc_dotconfig_model.specs.checker.Reading.{ended, unquoted_rest, unquoted, tri_saying, string_saying, without_number, number_saying, saying_of_kind, value_saying}
+use Rattle.kc_dotconfig_model.specs.ConfigLines.{LineMeaning, assigns, notice, silent, tri_of_text, ValueMeans, tri, chosen, not_chosen, quoted, number, no_int, no_hex, no_tri, no_text, no_number}
+use Rattle.kc_dotconfig_model.specs.checker.LineMeanings.{ended, unquoted_rest, unquoted, tri_meaning, string_meaning, without_number, number_meaning, meaning_of_kind, value_meaning}
 
--- what is read behind an opening quote is a body and a closing quote
+-- what is read after an opening quote is a body and a closing quote
 record IsRest (rest means : List ℕ) : Type 0 where
   body : List ℕ
   whole : rest ≡ body ++ 34 ∷ []
@@ -77,50 +77,50 @@ unquoted_means (c ∷ rest) means e = go (c == 34) refl e where
 pub means_unquoted : (text means : List ℕ) → IsQuoted text means → unquoted text ≡ Some means
 means_unquoted text means q = ap unquoted q.1 ∙ unquoted_complete q.0 means q.2
 
-tri_sound : (tree : Whole) (s : ℕ) (symbol : Symbol) (kind : Kind) (text : List ℕ) → symbol.kind ≡ kind → is_tri_kind kind ≡ true → (c : Option ℕ) → symbol.choice ≡ c → (o : Option Tri) → tri_meant symbol.kind text ≡ o
-    → ValueSays tree s symbol text (tri_saying (unit_of tree s) s c o)
+tri_sound : (tree : Tree) (s : ℕ) (symbol : Symbol) (kind : Kind) (text : List ℕ) → symbol.kind ≡ kind → is_tri_kind kind ≡ true → (c : Option ℕ) → symbol.choice ≡ c → (o : Option Tri) → tri_of_text symbol.kind text ≡ o
+    → ValueMeans tree s symbol text (tri_meaning (unit_of tree s) s c o)
 tri_sound tree s symbol kind text is small c choice None meant = no_tri text (ap is_tri_kind is ∙ small) meant
 tri_sound tree s symbol kind text is small None choice (Some t) meant = tri text t choice meant
 tri_sound tree s symbol kind text is small (Some c) choice (Some Y) meant = chosen c text choice meant
 tri_sound tree s symbol kind text is small (Some c) choice (Some N) meant = not_chosen c text N choice meant (λ e. cc)
 tri_sound tree s symbol kind text is small (Some c) choice (Some M) meant = not_chosen c text M choice meant (λ e. cc)
 
-string_sound : (tree : Whole) (s : ℕ) (symbol : Symbol) (text : List ℕ) → symbol.kind ≡ Text → (o : Option (List ℕ)) → unquoted text ≡ o → ValueSays tree s symbol text (string_saying (unit_of tree s) o)
+string_sound : (tree : Tree) (s : ℕ) (symbol : Symbol) (text : List ℕ) → symbol.kind ≡ Text → (o : Option (List ℕ)) → unquoted text ≡ o → ValueMeans tree s symbol text (string_meaning (unit_of tree s) o)
 string_sound tree s symbol text is None e = no_text text is (λ means q. let same = means_unquoted text means q in cc)
 string_sound tree s symbol text is (Some means) e = quoted text means is (unquoted_means text means e)
 
-number_sound : (tree : Whole) (s : ℕ) (symbol : Symbol) (text : List ℕ) → is_tri_kind symbol.kind ≡ false → symbol.kind ≢ Text → ValueSays tree s symbol [] silent → (o : Option ℤ) → number_of_text symbol.kind text ≡ o
-    → ValueSays tree s symbol text (cond (is_some o) (assigns (unit_of tree s) (TextUser text)) (without_number text))
+number_sound : (tree : Tree) (s : ℕ) (symbol : Symbol) (text : List ℕ) → is_tri_kind symbol.kind ≡ false → symbol.kind ≢ Text → ValueMeans tree s symbol [] silent → (o : Option ℤ) → number_of_text symbol.kind text ≡ o
+    → ValueMeans tree s symbol text (cond (is_some o) (assigns (unit_of tree s) (TextUser text)) (without_number text))
 number_sound tree s symbol text large other empty (Some n) e = number text (ap is_some e)
 number_sound tree s symbol [] large other empty None e = empty
 number_sound tree s symbol (b ∷ text) large other empty None e = no_number b text large other e
 
-says_at : (tree : Whole) (s : ℕ) (symbol : Symbol) (text : List ℕ) (kind : Kind) → symbol.kind ≡ kind → ValueSays tree s symbol text (saying_of_kind kind (unit_of tree s) s symbol.choice text)
-says_at tree s symbol text Boolean is = tri_sound tree s symbol Boolean text is refl symbol.choice refl (tri_meant Boolean text) (ap (λ k. tri_meant k text) is)
-says_at tree s symbol text Tristate is = tri_sound tree s symbol Tristate text is refl symbol.choice refl (tri_meant Tristate text) (ap (λ k. tri_meant k text) is)
+says_at : (tree : Tree) (s : ℕ) (symbol : Symbol) (text : List ℕ) (kind : Kind) → symbol.kind ≡ kind → ValueMeans tree s symbol text (meaning_of_kind kind (unit_of tree s) s symbol.choice text)
+says_at tree s symbol text Boolean is = tri_sound tree s symbol Boolean text is refl symbol.choice refl (tri_of_text Boolean text) (ap (λ k. tri_of_text k text) is)
+says_at tree s symbol text Tristate is = tri_sound tree s symbol Tristate text is refl symbol.choice refl (tri_of_text Tristate text) (ap (λ k. tri_of_text k text) is)
 says_at tree s symbol text Text is = string_sound tree s symbol text is (unquoted text) refl
 says_at tree s symbol text Int is = number_sound tree s symbol text (ap is_tri_kind is) (λ e. cc) (no_int is) (number_of_text Int text) (ap (λ k. number_of_text k text) is)
 says_at tree s symbol text Hex is = number_sound tree s symbol text (ap is_tri_kind is) (λ e. cc) (no_hex is) (number_of_text Hex text) (ap (λ k. number_of_text k text) is)
 
 -- the text says what the function tells
-pub value_says : (tree : Whole) (s : ℕ) (symbol : Symbol) (text : List ℕ) → ValueSays tree s symbol text (value_saying tree s symbol text)
+pub value_says : (tree : Tree) (s : ℕ) (symbol : Symbol) (text : List ℕ) → ValueMeans tree s symbol text (value_meaning tree s symbol text)
 value_says tree s symbol text = says_at tree s symbol text symbol.kind refl
 
-is_tri_meant : (kind : Kind) (text : List ℕ) (t : Tri) → tri_meant kind text ≡ Some t → is_tri_kind kind ≡ true
+is_tri_meant : (kind : Kind) (text : List ℕ) (t : Tri) → tri_of_text kind text ≡ Some t → is_tri_kind kind ≡ true
 is_tri_meant Boolean text t e = refl
 is_tri_meant Tristate text t e = refl
 is_tri_meant Text text t e = cc
 is_tri_meant Int text t e = cc
 is_tri_meant Hex text t e = cc
 
-of_tri_kind : (kind : Kind) (u s : ℕ) (choice : Option ℕ) (text : List ℕ) → is_tri_kind kind ≡ true → saying_of_kind kind u s choice text ≡ tri_saying u s choice (tri_meant kind text)
+of_tri_kind : (kind : Kind) (u s : ℕ) (choice : Option ℕ) (text : List ℕ) → is_tri_kind kind ≡ true → meaning_of_kind kind u s choice text ≡ tri_meaning u s choice (tri_of_text kind text)
 of_tri_kind Boolean u s choice text e = refl
 of_tri_kind Tristate u s choice text e = refl
 of_tri_kind Text u s choice text e = absurd (false≢true e)
 of_tri_kind Int u s choice text e = absurd (false≢true e)
 of_tri_kind Hex u s choice text e = absurd (false≢true e)
 
-of_number_kind : (kind : Kind) (u s : ℕ) (choice : Option ℕ) (text : List ℕ) → is_tri_kind kind ≡ false → kind ≢ Text → saying_of_kind kind u s choice text ≡ number_saying u kind text
+of_number_kind : (kind : Kind) (u s : ℕ) (choice : Option ℕ) (text : List ℕ) → is_tri_kind kind ≡ false → kind ≢ Text → meaning_of_kind kind u s choice text ≡ number_meaning u kind text
 of_number_kind Boolean u s choice text e other = absurd (false≢true (sym e))
 of_number_kind Tristate u s choice text e other = absurd (false≢true (sym e))
 of_number_kind Text u s choice text e other = absurd (other refl)
@@ -152,26 +152,26 @@ no_meaning text None e lacks = refl
 no_meaning text (Some means) e lacks = absurd (lacks means (unquoted_means text means e))
 
 -- and nothing else
-pub value_said : (tree : Whole) (s : ℕ) (symbol : Symbol) (text : List ℕ) (saying : Saying) → ValueSays tree s symbol text saying → value_saying tree s symbol text ≡ saying
+pub value_said : (tree : Tree) (s : ℕ) (symbol : Symbol) (text : List ℕ) (saying : LineMeaning) → ValueMeans tree s symbol text saying → value_meaning tree s symbol text ≡ saying
 value_said tree s symbol text saying (tri _ t out meant) =
-    of_tri_kind symbol.kind (unit_of tree s) s symbol.choice text (is_tri_meant symbol.kind text t meant) ∙ ap (λ o. tri_saying (unit_of tree s) s symbol.choice o) meant ∙ ap (λ c. tri_saying (unit_of tree s) s c (Some t)) out
+    of_tri_kind symbol.kind (unit_of tree s) s symbol.choice text (is_tri_meant symbol.kind text t meant) ∙ ap (λ o. tri_meaning (unit_of tree s) s symbol.choice o) meant ∙ ap (λ c. tri_meaning (unit_of tree s) s c (Some t)) out
 value_said tree s symbol text saying (chosen c _ within meant) =
-    of_tri_kind symbol.kind (unit_of tree s) s symbol.choice text (is_tri_meant symbol.kind text Y meant) ∙ ap (λ o. tri_saying (unit_of tree s) s symbol.choice o) meant ∙ ap (λ k. tri_saying (unit_of tree s) s k (Some Y)) within
+    of_tri_kind symbol.kind (unit_of tree s) s symbol.choice text (is_tri_meant symbol.kind text Y meant) ∙ ap (λ o. tri_meaning (unit_of tree s) s symbol.choice o) meant ∙ ap (λ k. tri_meaning (unit_of tree s) s k (Some Y)) within
 value_said tree s symbol text saying (not_chosen c _ t within meant other) =
-    of_tri_kind symbol.kind (unit_of tree s) s symbol.choice text (is_tri_meant symbol.kind text t meant) ∙ ap (λ o. tri_saying (unit_of tree s) s symbol.choice o) meant ∙ ap (λ k. tri_saying (unit_of tree s) s k (Some t)) within
+    of_tri_kind symbol.kind (unit_of tree s) s symbol.choice text (is_tri_meant symbol.kind text t meant) ∙ ap (λ o. tri_meaning (unit_of tree s) s symbol.choice o) meant ∙ ap (λ k. tri_meaning (unit_of tree s) s k (Some t)) within
     ∙ ap (λ b. cond b (assigns (unit_of tree s) (MemberUser s)) silent) (not_y t other)
 value_said tree s symbol text saying (quoted _ means is stands) =
-    ap (λ k. saying_of_kind k (unit_of tree s) s symbol.choice text) is ∙ ap (string_saying (unit_of tree s)) (means_unquoted text means stands)
+    ap (λ k. meaning_of_kind k (unit_of tree s) s symbol.choice text) is ∙ ap (string_meaning (unit_of tree s)) (means_unquoted text means stands)
 value_said tree s symbol text saying (number _ some) =
     let kinds = number_kind symbol.kind text some in
     of_number_kind symbol.kind (unit_of tree s) s symbol.choice text kinds.0 kinds.1 ∙ ap (λ b. cond b (assigns (unit_of tree s) (TextUser text)) (without_number text)) some
 value_said tree s symbol text saying (no_int is) =
-    ap (λ k. saying_of_kind k (unit_of tree s) s symbol.choice []) is ∙ ap (λ o. cond (is_some o) (assigns (unit_of tree s) (TextUser [])) silent) no_int_number
+    ap (λ k. meaning_of_kind k (unit_of tree s) s symbol.choice []) is ∙ ap (λ o. cond (is_some o) (assigns (unit_of tree s) (TextUser [])) silent) no_int_number
 value_said tree s symbol text saying (no_hex is) =
-    ap (λ k. saying_of_kind k (unit_of tree s) s symbol.choice []) is ∙ ap (λ o. cond (is_some o) (assigns (unit_of tree s) (TextUser [])) silent) no_hex_number
+    ap (λ k. meaning_of_kind k (unit_of tree s) s symbol.choice []) is ∙ ap (λ o. cond (is_some o) (assigns (unit_of tree s) (TextUser [])) silent) no_hex_number
 value_said tree s symbol text saying (no_tri _ small meant) =
-    of_tri_kind symbol.kind (unit_of tree s) s symbol.choice text small ∙ ap (λ o. tri_saying (unit_of tree s) s symbol.choice o) meant
+    of_tri_kind symbol.kind (unit_of tree s) s symbol.choice text small ∙ ap (λ o. tri_meaning (unit_of tree s) s symbol.choice o) meant
 value_said tree s symbol text saying (no_text _ is lacks) =
-    ap (λ k. saying_of_kind k (unit_of tree s) s symbol.choice text) is ∙ ap (string_saying (unit_of tree s)) (no_meaning text (unquoted text) refl lacks)
+    ap (λ k. meaning_of_kind k (unit_of tree s) s symbol.choice text) is ∙ ap (string_meaning (unit_of tree s)) (no_meaning text (unquoted text) refl lacks)
 value_said tree s symbol text saying (no_number b rest large other lacks) =
     of_number_kind symbol.kind (unit_of tree s) s symbol.choice (b ∷ rest) large other ∙ ap (λ o. cond (is_some o) (assigns (unit_of tree s) (TextUser (b ∷ rest))) (notice NotOfType)) lacks

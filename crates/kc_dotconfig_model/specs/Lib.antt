@@ -1,8 +1,8 @@
-pub mod Names
+pub mod PrefixGrammar
 pub mod Prefixes
-pub mod Lines
-pub mod Files
+pub mod ConfigLines
+pub mod ConfigFiles
 pub mod LoadFaults
 pub mod Missed
-pub mod Laws
+pub mod FileLaws
 pub mod checker

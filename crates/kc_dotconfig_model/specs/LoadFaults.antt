@@ -1,22 +1,22 @@
--- Which fault of a configuration file is told: the one whose byte comes first.
+-- Which fault of a configuration file is reported: the one whose byte comes first.
 use Rattle.std.specs.Prelude.{◌≡◌, ◌⊎◌, ℕ, ◌+◌, ◌<◌, ◌≤◌, List, [], ◌∷◌, ◌++◌, length, take, ◌==◌, true}
 use Rattle.std.specs.List.{count_by}
 use Rattle.std.specs.Str.{IsUtf8}
-use Rattle.kc_tree_model.specs.Trees.{Whole}
+use Rattle.kc_tree_model.specs.Trees.{Tree}
 use Rattle.kc_dotconfig_model.specs.declared.fault.LoadKind.{LoadKind}
 use Rattle.kc_dotconfig_model.specs.declared.fault.LoadKind.TheVariants.{Malformed, NotUtf8, LineTooLong, TooManyLines, Read, OutOfMemory, TooLarge}
-use Rattle.kc_dotconfig_model.specs.Names.{lacks}
-use Rattle.kc_dotconfig_model.specs.Lines.{IsMalformed}
+use Rattle.kc_dotconfig_model.specs.PrefixGrammar.{lacks}
+use Rattle.kc_dotconfig_model.specs.ConfigLines.{IsMalformed}
 
 -- the most bytes of a file, lines of a file, and bytes of a line without its newline
-abbrev pub MOST_BYTES : ℕ
-MOST_BYTES = 67108864
+abbrev pub MAX_BYTES : ℕ
+MAX_BYTES = 67108864
 
-abbrev pub MOST_LINES : ℕ
-MOST_LINES = 1048576
+abbrev pub MAX_LINES : ℕ
+MAX_LINES = 1048576
 
-abbrev pub MOST_LINE_BYTES : ℕ
-MOST_LINE_BYTES = 65536
+abbrev pub MAX_LINE_BYTES : ℕ
+MAX_LINE_BYTES = 65536
 
 -- the number of newlines
 abbrev pub newlines : List ℕ → ℕ
@@ -33,20 +33,20 @@ pub record IsLineAt (bytes line : List ℕ) (number start : ℕ) : Type 0 where
   pub ends : ((rest ≡ []) × (0 < length line)) ⊎ ((later : List ℕ) × (rest ≡ 10 ∷ later))
   pub one_line : lacks 10 line ≡ true
 
--- a fault of this kind comes at this byte, and is told with this line
-abbrev pub ComesAt : List ℕ → Whole → List ℕ → LoadKind → ℕ → ℕ → Type 0
-ComesAt prefix tree bytes TooLarge byte number = (MOST_BYTES < length bytes) × (byte ≡ MOST_BYTES)
-    × (number ≡ newlines (take MOST_BYTES bytes) + 1)
-ComesAt prefix tree bytes TooManyLines byte number = (line : List ℕ) × IsLineAt bytes line number byte
-    × (number ≡ MOST_LINES + 1)
-ComesAt prefix tree bytes LineTooLong byte number = (line : List ℕ) × (start : ℕ) × IsLineAt bytes line number start
-    × (MOST_LINE_BYTES < length line) × (byte ≡ start + MOST_LINE_BYTES)
-ComesAt prefix tree bytes NotUtf8 byte number = (line : List ℕ) × (start : ℕ) × IsLineAt bytes line number start
+-- a fault of this kind occurs at this byte, and is reported with this line
+abbrev pub OccursAt : List ℕ → Tree → List ℕ → LoadKind → ℕ → ℕ → Type 0
+OccursAt prefix tree bytes TooLarge byte number = (MAX_BYTES < length bytes) × (byte ≡ MAX_BYTES)
+    × (number ≡ newlines (take MAX_BYTES bytes) + 1)
+OccursAt prefix tree bytes TooManyLines byte number = (line : List ℕ) × IsLineAt bytes line number byte
+    × (number ≡ MAX_LINES + 1)
+OccursAt prefix tree bytes LineTooLong byte number = (line : List ℕ) × (start : ℕ) × IsLineAt bytes line number start
+    × (MAX_LINE_BYTES < length line) × (byte ≡ start + MAX_LINE_BYTES)
+OccursAt prefix tree bytes NotUtf8 byte number = (line : List ℕ) × (start : ℕ) × IsLineAt bytes line number start
     × (IsUtf8 line → ⊥) × (byte ≡ start + length line)
-ComesAt prefix tree bytes Malformed byte number = (line : List ℕ) × (start : ℕ) × IsLineAt bytes line number start
+OccursAt prefix tree bytes Malformed byte number = (line : List ℕ) × (start : ℕ) × IsLineAt bytes line number start
     × IsMalformed prefix tree line × (byte ≡ start + length line)
-ComesAt prefix tree bytes Read byte number = ⊥
-ComesAt prefix tree bytes OutOfMemory byte number = ⊥
+OccursAt prefix tree bytes Read byte number = ⊥
+OccursAt prefix tree bytes OutOfMemory byte number = ⊥
 
 -- the order of kinds that come at one byte
 abbrev pub rank_of : LoadKind → ℕ
@@ -58,27 +58,27 @@ rank_of Malformed = 4
 rank_of Read = 5
 rank_of OutOfMemory = 6
 
--- whether a file ends behind its bytes, or a read failed there
-pub data Extent : Type 0 where
-  complete : Extent
-  cut_short : Extent
+-- whether the file ends after these bytes, or a read failed there
+pub data InputEnd : Type 0 where
+  complete : InputEnd
+  cut_short : InputEnd
 
--- The faults that count. Where a read failed, these are those that come at one of the bytes before it, so that of an
--- incomplete line its length and the limits alone count, and behind them the failed read itself.
-abbrev pub CountsAt : List ℕ → Whole → Extent → List ℕ → LoadKind → ℕ → ℕ → Type 0
-CountsAt prefix tree complete bytes kind byte number = ComesAt prefix tree bytes kind byte number
-CountsAt prefix tree cut_short bytes kind byte number =
-    (ComesAt prefix tree bytes kind byte number × (byte < length bytes)) ⊎ ((kind ≡ Read) × (byte ≡ length bytes) × (number ≡ newlines bytes + 1))
+-- The faults considered: all of them in a complete file; after a failed read those placed before it, then the
+-- failed read itself. So an incomplete last line can only be too long or one line too many.
+abbrev pub IsConsideredAt : List ℕ → Tree → InputEnd → List ℕ → LoadKind → ℕ → ℕ → Type 0
+IsConsideredAt prefix tree complete bytes kind byte number = OccursAt prefix tree bytes kind byte number
+IsConsideredAt prefix tree cut_short bytes kind byte number =
+    (OccursAt prefix tree bytes kind byte number × (byte < length bytes)) ⊎ ((kind ≡ Read) × (byte ≡ length bytes) × (number ≡ newlines bytes + 1))
 
 -- the first fault
-pub record IsFirstFault (prefix : List ℕ) (tree : Whole) (extent : Extent) (bytes : List ℕ) (kind : LoadKind) (number : ℕ) : Type 0 where
+pub record IsFirstFault (prefix : List ℕ) (tree : Tree) (extent : InputEnd) (bytes : List ℕ) (kind : LoadKind) (number : ℕ) : Type 0 where
   pub byte : ℕ
-  pub comes : CountsAt prefix tree extent bytes kind byte number
+  pub comes : IsConsideredAt prefix tree extent bytes kind byte number
   pub first : (other : LoadKind) (other_byte other_number : ℕ)
-      → CountsAt prefix tree extent bytes other other_byte other_number
+      → IsConsideredAt prefix tree extent bytes other other_byte other_number
       → (byte < other_byte) ⊎ ((byte ≡ other_byte) × (rank_of kind ≤ rank_of other))
 
 -- a file without a fault
-abbrev pub IsAccepted : List ℕ → Whole → List ℕ → Type 0
+abbrev pub IsAccepted : List ℕ → Tree → List ℕ → Type 0
 IsAccepted prefix tree bytes =
-    (kind : LoadKind) (byte number : ℕ) → CountsAt prefix tree complete bytes kind byte number → ⊥
+    (kind : LoadKind) (byte number : ℕ) → IsConsideredAt prefix tree complete bytes kind byte number → ⊥

@@ -1,7 +1,7 @@
 -- Assignments that aren't the values that they are given.
 use Rattle.std.specs.Prelude.{ℕ, Bool, true, false, not, ◌&&◌, List, Option, Some, None, ◌==◌, slice_get, filter, unwrap_or}
 use Rattle.std.specs.Option.{option_map}
-use Rattle.kc_tree_model.specs.Trees.{Whole, Symbol}
+use Rattle.kc_tree_model.specs.Trees.{Tree, Symbol}
 use Rattle.kc_tree_model.specs.TreeLookup.{unit_of}
 use Rattle.kc_system.specs.Solutions.{user_of}
 use Rattle.kc_rules_model.specs.declared.values.UnitValue.{UnitValue}
@@ -26,10 +26,10 @@ is_missed_as (Some c) s (Some (MemberUser member)) value = (member == s)
 is_missed_as (Some c) s _ value = false
 
 -- whether a symbol of this number is there and missed
-abbrev pub is_missed : Whole → List (Option UserValue) → List UnitValue → ℕ → Bool
+abbrev pub is_missed : Tree → List (Option UserValue) → List UnitValue → ℕ → Bool
 is_missed tree users values s =
     unwrap_or (option_map (λ (symbol : Symbol). is_missed_as symbol.choice s (user_of users (unit_of tree s)) (slice_get values (unit_of tree s))) (slice_get tree.symbols s)) false
 
 -- in order of first definition
-abbrev pub missed : Whole → List (Option UserValue) → List UnitValue → List ℕ
+abbrev pub missed : Tree → List (Option UserValue) → List UnitValue → List ℕ
 missed tree users values = filter (is_missed tree users values) (symbol_numbers tree)

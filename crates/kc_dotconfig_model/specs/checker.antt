@@ -1,3 +1,3 @@
-pub mod Reading
-pub mod ReadingLaws
+pub mod LineMeanings
+pub mod LineMeaningLaws
 pub mod Cutting

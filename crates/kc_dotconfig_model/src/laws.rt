@@ -1,19 +1,19 @@
 //! Laws of lines and files.
-ghost use Rattle.kc_dotconfig_model.specs.checker.ReadingLaws.{LinesAreRead, FilesAreRead};
-ghost use Rattle.kc_dotconfig_model.specs.Laws.{LinesSayOneThing, FilesSayOneThing, FilesLieOverAssignments, FilesFit, AcceptedFilesAreRead, OneFaultIsFirst, FaultyFilesAreRefused, FailedReadsAreTold, AcceptedFilesHaveGoodLines, EachFileIsJudged, EachCutFileIsJudged};
+ghost use Rattle.kc_dotconfig_model.specs.checker.LineMeaningLaws.{LinesAreRead, FilesAreRead};
+ghost use Rattle.kc_dotconfig_model.specs.FileLaws.{LinesHaveOneMeaning, FilesHaveOneMeaning, FilesLieOverAssignments, FilesFit, AcceptedFilesAreRead, OneFaultIsFirst, FaultyFilesAreRefused, FailedReadsAreReported, AcceptedFilesHaveGoodLines, EachFileIsJudged, EachCutFileIsJudged};
 
-/// A line says one thing at most, and so does a file.
-pub fn one_thing_is_said()
-    ensures line { LinesSayOneThing }
-    ensures file { FilesSayOneThing }
+/// A line has at most one meaning, and so has a file.
+pub fn lines_have_one_meaning()
+    ensures line { LinesHaveOneMeaning }
+    ensures file { FilesHaveOneMeaning }
 {}
 
-/// What a line says by its forms is what the function tells with which worked examples compute.
+/// The meaning of a line as a relation is that of the function with which worked examples compute.
 pub fn lines_are_read()
     ensures { LinesAreRead }
 {}
 
-/// The same of a file.
+/// The meaning of a file as a relation is that of the function.
 pub fn files_are_read()
     ensures { FilesAreRead }
 {}
@@ -28,7 +28,7 @@ pub fn files_fit()
     ensures { FilesFit }
 {}
 
-/// An accepted file says something.
+/// An accepted file has a meaning.
 pub fn accepted_files_are_read()
     ensures { AcceptedFilesAreRead }
 {}
@@ -43,9 +43,9 @@ pub fn faulty_files_are_refused()
     ensures { FaultyFilesAreRefused }
 {}
 
-/// A failed read is told exactly where no fault comes at a byte before it.
-pub fn failed_reads_are_told()
-    ensures { FailedReadsAreTold }
+/// A failed read is reported exactly if no fault occurs at a byte before it.
+pub fn failed_reads_are_reported()
+    ensures { FailedReadsAreReported }
 {}
 
 /// A file is accepted exactly if it is within the limits of bytes and lines, and each of its lines

@@ -1,4 +1,4 @@
-//! Configuration files: what their lines say, what they assign, and why one is refused.
+//! Configuration files: the meaning of their lines, their assignments, and why one is refused.
 #![tactic(auto)]
 
 mod fault;
@@ -9,8 +9,8 @@ mod prefix;
 pub use fault::{LoadFault, LoadKind};
 pub use laws::{
     accepted_files_are_read, accepted_files_have_good_lines, each_file_is_judged,
-    failed_reads_are_told, faulty_files_are_refused, files_are_read, files_fit,
-    files_lie_over_assignments, lines_are_read, one_fault_is_first, one_thing_is_said,
+    failed_reads_are_reported, faulty_files_are_refused, files_are_read, files_fit,
+    files_lie_over_assignments, lines_are_read, lines_have_one_meaning, one_fault_is_first,
 };
 pub use notice::{Notice, NoticeKind};
 pub use prefix::Prefix;

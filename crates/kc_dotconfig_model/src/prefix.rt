@@ -1,11 +1,11 @@
-//! What stands before a symbol's name in a configuration file.
+//! The prefix of symbol names in a configuration file.
 ghost use Rattle.std.specs.Prelude.{◌≡◌, ◌↔◌, ◌≤◌, codes, take, IsTrue, IsSome, IfSome};
 ghost use Rattle.std.specs.List.{list_all};
 ghost use Rattle.kc_tree_model.specs.TreeLookup.{is_name_byte};
-ghost use Rattle.kc_dotconfig_model.specs.Names.{is_prefix};
+ghost use Rattle.kc_dotconfig_model.specs.PrefixGrammar.{is_prefix};
 
 /// The most bytes of a prefix.
-const MOST_BYTES: usize = 32;
+const MAX_BYTES: usize = 32;
 
 /// The prefix of the names in configuration files: 1 to 32 letters, digits and `_`.
 #[derive(Clone, Copy)]
@@ -16,14 +16,14 @@ pub struct Prefix {
     ghost valid: { IsTrue (is_prefix (take len bytes)) },
 }
 
-/// Whether a byte may stand in a prefix: a letter, a digit or `_`.
+/// Whether a byte is allowed in a prefix: a letter, a digit or `_`.
 fn is_prefix_byte(byte: u8) -> bool
     ensures { result ≡ is_name_byte byte }
 {
     byte.is_ascii_alphanumeric() || byte == b'_'
 }
 
-/// Whether each byte may stand in a prefix.
+/// Whether each byte is allowed in a prefix.
 fn are_prefix_bytes(text: &[u8]) -> bool
     ensures { result ≡ list_all is_name_byte text.now }
 {
@@ -34,15 +34,15 @@ fn are_prefix_bytes(text: &[u8]) -> bool
 fn is_valid(text: &[u8]) -> bool
     ensures { result ≡ is_prefix text.now }
 {
-    !text.is_empty() && text.len() <= MOST_BYTES && are_prefix_bytes(text)
+    !text.is_empty() && text.len() <= MAX_BYTES && are_prefix_bytes(text)
 }
 
 impl Prefix {
-    ghost use Rattle.kc_dotconfig_model.specs.Prefixes.{text_of};
+    ghost use Rattle.kc_dotconfig_model.specs.Prefixes.{prefix_bytes};
 
     /// The prefix of Linux's configuration files, `CONFIG_`.
     pub fn plain() -> Prefix
-        ensures { text_of result ≡ codes "CONFIG_" }
+        ensures { prefix_bytes result ≡ codes "CONFIG_" }
     {
         let mut bytes = [0u8; 32];
         bytes[..7].copy_from_slice(b"CONFIG_");
@@ -53,7 +53,7 @@ impl Prefix {
     /// than letters, digits and `_`.
     pub fn of(text: &[u8]) -> Option<Prefix>
         ensures valid { IsSome result ↔ IsTrue (is_prefix text.now) }
-        ensures text { IfSome result (λ prefix. text_of prefix ≡ text.now) }
+        ensures text { IfSome result (λ prefix. prefix_bytes prefix ≡ text.now) }
     {
         if !is_valid(text) {
             return None;
@@ -68,7 +68,7 @@ impl Prefix {
 
     /// The bytes.
     pub fn as_bytes(&self) -> &[u8]
-        ensures { result.now ≡ text_of self.now }
+        ensures { result.now ≡ prefix_bytes self.now }
     {
         &self.bytes[..self.len]
     }

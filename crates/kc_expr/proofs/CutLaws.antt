@@ -8,14 +8,14 @@ use Rattle.kc_value.specs.Quoted.{closing}
 use Rattle.kc_value.proofs.QuotedLaws.{body_closes, closed, IsClosed}
 use Rattle.kc_expr.specs.declared.fault.ExprFault.{ExprFault}
 use Rattle.kc_expr.specs.declared.fault.ExprKind.TheVariants.{BadToken}
-use Rattle.kc_expr.specs.declared.token.Lead.{Lead}
-use Rattle.kc_expr.specs.declared.token.Lead.TheVariants.{White, Comment, Token, Fault}
+use Rattle.kc_expr.specs.declared.token.NextToken.{NextToken}
+use Rattle.kc_expr.specs.declared.token.NextToken.TheVariants.{White, Comment, Token, Fault}
 use Rattle.kc_expr.specs.declared.token.Relop.TheVariants.{Equal, NotEqual, Less, Greater, LessEqual, GreaterEqual}
 use Rattle.kc_expr.specs.declared.token.TokenKind.{TokenKind}
 use Rattle.kc_expr.specs.declared.token.TokenKind.TheVariants.{Word, Quoted, Relation, Not, And, Or, Open, Close}
-use Rattle.kc_expr.specs.Answers.{with_front}
+use Rattle.kc_expr.specs.Results.{with_front}
 use Rattle.kc_expr.specs.Grammar.{is_quote}
-use Rattle.kc_expr.specs.Token.{Piece, is_white_byte, is_word_byte, lead_of, lead_of_operator, quoted_up_to, quoted_or_left_out, lexed}
+use Rattle.kc_expr.specs.Token.{Lexeme, is_white_byte, is_word_byte, next_token, next_operator, quoted_up_to, quoted_or_left_out, lexemes_from}
 use Rattle.kc_expr.specs.TokenGrammar.{IsToken, IsLongest, IsCut, ends, comment, white, token}
 use Rattle.kc_expr.proofs.Lexing.{lexed_white, lexed_comment, lexed_token, lexed_fault, word_run}
 use Rattle.kc_expr.proofs.TokenLaws.{run_all, run_front, front_run, quote_facts, first_byte}
@@ -30,7 +30,7 @@ pub record IsTokenAt (k : TokenKind) (len : ℕ) (bytes : List ℕ) : Type 0 whe
   pub longest : IsLongest text bytes
 
 -- what a lead says of the bytes
-abbrev Says : ℕ → List ℕ → Lead → Type 0
+abbrev Says : ℕ → List ℕ → NextToken → Type 0
 Says b bs White = is_white_byte b ≡ true
 Says b bs Comment = b ≡ 35
 Says b bs (Token k len) = IsTokenAt k len (b ∷ bs)
@@ -136,7 +136,7 @@ module _ (b : ℕ) (bs : List ℕ) (no_word : is_word_byte b ≡ false) (no_quot
   single : (k : TokenKind) (c : ℕ) → b ≡ c → is_pair c (get_or bs 0 0) ≡ false → IsToken k (c ∷ []) → Says b bs (Token k 1)
   single k c e n is = one_byte k c e is (ap (λ x. is_pair x (get_or bs 0 0)) e ∙ n)
 
-  by_test : (t : Bool) (c : ℕ) (l m : Lead) → eqb b c ≡ t → (b ≡ c → Says b bs l) → Says b bs m → Says b bs (cond t l m)
+  by_test : (t : Bool) (c : ℕ) (l m : NextToken) → eqb b c ≡ t → (b ≡ c → Says b bs l) → Says b bs m → Says b bs (cond t l m)
   by_test true c l m e f g = f (eqb-true b c e)
   by_test false c l m e f g = g
 
@@ -152,7 +152,7 @@ module _ (b : ℕ) (bs : List ℕ) (no_word : is_word_byte b ≡ false) (no_quot
   pair_62 true = refl
   pair_62 false = refl
 
-  pub operator_says : Says b bs (lead_of_operator b (get_or bs 0 0))
+  pub operator_says : Says b bs (next_operator b (get_or bs 0 0))
   operator_says =
       by_test (eqb b 33) 33 _ _ refl (λ e. either_way (eqb (get_or bs 0 0) 61) (Relation NotEqual) Not 33 61 e (omega arith) refl refl (pair_33 (eqb (get_or bs 0 0) 61)) refl)
       (by_test (eqb b 60) 60 _ _ refl (λ e. either_way (eqb (get_or bs 0 0) 61) (Relation LessEqual) (Relation Less) 60 61 e (omega arith) refl refl (pair_60 (eqb (get_or bs 0 0) 61)) refl)
@@ -281,46 +281,46 @@ quoted_says b bs (Some n) q c = left_out_says b n bs (position (λ c. eqb c 36) 
 
 -- what stands at the front says what it is
 module _ (b : ℕ) (bs : List ℕ) where
-  at_operator : (t : Bool) → is_word_byte b ≡ false → is_quote b ≡ t → Says b bs (cond t (quoted_up_to (b ∷ bs) (closing b false bs)) (lead_of_operator b (get_or bs 0 0)))
+  at_operator : (t : Bool) → is_word_byte b ≡ false → is_quote b ≡ t → Says b bs (cond t (quoted_up_to (b ∷ bs) (closing b false bs)) (next_operator b (get_or bs 0 0)))
   at_operator true w e = quoted_says b bs (closing b false bs) e refl
   at_operator false w e = operator_says b bs w e
 
-  at_word : (t : Bool) → is_word_byte b ≡ t → Says b bs (cond t (Token Word (length (take_while is_word_byte (b ∷ bs)))) (cond (is_quote b) (quoted_up_to (b ∷ bs) (closing b false bs)) (lead_of_operator b (get_or bs 0 0))))
+  at_word : (t : Bool) → is_word_byte b ≡ t → Says b bs (cond t (Token Word (length (take_while is_word_byte (b ∷ bs)))) (cond (is_quote b) (quoted_up_to (b ∷ bs) (closing b false bs)) (next_operator b (get_or bs 0 0))))
   at_word true e = word_says b bs e
   at_word false e = at_operator (is_quote b) e refl
 
-  at_hash : (t : Bool) → eqb b 35 ≡ t → Says b bs (cond t Comment (cond (is_word_byte b) (Token Word (length (take_while is_word_byte (b ∷ bs)))) (cond (is_quote b) (quoted_up_to (b ∷ bs) (closing b false bs)) (lead_of_operator b (get_or bs 0 0)))))
+  at_hash : (t : Bool) → eqb b 35 ≡ t → Says b bs (cond t Comment (cond (is_word_byte b) (Token Word (length (take_while is_word_byte (b ∷ bs)))) (cond (is_quote b) (quoted_up_to (b ∷ bs) (closing b false bs)) (next_operator b (get_or bs 0 0)))))
   at_hash true e = eqb-true b 35 e
   at_hash false e = at_word (is_word_byte b) refl
 
-  at_white : (t : Bool) → is_white_byte b ≡ t → Says b bs (cond t White (cond (eqb b 35) Comment (cond (is_word_byte b) (Token Word (length (take_while is_word_byte (b ∷ bs)))) (cond (is_quote b) (quoted_up_to (b ∷ bs) (closing b false bs)) (lead_of_operator b (get_or bs 0 0))))))
+  at_white : (t : Bool) → is_white_byte b ≡ t → Says b bs (cond t White (cond (eqb b 35) Comment (cond (is_word_byte b) (Token Word (length (take_while is_word_byte (b ∷ bs)))) (cond (is_quote b) (quoted_up_to (b ∷ bs) (closing b false bs)) (next_operator b (get_or bs 0 0))))))
   at_white true e = e
   at_white false e = at_hash (eqb b 35) refl
 
-  pub lead_says : Says b bs (lead_of (b ∷ bs))
-  unfolding lead_of
+  pub lead_says : Says b bs (next_token (b ∷ bs))
+  unfolding next_token
   lead_says = at_white (is_white_byte b) refl
 
 -- what is read from a place on is a cut
 token_some : (k : TokenKind) (text : List ℕ) → IsToken k text → 0 < length text
 token_some k text is = let (c, cs, e) = first_byte k text is in omega (arith, ap length e)
 
-abbrev the_read : List Piece → Result (List Piece) ExprFault
+abbrev the_read : List Lexeme → Result (List Lexeme) ExprFault
 the_read xs = Ok xs
 
-same_ok : (xs ys : List Piece) → the_read xs ≡ Ok ys → xs ≡ ys
+same_ok : (xs ys : List Lexeme) → the_read xs ≡ Ok ys → xs ≡ ys
 same_ok xs ys e = cc
 
-front_ok : (p : Piece) (r : Result (List Piece) ExprFault) (ps : List Piece) → with_front (p ∷ []) r ≡ Ok ps → (qs : List Piece) × (r ≡ Ok qs) × (ps ≡ p ∷ qs)
+front_ok : (p : Lexeme) (r : Result (List Lexeme) ExprFault) (ps : List Lexeme) → with_front (p ∷ []) r ≡ Ok ps → (qs : List Lexeme) × (r ≡ Ok qs) × (ps ≡ p ∷ qs)
 front_ok p (Ok qs) ps e = (qs, refl, sym (same_ok (p ∷ qs) ps e))
 front_ok p (Err f) ps e = cc
 
-pub read_cut : (n at : ℕ) (bytes : List ℕ) (ps : List Piece) → length bytes ≤ n → lexed 0 at bytes ≡ Ok ps → IsCut at bytes ps
+pub read_cut : (n at : ℕ) (bytes : List ℕ) (ps : List Lexeme) → length bytes ≤ n → lexemes_from 0 at bytes ≡ Ok ps → IsCut at bytes ps
 read_cut n at [] ps l h = subst (IsCut at []) (same_ok [] ps h) ends
 read_cut zero at (b ∷ bs) ps l h = absurd (omega arith)
-read_cut (suc n) at (b ∷ bs) ps l h = by_lead (lead_of (b ∷ bs)) refl (lead_says b bs) (λ at bytes ps l h. read_cut n at bytes ps l h)
+read_cut (suc n) at (b ∷ bs) ps l h = by_lead (next_token (b ∷ bs)) refl (lead_says b bs) (λ at bytes ps l h. read_cut n at bytes ps l h)
   where
-    by_lead : (lead : Lead) → lead_of (b ∷ bs) ≡ lead → Says b bs lead → ((at : ℕ) (bytes : List ℕ) (ps : List Piece) → length bytes ≤ n → lexed 0 at bytes ≡ Ok ps → IsCut at bytes ps) → IsCut at (b ∷ bs) ps
+    by_lead : (lead : NextToken) → next_token (b ∷ bs) ≡ lead → Says b bs lead → ((at : ℕ) (bytes : List ℕ) (ps : List Lexeme) → length bytes ≤ n → lexemes_from 0 at bytes ≡ Ok ps → IsCut at bytes ps) → IsCut at (b ∷ bs) ps
     by_lead White e s ih = white s (ih (at + 1) bs ps (omega arith) (sym (lexed_white at b bs e) ∙ h))
     by_lead Comment e s ih = subst (IsCut at (b ∷ bs)) (same_ok [] ps (sym (lexed_comment at b bs e) ∙ h)) (subst (λ c. IsCut at (c ∷ bs) []) (sym s) comment)
     by_lead (Token k len) e s ih =
@@ -329,12 +329,12 @@ read_cut (suc n) at (b ∷ bs) ps l h = by_lead (lead_of (b ∷ bs)) refl (lead_
         let parts : b ∷ bs ≡ (c ∷ cs) ++ s.rest = s.parts ∙ ap (λ x. x ++ s.rest) f in
         let tail : bs ≡ cs ++ s.rest = same_rest b c bs (cs ++ s.rest) parts in
         let read = sym (lexed_token at b bs k (length cs) (e ∙ ap (Token k) size)) ∙ h in
-        let (qs, r, q) = front_ok (record { kind = k; start = at; stop = at + suc (length cs); text = take (suc (length cs)) (b ∷ bs) }) (lexed 0 (at + suc (length cs)) (drop (length cs) bs)) ps read in
+        let (qs, r, q) = front_ok (record { kind = k; start = at; stop = at + suc (length cs); text = take (suc (length cs)) (b ∷ bs) }) (lexemes_from 0 (at + suc (length cs)) (drop (length cs) bs)) ps read in
         let front : take (suc (length cs)) (b ∷ bs) ≡ s.text = ap (take (suc (length cs))) parts ∙ take-append_seam (c ∷ cs) s.rest ∙ sym f in
         let left : drop (length cs) bs ≡ s.rest = ap (drop (length cs)) tail ∙ drop-append_seam cs s.rest in
         let long : suc (length cs) ≡ length s.text = sym size ∙ sym s.size in
-        let again = ih (at + suc (length cs)) s.rest qs (omega (arith, ap length tail, length-append cs s.rest)) (ap (lexed 0 (at + suc (length cs))) (sym left) ∙ r) in
-        let piece : Piece = record { kind = k; start = at; stop = at + suc (length cs); text = s.text } in
+        let again = ih (at + suc (length cs)) s.rest qs (omega (arith, ap length tail, length-append cs s.rest)) (ap (lexemes_from 0 (at + suc (length cs))) (sym left) ∙ r) in
+        let piece : Lexeme = record { kind = k; start = at; stop = at + suc (length cs); text = s.text } in
         subst (IsCut at (b ∷ bs)) (ap (λ x. record { kind = k; start = at; stop = at + suc (length cs); text = x } ∷ qs) (sym front) ∙ sym q)
         (token piece s.rest s.parts s.is s.longest refl (ap (λ m. at + m) long) again)
     by_lead (Fault kind ahead) e s ih = let r = sym (lexed_fault at b bs kind ahead e) ∙ h in cc

@@ -12,18 +12,18 @@ use Rattle.kc_expr.specs.Grammar.{is_quote, operand_of_kind}
 use Rattle.kc_expr.specs.checker.Conditions.{as_condition}
 use Rattle.kc_expr.specs.checker.Nodes.{operand_of}
 use Rattle.kc_expr.specs.checker.Parsing.{first_operand, is_m}
-use Rattle.kc_expr.specs.Token.{pieces_of, piece_of}
+use Rattle.kc_expr.specs.Token.{lexemes_of, lexeme_of}
 
 pub quote_ascii : (c : ℕ) → is_quote c ≡ true → c < 128
 quote_ascii c h = grind (arith, nat_tests)
 
 -- the tokens from a place on
-pub piece_at : (ts : List CodeToken) (at : ℕ) (d : CodeToken) → at < length ts → drop at (pieces_of ts) ≡ piece_of (get_or ts at d) ∷ drop (suc at) (pieces_of ts)
+pub piece_at : (ts : List CodeToken) (at : ℕ) (d : CodeToken) → at < length ts → drop at (lexemes_of ts) ≡ lexeme_of (get_or ts at d) ∷ drop (suc at) (lexemes_of ts)
 piece_at [] at d h = absurd (omega arith)
 piece_at (t ∷ ts) zero d h = refl
 piece_at (t ∷ ts) (suc at) d h = piece_at ts at d (omega arith)
 
-pub operand_at : (ts : List CodeToken) (at : ℕ) (d : CodeToken) (k : TokenKind) → at < length ts → (get_or ts at d).kind ≡ k → first_operand (drop at (pieces_of ts)) ≡ operand_of_kind k (get_or ts at d).text.now
+pub operand_at : (ts : List CodeToken) (at : ℕ) (d : CodeToken) (k : TokenKind) → at < length ts → (get_or ts at d).kind ≡ k → first_operand (drop at (lexemes_of ts)) ≡ operand_of_kind k (get_or ts at d).text.now
 operand_at ts at d k h e = ap first_operand (piece_at ts at d h) ∙ ap (λ k. operand_of_kind k (get_or ts at d).text.now) e
 
 other_kind : (k : TokenKind) (text : List ℕ) → (k ≡ Word → ⊥) → (k ≡ Quoted → ⊥) → operand_of_kind k text ≡ None
@@ -36,10 +36,10 @@ other_kind Or text w q = refl
 other_kind Open text w q = refl
 other_kind Close text w q = refl
 
-pub no_operand_at : (ts : List CodeToken) (at : ℕ) (d : CodeToken) → at < length ts → ((get_or ts at d).kind ≡ Word → ⊥) → ((get_or ts at d).kind ≡ Quoted → ⊥) → first_operand (drop at (pieces_of ts)) ≡ None
+pub no_operand_at : (ts : List CodeToken) (at : ℕ) (d : CodeToken) → at < length ts → ((get_or ts at d).kind ≡ Word → ⊥) → ((get_or ts at d).kind ≡ Quoted → ⊥) → first_operand (drop at (lexemes_of ts)) ≡ None
 no_operand_at ts at d h w q = ap first_operand (piece_at ts at d h) ∙ other_kind (get_or ts at d).kind (get_or ts at d).text.now w q
 
-pub nothing_at : (ts : List CodeToken) (at : ℕ) → length ts ≤ at → drop at (pieces_of ts) ≡ []
+pub nothing_at : (ts : List CodeToken) (at : ℕ) → length ts ≤ at → drop at (lexemes_of ts) ≡ []
 nothing_at [] zero h = refl
 nothing_at [] (suc at) h = refl
 nothing_at (t ∷ ts) zero h = absurd (omega arith)

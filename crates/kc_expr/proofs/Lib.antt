@@ -4,7 +4,7 @@ pub mod GrammarLaws
 pub mod KeptLists
 pub mod LeafLemmas
 pub mod Lexing
-pub mod MentionedLemmas
+pub mod NamesInLemmas
 pub mod NameLemmas
 pub mod NamesRead
 pub mod NodeLemmas
@@ -17,6 +17,6 @@ pub mod TokenLaws
 pub mod TokenPlaces
 pub mod TokenTexts
 mod Vectors
-pub mod WalkLemmas
+pub mod VisitLemmas
 pub mod WordAlone
 pub mod WordBytes

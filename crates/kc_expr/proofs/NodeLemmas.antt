@@ -10,7 +10,7 @@ use Rattle.kc_value.specs.Tri.{tri_and, tri_or}
 use Rattle.kc_expr.specs.Expr.{Expr, alone, constant, negated, both, either, shown}
 use Rattle.kc_expr.specs.declared.node.Node.{Node}
 use Rattle.kc_expr.specs.declared.node.Node.TheVariants.{Alone, Related, Negated, Both, Either, Shown}
-use Rattle.kc_expr.specs.Arena.{Grows, Stands}
+use Rattle.kc_expr.specs.Arena.{Grows, Represents}
 use Rattle.std.proofs.lemmas.Bool.{cases_lt}
 use Rattle.kc_expr.specs.checker.Nodes.{expr_of, exprs_after, exprs_of, at, NodeFits, AreNodes, some_node}
 
@@ -129,7 +129,7 @@ module _ (names texts : List (List ℕ)) where
     nodes = rw (exprs-push [] ns n, take-append-le (length (exprs_of names texts ns)) (exprs_of names texts ns) (expr_of names texts (exprs_of names texts ns) n ∷ []) (omega arith)) (take-length (exprs_of names texts ns));
   }
 
-  pub stands_last : (ns : List Node) (n : Node) (id : ℕ) → id ≡ length ns → Stands (record { names = names; nodes = exprs_of names texts (ns ++ n ∷ []) }) id (expr_of names texts (exprs_of names texts ns) n)
+  pub stands_last : (ns : List Node) (n : Node) (id : ℕ) → id ≡ length ns → Represents (record { names = names; nodes = exprs_of names texts (ns ++ n ∷ []) }) id (expr_of names texts (exprs_of names texts ns) n)
   stands_last ns n id e =
       let es : List Expr = exprs_of names texts ns in
       let last : Expr = expr_of names texts es n in

@@ -6,8 +6,8 @@ use Rattle.std.proofs.lemmas.Bool.{false_from_ne_true, both_ways, or_parts, ltb-
 use Rattle.std.proofs.Math.Seq.{get_or-append_seam}
 use Rattle.std.proofs.lemmas.List.{get_or_append_left, map-append}
 use Rattle.std.specs.List.{list_any, position_or_len, position}
-use Rattle.kc_expr.specs.Expr.{Seen}
-use Rattle.kc_expr.specs.Lookup.{place_of, AreDistinct, names_seen}
+use Rattle.kc_expr.specs.Expr.{SymbolValue}
+use Rattle.kc_expr.specs.Lookup.{index_of_name, AreDistinct, environment_of}
 use Rattle.kc_expr.specs.Names.{with_name}
 
 same_bytes : (n : List ℕ) → bytes_eq n n ≡ true
@@ -22,17 +22,17 @@ tail_distinct n ns d i j h k e = omega (arith, d (suc i) (suc j) (omega arith) (
 at_place : (t : Bool) (i : ℕ) (y : List ℕ) (o : Option ℕ) → t ≡ false → o ≡ Some i → cond t (Some 0) (option_map suc o) ≡ Some (suc i)
 at_place t i y o e f = rw (e, f) refl
 
-pub place_at : (names : List (List ℕ)) (i : ℕ) → AreDistinct names → i < length names → place_of (get_or names i []) names ≡ Some i
+pub place_at : (names : List (List ℕ)) (i : ℕ) → AreDistinct names → i < length names → index_of_name (get_or names i []) names ≡ Some i
 place_at [] i d h = absurd (omega arith)
 place_at (n ∷ ns) zero d h = rw (same_bytes n) refl
-place_at (n ∷ ns) (suc i) d h = at_place (bytes_eq (get_or ns i []) n) i n (place_of (get_or ns i []) ns) (other_bytes (get_or ns i []) n (λ e. omega (arith, d zero (suc i) (omega arith) h (sym e)))) (place_at ns i (tail_distinct n ns d) (omega arith))
+place_at (n ∷ ns) (suc i) d h = at_place (bytes_eq (get_or ns i []) n) i n (index_of_name (get_or ns i []) ns) (other_bytes (get_or ns i []) n (λ e. omega (arith, d zero (suc i) (omega arith) h (sym e)))) (place_at ns i (tail_distinct n ns d) (omega arith))
 
 -- a name that is held at a place is found there
-pub place_of_held : (names : List (List ℕ)) (i : ℕ) (x : List ℕ) → AreDistinct names → i < length names → get_or names i [] ≡ x → place_of x names ≡ Some i
-place_of_held names i x d h e = ap (λ y. place_of y names) (sym e) ∙ place_at names i d h
+pub place_of_held : (names : List (List ℕ)) (i : ℕ) (x : List ℕ) → AreDistinct names → i < length names → get_or names i [] ≡ x → index_of_name x names ≡ Some i
+place_of_held names i x d h e = ap (λ y. index_of_name y names) (sym e) ∙ place_at names i d h
 
-pub seen_at : (names : List (List ℕ)) (i : ℕ) (sees : ℕ → Option Seen) → AreDistinct names → i < length names → names_seen names sees (get_or names i []) ≡ sees i
-seen_at names i sees d h = ap (option_and_then sees) (place_at names i d h)
+pub seen_at : (names : List (List ℕ)) (i : ℕ) (symbol_values : ℕ → Option SymbolValue) → AreDistinct names → i < length names → environment_of names symbol_values (get_or names i []) ≡ symbol_values i
+seen_at names i symbol_values d h = ap (option_and_then symbol_values) (place_at names i d h)
 
 -- names that are held under keys
 module _ {K : Type 0} (name : K → List ℕ) (x : List ℕ) where
@@ -45,19 +45,19 @@ module _ {K : Type 0} (name : K → List ℕ) (x : List ℕ) where
       by_test false f = let l : m ≤ n = ltb-false n m f in let g : ltb (1 + n) (suc m) ≡ false = le-ltb _ _ (omega arith) in rw g refl
 
   -- the place of a name is that of its key
-  pub place-position : (ks : List K) → place_of x (map name ks) ≡ position (λ k. bytes_eq x (name k)) ks
+  pub place-position : (ks : List K) → index_of_name x (map name ks) ≡ position (λ k. bytes_eq x (name k)) ks
   place-position [] = refl
-  place-position (k ∷ ks) = place_by (bytes_eq x (name k)) (position_or_len (λ k. bytes_eq x (name k)) ks) (length ks) (place_of x (map name ks)) (place-position ks)
+  place-position (k ∷ ks) = place_by (bytes_eq x (name k)) (position_or_len (λ k. bytes_eq x (name k)) ks) (length ks) (index_of_name x (map name ks)) (place-position ks)
 
   held_by : (b : Bool) (n : ℕ) (o : Option ℕ) (r : Bool) → (r ≡ true → o ≡ Some n) → (b || r) ≡ true → cond b (Some 0) (option_map suc o) ≡ Some (cond (not b) (1 + n) 0)
   held_by true n o r f h = refl
   held_by false n o r f h = rw (f h) (ap Some (omega arith))
 
-  held : (ks : List K) → list_any (λ k. bytes_eq x (name k)) ks ≡ true → place_of x (map name ks) ≡ Some (position_or_len (λ k. bytes_eq x (name k)) ks)
+  held : (ks : List K) → list_any (λ k. bytes_eq x (name k)) ks ≡ true → index_of_name x (map name ks) ≡ Some (position_or_len (λ k. bytes_eq x (name k)) ks)
   held [] h = cc
-  held (k ∷ ks) h = held_by (bytes_eq x (name k)) (position_or_len (λ k. bytes_eq x (name k)) ks) (place_of x (map name ks)) (list_any (λ k. bytes_eq x (name k)) ks) (held ks) h
+  held (k ∷ ks) h = held_by (bytes_eq x (name k)) (position_or_len (λ k. bytes_eq x (name k)) ks) (index_of_name x (map name ks)) (list_any (λ k. bytes_eq x (name k)) ks) (held ks) h
 
-  new_last : (v : K) → name v ≡ x → (ks : List K) → list_any (λ k. bytes_eq x (name k)) ks ≡ false → place_of x (map name (ks ++ v ∷ [])) ≡ Some (position_or_len (λ k. bytes_eq x (name k)) ks)
+  new_last : (v : K) → name v ≡ x → (ks : List K) → list_any (λ k. bytes_eq x (name k)) ks ≡ false → index_of_name x (map name (ks ++ v ∷ [])) ≡ Some (position_or_len (λ k. bytes_eq x (name k)) ks)
   new_last v e [] h = rw e (let t = same_bytes x in rw t refl)
   new_last v e (k ∷ ks) h =
       let (f, r) = or_parts (bytes_eq x (name k)) (list_any (λ k. bytes_eq x (name k)) ks) h in
@@ -88,10 +88,10 @@ module _ {K : Type 0} (name : K → List ℕ) (x : List ℕ) where
       by_places (inr a) (inr b) = omega (arith, length-append names (x ∷ []))
 
   -- a name that is put in is found where the set says
-  pub place_put : (v : K) → name v ≡ x → (ks : List K) → place_of x (map name (cond (list_any (λ k. bytes_eq x (name k)) ks) ks (ks ++ v ∷ []))) ≡ Some (position_or_len (λ k. bytes_eq x (name k)) ks)
+  pub place_put : (v : K) → name v ≡ x → (ks : List K) → index_of_name x (map name (cond (list_any (λ k. bytes_eq x (name k)) ks) ks (ks ++ v ∷ []))) ≡ Some (position_or_len (λ k. bytes_eq x (name k)) ks)
   place_put v e ks = by_any (list_any (λ k. bytes_eq x (name k)) ks) refl
     where
-      by_any : (b : Bool) → list_any (λ k. bytes_eq x (name k)) ks ≡ b → place_of x (map name (cond b ks (ks ++ v ∷ []))) ≡ Some (position_or_len (λ k. bytes_eq x (name k)) ks)
+      by_any : (b : Bool) → list_any (λ k. bytes_eq x (name k)) ks ≡ b → index_of_name x (map name (cond b ks (ks ++ v ∷ []))) ≡ Some (position_or_len (λ k. bytes_eq x (name k)) ks)
       by_any true h = held ks h
       by_any false h = new_last v e ks h
 
@@ -100,15 +100,15 @@ module _ {K : Type 0} (name : K → List ℕ) (x : List ℕ) where
   some_by false None r e = e
   some_by false (Some i) r e = e
 
-  has_place : (ks : List K) → is_some (place_of x (map name ks)) ≡ list_any (λ k. bytes_eq x (name k)) ks
+  has_place : (ks : List K) → is_some (index_of_name x (map name ks)) ≡ list_any (λ k. bytes_eq x (name k)) ks
   has_place [] = refl
-  has_place (k ∷ ks) = some_by (bytes_eq x (name k)) (place_of x (map name ks)) (list_any (λ k. bytes_eq x (name k)) ks) (has_place ks)
+  has_place (k ∷ ks) = some_by (bytes_eq x (name k)) (index_of_name x (map name ks)) (list_any (λ k. bytes_eq x (name k)) ks) (has_place ks)
 
-  -- it comes behind the others, unless it is there
+  -- it comes after the others, unless it is there
   pub names_put : (v : K) → name v ≡ x → (ks : List K) → map name (cond (list_any (λ k. bytes_eq x (name k)) ks) ks (ks ++ v ∷ [])) ≡ with_name x (map name ks)
   names_put v e ks = by_any (list_any (λ k. bytes_eq x (name k)) ks) (has_place ks)
     where
-      by_any : (b : Bool) → is_some (place_of x (map name ks)) ≡ b → map name (cond b ks (ks ++ v ∷ [])) ≡ with_name x (map name ks)
+      by_any : (b : Bool) → is_some (index_of_name x (map name ks)) ≡ b → map name (cond b ks (ks ++ v ∷ [])) ≡ with_name x (map name ks)
       by_any true h = rw h refl
       by_any false h = rw (h, map-append, e) refl
 
@@ -128,10 +128,10 @@ place_tail (Some j) i e = (j, refl, cc)
 first_place : (i : ℕ) → Some 0 ≡ Some i → i ≡ 0
 first_place i e = cc
 
-there_by : (b : Bool) (x n : List ℕ) (ns : List (List ℕ)) (i : ℕ) → ((j : ℕ) → place_of x ns ≡ Some j → (j < length ns) × (get_or ns j [] ≡ x)) → bytes_eq x n ≡ b → cond b (Some 0) (option_map suc (place_of x ns)) ≡ Some i → (i < length (n ∷ ns)) × (get_or (n ∷ ns) i [] ≡ x)
+there_by : (b : Bool) (x n : List ℕ) (ns : List (List ℕ)) (i : ℕ) → ((j : ℕ) → index_of_name x ns ≡ Some j → (j < length ns) × (get_or ns j [] ≡ x)) → bytes_eq x n ≡ b → cond b (Some 0) (option_map suc (index_of_name x ns)) ≡ Some i → (i < length (n ∷ ns)) × (get_or (n ∷ ns) i [] ≡ x)
 there_by true x n ns i ih f g = let z = first_place i g in (omega (arith, z), rw z (sym ((bytes_eq-Decides x n).0 f)))
-there_by false x n ns i ih f g = let (j, h, e) = place_tail (place_of x ns) i g in let r = ih j h in (omega (arith, r.0, e), rw e r.1)
+there_by false x n ns i ih f g = let (j, h, e) = place_tail (index_of_name x ns) i g in let r = ih j h in (omega (arith, r.0, e), rw e r.1)
 
-pub place_there : (x : List ℕ) (names : List (List ℕ)) (i : ℕ) → place_of x names ≡ Some i → (i < length names) × (get_or names i [] ≡ x)
+pub place_there : (x : List ℕ) (names : List (List ℕ)) (i : ℕ) → index_of_name x names ≡ Some i → (i < length names) × (get_or names i [] ≡ x)
 place_there x [] i e = cc
 place_there x (n ∷ ns) i e = there_by (bytes_eq x n) x n ns i (place_there x ns) refl e

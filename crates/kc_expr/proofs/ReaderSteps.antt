@@ -6,45 +6,45 @@ use Rattle.kc_expr.specs.declared.token.Relop.{Relop}
 use Rattle.kc_expr.specs.declared.token.TokenKind.{TokenKind}
 use Rattle.kc_expr.specs.declared.token.TokenKind.TheVariants.{Word, Quoted, Relation, Not, And, Or, Open, Close}
 use Rattle.kc_expr.specs.Expr.{Expr, Operand, named, quoted, alone, related, negated, both, either}
-use Rattle.kc_expr.specs.Grammar.{Read, on_read, beyond, chain, is_and, is_or, is_close, closed, behind_operand, right_operand, constant_or, quoted_text, operand_of_kind, read_factor, read_ands, read_ors, whole, read_expr}
-use Rattle.kc_expr.specs.checker.Parsing.{first_kind, first_operand, first_relation, relation_of, operand_else, operand_read, factor_read, ands_read, ors_read, whole_read}
-use Rattle.kc_expr.specs.Token.{Piece}
+use Rattle.kc_expr.specs.Grammar.{Read, on_read, past_depth_limit, chain, is_and, is_or, is_close, closed, after_operand, right_operand, constant_or, quoted_text, operand_of_kind, read_factor, read_ands, read_ors, read_to_end, read_expr}
+use Rattle.kc_expr.specs.checker.Parsing.{first_kind, first_operand, first_relation, relation_of, operand_else, operand_read, factor_read, ands_read, ors_read, read_all_tokens}
+use Rattle.kc_expr.specs.Token.{Lexeme}
 use Rattle.kc_expr.proofs.GrammarComplete.{Stops, chain_same, chain_stops, factor_short, ands_short}
 
 pub drop_one : {X : Type 0} (at : ℕ) (xs : List X) → drop (at + 1) xs ≡ drop 1 (drop at xs)
 drop_one at xs = sym (drop-drop 1 at xs)
 
--- what is read behind a kind
-abbrev beyond_kind : TokenKind → Piece → List Piece → Read
-beyond_kind k t ts = elim k as (λ _. Read) [ Not ↦ beyond ts | Open ↦ beyond ts | Word ↦ Err (TooDeep, t ∷ ts) | Quoted ↦ Err (TooDeep, t ∷ ts) | Relation op ↦ Err (Malformed, t ∷ ts) | And ↦ Err (Malformed, t ∷ ts) | Or ↦ Err (Malformed, t ∷ ts) | Close ↦ Err (Malformed, t ∷ ts) ]
+-- what is read after a kind
+abbrev beyond_kind : TokenKind → Lexeme → List Lexeme → Read
+beyond_kind k t ts = elim k as (λ _. Read) [ Not ↦ past_depth_limit ts | Open ↦ past_depth_limit ts | Word ↦ Err (TooDeep, t ∷ ts) | Quoted ↦ Err (TooDeep, t ∷ ts) | Relation op ↦ Err (Malformed, t ∷ ts) | And ↦ Err (Malformed, t ∷ ts) | Or ↦ Err (Malformed, t ∷ ts) | Close ↦ Err (Malformed, t ∷ ts) ]
 
-abbrev behind_kind : Operand → TokenKind → Piece → List Piece → Read
+abbrev behind_kind : Operand → TokenKind → Lexeme → List Lexeme → Read
 behind_kind a k t ts = elim k as (λ _. Read) [ Relation op ↦ right_operand (related op a) ts | Word ↦ Ok (alone a, t ∷ ts) | Quoted ↦ Ok (alone a, t ∷ ts) | Not ↦ Ok (alone a, t ∷ ts) | And ↦ Ok (alone a, t ∷ ts) | Or ↦ Ok (alone a, t ∷ ts) | Open ↦ Ok (alone a, t ∷ ts) | Close ↦ Ok (alone a, t ∷ ts) ]
 
-abbrev zero_kind : TokenKind → Piece → List Piece → Read
-zero_kind k t ts = elim k as (λ _. Read) [ Not ↦ beyond ts | Open ↦ beyond ts | Word ↦ behind_operand (constant_or named t.text) ts | Quoted ↦ behind_operand (constant_or quoted (quoted_text t.text)) ts | Relation op ↦ Err (Malformed, t ∷ ts) | And ↦ Err (Malformed, t ∷ ts) | Or ↦ Err (Malformed, t ∷ ts) | Close ↦ Err (Malformed, t ∷ ts) ]
+abbrev zero_kind : TokenKind → Lexeme → List Lexeme → Read
+zero_kind k t ts = elim k as (λ _. Read) [ Not ↦ past_depth_limit ts | Open ↦ past_depth_limit ts | Word ↦ after_operand (constant_or named t.text) ts | Quoted ↦ after_operand (constant_or quoted (quoted_text t.text)) ts | Relation op ↦ Err (Malformed, t ∷ ts) | And ↦ Err (Malformed, t ∷ ts) | Or ↦ Err (Malformed, t ∷ ts) | Close ↦ Err (Malformed, t ∷ ts) ]
 
-abbrev suc_kind : ℕ → TokenKind → Piece → List Piece → Read
-suc_kind d k t ts = elim k as (λ _. Read) [ Not ↦ on_read (read_factor d ts) (λ r. Ok (negated r.0, r.1)) | Open ↦ on_read (read_ors (read_factor d) ts) closed | Word ↦ behind_operand (constant_or named t.text) ts | Quoted ↦ behind_operand (constant_or quoted (quoted_text t.text)) ts | Relation op ↦ Err (Malformed, t ∷ ts) | And ↦ Err (Malformed, t ∷ ts) | Or ↦ Err (Malformed, t ∷ ts) | Close ↦ Err (Malformed, t ∷ ts) ]
+abbrev suc_kind : ℕ → TokenKind → Lexeme → List Lexeme → Read
+suc_kind d k t ts = elim k as (λ _. Read) [ Not ↦ on_read (read_factor d ts) (λ r. Ok (negated r.0, r.1)) | Open ↦ on_read (read_ors (read_factor d) ts) closed | Word ↦ after_operand (constant_or named t.text) ts | Quoted ↦ after_operand (constant_or quoted (quoted_text t.text)) ts | Relation op ↦ Err (Malformed, t ∷ ts) | And ↦ Err (Malformed, t ∷ ts) | Or ↦ Err (Malformed, t ∷ ts) | Close ↦ Err (Malformed, t ∷ ts) ]
 
 -- past the greatest depth
-module _ (us : List Piece) where
-  pub beyond_next : (first_kind us ≡ Some Not) ⊎ (first_kind us ≡ Some Open) → beyond us ≡ beyond (drop 1 us)
+module _ (us : List Lexeme) where
+  pub beyond_next : (first_kind us ≡ Some Not) ⊎ (first_kind us ≡ Some Open) → past_depth_limit us ≡ past_depth_limit (drop 1 us)
   beyond_next h = beyond_next_at us h
     where
-      beyond_next_at : (us : List Piece) → (first_kind us ≡ Some Not) ⊎ (first_kind us ≡ Some Open) → beyond us ≡ beyond (drop 1 us)
+      beyond_next_at : (us : List Lexeme) → (first_kind us ≡ Some Not) ⊎ (first_kind us ≡ Some Open) → past_depth_limit us ≡ past_depth_limit (drop 1 us)
       beyond_next_at [] (inl e) = cc
       beyond_next_at [] (inr e) = cc
       beyond_next_at (t ∷ ts) (inl e) = let k : t.kind ≡ Not = cc in ap (λ k. beyond_kind k t ts) k
       beyond_next_at (t ∷ ts) (inr e) = let k : t.kind ≡ Open = cc in ap (λ k. beyond_kind k t ts) k
 
-pub beyond_symbol : (us : List Piece) → (first_kind us ≡ Some Word) ⊎ (first_kind us ≡ Some Quoted) → beyond us ≡ Err (TooDeep, us)
+pub beyond_symbol : (us : List Lexeme) → (first_kind us ≡ Some Word) ⊎ (first_kind us ≡ Some Quoted) → past_depth_limit us ≡ Err (TooDeep, us)
 beyond_symbol [] (inl e) = cc
 beyond_symbol [] (inr e) = cc
 beyond_symbol (t ∷ ts) (inl e) = let k : t.kind ≡ Word = cc in ap (λ k. beyond_kind k t ts) k
 beyond_symbol (t ∷ ts) (inr e) = let k : t.kind ≡ Quoted = cc in ap (λ k. beyond_kind k t ts) k
 
-beyond_by : (k : TokenKind) (t : Piece) (ts : List Piece) → t.kind ≡ k → ((Some k ≡ Some Not) ⊎ (Some k ≡ Some Open) → ⊥) → ((Some k ≡ Some Word) ⊎ (Some k ≡ Some Quoted) → ⊥) → beyond (t ∷ ts) ≡ Err (Malformed, t ∷ ts)
+beyond_by : (k : TokenKind) (t : Lexeme) (ts : List Lexeme) → t.kind ≡ k → ((Some k ≡ Some Not) ⊎ (Some k ≡ Some Open) → ⊥) → ((Some k ≡ Some Word) ⊎ (Some k ≡ Some Quoted) → ⊥) → past_depth_limit (t ∷ ts) ≡ Err (Malformed, t ∷ ts)
 beyond_by Not t ts e n s = absurd (n (inl refl))
 beyond_by Open t ts e n s = absurd (n (inr refl))
 beyond_by Word t ts e n s = absurd (s (inl refl))
@@ -54,17 +54,17 @@ beyond_by And t ts e n s = ap (λ k. beyond_kind k t ts) e
 beyond_by Or t ts e n s = ap (λ k. beyond_kind k t ts) e
 beyond_by Close t ts e n s = ap (λ k. beyond_kind k t ts) e
 
-pub beyond_other : (us : List Piece) → ((first_kind us ≡ Some Not) ⊎ (first_kind us ≡ Some Open) → ⊥) → ((first_kind us ≡ Some Word) ⊎ (first_kind us ≡ Some Quoted) → ⊥) → beyond us ≡ Err (Malformed, us)
+pub beyond_other : (us : List Lexeme) → ((first_kind us ≡ Some Not) ⊎ (first_kind us ≡ Some Open) → ⊥) → ((first_kind us ≡ Some Word) ⊎ (first_kind us ≡ Some Quoted) → ⊥) → past_depth_limit us ≡ Err (Malformed, us)
 beyond_other [] n s = refl
 beyond_other (t ∷ ts) n s = beyond_by t.kind t ts refl n s
 
--- an operand, and a relation behind it
-pub operand_none : (us : List Piece) → first_operand us ≡ None → operand_read us ≡ Err (Malformed, us)
+-- an operand, and a relation after it
+pub operand_none : (us : List Lexeme) → first_operand us ≡ None → operand_read us ≡ Err (Malformed, us)
 unfolding operand_read
 operand_none [] h = refl
 operand_none (t ∷ ts) h = ap (λ o. operand_else o t ts) h
 
-behind_by : (k : TokenKind) (a : Operand) (t : Piece) (ts : List Piece) → t.kind ≡ k → relation_of k ≡ None → behind_operand a (t ∷ ts) ≡ Ok (alone a, t ∷ ts)
+behind_by : (k : TokenKind) (a : Operand) (t : Lexeme) (ts : List Lexeme) → t.kind ≡ k → relation_of k ≡ None → after_operand a (t ∷ ts) ≡ Ok (alone a, t ∷ ts)
 behind_by (Relation op) a t ts e h = cc
 behind_by Word a t ts e h = ap (λ k. behind_kind a k t ts) e
 behind_by Quoted a t ts e h = ap (λ k. behind_kind a k t ts) e
@@ -74,11 +74,11 @@ behind_by Or a t ts e h = ap (λ k. behind_kind a k t ts) e
 behind_by Open a t ts e h = ap (λ k. behind_kind a k t ts) e
 behind_by Close a t ts e h = ap (λ k. behind_kind a k t ts) e
 
-behind_none : (a : Operand) (ts : List Piece) → first_relation ts ≡ None → behind_operand a ts ≡ Ok (alone a, ts)
+behind_none : (a : Operand) (ts : List Lexeme) → first_relation ts ≡ None → after_operand a ts ≡ Ok (alone a, ts)
 behind_none a [] h = refl
 behind_none a (t ∷ ts) h = behind_by t.kind a t ts refl h
 
-pub operand_alone : (us : List Piece) (a : Operand) → first_operand us ≡ Some a → first_relation (drop 1 us) ≡ None → operand_read us ≡ Ok (alone a, drop 1 us)
+pub operand_alone : (us : List Lexeme) (a : Operand) → first_operand us ≡ Some a → first_relation (drop 1 us) ≡ None → operand_read us ≡ Ok (alone a, drop 1 us)
 unfolding operand_read
 operand_alone [] a h r = cc
 operand_alone (t ∷ ts) a h r = ap (λ o. operand_else o t ts) h ∙ behind_none a ts r
@@ -93,31 +93,31 @@ relation_kind Or op h = cc
 relation_kind Open op h = cc
 relation_kind Close op h = cc
 
-behind_relation : (a : Operand) (op : Relop) (ts : List Piece) → first_relation ts ≡ Some op → behind_operand a ts ≡ right_operand (related op a) (drop 1 ts)
+behind_relation : (a : Operand) (op : Relop) (ts : List Lexeme) → first_relation ts ≡ Some op → after_operand a ts ≡ right_operand (related op a) (drop 1 ts)
 behind_relation a op [] h = cc
 behind_relation a op (t ∷ ts) h = let k = relation_kind t.kind op h in ap (λ k. behind_kind a k t ts) k
 
-right_none : (f : Operand → Expr) (ts : List Piece) → first_operand ts ≡ None → right_operand f ts ≡ Err (Malformed, ts)
+right_none : (f : Operand → Expr) (ts : List Lexeme) → first_operand ts ≡ None → right_operand f ts ≡ Err (Malformed, ts)
 right_none f [] h = refl
 right_none f (t ∷ ts) h = rw (h, right_operand) refl
 
-right_some : (f : Operand → Expr) (b : Operand) (ts : List Piece) → first_operand ts ≡ Some b → right_operand f ts ≡ Ok (f b, drop 1 ts)
+right_some : (f : Operand → Expr) (b : Operand) (ts : List Lexeme) → first_operand ts ≡ Some b → right_operand f ts ≡ Ok (f b, drop 1 ts)
 right_some f b [] h = cc
 right_some f b (t ∷ ts) h = rw (h, right_operand) refl
 
-operand_then : (us : List Piece) (a : Operand) → first_operand us ≡ Some a → operand_read us ≡ behind_operand a (drop 1 us)
+operand_then : (us : List Lexeme) (a : Operand) → first_operand us ≡ Some a → operand_read us ≡ after_operand a (drop 1 us)
 unfolding operand_read
 operand_then [] a h = cc
 operand_then (t ∷ ts) a h = ap (λ o. operand_else o t ts) h
 
-pub operand_no_right : (us : List Piece) (a : Operand) (op : Relop) → first_operand us ≡ Some a → first_relation (drop 1 us) ≡ Some op → first_operand (drop 1 (drop 1 us)) ≡ None → operand_read us ≡ Err (Malformed, drop 1 (drop 1 us))
+pub operand_no_right : (us : List Lexeme) (a : Operand) (op : Relop) → first_operand us ≡ Some a → first_relation (drop 1 us) ≡ Some op → first_operand (drop 1 (drop 1 us)) ≡ None → operand_read us ≡ Err (Malformed, drop 1 (drop 1 us))
 operand_no_right us a op h r n = operand_then us a h ∙ behind_relation a op (drop 1 us) r ∙ right_none (related op a) (drop 1 (drop 1 us)) n
 
-pub operand_related : (us : List Piece) (a b : Operand) (op : Relop) → first_operand us ≡ Some a → first_relation (drop 1 us) ≡ Some op → first_operand (drop 1 (drop 1 us)) ≡ Some b → operand_read us ≡ Ok (related op a b, drop 1 (drop 1 (drop 1 us)))
+pub operand_related : (us : List Lexeme) (a b : Operand) (op : Relop) → first_operand us ≡ Some a → first_relation (drop 1 us) ≡ Some op → first_operand (drop 1 (drop 1 us)) ≡ Some b → operand_read us ≡ Ok (related op a b, drop 1 (drop 1 (drop 1 us)))
 operand_related us a b op h r n = operand_then us a h ∙ behind_relation a op (drop 1 us) r ∙ right_some (related op a) b (drop 1 (drop 1 us)) n
 
 -- a factor, by its first token
-factor_by : (d : ℕ) (k : TokenKind) (t : Piece) (ts : List Piece) → t.kind ≡ k → (Some k ≡ Some Not → ⊥) → (Some k ≡ Some Open → ⊥) → read_factor d (t ∷ ts) ≡ operand_else (operand_of_kind k t.text) t ts
+factor_by : (d : ℕ) (k : TokenKind) (t : Lexeme) (ts : List Lexeme) → t.kind ≡ k → (Some k ≡ Some Not → ⊥) → (Some k ≡ Some Open → ⊥) → read_factor d (t ∷ ts) ≡ operand_else (operand_of_kind k t.text) t ts
 factor_by d Not t ts e n o = absurd (n refl)
 factor_by d Open t ts e n o = absurd (o refl)
 factor_by zero Word t ts e n o = ap (λ k. zero_kind k t ts) e
@@ -133,30 +133,30 @@ factor_by (suc d) And t ts e n o = ap (λ k. suc_kind d k t ts) e
 factor_by (suc d) Or t ts e n o = ap (λ k. suc_kind d k t ts) e
 factor_by (suc d) Close t ts e n o = ap (λ k. suc_kind d k t ts) e
 
-pub factor_operand : (d : ℕ) (us : List Piece) → (first_kind us ≡ Some Not → ⊥) → (first_kind us ≡ Some Open → ⊥) → factor_read d us ≡ operand_read us
+pub factor_operand : (d : ℕ) (us : List Lexeme) → (first_kind us ≡ Some Not → ⊥) → (first_kind us ≡ Some Open → ⊥) → factor_read d us ≡ operand_read us
 unfolding factor_read operand_read
 factor_operand zero [] n o = refl
 factor_operand (suc d) [] n o = refl
 factor_operand d (t ∷ ts) n o = factor_by d t.kind t ts refl n o
 
-pub factor_too_deep : (us : List Piece) → (first_kind us ≡ Some Not) ⊎ (first_kind us ≡ Some Open) → factor_read 0 us ≡ beyond (drop 1 us)
+pub factor_too_deep : (us : List Lexeme) → (first_kind us ≡ Some Not) ⊎ (first_kind us ≡ Some Open) → factor_read 0 us ≡ past_depth_limit (drop 1 us)
 unfolding factor_read
 factor_too_deep [] (inl e) = cc
 factor_too_deep [] (inr e) = cc
 factor_too_deep (t ∷ ts) (inl e) = let k : t.kind ≡ Not = cc in ap (λ k. zero_kind k t ts) k
 factor_too_deep (t ∷ ts) (inr e) = let k : t.kind ≡ Open = cc in ap (λ k. zero_kind k t ts) k
 
-pub factor_not : (d : ℕ) (us : List Piece) → first_kind us ≡ Some Not → factor_read (suc d) us ≡ on_read (factor_read d (drop 1 us)) (λ r. Ok (negated r.0, r.1))
+pub factor_not : (d : ℕ) (us : List Lexeme) → first_kind us ≡ Some Not → factor_read (suc d) us ≡ on_read (factor_read d (drop 1 us)) (λ r. Ok (negated r.0, r.1))
 unfolding factor_read
 factor_not d [] e = cc
 factor_not d (t ∷ ts) e = let k : t.kind ≡ Not = cc in ap (λ k. suc_kind d k t ts) k
 
-pub factor_open : (d : ℕ) (us : List Piece) → first_kind us ≡ Some Open → factor_read (suc d) us ≡ on_read (ors_read d (drop 1 us)) closed
+pub factor_open : (d : ℕ) (us : List Lexeme) → first_kind us ≡ Some Open → factor_read (suc d) us ≡ on_read (ors_read d (drop 1 us)) closed
 unfolding factor_read ors_read
 factor_open d [] e = cc
 factor_open d (t ∷ ts) e = let k : t.kind ≡ Open = cc in ap (λ k. suc_kind d k t ts) k
 
-pub closed_ok : (e : Expr) (us : List Piece) → first_kind us ≡ Some Close → closed (e, us) ≡ Ok (e, drop 1 us)
+pub closed_ok : (e : Expr) (us : List Lexeme) → first_kind us ≡ Some Close → closed (e, us) ≡ Ok (e, drop 1 us)
 closed_ok e [] h = cc
 closed_ok e (t ∷ ts) h = let k : t.kind ≡ Close = cc in rw k refl
 
@@ -170,15 +170,15 @@ close_by And n = refl
 close_by Or n = refl
 close_by Open n = refl
 
-pub closed_not : (e : Expr) (us : List Piece) → (first_kind us ≡ Some Close → ⊥) → closed (e, us) ≡ Err (Malformed, us)
+pub closed_not : (e : Expr) (us : List Lexeme) → (first_kind us ≡ Some Close → ⊥) → closed (e, us) ≡ Err (Malformed, us)
 closed_not e [] n = refl
 closed_not e (t ∷ ts) n = let k = close_by t.kind n in rw k refl
 
--- a chain that goes on behind what was read of it
-unfoldable pub ands_on : ℕ → Expr → List Piece → Read
+-- a chain that goes on after what was read of it
+unfoldable pub ands_on : ℕ → Expr → List Lexeme → Read
 ands_on d e us = chain is_and both (read_factor d) (length us) e us
 
-unfoldable pub ors_on : ℕ → Expr → List Piece → Read
+unfoldable pub ors_on : ℕ → Expr → List Lexeme → Read
 ors_on d e us = chain is_or either (read_ands (read_factor d)) (length us) e us
 
 and_by : (k : TokenKind) → (Some k ≡ Some And → ⊥) → is_and k ≡ false
@@ -201,22 +201,22 @@ or_by And n = refl
 or_by Open n = refl
 or_by Close n = refl
 
-pub ands_first_fails : (d : ℕ) (us : List Piece) (f : ExprKind × List Piece) → factor_read d us ≡ Err f → ands_read d us ≡ Err f
+pub ands_first_fails : (d : ℕ) (us : List Lexeme) (f : ExprKind × List Lexeme) → factor_read d us ≡ Err f → ands_read d us ≡ Err f
 unfolding factor_read ands_read
 ands_first_fails d us f e = ap (λ q. on_read q (λ r. chain is_and both (read_factor d) (length us) r.0 r.1)) e
 
-pub ands_first : (d : ℕ) (us ws : List Piece) (e : Expr) → factor_read d us ≡ Ok (e, ws) → ands_read d us ≡ ands_on d e ws
+pub ands_first : (d : ℕ) (us ws : List Lexeme) (e : Expr) → factor_read d us ≡ Ok (e, ws) → ands_read d us ≡ ands_on d e ws
 unfolding factor_read ands_read ands_on
 ands_first d us ws e h =
     ap (λ q. on_read q (λ r. chain is_and both (read_factor d) (length us) r.0 r.1)) h
     ∙ chain_same is_and both (read_factor d) (factor_short d) (length us) (length ws) e ws (factor_short d us (e, ws) h) (omega arith)
 
-pub ands_link_fails : (d : ℕ) (us : List Piece) (e : Expr) (f : ExprKind × List Piece) → first_kind us ≡ Some And → factor_read d (drop 1 us) ≡ Err f → ands_on d e us ≡ Err f
+pub ands_link_fails : (d : ℕ) (us : List Lexeme) (e : Expr) (f : ExprKind × List Lexeme) → first_kind us ≡ Some And → factor_read d (drop 1 us) ≡ Err f → ands_on d e us ≡ Err f
 unfolding factor_read ands_on
 ands_link_fails d [] e f k h = cc
 ands_link_fails d (t ∷ ts) e f k h = let q : t.kind ≡ And = cc in rw (q, chain) (ap (λ q. on_read q (λ r. chain is_and both (read_factor d) (length ts) (both e r.0) r.1)) h)
 
-pub ands_link : (d : ℕ) (us ws : List Piece) (e b : Expr) → first_kind us ≡ Some And → factor_read d (drop 1 us) ≡ Ok (b, ws) → ands_on d e us ≡ ands_on d (both e b) ws
+pub ands_link : (d : ℕ) (us ws : List Lexeme) (e b : Expr) → first_kind us ≡ Some And → factor_read d (drop 1 us) ≡ Ok (b, ws) → ands_on d e us ≡ ands_on d (both e b) ws
 unfolding factor_read ands_on
 ands_link d [] ws e b k h = cc
 ands_link d (t ∷ ts) ws e b k h =
@@ -224,30 +224,30 @@ ands_link d (t ∷ ts) ws e b k h =
     rw (q, chain) (ap (λ q. on_read q (λ r. chain is_and both (read_factor d) (length ts) (both e r.0) r.1)) h
     ∙ chain_same is_and both (read_factor d) (factor_short d) (length ts) (length ws) (both e b) ws (factor_short d ts (b, ws) h) (omega arith))
 
-and_stops : (us : List Piece) → (first_kind us ≡ Some And → ⊥) → Stops is_and us
+and_stops : (us : List Lexeme) → (first_kind us ≡ Some And → ⊥) → Stops is_and us
 and_stops [] n = tt
 and_stops (t ∷ ts) n = and_by t.kind n
 
-pub ands_end : (d : ℕ) (us : List Piece) (e : Expr) → (first_kind us ≡ Some And → ⊥) → ands_on d e us ≡ Ok (e, us)
+pub ands_end : (d : ℕ) (us : List Lexeme) (e : Expr) → (first_kind us ≡ Some And → ⊥) → ands_on d e us ≡ Ok (e, us)
 unfolding ands_on
 ands_end d us e n = chain_stops is_and both (read_factor d) (factor_short d) (length us) e us (and_stops us n)
 
-pub ors_first_fails : (d : ℕ) (us : List Piece) (f : ExprKind × List Piece) → ands_read d us ≡ Err f → ors_read d us ≡ Err f
+pub ors_first_fails : (d : ℕ) (us : List Lexeme) (f : ExprKind × List Lexeme) → ands_read d us ≡ Err f → ors_read d us ≡ Err f
 unfolding ands_read ors_read
 ors_first_fails d us f e = ap (λ q. on_read q (λ r. chain is_or either (read_ands (read_factor d)) (length us) r.0 r.1)) e
 
-pub ors_first : (d : ℕ) (us ws : List Piece) (e : Expr) → ands_read d us ≡ Ok (e, ws) → ors_read d us ≡ ors_on d e ws
+pub ors_first : (d : ℕ) (us ws : List Lexeme) (e : Expr) → ands_read d us ≡ Ok (e, ws) → ors_read d us ≡ ors_on d e ws
 unfolding ands_read ors_read ors_on
 ors_first d us ws e h =
     ap (λ q. on_read q (λ r. chain is_or either (read_ands (read_factor d)) (length us) r.0 r.1)) h
     ∙ chain_same is_or either (read_ands (read_factor d)) (ands_short d) (length us) (length ws) e ws (ands_short d us (e, ws) h) (omega arith)
 
-pub ors_link_fails : (d : ℕ) (us : List Piece) (e : Expr) (f : ExprKind × List Piece) → first_kind us ≡ Some Or → ands_read d (drop 1 us) ≡ Err f → ors_on d e us ≡ Err f
+pub ors_link_fails : (d : ℕ) (us : List Lexeme) (e : Expr) (f : ExprKind × List Lexeme) → first_kind us ≡ Some Or → ands_read d (drop 1 us) ≡ Err f → ors_on d e us ≡ Err f
 unfolding ands_read ors_on
 ors_link_fails d [] e f k h = cc
 ors_link_fails d (t ∷ ts) e f k h = let q : t.kind ≡ Or = cc in rw (q, chain) (ap (λ q. on_read q (λ r. chain is_or either (read_ands (read_factor d)) (length ts) (either e r.0) r.1)) h)
 
-pub ors_link : (d : ℕ) (us ws : List Piece) (e b : Expr) → first_kind us ≡ Some Or → ands_read d (drop 1 us) ≡ Ok (b, ws) → ors_on d e us ≡ ors_on d (either e b) ws
+pub ors_link : (d : ℕ) (us ws : List Lexeme) (e b : Expr) → first_kind us ≡ Some Or → ands_read d (drop 1 us) ≡ Ok (b, ws) → ors_on d e us ≡ ors_on d (either e b) ws
 unfolding ands_read ors_on
 ors_link d [] ws e b k h = cc
 ors_link d (t ∷ ts) ws e b k h =
@@ -255,28 +255,28 @@ ors_link d (t ∷ ts) ws e b k h =
     rw (q, chain) (ap (λ q. on_read q (λ r. chain is_or either (read_ands (read_factor d)) (length ts) (either e r.0) r.1)) h
     ∙ chain_same is_or either (read_ands (read_factor d)) (ands_short d) (length ts) (length ws) (either e b) ws (ands_short d ts (b, ws) h) (omega arith))
 
-or_stops : (us : List Piece) → (first_kind us ≡ Some Or → ⊥) → Stops is_or us
+or_stops : (us : List Lexeme) → (first_kind us ≡ Some Or → ⊥) → Stops is_or us
 or_stops [] n = tt
 or_stops (t ∷ ts) n = or_by t.kind n
 
-pub ors_end : (d : ℕ) (us : List Piece) (e : Expr) → (first_kind us ≡ Some Or → ⊥) → ors_on d e us ≡ Ok (e, us)
+pub ors_end : (d : ℕ) (us : List Lexeme) (e : Expr) → (first_kind us ≡ Some Or → ⊥) → ors_on d e us ≡ Ok (e, us)
 unfolding ors_on
 ors_end d us e n = chain_stops is_or either (read_ands (read_factor d)) (ands_short d) (length us) e us (or_stops us n)
 
 -- all of the tokens
-pub whole_fails : (d : ℕ) (us : List Piece) (f : ExprKind × List Piece) → ors_read d us ≡ Err f → whole_read d us ≡ Err f
-unfolding ors_read whole_read
-whole_fails d us f e = ap whole e
+pub whole_fails : (d : ℕ) (us : List Lexeme) (f : ExprKind × List Lexeme) → ors_read d us ≡ Err f → read_all_tokens d us ≡ Err f
+unfolding ors_read read_all_tokens
+whole_fails d us f e = ap read_to_end e
 
-pub whole_left : (d : ℕ) (us ws : List Piece) (e : Expr) → ors_read d us ≡ Ok (e, ws) → 0 < length ws → whole_read d us ≡ Err (Malformed, ws)
-unfolding ors_read whole_read
+pub whole_left : (d : ℕ) (us ws : List Lexeme) (e : Expr) → ors_read d us ≡ Ok (e, ws) → 0 < length ws → read_all_tokens d us ≡ Err (Malformed, ws)
+unfolding ors_read read_all_tokens
 whole_left d us [] e h l = absurd (omega arith)
-whole_left d us (w ∷ ws) e h l = ap whole h
+whole_left d us (w ∷ ws) e h l = ap read_to_end h
 
-pub whole_ok : (d : ℕ) (us ws : List Piece) (e : Expr) → ors_read d us ≡ Ok (e, ws) → ws ≡ [] → whole_read d us ≡ Ok e
-unfolding ors_read whole_read
-whole_ok d us ws e h n = ap whole (h ∙ ap (λ vs. Ok (e, vs)) n)
+pub whole_ok : (d : ℕ) (us ws : List Lexeme) (e : Expr) → ors_read d us ≡ Ok (e, ws) → ws ≡ [] → read_all_tokens d us ≡ Ok e
+unfolding ors_read read_all_tokens
+whole_ok d us ws e h n = ap read_to_end (h ∙ ap (λ vs. Ok (e, vs)) n)
 
-pub whole_expr : (us : List Piece) → whole_read 64 us ≡ read_expr us
-unfolding whole_read read_expr
+pub whole_expr : (us : List Lexeme) → read_all_tokens 64 us ≡ read_expr us
+unfolding read_all_tokens read_expr
 whole_expr us = refl

@@ -9,58 +9,58 @@ use Rattle.kc_expr.specs.declared.store.Store.{Store}
 use Rattle.kc_expr.specs.declared.token.Token.{Token as CodeToken}
 use Rattle.kc_expr.specs.Expr.{Expr}
 use Rattle.kc_expr.specs.Grammar.{extent, is_operand_kind, is_close, read_expr, IsExpr, ors, fault_of}
-use Rattle.kc_expr.specs.checker.Parsing.{whole_read, IsParsedWhole, IsRefusedWhole}
-use Rattle.kc_expr.specs.Reading.{expr_at, expr_end, IsRead, IsNotRead}
+use Rattle.kc_expr.specs.checker.Parsing.{read_all_tokens, IsParsedToEnd, IsRefusedToEnd}
+use Rattle.kc_expr.specs.ParseResults.{expr_tokens, expr_end, ReadsExpr, RefusesExpr}
 use Rattle.kc_expr.specs.checker.Store.{exprs_in}
-use Rattle.kc_expr.specs.Token.{Piece, pieces_of, piece_of}
+use Rattle.kc_expr.specs.Token.{Lexeme, lexemes_of, lexeme_of}
 use Rattle.kc_expr.proofs.GrammarComplete.{expr_complete}
 use Rattle.kc_expr.proofs.GrammarLaws.{expr_sound}
 use Rattle.kc_expr.proofs.ReaderSteps.{whole_expr}
 
-pub pieces-drop : (n : ℕ) (ts : List CodeToken) → pieces_of (drop n ts) ≡ drop n (pieces_of ts)
+pub pieces-drop : (n : ℕ) (ts : List CodeToken) → lexemes_of (drop n ts) ≡ drop n (lexemes_of ts)
 pieces-drop zero [] = refl
 pieces-drop zero (t ∷ ts) = refl
 pieces-drop (suc n) [] = refl
 pieces-drop (suc n) (t ∷ ts) = pieces-drop n ts
 
 -- `&tokens[at..]`
-pub tail_pieces : (ts : List CodeToken) (at : ℕ) → pieces_of (take (length ts - at) (drop at ts)) ≡ drop at (pieces_of ts)
-tail_pieces ts at = ap pieces_of (rw (← length-drop at ts) (take-length (drop at ts))) ∙ pieces-drop at ts
+pub tail_pieces : (ts : List CodeToken) (at : ℕ) → lexemes_of (take (length ts - at) (drop at ts)) ≡ drop at (lexemes_of ts)
+tail_pieces ts at = ap lexemes_of (rw (← length-drop at ts) (take-length (drop at ts))) ∙ pieces-drop at ts
 
-extent_by : (b : Bool) (t : Piece) (us : List Piece) → take (length (extent us)) us ≡ extent us → take (length (cond b (t ∷ []) (t ∷ extent us))) (t ∷ us) ≡ cond b (t ∷ []) (t ∷ extent us)
+extent_by : (b : Bool) (t : Lexeme) (us : List Lexeme) → take (length (extent us)) us ≡ extent us → take (length (cond b (t ∷ []) (t ∷ extent us))) (t ∷ us) ≡ cond b (t ∷ []) (t ∷ extent us)
 extent_by true t us ih = refl
 extent_by false t us ih = ap (λ vs. t ∷ vs) ih
 
 -- an expression's tokens are a front of the tokens
-extent_front : (ts : List Piece) → take (length (extent ts)) ts ≡ extent ts
+extent_front : (ts : List Lexeme) → take (length (extent ts)) ts ≡ extent ts
 extent_front [] = refl
 extent_front (t ∷ []) = refl
 extent_front (t ∷ u ∷ ts) = extent_by ((is_operand_kind t.kind || is_close t.kind) && is_operand_kind u.kind) t (u ∷ ts) (extent_front (u ∷ ts))
 
 -- `&tokens[..end]`, and its tokens from the place on
-pub front_pieces : (ts : List CodeToken) (at end : ℕ) → end ≡ expr_end (pieces_of ts) at → pieces_of (take end ts) ≡ take (expr_end (pieces_of ts) at) (pieces_of ts)
-front_pieces ts at end e = sym (take-map piece_of end ts) ∙ ap (λ n. take n (pieces_of ts)) e
+pub front_pieces : (ts : List CodeToken) (at end : ℕ) → end ≡ expr_end (lexemes_of ts) at → lexemes_of (take end ts) ≡ take (expr_end (lexemes_of ts) at) (lexemes_of ts)
+front_pieces ts at end e = sym (take-map lexeme_of end ts) ∙ ap (λ n. take n (lexemes_of ts)) e
 
-pub middle_pieces : (ts : List CodeToken) (at end : ℕ) → end ≡ expr_end (pieces_of ts) at → drop at (pieces_of (take end ts)) ≡ expr_at (pieces_of ts) at
+pub middle_pieces : (ts : List CodeToken) (at end : ℕ) → end ≡ expr_end (lexemes_of ts) at → drop at (lexemes_of (take end ts)) ≡ expr_tokens (lexemes_of ts) at
 middle_pieces ts at end e =
     ap (drop at) (front_pieces ts at end e)
-    ∙ drop-take at (length (expr_at (pieces_of ts) at)) (pieces_of ts)
-    ∙ extent_front (drop at (pieces_of ts))
+    ∙ drop-take at (length (expr_tokens (lexemes_of ts) at)) (lexemes_of ts)
+    ∙ extent_front (drop at (lexemes_of ts))
 
 -- what the parser of a line's front answers, of the line
-module _ (ts line : List CodeToken) (at end : ℕ) (is_line : line ≡ take end ts) (is_end : end ≡ expr_end (pieces_of ts) at) where
-  pub line_read : (s : Store) (condition : Bool) (id : ℕ) → IsParsedWhole s condition (whole_read 64 (drop at (pieces_of line))) id → IsRead (exprs_in s) id condition (expr_at (pieces_of ts) at)
+module _ (ts line : List CodeToken) (at end : ℕ) (is_line : line ≡ take end ts) (is_end : end ≡ expr_end (lexemes_of ts) at) where
+  pub line_read : (s : Store) (condition : Bool) (id : ℕ) → IsParsedToEnd s condition (read_all_tokens 64 (drop at (lexemes_of line))) id → ReadsExpr (exprs_in s) id condition (expr_tokens (lexemes_of ts) at)
   line_read s condition id p =
-      let middle = ap (λ l. drop at (pieces_of l)) is_line ∙ middle_pieces ts at end is_end in
-      let reads = sym (whole_expr (expr_at (pieces_of ts) at)) ∙ ap (whole_read 64) (sym middle) ∙ p.reads in
-      record { expr = p.expr; in_grammar = expr_sound (expr_at (pieces_of ts) at) p.expr reads; reads = reads; stands = p.stands }
+      let middle = ap (λ l. drop at (lexemes_of l)) is_line ∙ middle_pieces ts at end is_end in
+      let reads = sym (whole_expr (expr_tokens (lexemes_of ts) at)) ∙ ap (read_all_tokens 64) (sym middle) ∙ p.reads in
+      record { expr = p.expr; in_grammar = expr_sound (expr_tokens (lexemes_of ts) at) p.expr reads; reads = reads; stands = p.stands }
 
-  not_in : (f : ExprKind × List Piece) → read_expr (expr_at (pieces_of ts) at) ≡ Err f → (x : Expr) → IsExpr ors 64 (expr_at (pieces_of ts) at) x → ⊥
-  not_in f r x g = let k = expr_complete (expr_at (pieces_of ts) at) x g in cc
+  not_in : (f : ExprKind × List Lexeme) → read_expr (expr_tokens (lexemes_of ts) at) ≡ Err f → (x : Expr) → IsExpr ors 64 (expr_tokens (lexemes_of ts) at) x → ⊥
+  not_in f r x g = let k = expr_complete (expr_tokens (lexemes_of ts) at) x g in cc
 
-  pub line_refused : (e : ExprFault) → IsRefusedWhole (pieces_of line) (whole_read 64 (drop at (pieces_of line))) e → (e.kind ≡ OutOfMemory) ⊎ IsNotRead (pieces_of ts) at e
+  pub line_refused : (e : ExprFault) → IsRefusedToEnd (lexemes_of line) (read_all_tokens 64 (drop at (lexemes_of line))) e → (e.kind ≡ OutOfMemory) ⊎ RefusesExpr (lexemes_of ts) at e
   line_refused e (inl m) = inl m
   line_refused e (inr (f, r, q)) =
-      let middle = ap (λ l. drop at (pieces_of l)) is_line ∙ middle_pieces ts at end is_end in
-      let reads = sym (whole_expr (expr_at (pieces_of ts) at)) ∙ ap (whole_read 64) (sym middle) ∙ r in
-      inr (record { not_in_grammar = not_in f reads; fault = f; reads = reads; placed = q ∙ ap (λ all. fault_of all f) (ap pieces_of is_line ∙ front_pieces ts at end is_end) })
+      let middle = ap (λ l. drop at (lexemes_of l)) is_line ∙ middle_pieces ts at end is_end in
+      let reads = sym (whole_expr (expr_tokens (lexemes_of ts) at)) ∙ ap (read_all_tokens 64) (sym middle) ∙ r in
+      inr (record { not_in_grammar = not_in f reads; fault = f; reads = reads; placed = q ∙ ap (λ all. fault_of all f) (ap lexemes_of is_line ∙ front_pieces ts at end is_end) })

@@ -9,19 +9,19 @@ use Rattle.kc_expr.specs.declared.node.Leaf.TheVariants.{Constant, Name, Quoted}
 use Rattle.kc_expr.specs.declared.node.Node.{Node}
 use Rattle.kc_expr.specs.declared.node.Node.TheVariants.{Alone, Related, Negated, Both, Either, Shown}
 use Rattle.kc_expr.specs.declared.store.Store.{Store}
-use Rattle.kc_expr.specs.Arena.{Exprs, stands_for, Stands, Grows}
+use Rattle.kc_expr.specs.Arena.{Exprs, node_expr, Represents, Grows}
 use Rattle.kc_expr.specs.Expr.{Expr, alone, related, constant, named, quoted}
 use Rattle.kc_expr.specs.Lookup.{AreDistinct}
 use Rattle.kc_expr.specs.checker.Nodes.{operand_of, expr_of, exprs_after, exprs_of, LeafFits, NodeFits, some_node}
-use Rattle.kc_expr.specs.checker.Store.{names_held, exprs_in, IsSound, Extends}
+use Rattle.kc_expr.specs.checker.Store.{stored_names, exprs_in, IsSound, Extends}
 use Rattle.kc_expr.proofs.NodeLemmas.{at_node, nodes_push, stands_last, length-exprs}
 
 -- what a node stands for, by its form
-pub node_of : (s : Store) (i : ℕ) (found n : Node) → IsSound s → i < length s.nodes.items → found ≡ get_or s.nodes.items i some_node → found ≡ n → stands_for (exprs_in s) i ≡ expr_of (names_held s) s.texts.items (exprs_in s).nodes n
-node_of s i found n sound h e f = at_node (names_held s) s.texts.items (length (names_held s)) (length s.texts.items) s.nodes.items i n sound.nodes h (sym e ∙ f)
+pub node_of : (s : Store) (i : ℕ) (found n : Node) → IsSound s → i < length s.nodes.items → found ≡ get_or s.nodes.items i some_node → found ≡ n → node_expr (exprs_in s) i ≡ expr_of (stored_names s) s.texts.items (exprs_in s).nodes n
+node_of s i found n sound h e f = at_node (stored_names s) s.texts.items (length (stored_names s)) (length s.texts.items) s.nodes.items i n sound.nodes h (sym e ∙ f)
 
-pub fits_at : (s : Store) (i : ℕ) (found n : Node) → IsSound s → i < length s.nodes.items → found ≡ get_or s.nodes.items i some_node → found ≡ n → NodeFits (length (names_held s)) (length s.texts.items) i n
-fits_at s i found n sound h e f = subst (NodeFits (length (names_held s)) (length s.texts.items) i) (sym e ∙ f) (sound.nodes i h)
+pub fits_at : (s : Store) (i : ℕ) (found n : Node) → IsSound s → i < length s.nodes.items → found ≡ get_or s.nodes.items i some_node → found ≡ n → NodeFits (length (stored_names s)) (length s.texts.items) i n
+fits_at s i found n sound h e f = subst (NodeFits (length (stored_names s)) (length s.texts.items) i) (sym e ∙ f) (sound.nodes i h)
 
 prefix_parts : {X : Type 0} (xs ys : List X) → take (length xs) ys ≡ xs → ys ≡ xs ++ drop (length xs) ys
 prefix_parts xs ys e = sym (take-append-drop (length xs) ys) ∙ ap (λ zs. zs ++ drop (length xs) ys) e
@@ -54,7 +54,7 @@ extends_on a b c e f = record {
   nodes = prefix_trans a.nodes.items b.nodes.items c.nodes.items e.nodes f.nodes;
 }
 
--- names and texts that come behind change no operand
+-- names and texts that come after change no operand
 module _ (names texts more_names more_texts : List (List ℕ)) (n : take (length names) more_names ≡ names) (t : take (length texts) more_texts ≡ texts) where
   pub operand_kept : (a : Leaf) → LeafFits (length names) (length texts) a → operand_of more_names more_texts a ≡ operand_of names texts a
   operand_kept (Constant v) h = refl
@@ -94,7 +94,7 @@ module _ (names texts : List (List ℕ)) where
   exprs-append es [] ms = refl
   exprs-append es (n ∷ ns) ms = exprs-append (es ++ expr_of names texts es n ∷ []) ns ms
 
-  -- expressions of further nodes come behind
+  -- expressions of further nodes come after
   behind : (es : List Expr) (ns : List Node) → (rest : List Expr) × (exprs_after names texts es ns ≡ es ++ rest)
   behind es [] = ([], sym (append-nil es))
   behind es (n ∷ ns) =
@@ -106,25 +106,25 @@ pub grows : (old new : Store) → IsSound old → Extends old new → Grows (exp
 grows old new sound e =
     let names_kept = prefix_map string_bytes old.names.keys new.names.keys e.names in
     let more = drop (length old.nodes.items) new.nodes.items in
-    let same : exprs_of (names_held new) new.texts.items old.nodes.items ≡ exprs_of (names_held old) old.texts.items old.nodes.items =
-    exprs_kept (names_held old) old.texts.items (names_held new) new.texts.items names_kept e.texts [] old.nodes.items (λ k m q l. let g : k ≡ m = omega arith in rw (← g) (sound.nodes k l)) in
-    let es = exprs_of (names_held old) old.texts.items old.nodes.items in
-    let (rest, f) = behind (names_held new) new.texts.items es more in
+    let same : exprs_of (stored_names new) new.texts.items old.nodes.items ≡ exprs_of (stored_names old) old.texts.items old.nodes.items =
+    exprs_kept (stored_names old) old.texts.items (stored_names new) new.texts.items names_kept e.texts [] old.nodes.items (λ k m q l. let g : k ≡ m = omega arith in rw (← g) (sound.nodes k l)) in
+    let es = exprs_of (stored_names old) old.texts.items old.nodes.items in
+    let (rest, f) = behind (stored_names new) new.texts.items es more in
     record {
       names = names_kept;
-      nodes = ap (λ ns. take (length es) (exprs_of (names_held new) new.texts.items ns)) (prefix_parts old.nodes.items new.nodes.items e.nodes)
-          ∙ ap (take (length es)) (exprs-append (names_held new) new.texts.items [] old.nodes.items more ∙ ap (λ fs. exprs_after (names_held new) new.texts.items fs more) same ∙ f)
+      nodes = ap (λ ns. take (length es) (exprs_of (stored_names new) new.texts.items ns)) (prefix_parts old.nodes.items new.nodes.items e.nodes)
+          ∙ ap (take (length es)) (exprs-append (stored_names new) new.texts.items [] old.nodes.items more ∙ ap (λ fs. exprs_after (stored_names new) new.texts.items fs more) same ∙ f)
           ∙ take-append_seam es rest;
     }
 
 -- so does a node
-pub stands_on : (old new : Exprs) (id : ℕ) (e : Expr) → Grows old new → Stands old id e → Stands new id e
+pub stands_on : (old new : Exprs) (id : ℕ) (e : Expr) → Grows old new → Represents old id e → Represents new id e
 stands_on old new id e g s = record {
   within = omega (arith, s.within, prefix_long old.nodes new.nodes g.nodes);
   is = kept_get old.nodes new.nodes id (alone (constant N)) g.nodes s.within ∙ s.is;
 }
 
-pub stands_later : (old new : Store) (id : ℕ) (e : Expr) → IsSound old → Extends old new → Stands (exprs_in old) id e → Stands (exprs_in new) id e
+pub stands_later : (old new : Store) (id : ℕ) (e : Expr) → IsSound old → Extends old new → Represents (exprs_in old) id e → Represents (exprs_in new) id e
 stands_later old new id e sound x s = stands_on (exprs_in old) (exprs_in new) id e (grows old new sound x) s
 
 -- one node more
@@ -136,49 +136,49 @@ module _ (old new : Store) (node : Node) (sound : IsSound old) (nodes : new.node
     nodes = rw nodes (take-append_seam old.nodes.items (node ∷ []));
   }
 
-  pub push_sound : length old.nodes.items < 2 ^ 32 → NodeFits (length (names_held old)) (length old.texts.items) (length old.nodes.items) node → IsSound new
+  pub push_sound : length old.nodes.items < 2 ^ 32 → NodeFits (length (stored_names old)) (length old.texts.items) (length old.nodes.items) node → IsSound new
   push_sound few f = record {
-    nodes = rw (nodes, names, texts) (nodes_push (length (names_held old)) (length old.texts.items) old.nodes.items node sound.nodes f);
+    nodes = rw (nodes, names, texts) (nodes_push (length (stored_names old)) (length old.texts.items) old.nodes.items node sound.nodes f);
     distinct = rw names sound.distinct;
     few_names = rw names sound.few_names;
     few_nodes = rw nodes (omega (arith, few, length-append old.nodes.items (node ∷ [])));
   }
 
-  pub push_stands : (id : ℕ) → id ≡ length old.nodes.items → Stands (exprs_in new) id (expr_of (names_held old) old.texts.items (exprs_in old).nodes node)
-  push_stands id e = rw (nodes, names, texts) (stands_last (names_held old) old.texts.items old.nodes.items node id e)
+  pub push_stands : (id : ℕ) → id ≡ length old.nodes.items → Represents (exprs_in new) id (expr_of (stored_names old) old.texts.items (exprs_in old).nodes node)
+  push_stands id e = rw (nodes, names, texts) (stands_last (stored_names old) old.texts.items old.nodes.items node id e)
 
 -- the nodes of a store are as many as its expressions
 pub length-nodes : (s : Store) → length (exprs_in s).nodes ≡ length s.nodes.items
-length-nodes s = omega (arith, length-exprs (names_held s) s.texts.items [] s.nodes.items)
+length-nodes s = omega (arith, length-exprs (stored_names s) s.texts.items [] s.nodes.items)
 
 -- a number of an expression is one of a node
 pub within_nodes : (a : Exprs) (s : Store) (i : ℕ) → exprs_in s ≡ a → i < length a.nodes → i < length s.nodes.items
 within_nodes a s i e h = omega (arith, h, ap (λ (x : Exprs). length x.nodes) e, length-nodes s)
 
--- names and texts that come behind keep a store sound
-pub sound_on : (old new : Store) → IsSound old → Extends old new → new.nodes.items ≡ old.nodes.items → AreDistinct (names_held new) → length new.names.keys ≤ 2 ^ 32 → IsSound new
+-- names and texts that come after keep a store sound
+pub sound_on : (old new : Store) → IsSound old → Extends old new → new.nodes.items ≡ old.nodes.items → AreDistinct (stored_names new) → length new.names.keys ≤ 2 ^ 32 → IsSound new
 sound_on old new sound e same d few = record {
-  nodes = rw same (λ k l. fits_kept (names_held old) old.texts.items (names_held new) new.texts.items (prefix_map string_bytes old.names.keys new.names.keys e.names) e.texts k (get_or old.nodes.items k some_node) (sound.nodes k l));
+  nodes = rw same (λ k l. fits_kept (stored_names old) old.texts.items (stored_names new) new.texts.items (prefix_map string_bytes old.names.keys new.names.keys e.names) e.texts k (get_or old.nodes.items k some_node) (sound.nodes k l));
   distinct = d;
   few_names = few;
   few_nodes = rw same sound.few_nodes;
 }
 
 -- an operand stays what it was
-pub operand_on : (old new : Store) (a : Leaf) → Extends old new → LeafFits (length (names_held old)) (length old.texts.items) a → operand_of (names_held new) new.texts.items a ≡ operand_of (names_held old) old.texts.items a
-operand_on old new a e h = operand_kept (names_held old) old.texts.items (names_held new) new.texts.items (prefix_map string_bytes old.names.keys new.names.keys e.names) e.texts a h
+pub operand_on : (old new : Store) (a : Leaf) → Extends old new → LeafFits (length (stored_names old)) (length old.texts.items) a → operand_of (stored_names new) new.texts.items a ≡ operand_of (stored_names old) old.texts.items a
+operand_on old new a e h = operand_kept (stored_names old) old.texts.items (stored_names new) new.texts.items (prefix_map string_bytes old.names.keys new.names.keys e.names) e.texts a h
 
-pub leaf_on : (old new : Store) (a : Leaf) → Extends old new → LeafFits (length (names_held old)) (length old.texts.items) a → LeafFits (length (names_held new)) (length new.texts.items) a
-leaf_on old new a e h = leaf_kept (names_held old) old.texts.items (names_held new) new.texts.items (prefix_map string_bytes old.names.keys new.names.keys e.names) e.texts a h
+pub leaf_on : (old new : Store) (a : Leaf) → Extends old new → LeafFits (length (stored_names old)) (length old.texts.items) a → LeafFits (length (stored_names new)) (length new.texts.items) a
+leaf_on old new a e h = leaf_kept (stored_names old) old.texts.items (stored_names new) new.texts.items (prefix_map string_bytes old.names.keys new.names.keys e.names) e.texts a h
 
 -- a node stays one
 pub node_on : (old new : Store) (i : ℕ) → Extends old new → i < length old.nodes.items → i < length new.nodes.items
 node_on old new i e h = omega (arith, h, prefix_long old.nodes.items new.nodes.items e.nodes)
 
-pub stands_node : (s : Store) (i : ℕ) (e : Expr) → Stands (exprs_in s) i e → i < length s.nodes.items
+pub stands_node : (s : Store) (i : ℕ) (e : Expr) → Represents (exprs_in s) i e → i < length s.nodes.items
 stands_node s i e h = omega (arith, h.within, length-nodes s)
 
--- a name that is put in comes behind, or was there
+-- a name that is put in comes after, or was there
 pub put_prefix : {X : Type 0} (b : Bool) (xs : List X) (x : X) → take (length xs) (cond b xs (xs ++ x ∷ [])) ≡ xs
 put_prefix true xs x = take-length xs
 put_prefix false xs x = take-append_seam xs (x ∷ [])

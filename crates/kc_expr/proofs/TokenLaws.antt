@@ -8,13 +8,13 @@ use Rattle.std.proofs.lemmas.List.Sums.{take_while-cons}
 use Rattle.std.proofs.Math.Seq.{take-append_seam, drop-append_seam}
 use Rattle.kc_value.specs.Quoted.{closing}
 use Rattle.kc_value.proofs.QuotedLaws.{body_closes}
-use Rattle.kc_expr.specs.declared.token.Lead.TheVariants.{White, Comment, Token}
+use Rattle.kc_expr.specs.declared.token.NextToken.TheVariants.{White, Comment, Token}
 use Rattle.kc_expr.specs.declared.token.Relop.TheVariants.{Equal, NotEqual, Less, Greater, LessEqual, GreaterEqual}
 use Rattle.kc_expr.specs.declared.token.TokenKind.{TokenKind}
 use Rattle.kc_expr.specs.declared.token.TokenKind.TheVariants.{Word, Quoted, Relation, Not, And, Or, Open, Close}
-use Rattle.kc_expr.specs.Answers.{with_front}
+use Rattle.kc_expr.specs.Results.{with_front}
 use Rattle.kc_expr.specs.Grammar.{is_quote}
-use Rattle.kc_expr.specs.Token.{Piece, is_white_byte, is_word_byte, lead_of, quoted_up_to, quoted_or_left_out, lexed}
+use Rattle.kc_expr.specs.Token.{Lexeme, is_white_byte, is_word_byte, next_token, quoted_up_to, quoted_or_left_out, lexemes_from}
 use Rattle.kc_expr.specs.TokenGrammar.{IsQuotedToken, IsToken, IsLongest, IsCut, ends, comment, white, token}
 use Rattle.kc_expr.proofs.Lexing.{lexed_white, lexed_comment, lexed_token, word_run}
 
@@ -69,15 +69,15 @@ any_append p [] ys h k = k
 any_append p (x ∷ xs) ys h k = let (f, r) = or_parts (p x) (list_any p xs) h in rw f (any_append p xs ys r k)
 
 -- what stands at the front, where the language has a token there
-lead_word : (c : ℕ) (bs : List ℕ) → is_word_byte c ≡ true → lead_of (c ∷ bs) ≡ Token Word (length (take_while is_word_byte (c ∷ bs)))
-unfolding lead_of
+lead_word : (c : ℕ) (bs : List ℕ) → is_word_byte c ≡ true → next_token (c ∷ bs) ≡ Token Word (length (take_while is_word_byte (c ∷ bs)))
+unfolding next_token
 lead_word c bs h = let a = word_no_white c h in let b = word_no_hash c h in rw (a, b, h) refl
 
-lead_quoted : (q : ℕ) (bs : List ℕ) → is_quote q ≡ true → lead_of (q ∷ bs) ≡ quoted_up_to (q ∷ bs) (closing q false bs)
-unfolding lead_of
+lead_quoted : (q : ℕ) (bs : List ℕ) → is_quote q ≡ true → next_token (q ∷ bs) ≡ quoted_up_to (q ∷ bs) (closing q false bs)
+unfolding next_token
 lead_quoted q bs h = by_sort (quote_is q h)
   where
-    by_sort : (q ≡ 34) ⊎ (q ≡ 39) → lead_of (q ∷ bs) ≡ quoted_up_to (q ∷ bs) (closing q false bs)
+    by_sort : (q ≡ 34) ⊎ (q ≡ 39) → next_token (q ∷ bs) ≡ quoted_up_to (q ∷ bs) (closing q false bs)
     by_sort (inl e) = rw e refl
     by_sort (inr e) = rw e refl
 
@@ -88,7 +88,7 @@ quote_facts q h = by_sort (quote_is q h)
     by_sort (inl e) = rw e (refl, refl, refl)
     by_sort (inr e) = rw e (refl, refl, refl)
 
-quoted_lead : (text rest : List ℕ) → IsQuotedToken text → lead_of (text ++ rest) ≡ Token Quoted (length text)
+quoted_lead : (text rest : List ℕ) → IsQuotedToken text → next_token (text ++ rest) ≡ Token Quoted (length text)
 quoted_lead text rest t =
     let (slash, dollar, word) = quote_facts t.quote t.sort in
     let whole : List ℕ = t.quote ∷ (t.body ++ t.quote ∷ []) in
@@ -98,12 +98,12 @@ quoted_lead text rest t =
     let clean : list_any (λ c. eqb c 36) whole ≡ false = rw dollar (any_append (λ c. eqb c 36) t.body (t.quote ∷ []) t.no_dollar (rw dollar refl)) in
     let none : position (λ c. eqb c 36) (take (suc (length t.body) + 1) (whole ++ rest)) ≡ None =
     ap (λ n. position (λ c. eqb c 36) (take n (whole ++ rest))) size ∙ ap (position (λ c. eqb c 36)) (take-append_seam whole rest) ∙ position_none (λ c. eqb c 36) whole clean in
-    let lead : lead_of (whole ++ rest) ≡ Token Quoted (length whole) =
+    let lead : next_token (whole ++ rest) ≡ Token Quoted (length whole) =
     lead_quoted t.quote ((t.body ++ t.quote ∷ []) ++ rest) t.sort
     ∙ ap (quoted_up_to (whole ++ rest)) close
     ∙ ap (quoted_or_left_out (suc (length t.body) + 1)) none
     ∙ ap (Token Quoted) size in
-    subst (λ x. lead_of (x ++ rest) ≡ Token Quoted (length x)) (sym t.parts) lead
+    subst (λ x. next_token (x ++ rest) ≡ Token Quoted (length x)) (sym t.parts) lead
 
 -- where no longer operator fits, the second byte is another
 second_by : (a c : ℕ) (cs : List ℕ) (b : Bool) (k : TokenKind) → IsToken k (a ∷ 61 ∷ []) → IsLongest (a ∷ []) (a ∷ c ∷ cs) → eqb c 61 ≡ b → b ≡ false
@@ -114,8 +114,8 @@ second : (a : ℕ) (rest : List ℕ) (k : TokenKind) → IsToken k (a ∷ 61 ∷
 second a [] k is long = refl
 second a (c ∷ cs) k is long = second_by a c cs (eqb c 61) k is long refl
 
-operator_lead : (k : TokenKind) (rest : List ℕ) → (k ≡ Word → ⊥) → (k ≡ Quoted → ⊥) → (text : List ℕ) → IsToken k text → IsLongest text (text ++ rest) → lead_of (text ++ rest) ≡ Token k (length text)
-unfolding lead_of
+operator_lead : (k : TokenKind) (rest : List ℕ) → (k ≡ Word → ⊥) → (k ≡ Quoted → ⊥) → (text : List ℕ) → IsToken k text → IsLongest text (text ++ rest) → next_token (text ++ rest) ≡ Token k (length text)
+unfolding next_token
 operator_lead Word rest w q text is long = absurd (w refl)
 operator_lead Quoted rest w q text is long = absurd (q refl)
 operator_lead (Relation Equal) rest w q text is long = rw is refl
@@ -136,7 +136,7 @@ operator_lead Not rest w q text is long =
     let f = second 33 rest (Relation NotEqual) refl (subst (λ x. IsLongest x (x ++ rest)) is long) in
     rw is (rw f refl)
 
-word_lead : (text rest : List ℕ) → IsToken Word text → IsLongest text (text ++ rest) → lead_of (text ++ rest) ≡ Token Word (length text)
+word_lead : (text rest : List ℕ) → IsToken Word text → IsLongest text (text ++ rest) → next_token (text ++ rest) ≡ Token Word (length text)
 word_lead [] rest is long = absurd (omega (arith, is.0))
 word_lead (c ∷ cs) rest is long =
     let (w, r) = and_parts (is_word_byte c) (list_all is_word_byte cs) is.1 in
@@ -146,7 +146,7 @@ word_lead (c ∷ cs) rest is long =
     let down = front_run (c ∷ cs) rest is.1 in
     lead_word c (cs ++ rest) w ∙ ap (Token Word) (let q : length run ≡ length (c ∷ cs) = omega (arith, up, down) in q)
 
-token_lead : (k : TokenKind) (text rest : List ℕ) → IsToken k text → IsLongest text (text ++ rest) → lead_of (text ++ rest) ≡ Token k (length text)
+token_lead : (k : TokenKind) (text rest : List ℕ) → IsToken k text → IsLongest text (text ++ rest) → next_token (text ++ rest) ≡ Token k (length text)
 token_lead Word text rest is long = word_lead text rest is long
 token_lead Quoted text rest is long = quoted_lead text rest is
 token_lead (Relation op) text rest is long = operator_lead (Relation op) rest (λ e. cc) (λ e. cc) text is long
@@ -174,36 +174,36 @@ first_byte Open text is = (40, [], is)
 first_byte Close text is = (41, [], is)
 
 -- one token read
-token_read : (at c : ℕ) (cs rest : List ℕ) (k : TokenKind) (s t : ℕ) (ps : List Piece) → s ≡ at → t ≡ at + suc (length cs) → lead_of (c ∷ (cs ++ rest)) ≡ Token k (suc (length cs)) → lexed 0 t rest ≡ Ok ps
-    → lexed 0 at (c ∷ (cs ++ rest)) ≡ Ok (record { kind = k; start = s; stop = t; text = c ∷ cs } ∷ ps)
+token_read : (at c : ℕ) (cs rest : List ℕ) (k : TokenKind) (s t : ℕ) (ps : List Lexeme) → s ≡ at → t ≡ at + suc (length cs) → next_token (c ∷ (cs ++ rest)) ≡ Token k (suc (length cs)) → lexemes_from 0 t rest ≡ Ok ps
+    → lexemes_from 0 at (c ∷ (cs ++ rest)) ≡ Ok (record { kind = k; start = s; stop = t; text = c ∷ cs } ∷ ps)
 token_read at c cs rest k s t ps e f lead h =
     lexed_token at c (cs ++ rest) k (length cs) lead
-    ∙ ap (λ x. with_front (record { kind = k; start = at; stop = at + suc (length cs); text = c ∷ x } ∷ []) (lexed 0 (at + suc (length cs)) (drop (length cs) (cs ++ rest)))) (take-append_seam cs rest)
-    ∙ ap (λ x. with_front (record { kind = k; start = at; stop = at + suc (length cs); text = c ∷ cs } ∷ []) (lexed 0 (at + suc (length cs)) x)) (drop-append_seam cs rest)
-    ∙ ap (λ n. with_front (record { kind = k; start = at; stop = n; text = c ∷ cs } ∷ []) (lexed 0 n rest)) (sym f)
+    ∙ ap (λ x. with_front (record { kind = k; start = at; stop = at + suc (length cs); text = c ∷ x } ∷ []) (lexemes_from 0 (at + suc (length cs)) (drop (length cs) (cs ++ rest)))) (take-append_seam cs rest)
+    ∙ ap (λ x. with_front (record { kind = k; start = at; stop = at + suc (length cs); text = c ∷ cs } ∷ []) (lexemes_from 0 (at + suc (length cs)) x)) (drop-append_seam cs rest)
+    ∙ ap (λ n. with_front (record { kind = k; start = at; stop = n; text = c ∷ cs } ∷ []) (lexemes_from 0 n rest)) (sym f)
     ∙ ap (with_front (record { kind = k; start = at; stop = t; text = c ∷ cs } ∷ [])) h
     ∙ ap (λ n. Ok (record { kind = k; start = n; stop = t; text = c ∷ cs } ∷ ps)) (sym e)
 
-white_lead : (c : ℕ) (bs : List ℕ) → is_white_byte c ≡ true → lead_of (c ∷ bs) ≡ White
-unfolding lead_of
+white_lead : (c : ℕ) (bs : List ℕ) → is_white_byte c ≡ true → next_token (c ∷ bs) ≡ White
+unfolding next_token
 white_lead c bs h = rw h refl
 
-hash_lead : (bs : List ℕ) → lead_of (35 ∷ bs) ≡ Comment
-unfolding lead_of
+hash_lead : (bs : List ℕ) → next_token (35 ∷ bs) ≡ Comment
+unfolding next_token
 hash_lead bs = refl
 
 -- a line that is cut so is read so
-pub cut_read : (at : ℕ) (bytes : List ℕ) (ps : List Piece) → IsCut at bytes ps → lexed 0 at bytes ≡ Ok ps
+pub cut_read : (at : ℕ) (bytes : List ℕ) (ps : List Lexeme) → IsCut at bytes ps → lexemes_from 0 at bytes ≡ Ok ps
 cut_read at bytes ps ends = refl
 cut_read at bytes ps (comment {bytes = bs}) = lexed_comment at 35 bs (hash_lead bs)
 cut_read at bytes ps (white {c = c} {bytes = bs} h x) = lexed_white at c bs (white_lead c bs h) ∙ cut_read (at + 1) bs ps x
 cut_read at bytes ps (token {ps = qs} p rest parts is long start stop x) = by_first (first_byte p.kind p.text is) (cut_read p.stop rest qs x)
   where
-    by_first : (c : ℕ) × (cs : List ℕ) × (p.text ≡ c ∷ cs) → lexed 0 p.stop rest ≡ Ok qs → lexed 0 at bytes ≡ Ok (p ∷ qs)
+    by_first : (c : ℕ) × (cs : List ℕ) × (p.text ≡ c ∷ cs) → lexemes_from 0 p.stop rest ≡ Ok qs → lexemes_from 0 at bytes ≡ Ok (p ∷ qs)
     by_first (c, cs, e) h =
-        let lead : lead_of (c ∷ (cs ++ rest)) ≡ Token p.kind (suc (length cs)) =
-        subst (λ x. lead_of (x ++ rest) ≡ Token p.kind (length x)) e (token_lead p.kind p.text rest is (subst (IsLongest p.text) parts long)) in
+        let lead : next_token (c ∷ (cs ++ rest)) ≡ Token p.kind (suc (length cs)) =
+        subst (λ x. next_token (x ++ rest) ≡ Token p.kind (length x)) e (token_lead p.kind p.text rest is (subst (IsLongest p.text) parts long)) in
         let stops : p.stop ≡ at + suc (length cs) = stop ∙ ap (λ x. at + length x) e in
-        ap (lexed 0 at) (parts ∙ ap (λ x. x ++ rest) e)
+        ap (lexemes_from 0 at) (parts ∙ ap (λ x. x ++ rest) e)
         ∙ token_read at c cs rest p.kind p.start p.stop qs start stops lead h
         ∙ ap (λ x. Ok (record { kind = p.kind; start = p.start; stop = p.stop; text = x } ∷ qs)) (sym e)

@@ -7,15 +7,15 @@ use Rattle.kc_value.specs.Number.{int_text, hex_text, loose_number}
 use Rattle.kc_expr.specs.declared.token.Relop.TheVariants.{Equal}
 use Rattle.kc_expr.specs.declared.token.TokenKind.TheVariants.{Word, Quoted}
 use Rattle.kc_expr.specs.declared.fault.ExprKind.TheVariants.{UnclosedQuote, LeftOut}
-use Rattle.kc_expr.specs.Token.{lexed, lead_of, Piece}
+use Rattle.kc_expr.specs.Token.{lexemes_from, next_token, Lexeme}
 use Rattle.std.proofs.Common.{length}
 use Rattle.kc_expr.specs.declared.fault.ExprKind.{ExprKind}
 use Rattle.kc_expr.specs.declared.fault.ExprKind.TheVariants.{Malformed}
 use Rattle.kc_expr.specs.Grammar.{read_expr, extent}
-use Rattle.kc_expr.specs.Expr.{Expr, alone, related, negated, both, either, named, quoted, value, Names}
+use Rattle.kc_expr.specs.Expr.{Expr, alone, related, negated, both, either, named, quoted, value, Environment}
 
 -- A is y, B is m, N is the int 10, H the hex 0x0A, S the string 10
-names : Names
+names : Environment
 names x =
     cond (bytes_eq x (codes "A")) (Some (record { kind = Tristate; tri = Y; text = codes "y" }))
     (cond (bytes_eq x (codes "B")) (Some (record { kind = Tristate; tri = M; text = codes "m" }))
@@ -43,33 +43,33 @@ unfolding names int_text hex_text loose_number
 text_compares_with_a_number = refl
 
 -- a line of a word and a quoted text, and a comment
-words_quotes_comment : lexed 0 0 (codes "bool \"a b\" # x") ≡ Ok (record { kind = Word; start = 0; stop = 4; text = codes "bool" } ∷ record { kind = Quoted; start = 5; stop = 10; text = codes "\"a b\"" } ∷ [])
-unfolding lead_of
+words_quotes_comment : lexemes_from 0 0 (codes "bool \"a b\" # x") ≡ Ok (record { kind = Word; start = 0; stop = 4; text = codes "bool" } ∷ record { kind = Quoted; start = 5; stop = 10; text = codes "\"a b\"" } ∷ [])
+unfolding next_token
 words_quotes_comment = refl
 
-quote_is_not_closed : lexed 0 0 (codes "a \"b") ≡ Err (record { offset = 2; kind = UnclosedQuote })
-unfolding lead_of
+quote_is_not_closed : lexemes_from 0 0 (codes "a \"b") ≡ Err (record { offset = 2; kind = UnclosedQuote })
+unfolding next_token
 quote_is_not_closed = refl
 
-dollar_is_left_out : lexed 0 0 (codes "a \"b$\"") ≡ Err (record { offset = 4; kind = LeftOut })
-unfolding lead_of
+dollar_is_left_out : lexemes_from 0 0 (codes "a \"b$\"") ≡ Err (record { offset = 4; kind = LeftOut })
+unfolding next_token
 dollar_is_left_out = refl
 
 -- the expression of a text
-pieces : List ℕ → List Piece
-pieces text = elim (lexed 0 0 text) [ Ok ps ↦ ps | Err e ↦ [] ]
+pieces : List ℕ → List Lexeme
+pieces text = elim (lexemes_from 0 0 text) [ Ok ps ↦ ps | Err e ↦ [] ]
 
 read : List ℕ → Result Expr (ExprKind × ℕ)
 read text = elim (read_expr (extent (pieces text))) [ Ok e ↦ Ok e | Err f ↦ Err (f.0, length f.1) ]
 
 reads_up_to_the_next_word : read (codes "!A = B && (C || D) if X") ≡ Ok (both (negated (related Equal (named (codes "A")) (named (codes "B")))) (either (word (codes "C")) (word (codes "D"))))
-unfolding lead_of word read pieces read_expr
+unfolding next_token word read pieces read_expr
 reads_up_to_the_next_word = refl
 
 relations_do_not_chain : read (codes "A = B = C") ≡ Err (Malformed, 2)
-unfolding lead_of read pieces read_expr
+unfolding next_token read pieces read_expr
 relations_do_not_chain = refl
 
 ands_bind_tighter_than_ors : read (codes "A && B || C && D || E") ≡ Ok (either (either (both (word (codes "A")) (word (codes "B"))) (both (word (codes "C")) (word (codes "D")))) (word (codes "E")))
-unfolding lead_of word read pieces read_expr
+unfolding next_token word read pieces read_expr
 ands_bind_tighter_than_ors = refl

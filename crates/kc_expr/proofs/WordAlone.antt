@@ -3,11 +3,11 @@ use Rattle.std.proofs.Common.{◌≡◌, ℕ, List, drop, [], Some, None, Ok, ap
 use Rattle.kc_expr.specs.declared.token.TokenKind.{TokenKind}
 use Rattle.kc_expr.specs.declared.token.TokenKind.TheVariants.{Word, Not, And, Or, Open}
 use Rattle.kc_expr.specs.Expr.{Operand, alone}
-use Rattle.kc_expr.specs.checker.Parsing.{first_kind, first_operand, first_relation, factor_read, ands_read, ors_read, whole_read}
-use Rattle.kc_expr.specs.Token.{Piece}
+use Rattle.kc_expr.specs.checker.Parsing.{first_kind, first_operand, first_relation, factor_read, ands_read, ors_read, read_all_tokens}
+use Rattle.kc_expr.specs.Token.{Lexeme}
 use Rattle.kc_expr.proofs.ReaderSteps.{operand_alone, factor_operand, ands_first, ands_end, ors_first, ors_end, whole_ok}
 
-module _ (us : List Piece) (a : Operand) (k : first_kind us ≡ Some Word) (o : first_operand us ≡ Some a) (last : drop 1 us ≡ []) where
+module _ (us : List Lexeme) (a : Operand) (k : first_kind us ≡ Some Word) (o : first_operand us ≡ Some a) (last : drop 1 us ≡ []) where
   other : (kind : TokenKind) → (Word ≡ kind → ⊥) → first_kind us ≡ Some kind → ⊥
   other kind n e = n (let both : Some Word ≡ Some kind = sym k ∙ e in cc)
 
@@ -23,5 +23,5 @@ module _ (us : List Piece) (a : Operand) (k : first_kind us ≡ Some Word) (o : 
   word_ors : (d : ℕ) → ors_read d us ≡ Ok (alone a, drop 1 us)
   word_ors d = ors_first d us (drop 1 us) (alone a) (word_ands d) ∙ ors_end d (drop 1 us) (alone a) (none_follows Or)
 
-  pub word_whole : (d : ℕ) → whole_read d us ≡ Ok (alone a)
+  pub word_whole : (d : ℕ) → read_all_tokens d us ≡ Ok (alone a)
   word_whole d = whole_ok d us (drop 1 us) (alone a) (word_ors d) last

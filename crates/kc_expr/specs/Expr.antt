@@ -27,22 +27,22 @@ pub data Expr : Type 0 where
   either : Expr → Expr → Expr
   shown : Expr → Expr
 
--- what a name stands for: the kind, the tristate value and the text of its symbol
-pub record Seen : Type 0 where
+-- the value of a symbol: its kind, its tristate value and its text
+pub record SymbolValue : Type 0 where
   pub kind : Kind
   pub tri : Tri
   pub text : List ℕ
 
--- which symbol a name stands for, if one
-abbrev pub Names : Type 0
-Names = List ℕ → Option Seen
+-- the value of each name that is defined
+abbrev pub Environment : Type 0
+Environment = List ℕ → Option SymbolValue
 
 abbrev pub letter : Tri → List ℕ
 letter N = 110 ∷ []
 letter M = 109 ∷ []
 letter Y = 121 ∷ []
 
--- the value of a symbol that stands alone
+-- the value of a symbol that is an expression by itself
 abbrev pub tri_of_kind : Kind → Tri → Tri
 tri_of_kind Boolean t = t
 tri_of_kind Tristate t = t
@@ -50,23 +50,23 @@ tri_of_kind Text t = N
 tri_of_kind Int t = N
 tri_of_kind Hex t = N
 
-abbrev pub tri_seen : Option Seen → Tri
-tri_seen None = N
-tri_seen (Some s) = tri_of_kind s.kind s.tri
+abbrev pub symbol_tri : Option SymbolValue → Tri
+symbol_tri None = N
+symbol_tri (Some s) = tri_of_kind s.kind s.tri
 
-abbrev pub operand_value : Names → Operand → Tri
+abbrev pub operand_value : Environment → Operand → Tri
 operand_value names (constant t) = t
-operand_value names (named x) = tri_seen (names x)
+operand_value names (named x) = symbol_tri (names x)
 operand_value names (quoted x) = N
 
 -- the text of an operand
-abbrev pub text_seen : List ℕ → Option Seen → List ℕ
-text_seen name None = name
-text_seen name (Some s) = s.text
+abbrev pub symbol_text : List ℕ → Option SymbolValue → List ℕ
+symbol_text name None = name
+symbol_text name (Some s) = s.text
 
-abbrev pub operand_text : Names → Operand → List ℕ
+abbrev pub operand_text : Environment → Operand → List ℕ
 operand_text names (constant t) = letter t
-operand_text names (named x) = text_seen x (names x)
+operand_text names (named x) = symbol_text x (names x)
 operand_text names (quoted x) = x
 
 -- string symbols and quoted texts are string-typed
@@ -77,13 +77,13 @@ is_text_kind Tristate = false
 is_text_kind Int = false
 is_text_kind Hex = false
 
-abbrev pub is_string_seen : Option Seen → Bool
-is_string_seen None = false
-is_string_seen (Some s) = is_text_kind s.kind
+abbrev pub is_string_symbol : Option SymbolValue → Bool
+is_string_symbol None = false
+is_string_symbol (Some s) = is_text_kind s.kind
 
-abbrev pub is_string : Names → Operand → Bool
+abbrev pub is_string : Environment → Operand → Bool
 is_string names (constant t) = false
-is_string names (named x) = is_string_seen (names x)
+is_string names (named x) = is_string_symbol (names x)
 is_string names (quoted x) = true
 
 -- the number of an operand, if it has one
@@ -94,13 +94,13 @@ number_of_kind Text t text = loose_number text
 number_of_kind Int t text = int_text text
 number_of_kind Hex t text = hex_text text
 
-abbrev pub number_seen : List ℕ → Option Seen → Option ℤ
-number_seen name None = loose_number name
-number_seen name (Some s) = number_of_kind s.kind s.tri s.text
+abbrev pub symbol_number : List ℕ → Option SymbolValue → Option ℤ
+symbol_number name None = loose_number name
+symbol_number name (Some s) = number_of_kind s.kind s.tri s.text
 
-abbrev pub operand_number : Names → Operand → Option ℤ
+abbrev pub operand_number : Environment → Operand → Option ℤ
 operand_number names (constant t) = Some (pos (rank t))
-operand_number names (named x) = number_seen x (names x)
+operand_number names (named x) = symbol_number x (names x)
 operand_number names (quoted x) = loose_number x
 
 -- as numbers where both have one, and else by bytes
@@ -110,7 +110,7 @@ compared_by (Some m) None texts = texts
 compared_by None n texts = texts
 
 -- two string-typed operands by bytes, others by numbers where both have one
-abbrev pub compared : Names → Operand → Operand → Ordering
+abbrev pub compared : Environment → Operand → Operand → Ordering
 compared names a b =
     let texts = slice_cmp nat_cmp (operand_text names a) (operand_text names b) in
     if is_string names a && is_string names b then texts else compared_by (operand_number names a) (operand_number names b) texts
@@ -135,18 +135,18 @@ relation_holds GreaterEqual less = false
 relation_holds GreaterEqual equal = true
 relation_holds GreaterEqual greater = true
 
-abbrev pub unless_n : Tri → Tri
-unless_n N = N
-unless_n M = Y
-unless_n Y = Y
+abbrev pub y_unless_n : Tri → Tri
+y_unless_n N = N
+y_unless_n M = Y
+y_unless_n Y = Y
 
-abbrev pub value : Names → Expr → Tri
+abbrev pub value : Environment → Expr → Tri
 value names (alone a) = operand_value names a
 value names (related op a b) = if relation_holds op (compared names a b) then Y else N
 value names (negated e) = tri_not (value names e)
 value names (both a b) = tri_and (value names a) (value names b)
 value names (either a b) = tri_or (value names a) (value names b)
-value names (shown e) = unless_n (value names e)
+value names (shown e) = y_unless_n (value names e)
 
 -- in a condition a constant `m` that is no operand of a relation means `m && MODULES`
 abbrev pub modules : List ℕ

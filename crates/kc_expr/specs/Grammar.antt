@@ -8,19 +8,19 @@ use Rattle.kc_expr.specs.declared.fault.ExprKind.{ExprKind}
 use Rattle.kc_expr.specs.declared.fault.ExprKind.TheVariants.{Malformed, TooDeep}
 use Rattle.kc_expr.specs.declared.token.TokenKind.{TokenKind}
 use Rattle.kc_expr.specs.declared.token.TokenKind.TheVariants.{Word, Quoted, Relation, Not, And, Or, Open, Close}
-use Rattle.kc_expr.specs.Token.{Piece}
+use Rattle.kc_expr.specs.Token.{Lexeme}
 use Rattle.kc_expr.specs.Expr.{Expr, Operand, constant, named, quoted, alone, related, negated, both, either}
 
 -- a quote
 abbrev pub is_quote : ℕ → Bool
 is_quote c = c == 34 || (c == 39)
 
--- what stands between the quotes of a text; all of it where it doesn't stand in quotes
+-- the text between the quotes, or all of a text that isn't quoted
 abbrev pub between_quotes : List ℕ → List ℕ
 between_quotes text =
     if nat_le 2 (length text) && is_quote (slice_index text 0) && is_quote (slice_index text (length text - 1)) then take (length text - 2) (drop 1 text) else text
 
--- the text for which a quoted token stands
+-- the text that a quoted token means
 abbrev pub quoted_text : List ℕ → List ℕ
 quoted_text text = unescaped false (between_quotes text)
 
@@ -50,24 +50,24 @@ operand_of_kind Or text = None
 operand_of_kind Open text = None
 operand_of_kind Close text = None
 
-abbrev pub operand_of_piece : Piece → Option Operand
-operand_of_piece t = operand_of_kind t.kind t.text
+abbrev pub operand_of_lexeme : Lexeme → Option Operand
+operand_of_lexeme t = operand_of_kind t.kind t.text
 
 pub data Level : Type 0 where
   ors : Level
   ands : Level
   factor : Level
 
--- Tokens are an expression, with so many `!` and parentheses round a symbol at most. `&&` and `||` join from the left.
-pub data IsExpr : Level → ℕ → List Piece → Expr → Type 0 where
-  one_and : {d : ℕ} {ts : List Piece} {e : Expr} → IsExpr ands d ts e → IsExpr ors d ts e
-  more_ors : {d : ℕ} {all ts us : List Piece} (o : Piece) {a b : Expr} → IsExpr ors d ts a → o.kind ≡ Or → IsExpr ands d us b → all ≡ ts ++ o ∷ us → IsExpr ors d all (either a b)
-  one_factor : {d : ℕ} {ts : List Piece} {e : Expr} → IsExpr factor d ts e → IsExpr ands d ts e
-  more_ands : {d : ℕ} {all ts us : List Piece} (o : Piece) {a b : Expr} → IsExpr ands d ts a → o.kind ≡ And → IsExpr factor d us b → all ≡ ts ++ o ∷ us → IsExpr ands d all (both a b)
-  operand : {d : ℕ} {all : List Piece} (t : Piece) {a : Operand} → operand_of_piece t ≡ Some a → all ≡ t ∷ [] → IsExpr factor d all (alone a)
-  relation : {d : ℕ} {all : List Piece} (t r u : Piece) {a b : Operand} (op : _) → operand_of_piece t ≡ Some a → r.kind ≡ Relation op → operand_of_piece u ≡ Some b → all ≡ t ∷ r ∷ u ∷ [] → IsExpr factor d all (related op a b)
-  negation : {d : ℕ} {all ts : List Piece} (t : Piece) {e : Expr} → t.kind ≡ Not → IsExpr factor d ts e → all ≡ t ∷ ts → IsExpr factor (suc d) all (negated e)
-  parentheses : {d : ℕ} {all ts : List Piece} (o c : Piece) {e : Expr} → o.kind ≡ Open → IsExpr ors d ts e → c.kind ≡ Close → all ≡ o ∷ (ts ++ c ∷ []) → IsExpr factor (suc d) all e
+-- Tokens form an expression with at most this many `!` and parentheses around a symbol. `&&` and `||` associate to the left.
+pub data IsExpr : Level → ℕ → List Lexeme → Expr → Type 0 where
+  one_and : {d : ℕ} {ts : List Lexeme} {e : Expr} → IsExpr ands d ts e → IsExpr ors d ts e
+  more_ors : {d : ℕ} {all ts us : List Lexeme} (o : Lexeme) {a b : Expr} → IsExpr ors d ts a → o.kind ≡ Or → IsExpr ands d us b → all ≡ ts ++ o ∷ us → IsExpr ors d all (either a b)
+  one_factor : {d : ℕ} {ts : List Lexeme} {e : Expr} → IsExpr factor d ts e → IsExpr ands d ts e
+  more_ands : {d : ℕ} {all ts us : List Lexeme} (o : Lexeme) {a b : Expr} → IsExpr ands d ts a → o.kind ≡ And → IsExpr factor d us b → all ≡ ts ++ o ∷ us → IsExpr ands d all (both a b)
+  operand : {d : ℕ} {all : List Lexeme} (t : Lexeme) {a : Operand} → operand_of_lexeme t ≡ Some a → all ≡ t ∷ [] → IsExpr factor d all (alone a)
+  relation : {d : ℕ} {all : List Lexeme} (t r u : Lexeme) {a b : Operand} (op : _) → operand_of_lexeme t ≡ Some a → r.kind ≡ Relation op → operand_of_lexeme u ≡ Some b → all ≡ t ∷ r ∷ u ∷ [] → IsExpr factor d all (related op a b)
+  negation : {d : ℕ} {all ts : List Lexeme} (t : Lexeme) {e : Expr} → t.kind ≡ Not → IsExpr factor d ts e → all ≡ t ∷ ts → IsExpr factor (suc d) all (negated e)
+  parentheses : {d : ℕ} {all ts : List Lexeme} (o c : Lexeme) {e : Expr} → o.kind ≡ Open → IsExpr ors d ts e → c.kind ≡ Close → all ≡ o ∷ (ts ++ c ∷ []) → IsExpr factor (suc d) all e
 
 -- the expression reaches up to the first word or quoted token that directly follows an operand or `)`
 abbrev pub is_operand_kind : TokenKind → Bool
@@ -90,25 +90,25 @@ is_close And = false
 is_close Or = false
 is_close Open = false
 
-abbrev pub extent : List Piece → List Piece
+abbrev pub extent : List Lexeme → List Lexeme
 extent [] = []
 extent (t ∷ []) = t ∷ []
 extent (t ∷ u ∷ ts) = if (is_operand_kind t.kind || is_close t.kind) && is_operand_kind u.kind then t ∷ [] else t ∷ extent (u ∷ ts)
 
--- Reading from the left: an expression and the tokens after it, or a fault and the tokens from where it stands on.
+-- The result of a parser: an expression and the remaining tokens, or a fault and the tokens from its place on.
 abbrev pub Read : Type 0
-Read = Result (Expr × List Piece) (ExprKind × List Piece)
+Read = Result (Expr × List Lexeme) (ExprKind × List Lexeme)
 
-abbrev pub on_read : Read → (Expr × List Piece → Read) → Read
+abbrev pub on_read : Read → (Expr × List Lexeme → Read) → Read
 on_read (Ok r) f = f r
 on_read (Err e) f = Err e
 
 -- past the greatest depth the first symbol is too deep
-abbrev pub beyond : List Piece → Read
-beyond [] = Err (Malformed, [])
-beyond (t ∷ ts) = elim t.kind [
-  | Not ↦ beyond ts
-  | Open ↦ beyond ts
+abbrev pub past_depth_limit : List Lexeme → Read
+past_depth_limit [] = Err (Malformed, [])
+past_depth_limit (t ∷ ts) = elim t.kind [
+  | Not ↦ past_depth_limit ts
+  | Open ↦ past_depth_limit ts
   | Word ↦ Err (TooDeep, t ∷ ts)
   | Quoted ↦ Err (TooDeep, t ∷ ts)
   | Relation op ↦ Err (Malformed, t ∷ ts)
@@ -117,14 +117,14 @@ beyond (t ∷ ts) = elim t.kind [
   | Close ↦ Err (Malformed, t ∷ ts)
 ]
 
-abbrev pub right_operand : (Operand → Expr) → List Piece → Read
+abbrev pub right_operand : (Operand → Expr) → List Lexeme → Read
 right_operand f [] = Err (Malformed, [])
-right_operand f (t ∷ ts) = elim (operand_of_piece t) [ Some b ↦ Ok (f b, ts) | None ↦ Err (Malformed, t ∷ ts) ]
+right_operand f (t ∷ ts) = elim (operand_of_lexeme t) [ Some b ↦ Ok (f b, ts) | None ↦ Err (Malformed, t ∷ ts) ]
 
--- behind an operand a relation may stand
-abbrev pub behind_operand : Operand → List Piece → Read
-behind_operand a [] = Ok (alone a, [])
-behind_operand a (t ∷ ts) = elim t.kind [
+-- an operand, which a relation may follow
+abbrev pub after_operand : Operand → List Lexeme → Read
+after_operand a [] = Ok (alone a, [])
+after_operand a (t ∷ ts) = elim t.kind [
   | Relation op ↦ right_operand (related op a) ts
   | Word ↦ Ok (alone a, t ∷ ts)
   | Quoted ↦ Ok (alone a, t ∷ ts)
@@ -156,7 +156,7 @@ is_or Open = false
 is_or Close = false
 
 -- a chain, joined from the left; the number bounds its length
-abbrev pub chain : (TokenKind → Bool) → (Expr → Expr → Expr) → (List Piece → Read) → ℕ → Expr → List Piece → Read
+abbrev pub chain : (TokenKind → Bool) → (Expr → Expr → Expr) → (List Lexeme → Read) → ℕ → Expr → List Lexeme → Read
 chain is_joint joined part zero a ts = Ok (a, ts)
 chain is_joint joined part (suc n) a [] = Ok (a, [])
 chain is_joint joined part (suc n) a (t ∷ ts) = elim (is_joint t.kind) [
@@ -164,22 +164,22 @@ chain is_joint joined part (suc n) a (t ∷ ts) = elim (is_joint t.kind) [
   | false ↦ Ok (a, t ∷ ts)
 ]
 
-abbrev pub read_ands : (List Piece → Read) → List Piece → Read
+abbrev pub read_ands : (List Lexeme → Read) → List Lexeme → Read
 read_ands part ts = on_read (part ts) (λ r. chain is_and both part (length ts) r.0 r.1)
 
-abbrev pub read_ors : (List Piece → Read) → List Piece → Read
+abbrev pub read_ors : (List Lexeme → Read) → List Lexeme → Read
 read_ors part ts = on_read (read_ands part ts) (λ r. chain is_or either (read_ands part) (length ts) r.0 r.1)
 
-abbrev pub closed : Expr × List Piece → Read
+abbrev pub closed : Expr × List Lexeme → Read
 closed r = elim r.1 [ [] ↦ Err (Malformed, []) | t ∷ ts ↦ (if is_close t.kind then Ok (r.0, ts) else Err (Malformed, t ∷ ts)) ]
 
-abbrev pub read_factor : ℕ → List Piece → Read
+abbrev pub read_factor : ℕ → List Lexeme → Read
 read_factor d [] = Err (Malformed, [])
 read_factor zero (t ∷ ts) = elim t.kind [
-  | Not ↦ beyond ts
-  | Open ↦ beyond ts
-  | Word ↦ behind_operand (constant_or named t.text) ts
-  | Quoted ↦ behind_operand (constant_or quoted (quoted_text t.text)) ts
+  | Not ↦ past_depth_limit ts
+  | Open ↦ past_depth_limit ts
+  | Word ↦ after_operand (constant_or named t.text) ts
+  | Quoted ↦ after_operand (constant_or quoted (quoted_text t.text)) ts
   | Relation op ↦ Err (Malformed, t ∷ ts)
   | And ↦ Err (Malformed, t ∷ ts)
   | Or ↦ Err (Malformed, t ∷ ts)
@@ -188,8 +188,8 @@ read_factor zero (t ∷ ts) = elim t.kind [
 read_factor (suc d) (t ∷ ts) = elim t.kind [
   | Not ↦ on_read (read_factor d ts) (λ r. Ok (negated r.0, r.1))
   | Open ↦ on_read (read_ors (read_factor d) ts) closed
-  | Word ↦ behind_operand (constant_or named t.text) ts
-  | Quoted ↦ behind_operand (constant_or quoted (quoted_text t.text)) ts
+  | Word ↦ after_operand (constant_or named t.text) ts
+  | Quoted ↦ after_operand (constant_or quoted (quoted_text t.text)) ts
   | Relation op ↦ Err (Malformed, t ∷ ts)
   | And ↦ Err (Malformed, t ∷ ts)
   | Or ↦ Err (Malformed, t ∷ ts)
@@ -197,20 +197,20 @@ read_factor (suc d) (t ∷ ts) = elim t.kind [
 ]
 
 -- all of the tokens
-abbrev pub whole : Read → Result Expr (ExprKind × List Piece)
-whole (Err e) = Err e
-whole (Ok r) = elim r.1 [ [] ↦ Ok r.0 | t ∷ ts ↦ Err (Malformed, t ∷ ts) ]
+abbrev pub read_to_end : Read → Result Expr (ExprKind × List Lexeme)
+read_to_end (Err e) = Err e
+read_to_end (Ok r) = elim r.1 [ [] ↦ Ok r.0 | t ∷ ts ↦ Err (Malformed, t ∷ ts) ]
 
-unfoldable pub read_expr : List Piece → Result Expr (ExprKind × List Piece)
-read_expr ts = whole (read_ors (read_factor 64) ts)
+unfoldable pub read_expr : List Lexeme → Result Expr (ExprKind × List Lexeme)
+read_expr ts = read_to_end (read_ors (read_factor 64) ts)
 
--- the byte behind the last of the tokens
-abbrev pub end_of : List Piece → ℕ
+-- the byte after the last token
+abbrev pub end_of : List Lexeme → ℕ
 end_of [] = 0
 end_of (t ∷ []) = t.stop
 end_of (t ∷ u ∷ ts) = end_of (u ∷ ts)
 
--- a fault stands at the first token that is left; where none is left, at the end of the tokens
-abbrev pub fault_of : List Piece → ExprKind × List Piece → ExprFault
+-- a fault's place is the first remaining token, or the end of the tokens if none remains
+abbrev pub fault_of : List Lexeme → ExprKind × List Lexeme → ExprFault
 fault_of all (kind, []) = record { offset = end_of all; kind = kind }
 fault_of all (kind, t ∷ ts) = record { offset = t.start; kind = kind }

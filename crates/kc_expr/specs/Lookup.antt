@@ -1,20 +1,20 @@
--- What names stand for.
+-- The values of names.
 use Rattle.std.specs.Prelude.{◌≡◌, ℕ, suc, ◌<◌, List, [], ◌∷◌, length, Option, Some, None, option_map, option_and_then, bytes_eq, slice_index_or, if◌then◌else◌}
-use Rattle.kc_expr.specs.Expr.{Seen, Names}
+use Rattle.kc_expr.specs.Expr.{SymbolValue, Environment}
 use Rattle.kc_expr.specs.declared.lookup.Looked.{Looked}
 
-abbrev pub seen_of : Looked → Seen
-seen_of l = record { kind = l.kind; tri = l.tri; text = l.text.now }
+abbrev pub symbol_value_of : Looked → SymbolValue
+symbol_value_of l = record { kind = l.kind; tri = l.tri; text = l.text.now }
 
 -- the place of a name in a list
-abbrev pub place_of : List ℕ → List (List ℕ) → Option ℕ
-place_of x [] = None
-place_of x (y ∷ ys) = if bytes_eq x y then Some 0 else option_map suc (place_of x ys)
+abbrev pub index_of_name : List ℕ → List (List ℕ) → Option ℕ
+index_of_name x [] = None
+index_of_name x (y ∷ ys) = if bytes_eq x y then Some 0 else option_map suc (index_of_name x ys)
 
--- no name stands at two places
+-- no name occurs twice
 abbrev pub AreDistinct : List (List ℕ) → Type 0
 AreDistinct names = (i j : ℕ) → i < length names → j < length names → slice_index_or names i [] ≡ slice_index_or names j [] → i ≡ j
 
--- what the names of a list stand for, by their places
-abbrev pub names_seen : List (List ℕ) → (ℕ → Option Seen) → Names
-names_seen names sees x = option_and_then sees (place_of x names)
+-- the values of the names of a list, by their indices
+abbrev pub environment_of : List (List ℕ) → (ℕ → Option SymbolValue) → Environment
+environment_of names symbol_values x = option_and_then symbol_values (index_of_name x names)

@@ -1,14 +1,14 @@
 -- The names of an arena as they grow.
 use Rattle.std.specs.Prelude.{ℕ, List, [], ◌∷◌, ◌++◌, Option, Some, None, option_and_then, is_some, if◌then◌else◌}
 use Rattle.kc_expr.specs.Expr.{Operand, Expr, constant, named, quoted}
-use Rattle.kc_expr.specs.Lookup.{place_of}
+use Rattle.kc_expr.specs.Lookup.{index_of_name}
 use Rattle.kc_expr.specs.Operand.{operand_alone}
 
--- a name behind the others, unless it is there
+-- the names with one more at the end, unless it is there already
 abbrev pub with_name : List ℕ → List (List ℕ) → List (List ℕ)
-with_name name names = if is_some (place_of name names) then names else names ++ name ∷ []
+with_name name names = if is_some (index_of_name name names) then names else names ++ name ∷ []
 
--- the new ones of these names behind the others, in order, each once
+-- the names with the new ones of these appended, in order, each once
 abbrev pub with_names : List (List ℕ) → List (List ℕ) → List (List ℕ)
 with_names [] names = names
 with_names (x ∷ xs) names = with_names xs (with_name x names)

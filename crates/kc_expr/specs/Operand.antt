@@ -13,14 +13,14 @@ operand_alone (both a b) = None
 operand_alone (either a b) = None
 operand_alone (shown e) = None
 
--- the operand that is told
-abbrev pub operand_told : List (List ℕ) → Shown → Operand
-operand_told names (Name i) = named (slice_index_or names i [])
-operand_told names (Quoted text) = quoted text.now
-operand_told names (Tri t) = constant t
+-- the operand that a call returned
+abbrev pub operand_of_ref : List (List ℕ) → Shown → Operand
+operand_of_ref names (Name i) = named (slice_index_or names i [])
+operand_of_ref names (Quoted text) = quoted text.now
+operand_of_ref names (Tri t) = constant t
 
 -- its name is held
-abbrev pub IsHeld : List (List ℕ) → Shown → Type 0
-IsHeld names (Name i) = i < length names
-IsHeld names (Quoted text) = Unit {0}
-IsHeld names (Tri t) = Unit {0}
+abbrev pub HasKnownName : List (List ℕ) → Shown → Type 0
+HasKnownName names (Name i) = i < length names
+HasKnownName names (Quoted text) = Unit {0}
+HasKnownName names (Tri t) = Unit {0}

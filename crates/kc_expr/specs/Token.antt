@@ -7,12 +7,12 @@ use Rattle.kc_expr.specs.declared.token.Relop.TheVariants.{Equal, NotEqual, Less
 use Rattle.kc_expr.specs.declared.token.TokenKind.{TokenKind}
 use Rattle.kc_expr.specs.declared.token.TokenKind.TheVariants.{Word, Quoted, Relation, Not, And, Or, Open, Close}
 use Rattle.kc_expr.specs.declared.token.Token.{Token as CodeToken}
-use Rattle.kc_expr.specs.declared.token.Lead.{Lead}
-use Rattle.kc_expr.specs.declared.token.Lead.TheVariants.{White, Comment, Token, Fault}
-use Rattle.kc_expr.specs.Answers.{with_front}
+use Rattle.kc_expr.specs.declared.token.NextToken.{NextToken}
+use Rattle.kc_expr.specs.declared.token.NextToken.TheVariants.{White, Comment, Token, Fault}
+use Rattle.kc_expr.specs.Results.{with_front}
 
 -- a token: what it is, the places of its first byte and of the byte after it, and its bytes
-pub record Piece : Type 0 where
+pub record Lexeme : Type 0 where
   pub kind : TokenKind
   pub start : ℕ
   pub stop : ℕ
@@ -25,20 +25,20 @@ abbrev pub is_word_byte : ℕ → Bool
 is_word_byte c = (nat_le 65 c && nat_le c 90) || (nat_le 97 c && nat_le c 122) || (nat_le 48 c && nat_le c 57) || (c == 95) || (c == 45) || (c == 46) || (c == 47)
 
 -- a quoted text reaches up to its closing quote, and a `$` in it is left out
-abbrev pub quoted_or_left_out : ℕ → Option ℕ → Lead
+abbrev pub quoted_or_left_out : ℕ → Option ℕ → NextToken
 quoted_or_left_out len None = Token Quoted len
 quoted_or_left_out len (Some k) = Fault LeftOut k
 
-abbrev pub quoted_up_to : List ℕ → Option ℕ → Lead
+abbrev pub quoted_up_to : List ℕ → Option ℕ → NextToken
 quoted_up_to bytes None = Fault UnclosedQuote 0
 quoted_up_to bytes (Some n) = quoted_or_left_out (n + 1) (position (λ c. c == 36) (take (n + 1) bytes))
 
-abbrev pub lead_of_quoted : List ℕ → Lead
-lead_of_quoted bytes = quoted_up_to bytes (closing (slice_index bytes 0) false (drop 1 bytes))
+abbrev pub next_quoted : List ℕ → NextToken
+next_quoted bytes = quoted_up_to bytes (closing (slice_index bytes 0) false (drop 1 bytes))
 
 -- the longest operator that fits
-abbrev pub lead_of_operator : ℕ → ℕ → Lead
-lead_of_operator a b =
+abbrev pub next_operator : ℕ → ℕ → NextToken
+next_operator a b =
     if a == 33 then (if b == 61 then Token (Relation NotEqual) 2 else Token Not 1)
     else if a == 60 then (if b == 61 then Token (Relation LessEqual) 2 else Token (Relation Less) 1)
     else if a == 62 then (if b == 61 then Token (Relation GreaterEqual) 2 else Token (Relation Greater) 1)
@@ -50,29 +50,29 @@ lead_of_operator a b =
     else if a == 36 then Fault LeftOut 0
     else Fault BadToken 0
 
--- what stands at the front of bytes
-unfoldable pub lead_of : List ℕ → Lead
-lead_of bytes =
+-- the token or the white space at the front of bytes
+unfoldable pub next_token : List ℕ → NextToken
+next_token bytes =
     let a = slice_index bytes 0 in
     if is_white_byte a then White
     else if a == 35 then Comment
     else if is_word_byte a then Token Word (length (take_while is_word_byte bytes))
-    else if a == 34 || (a == 39) then lead_of_quoted bytes
-    else lead_of_operator a (slice_index bytes 1)
+    else if a == 34 || (a == 39) then next_quoted bytes
+    else next_operator a (slice_index bytes 1)
 
--- the tokens of a line from a place on, or its first fault; so many bytes are of a token that began before
-abbrev pub lexed : ℕ → ℕ → List ℕ → Result (List Piece) ExprFault
-lexed skip at [] = Ok []
-lexed (suc skip) at (b ∷ bs) = lexed skip (at + 1) bs
-lexed zero at (b ∷ bs) = elim (lead_of (b ∷ bs)) [
-  | White ↦ lexed 0 (at + 1) bs
+-- the tokens of a line from a byte on, or its first fault; `skip` counts the remaining bytes of the token before
+abbrev pub lexemes_from : ℕ → ℕ → List ℕ → Result (List Lexeme) ExprFault
+lexemes_from skip at [] = Ok []
+lexemes_from (suc skip) at (b ∷ bs) = lexemes_from skip (at + 1) bs
+lexemes_from zero at (b ∷ bs) = elim (next_token (b ∷ bs)) [
+  | White ↦ lexemes_from 0 (at + 1) bs
   | Comment ↦ Ok []
-  | Token kind len ↦ with_front (record { kind = kind; start = at; stop = at + len; text = take len (b ∷ bs) } ∷ []) (lexed (pred len) (at + 1) bs)
+  | Token kind len ↦ with_front (record { kind = kind; start = at; stop = at + len; text = take len (b ∷ bs) } ∷ []) (lexemes_from (pred len) (at + 1) bs)
   | Fault kind ahead ↦ Err (record { offset = at + ahead; kind = kind })
 ]
 
-abbrev pub piece_of : CodeToken → Piece
-piece_of t = record { kind = t.kind; start = t.start; stop = t.end; text = t.text.now }
+abbrev pub lexeme_of : CodeToken → Lexeme
+lexeme_of t = record { kind = t.kind; start = t.start; stop = t.end; text = t.text.now }
 
-abbrev pub pieces_of : List CodeToken → List Piece
-pieces_of ts = map piece_of ts
+abbrev pub lexemes_of : List CodeToken → List Lexeme
+lexemes_of ts = map lexeme_of ts

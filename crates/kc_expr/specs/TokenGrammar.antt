@@ -7,7 +7,7 @@ use Rattle.kc_expr.specs.declared.token.Relop.TheVariants.{Equal, NotEqual, Less
 use Rattle.kc_expr.specs.declared.token.TokenKind.{TokenKind}
 use Rattle.kc_expr.specs.declared.token.TokenKind.TheVariants.{Word, Quoted, Relation, Not, And, Or, Open, Close}
 use Rattle.kc_expr.specs.Grammar.{is_quote}
-use Rattle.kc_expr.specs.Token.{Piece, is_white_byte, is_word_byte}
+use Rattle.kc_expr.specs.Token.{Lexeme, is_white_byte, is_word_byte}
 
 abbrev pub relation_text : Relop → List ℕ
 relation_text Equal = 61 ∷ []
@@ -43,8 +43,8 @@ abbrev pub IsLongest : List ℕ → List ℕ → Type 0
 IsLongest text bytes = (kind : TokenKind) (front rest : List ℕ) → bytes ≡ front ++ rest → IsToken kind front → length front ≤ length text
 
 -- a line from a place on is white bytes and these tokens, each the longest that fits, up to a comment or its end
-pub data IsCut : ℕ → List ℕ → List Piece → Type 0 where
+pub data IsCut : ℕ → List ℕ → List Lexeme → Type 0 where
   ends : {at : ℕ} → IsCut at [] []
   comment : {at : ℕ} {bytes : List ℕ} → IsCut at (35 ∷ bytes) []
-  white : {at c : ℕ} {bytes : List ℕ} {ps : List Piece} → is_white_byte c ≡ true → IsCut (at + 1) bytes ps → IsCut at (c ∷ bytes) ps
-  token : {at : ℕ} {bytes : List ℕ} {ps : List Piece} (p : Piece) (rest : List ℕ) → bytes ≡ p.text ++ rest → IsToken p.kind p.text → IsLongest p.text bytes → p.start ≡ at → p.stop ≡ at + length p.text → IsCut p.stop rest ps → IsCut at bytes (p ∷ ps)
+  white : {at c : ℕ} {bytes : List ℕ} {ps : List Lexeme} → is_white_byte c ≡ true → IsCut (at + 1) bytes ps → IsCut at (c ∷ bytes) ps
+  token : {at : ℕ} {bytes : List ℕ} {ps : List Lexeme} (p : Lexeme) (rest : List ℕ) → bytes ≡ p.text ++ rest → IsToken p.kind p.text → IsLongest p.text bytes → p.start ≡ at → p.stop ≡ at + length p.text → IsCut p.stop rest ps → IsCut at bytes (p ∷ ps)

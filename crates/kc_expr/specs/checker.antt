@@ -6,4 +6,4 @@ pub mod Leads
 pub mod Nodes
 pub mod Parsing
 pub mod Store
-pub mod Walking
+pub mod Visiting

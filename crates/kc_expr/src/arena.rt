@@ -7,21 +7,21 @@ use super::evaluate::value_of;
 use super::fault::ExprFault;
 use super::ids::{ExprId, NameId};
 use super::lookup::Lookup;
-use super::mentioned::{push_names, push_unwalked};
+use super::names::{push_names, push_unvisited};
 use super::node::{Leaf, Node};
 use super::operand::Operand;
 use super::parse::extent_len;
 use super::store::Store;
 use super::token::Token;
-use super::walks::Walk;
+use super::visited::VisitedSet;
 use kc_value::{Seed, Tri};
 use std::alloc::{AllocError, Global};
 use std::marker::Model;
 
-/// The most `!` and parentheses round a symbol.
+/// The most `!` and parentheses around a symbol.
 const MAX_DEPTH: usize = 64;
 
-/// Names and expressions. Contracts see the list of names and, for each node, the expression for which it stands.
+/// Names and expressions. Contracts see the list of names and, for each node, the expression that it represents.
 #[derive(Drop)]
 pub struct Arena {
     store: Store,
@@ -35,24 +35,24 @@ impl Model for Arena {
 
     ghost coded = { exprs_code };
 
-    ghost use Rattle.kc_expr.specs.checker.ArenaView.{shown_exprs, holds_sound};
+    ghost use Rattle.kc_expr.specs.checker.ArenaView.{exprs_view, holds_sound};
 
-    ghost view = { shown_exprs };
+    ghost view = { exprs_view };
 
     ghost invariant = { holds_sound };
 }
 
 impl Arena {
-    ghost use Rattle.kc_expr.specs.Arena.{Grows, stands_for, Stands};
+    ghost use Rattle.kc_expr.specs.Arena.{Grows, node_expr, Represents};
     ghost use Rattle.kc_expr.specs.Expr.{alone, both, constant, shown, value};
-    ghost use Rattle.kc_expr.specs.Lookup.{AreDistinct, names_seen, place_of};
-    ghost use Rattle.kc_expr.specs.Mentioned.{names_in};
+    ghost use Rattle.kc_expr.specs.Lookup.{AreDistinct, environment_of, index_of_name};
+    ghost use Rattle.kc_expr.specs.NamesIn.{names_in};
     ghost use Rattle.kc_expr.specs.Names.{name_alone, with_name, with_names};
-    ghost use Rattle.kc_expr.specs.Operand.{operand_alone, operand_told, IsHeld};
-    ghost use Rattle.kc_expr.specs.Reading.{expr_at, expr_end, IsRead, IsNotRead};
-    ghost use Rattle.kc_expr.specs.Token.{pieces_of};
-    ghost use Rattle.kc_expr.specs.Words.{words};
-    ghost use Rattle.kc_expr.specs.Walked.{is_walked, mentions, some_name, HasFound};
+    ghost use Rattle.kc_expr.specs.Operand.{operand_alone, operand_of_ref, HasKnownName};
+    ghost use Rattle.kc_expr.specs.ParseResults.{expr_tokens, expr_end, ReadsExpr, RefusesExpr};
+    ghost use Rattle.kc_expr.specs.Token.{lexemes_of};
+    ghost use Rattle.kc_expr.specs.ReverseNames.{names_in_reverse};
+    ghost use Rattle.kc_expr.specs.Visits.{is_visited, mentions, passes_some_name, HasFound};
 
     /// No names and no nodes. Takes no memory. Names are hashed with the same seed in each run.
     pub fn new(alloc: Global) -> Arena
@@ -72,21 +72,21 @@ impl Arena {
         }
     }
 
-    /// The value of an expression, where the look-up tells what its names stand for. Takes no memory.
+    /// The value of an expression, where the look-up tells what its names mean. Takes no memory.
     pub fn value<L: Lookup>(&self, id: ExprId, lookup: &L) -> Tri
         requires { id < length self.now.nodes }
-        ensures { result ≡ value (names_seen self.now.names (L.sees lookup.now)) (stands_for self.now id) }
+        ensures { result ≡ value (environment_of self.now.names (L.symbol_values lookup.now)) (node_expr self.now id) }
     {
         value_of(&self.store, id.index(), lookup)
     }
 
     /// Reads the expression that begins at a token. It reaches up to the first word or quoted token that directly
-    /// follows an operand or a `)`, else to the end of the tokens. Answers its number and the place behind it.
+    /// follows an operand or a `)`, else to the end of the tokens. Answers its number and the place after it.
     ///
     /// In a condition, a constant `m` that isn't an operand of a relation means `m && MODULES`.
     ///
     /// `Malformed` stands at the first token that can't go on, and at the end of the token before where none is left;
-    /// `TooDeep` at a symbol under more than 64 `!` and parentheses; `OutOfMemory` is want of memory. The first is
+    /// `TooDeep` at a symbol under more than 64 `!` and parentheses; `OutOfMemory` is out of memory. The first is
     /// told. An `Err` leaves the arena as it was; an `Ok` adds the new names of the expression, in their order.
     #[inline(always)]
     pub fn parse_expr(
@@ -97,17 +97,17 @@ impl Arena {
     ) -> Result<(ExprId, usize), ExprFault>
         requires { at ≤ length tokens.now }
         ensures grows { Grows self.old self.new }
-        ensures names { IfOk result (λ r. self.new.names ≡ with_names (names_in (stands_for self.new r.0)) self.old.names) }
-        ensures end { IfOk result (λ r. r.1 ≡ expr_end (pieces_of tokens.now) at) }
-        ensures ok { IfOk result (λ r. IsRead self.new r.0 condition (expr_at (pieces_of tokens.now) at)) }
-        ensures fault { IfErr result (λ e. (e.kind ≡ OutOfMemory) ⊎ IsNotRead (pieces_of tokens.now) at e) }
+        ensures names { IfOk result (λ r. self.new.names ≡ with_names (names_in (node_expr self.new r.0)) self.old.names) }
+        ensures end { IfOk result (λ r. r.1 ≡ expr_end (lexemes_of tokens.now) at) }
+        ensures ok { IfOk result (λ r. ReadsExpr self.new r.0 condition (expr_tokens (lexemes_of tokens.now) at)) }
+        ensures fault { IfErr result (λ e. (e.kind ≡ OutOfMemory) ⊎ RefusesExpr (lexemes_of tokens.now) at e) }
         ensures err { OnErr result (self.new ≡ self.old) }
     {
         let end = at + extent_len(&tokens[at..]);
         let mark = self.store.mark();
         match self
             .store
-            .parse_whole(&tokens[..end], at, MAX_DEPTH, condition)
+            .parse_to_end(&tokens[..end], at, MAX_DEPTH, condition)
         {
             Ok(id) => Ok((ExprId::at(id), end)),
             Err(fault) => {
@@ -117,13 +117,13 @@ impl Arena {
         }
     }
 
-    /// Both of two expressions. An `Err` is want of memory, and leaves the arena as it was.
+    /// Both of two expressions. An `Err` means out of memory, and leaves the arena as it was.
     pub fn join(&mut self, a: ExprId, b: ExprId) -> Result<ExprId, ExprFault>
         requires left { a < length self.old.nodes }
         requires right { b < length self.old.nodes }
         ensures grows { Grows self.old self.new }
         ensures names { self.new.names ≡ self.old.names }
-        ensures ok { IfOk result (λ id. Stands self.new id (both (stands_for self.old a) (stands_for self.old b))) }
+        ensures ok { IfOk result (λ id. Represents self.new id (both (node_expr self.old a) (node_expr self.old b))) }
         ensures memory { IfErr result (λ e. e.kind ≡ OutOfMemory) }
         ensures err { OnErr result (self.new ≡ self.old) }
     {
@@ -131,12 +131,12 @@ impl Arena {
         Ok(ExprId::at(id))
     }
 
-    /// `y` where an expression isn't `n`, and else `n`. An `Err` is want of memory, and leaves the arena as it was.
+    /// `y` where an expression isn't `n`, and else `n`. An `Err` means out of memory, and leaves the arena as it was.
     pub fn shown(&mut self, id: ExprId) -> Result<ExprId, ExprFault>
         requires { id < length self.old.nodes }
         ensures grows { Grows self.old self.new }
         ensures names { self.new.names ≡ self.old.names }
-        ensures ok { IfOk result (λ i. Stands self.new i (shown (stands_for self.old id))) }
+        ensures ok { IfOk result (λ i. Represents self.new i (shown (node_expr self.old id))) }
         ensures memory { IfErr result (λ e. e.kind ≡ OutOfMemory) }
         ensures err { OnErr result (self.new ≡ self.old) }
     {
@@ -144,11 +144,11 @@ impl Arena {
         Ok(ExprId::at(id))
     }
 
-    /// The expression of a constant. An `Err` is want of memory, and leaves the arena as it was.
+    /// The expression of a constant. An `Err` means out of memory, and leaves the arena as it was.
     pub fn constant(&mut self, value: Tri) -> Result<ExprId, ExprFault>
         ensures grows { Grows self.old self.new }
         ensures names { self.new.names ≡ self.old.names }
-        ensures ok { IfOk result (λ id. Stands self.new id (alone (constant value))) }
+        ensures ok { IfOk result (λ id. Represents self.new id (alone (constant value))) }
         ensures memory { IfErr result (λ e. e.kind ≡ OutOfMemory) }
         ensures err { OnErr result (self.new ≡ self.old) }
     {
@@ -173,11 +173,11 @@ impl Arena {
         self.store.node_count()
     }
 
-    /// The number of a name, which is put behind the others where it is new, as it mostly is: it is hashed once. No
-    /// expression is made. An `Err` is want of memory, and leaves the arena as it was.
+    /// The number of a name, which is put after the others where it is new, as it mostly is: it is hashed once. No
+    /// expression is made. An `Err` means out of memory, and leaves the arena as it was.
     pub fn intern(&mut self, name: &str) -> Result<NameId, ExprFault>
         ensures names { IfOk result (λ id. self.new.names ≡ with_name name.now self.old.names) }
-        ensures place { IfOk result (λ id. place_of name.now self.new.names ≡ Some id) }
+        ensures place { IfOk result (λ id. index_of_name name.now self.new.names ≡ Some id) }
         ensures name { IfOk result (λ id. slice_index_or self.new.names id [] ≡ name.now) }
         ensures within { IfOk result (λ id. id < length self.new.names) }
         ensures nodes { self.new.nodes ≡ self.old.nodes }
@@ -185,7 +185,7 @@ impl Arena {
         ensures memory { IfErr result (λ e. e.kind ≡ OutOfMemory) }
         ensures err { OnErr result (self.new ≡ self.old) }
     {
-        let index = self.store.put_name(name)?;
+        let index = self.store.insert_name(name)?;
         Ok(NameId::at(index))
     }
 
@@ -199,7 +199,7 @@ impl Arena {
 
     /// The number of a name that the arena holds, and else `None`. Takes no memory.
     pub fn find(&self, name: &str) -> Option<NameId>
-        ensures { result ≡ place_of name.now self.now.names }
+        ensures { result ≡ index_of_name name.now self.now.names }
     {
         let index = self.store.find(name)?;
         Some(NameId::at(index))
@@ -208,8 +208,8 @@ impl Arena {
     /// The operand that an expression is; `None` where it isn't just one.
     pub fn operand(&self, id: ExprId) -> Option<Operand<'_>>
         requires { id < length self.now.nodes }
-        ensures operand { option_map (operand_told self.now.names) result ≡ operand_alone (stands_for self.now id) }
-        ensures held { IfSome result (IsHeld self.now.names) }
+        ensures operand { option_map (operand_of_ref self.now.names) result ≡ operand_alone (node_expr self.now id) }
+        ensures held { IfSome result (HasKnownName self.now.names) }
     {
         let Node::Alone(leaf) = self.store.node(id.index()) else {
             return None;
@@ -224,7 +224,7 @@ impl Arena {
     /// The name that an expression is; `None` where it isn't just one. Takes no memory.
     pub fn bare_name(&self, id: ExprId) -> Option<NameId>
         requires { id < length self.now.nodes }
-        ensures name { option_map (λ i. slice_index_or self.now.names i []) result ≡ name_alone (stands_for self.now id) }
+        ensures name { option_map (λ i. slice_index_or self.now.names i []) result ≡ name_alone (node_expr self.now id) }
         ensures held { IfSome result (λ i. i < length self.now.names) }
     {
         let Node::Alone(leaf) = self.store.node(id.index()) else {
@@ -237,12 +237,12 @@ impl Arena {
         }
     }
 
-    /// Puts the names in an expression behind others, some perhaps more than once. An `Err` is want of memory, and
+    /// Appends the names in an expression, some perhaps more than once. An `Err` means out of memory, and
     /// leaves the others alone.
     pub fn push_names(&self, id: ExprId, found: &mut Vec<NameId>) -> Result<(), AllocError>
         requires { id < length self.now.nodes }
         ensures words { OnOk result (map (λ i. slice_index_or self.now.names i []) found.new.items
-            ≡ map (λ i. slice_index_or self.now.names i []) found.old.items ++ words (stands_for self.now id)) }
+            ≡ map (λ i. slice_index_or self.now.names i []) found.old.items ++ names_in_reverse (node_expr self.now id)) }
         ensures held { OnOk result (All (λ i. i < length self.now.names) found.old.items → All (λ i. i < length self.now.names) found.new.items) }
         ensures err { OnErr result (found.new.items ≡ found.old.items) }
     {
@@ -256,35 +256,36 @@ impl Arena {
         }
     }
 
-    /// A walk over the expressions held: none was walked yet. An `Err` is want of memory.
-    pub fn walk(&self) -> Result<Walk, AllocError>
+    /// A walk over the expressions held: none was walked yet. An `Err` means out of memory.
+    pub fn walk(&self) -> Result<VisitedSet, AllocError>
         ensures room { IfOk result (λ walk. length walk ≡ length self.now.nodes) }
-        ensures none { IfOk result (λ walk. (node : ℕ) → is_walked walk node ≡ false) }
+        ensures none { IfOk result (λ walk. (node : ℕ) → is_visited walk node ≡ false) }
     {
-        Walk::new(self.store.alloc(), self.node_count())
+        VisitedSet::new(self.store.alloc(), self.node_count())
     }
 
-    /// Puts the names in an expression behind others, some perhaps more than once, and walks it. The expressions in it
-    /// that were walked in this turn are passed over, since their names are there. An `Err` is want of memory: it leaves
+    /// Appends the names in an expression, some perhaps more than once, and walks it. The expressions in it
+    /// that were walked in this turn are passed over, since their names are there. An `Err` means out of memory: it
+    /// leaves
     /// the others alone, and none was walked.
     pub fn push_new_names(
         &self,
         id: ExprId,
-        walk: &mut Walk,
+        walk: &mut VisitedSet,
         found: &mut Vec<NameId>,
     ) -> Result<(), AllocError>
         requires there { id < length self.now.nodes }
         requires found { HasFound self.now walk.old found.old.items }
-        ensures names { (p : List ℕ → Bool) → OnOk result (some_name self.now p found.new.items ≡ (some_name self.now p found.old.items || mentions p (stands_for self.now id))) }
+        ensures names { (p : List ℕ → Bool) → OnOk result (passes_some_name self.now p found.new.items ≡ (passes_some_name self.now p found.old.items || mentions p (node_expr self.now id))) }
         ensures held { OnOk result (All (λ i. i < length self.now.names) found.old.items → All (λ i. i < length self.now.names) found.new.items) }
         ensures found { OnOk result (HasFound self.now walk.new found.new.items) }
-        ensures walked { OnOk result (is_walked walk.new id ≡ true) }
-        ensures kept { (node : ℕ) → OnOk result (is_walked walk.old node ≡ true → is_walked walk.new node ≡ true) }
+        ensures walked { OnOk result (is_visited walk.new id ≡ true) }
+        ensures kept { (node : ℕ) → OnOk result (is_visited walk.old node ≡ true → is_visited walk.new node ≡ true) }
         ensures err { OnErr result (found.new.items ≡ found.old.items) }
-        ensures none { (node : ℕ) → OnErr result (is_walked walk.new node ≡ false) }
+        ensures none { (node : ℕ) → OnErr result (is_visited walk.new node ≡ false) }
     {
         let others = found.len();
-        match push_unwalked(&self.store, id.index(), walk, found) {
+        match push_unvisited(&self.store, id.index(), walk, found) {
             Ok(()) => Ok(()),
             Err(fault) => {
                 found.truncate(others);
@@ -294,12 +295,12 @@ impl Arena {
         }
     }
 
-    /// The names in an expression, ascending, each once. An `Err` is want of memory.
+    /// The names in an expression, ascending, each once. An `Err` means out of memory.
     pub fn names(&self, id: ExprId) -> Result<Vec<NameId>, AllocError>
         requires { id < length self.now.nodes }
         ensures ascending { IfOk result (λ ids. IsStrictlyIncreasing ids.items) }
         ensures exact { IfOk result (λ ids. (i : ℕ) → Contains ids.items i
-            ↔ ((i < length self.now.names) × Contains (names_in (stands_for self.now id)) (slice_index_or self.now.names i []))) }
+            ↔ ((i < length self.now.names) × Contains (names_in (node_expr self.now id)) (slice_index_or self.now.names i []))) }
     {
         let mut found = Vec::new(self.store.alloc());
         push_names(&self.store, id.index(), &mut found)?;

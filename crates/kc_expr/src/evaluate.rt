@@ -5,11 +5,11 @@ ghost use Rattle.kc_value.specs.declared.tri.Tri.TheVariants.{N, Y};
 ghost use Rattle.std.specs.Prelude.{◌&&◌, if◌then◌else◌};
 ghost use Rattle.std.specs.Cmp.Lexicographic.{slice_cmp};
 ghost use Rattle.std.specs.Ordering.{nat_cmp};
-ghost use Rattle.kc_expr.specs.Expr.{compared_by, value, operand_value, operand_text, operand_number, is_string, compared, relation_holds, letter, tri_of_kind, number_of_kind, is_text_kind, unless_n};
-ghost use Rattle.kc_expr.specs.Arena.{stands_for};
+ghost use Rattle.kc_expr.specs.Expr.{compared_by, value, operand_value, operand_text, operand_number, is_string, compared, relation_holds, letter, tri_of_kind, number_of_kind, is_text_kind, y_unless_n};
+ghost use Rattle.kc_expr.specs.Arena.{node_expr};
 ghost use Rattle.kc_expr.specs.checker.Nodes.{LeafFits, operand_of};
-ghost use Rattle.kc_expr.specs.checker.Store.{names_held, exprs_in, IsSound};
-ghost use Rattle.kc_expr.specs.Lookup.{names_seen, AreDistinct};
+ghost use Rattle.kc_expr.specs.checker.Store.{stored_names, exprs_in, IsSound};
+ghost use Rattle.kc_expr.specs.Lookup.{environment_of, AreDistinct};
 
 use super::ids::NameId;
 use super::lookup::Lookup;
@@ -43,7 +43,7 @@ fn relation_holds(op: Relop, order: Ordering) -> bool
     }
 }
 
-/// The value of a symbol that stands alone.
+/// The value of a symbol that is a whole expression.
 fn alone_value(kind: Kind, tri: Tri) -> Tri
     ensures { result ≡ tri_of_kind kind tri }
 {
@@ -86,11 +86,11 @@ struct Side<'a> {
 /// What the side of a relation says.
 #[tactic(auto, using(crate::proofs::Places::seen_at))]
 fn side_of<'a, L: Lookup>(store: &'a Store, leaf: Leaf, lookup: &'a L) -> Side<'a>
-    requires fits { LeafFits (length (names_held store.now)) (length store.now.texts.items) leaf }
-    requires distinct { AreDistinct (names_held store.now) }
-    ensures text { result.text.now ≡ operand_text (names_seen (names_held store.now) (L.sees lookup.now)) (operand_of (names_held store.now) store.now.texts.items leaf) }
-    ensures number { result.number ≡ operand_number (names_seen (names_held store.now) (L.sees lookup.now)) (operand_of (names_held store.now) store.now.texts.items leaf) }
-    ensures is_text { result.is_text ≡ is_string (names_seen (names_held store.now) (L.sees lookup.now)) (operand_of (names_held store.now) store.now.texts.items leaf) }
+    requires fits { LeafFits (length (stored_names store.now)) (length store.now.texts.items) leaf }
+    requires distinct { AreDistinct (stored_names store.now) }
+    ensures text { result.text.now ≡ operand_text (environment_of (stored_names store.now) (L.symbol_values lookup.now)) (operand_of (stored_names store.now) store.now.texts.items leaf) }
+    ensures number { result.number ≡ operand_number (environment_of (stored_names store.now) (L.symbol_values lookup.now)) (operand_of (stored_names store.now) store.now.texts.items leaf) }
+    ensures is_text { result.is_text ≡ is_string (environment_of (stored_names store.now) (L.symbol_values lookup.now)) (operand_of (stored_names store.now) store.now.texts.items leaf) }
 {
     match leaf {
         Leaf::Constant(t) => Side {
@@ -137,12 +137,12 @@ fn compare(a: Side<'_>, b: Side<'_>) -> Ordering
     }
 }
 
-/// The value of a leaf that stands alone.
+/// The value of a leaf that is a whole expression.
 #[tactic(auto, using(crate::proofs::Places::seen_at))]
 fn leaf_value<L: Lookup>(store: &Store, leaf: Leaf, lookup: &L) -> Tri
-    requires fits { LeafFits (length (names_held store.now)) (length store.now.texts.items) leaf }
-    requires distinct { AreDistinct (names_held store.now) }
-    ensures { result ≡ operand_value (names_seen (names_held store.now) (L.sees lookup.now)) (operand_of (names_held store.now) store.now.texts.items leaf) }
+    requires fits { LeafFits (length (stored_names store.now)) (length store.now.texts.items) leaf }
+    requires distinct { AreDistinct (stored_names store.now) }
+    ensures { result ≡ operand_value (environment_of (stored_names store.now) (L.symbol_values lookup.now)) (operand_of (stored_names store.now) store.now.texts.items leaf) }
 {
     match leaf {
         Leaf::Constant(t) => t,
@@ -156,7 +156,7 @@ fn leaf_value<L: Lookup>(store: &Store, leaf: Leaf, lookup: &L) -> Tri
 
 /// `y` where the value isn't `n`.
 fn shown_value(value: Tri) -> Tri
-    ensures { result ≡ unless_n value }
+    ensures { result ≡ y_unless_n value }
 {
     match value {
         Tri::N => Tri::N,
@@ -166,11 +166,11 @@ fn shown_value(value: Tri) -> Tri
 
 /// The value of a relation.
 fn related_value<L: Lookup>(store: &Store, op: Relop, a: Leaf, b: Leaf, lookup: &L) -> Tri
-    requires left { LeafFits (length (names_held store.now)) (length store.now.texts.items) a }
-    requires right { LeafFits (length (names_held store.now)) (length store.now.texts.items) b }
-    requires distinct { AreDistinct (names_held store.now) }
-    ensures { let seen = names_seen (names_held store.now) (L.sees lookup.now) in
-        result ≡ (if relation_holds op (compared seen (operand_of (names_held store.now) store.now.texts.items a) (operand_of (names_held store.now) store.now.texts.items b)) then Y else N) }
+    requires left { LeafFits (length (stored_names store.now)) (length store.now.texts.items) a }
+    requires right { LeafFits (length (stored_names store.now)) (length store.now.texts.items) b }
+    requires distinct { AreDistinct (stored_names store.now) }
+    ensures { let seen = environment_of (stored_names store.now) (L.symbol_values lookup.now) in
+        result ≡ (if relation_holds op (compared seen (operand_of (stored_names store.now) store.now.texts.items a) (operand_of (stored_names store.now) store.now.texts.items b)) then Y else N) }
 {
     let left = side_of(store, a, lookup);
     let right = side_of(store, b, lookup);
@@ -186,7 +186,7 @@ fn related_value<L: Lookup>(store: &Store, op: Relop, a: Leaf, b: Leaf, lookup: 
 pub(crate) fn value_of<L: Lookup>(store: &Store, index: usize, lookup: &L) -> Tri
     requires there { index < length store.now.nodes.items }
     requires sound { IsSound store.now }
-    ensures { result ≡ value (names_seen (names_held store.now) (L.sees lookup.now)) (stands_for (exprs_in store.now) index) }
+    ensures { result ≡ value (environment_of (stored_names store.now) (L.symbol_values lookup.now)) (node_expr (exprs_in store.now) index) }
 {
     if let Node::Alone(leaf) = store.node(index) {
         return leaf_value(store, leaf, lookup);
@@ -199,7 +199,7 @@ pub(crate) fn value_of<L: Lookup>(store: &Store, index: usize, lookup: &L) -> Tr
 fn value_at<L: Lookup>(store: &Store, index: usize, lookup: &L) -> Tri
     requires there { index < length store.now.nodes.items }
     requires sound { IsSound store.now }
-    ensures { result ≡ value (names_seen (names_held store.now) (L.sees lookup.now)) (stands_for (exprs_in store.now) index) }
+    ensures { result ≡ value (environment_of (stored_names store.now) (L.symbol_values lookup.now)) (node_expr (exprs_in store.now) index) }
 {
     match store.node(index) {
         Node::Alone(leaf) => leaf_value(store, leaf, lookup),

@@ -16,7 +16,7 @@ pub enum ExprKind {
     TooDeep,
     /// A `$` outside a comment.
     LeftOut,
-    /// Want of memory.
+    /// Out of memory.
     OutOfMemory,
 }
 
@@ -26,7 +26,7 @@ impl fmt::Display for ExprKind {
     }
 }
 
-/// What is wrong, and at which byte of the line. The byte of want of memory is 0.
+/// What is wrong, and at which byte of the line; 0 if memory ran out.
 #[derive(Clone, Copy, Debug, PartialEq, Eq, Error)]
 #[error("{kind} at byte {offset}")]
 pub struct ExprFault {

@@ -1,16 +1,16 @@
 //! Laws of the definitions.
 ghost use Rattle.std.specs.Prelude.{◌≡◌, ◌↔◌, ℕ, List, Ok};
-ghost use Rattle.kc_expr.specs.Token.{Piece, lexed};
+ghost use Rattle.kc_expr.specs.Token.{Lexeme, lexemes_from};
 ghost use Rattle.kc_expr.specs.TokenGrammar.{IsCut};
 ghost use Rattle.kc_expr.specs.Expr.{Expr};
 ghost use Rattle.kc_expr.specs.Grammar.{read_expr, IsExpr, ors};
 
 /// A line is read as tokens exactly where the token language cuts it so.
 pub fn tokens_are_the_language()
-    ensures { (line : List ℕ) (ps : List Piece) → (lexed 0 0 line ≡ Ok ps) ↔ IsCut 0 line ps }
+    ensures { (line : List ℕ) (ps : List Lexeme) → (lexemes_from 0 0 line ≡ Ok ps) ↔ IsCut 0 line ps }
 {}
 
 /// Tokens are read as an expression exactly where the grammar has them as that expression.
 pub fn reading_is_the_grammar()
-    ensures { (ts : List Piece) (e : Expr) → (read_expr ts ≡ Ok e) ↔ IsExpr ors 64 ts e }
+    ensures { (ts : List Lexeme) (e : Expr) → (read_expr ts ≡ Ok e) ↔ IsExpr ors 64 ts e }
 {}

@@ -1,15 +1,15 @@
-//! Operands, and the nodes of those that stand alone.
+//! Operands, and the nodes of those that are whole expressions.
 ghost use Rattle.std.specs.Prelude.{◌≡◌, ◌<◌, ◌≤◌, length, drop, take, IfOk, IfErr, IfSome, option_map, Some};
 ghost use Rattle.kc_expr.specs.declared.fault.ExprKind.TheVariants.{OutOfMemory};
-ghost use Rattle.kc_expr.specs.Arena.{Stands};
+ghost use Rattle.kc_expr.specs.Arena.{Represents};
 ghost use Rattle.kc_expr.specs.Expr.{alone, named, quoted};
 ghost use Rattle.kc_expr.specs.Grammar.{constant_or, letter_value, quoted_text};
 ghost use Rattle.kc_expr.specs.checker.Conditions.{as_condition};
-ghost use Rattle.kc_expr.specs.Mentioned.{operand_names};
+ghost use Rattle.kc_expr.specs.NamesIn.{operand_names};
 ghost use Rattle.kc_expr.specs.Names.{with_names};
 ghost use Rattle.kc_expr.specs.checker.Nodes.{LeafFits, operand_of};
 ghost use Rattle.kc_expr.specs.checker.Parsing.{first_operand, is_m, names_of_leaf, names_of_m};
-ghost use Rattle.kc_expr.specs.Token.{pieces_of};
+ghost use Rattle.kc_expr.specs.Token.{lexemes_of};
 
 use super::fault::ExprFault;
 use super::node::{Leaf, Node};
@@ -37,7 +37,7 @@ fn is_constant_m(leaf: Leaf) -> bool
 }
 
 impl Store {
-    ghost use Rattle.kc_expr.specs.checker.Store.{names_held, exprs_in, IsSound, Extends, HasNamesOf};
+    ghost use Rattle.kc_expr.specs.checker.Store.{stored_names, exprs_in, IsSound, Extends, HasNamesOf};
 
     /// The operand that a word is.
     #[inline(always)]
@@ -45,9 +45,9 @@ impl Store {
         requires { IsSound self.old }
         ensures sound { IsSound self.new }
         ensures extends { Extends self.old self.new }
-        ensures fits { IfOk result (λ l. LeafFits (length (names_held self.new)) (length self.new.texts.items) l) }
-        ensures names { IfOk result (λ l. names_held self.new ≡ with_names (operand_names (operand_of (names_held self.new) self.new.texts.items l)) (names_held self.old)) }
-        ensures operand { IfOk result (λ l. operand_of (names_held self.new) self.new.texts.items l ≡ constant_or named text.now) }
+        ensures fits { IfOk result (λ l. LeafFits (length (stored_names self.new)) (length self.new.texts.items) l) }
+        ensures names { IfOk result (λ l. stored_names self.new ≡ with_names (operand_names (operand_of (stored_names self.new) self.new.texts.items l)) (stored_names self.old)) }
+        ensures operand { IfOk result (λ l. operand_of (stored_names self.new) self.new.texts.items l ≡ constant_or named text.now) }
         ensures memory { IfErr result (λ e. e.kind ≡ OutOfMemory) }
     {
         if let Some(t) = constant_of(text) {
@@ -65,9 +65,9 @@ impl Store {
         requires { IsSound self.old }
         ensures sound { IsSound self.new }
         ensures extends { Extends self.old self.new }
-        ensures fits { IfOk result (λ l. LeafFits (length (names_held self.new)) (length self.new.texts.items) l) }
-        ensures names { IfOk result (λ l. names_held self.new ≡ with_names (operand_names (operand_of (names_held self.new) self.new.texts.items l)) (names_held self.old)) }
-        ensures operand { IfOk result (λ l. operand_of (names_held self.new) self.new.texts.items l ≡ constant_or quoted (quoted_text text.now)) }
+        ensures fits { IfOk result (λ l. LeafFits (length (stored_names self.new)) (length self.new.texts.items) l) }
+        ensures names { IfOk result (λ l. stored_names self.new ≡ with_names (operand_names (operand_of (stored_names self.new) self.new.texts.items l)) (stored_names self.old)) }
+        ensures operand { IfOk result (λ l. operand_of (stored_names self.new) self.new.texts.items l ≡ constant_or quoted (quoted_text text.now)) }
         ensures memory { IfErr result (λ e. e.kind ≡ OutOfMemory) }
     {
         let inside = text_of(self.alloc(), text)?;
@@ -89,9 +89,9 @@ impl Store {
         requires { IsSound self.old }
         ensures sound { IsSound self.new }
         ensures extends { Extends self.old self.new }
-        ensures fits { IfOk result (λ o. IfSome o (LeafFits (length (names_held self.new)) (length self.new.texts.items))) }
-        ensures names { IfOk result (λ o. names_held self.new ≡ with_names (names_of_leaf (names_held self.new) self.new.texts.items o) (names_held self.old)) }
-        ensures operand { IfOk result (λ o. option_map (operand_of (names_held self.new) self.new.texts.items) o ≡ first_operand (drop at (pieces_of tokens.now))) }
+        ensures fits { IfOk result (λ o. IfSome o (LeafFits (length (stored_names self.new)) (length self.new.texts.items))) }
+        ensures names { IfOk result (λ o. stored_names self.new ≡ with_names (names_of_leaf (stored_names self.new) self.new.texts.items o) (stored_names self.old)) }
+        ensures operand { IfOk result (λ o. option_map (operand_of (stored_names self.new) self.new.texts.items) o ≡ first_operand (drop at (lexemes_of tokens.now))) }
         ensures memory { IfErr result (λ e. e.kind ≡ OutOfMemory) }
     {
         if at >= tokens.len() {
@@ -105,29 +105,29 @@ impl Store {
         }
     }
 
-    /// A node for a word that stands alone.
+    /// A node for a word that is a whole expression.
     #[inline(always)]
     pub(crate) fn parse_word(&mut self, text: &str, condition: bool) -> Result<u32, ExprFault>
         requires { IsSound self.old }
         ensures sound { IsSound self.new }
         ensures extends { Extends self.old self.new }
         ensures names { IfOk result (HasNamesOf self.old self.new) }
-        ensures stands { IfOk result (λ id. Stands (exprs_in self.new) id (as_condition condition (alone (constant_or named text.now)))) }
+        ensures stands { IfOk result (λ id. Represents (exprs_in self.new) id (as_condition condition (alone (constant_or named text.now)))) }
         ensures memory { IfErr result (λ e. e.kind ≡ OutOfMemory) }
     {
         let leaf = self.word_leaf(text)?;
         self.push_alone(leaf, condition)
     }
 
-    /// A node for an operand that stands alone. In a condition `m` means `m && MODULES`.
+    /// A node for an operand that is a whole expression. In a condition `m` means `m && MODULES`.
     #[inline(always)]
     pub(crate) fn push_alone(&mut self, leaf: Leaf, condition: bool) -> Result<u32, ExprFault>
         requires sound { IsSound self.old }
-        requires fits { LeafFits (length (names_held self.old)) (length self.old.texts.items) leaf }
+        requires fits { LeafFits (length (stored_names self.old)) (length self.old.texts.items) leaf }
         ensures sound { IsSound self.new }
         ensures extends { Extends self.old self.new }
-        ensures names { IfOk result (λ _. names_held self.new ≡ with_names (names_of_m condition leaf) (names_held self.old)) }
-        ensures stands { IfOk result (λ id. Stands (exprs_in self.new) id (as_condition condition (alone (operand_of (names_held self.old) self.old.texts.items leaf)))) }
+        ensures names { IfOk result (λ _. stored_names self.new ≡ with_names (names_of_m condition leaf) (stored_names self.old)) }
+        ensures stands { IfOk result (λ id. Represents (exprs_in self.new) id (as_condition condition (alone (operand_of (stored_names self.old) self.old.texts.items leaf)))) }
         ensures memory { IfErr result (λ e. e.kind ≡ OutOfMemory) }
     {
         let id = self.push(Node::Alone(leaf))?;

@@ -2,7 +2,7 @@
 use super::ids::NameId;
 use kc_value::Tri;
 
-/// An operand that stands alone: a name, a quoted text other than the constants, or one of the constants.
+/// An operand that is a whole expression: a name, a quoted text other than the constants, or one of the constants.
 #[derive(Clone, Copy)]
 pub enum Operand<'a> {
     Name(NameId),

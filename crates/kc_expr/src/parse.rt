@@ -2,18 +2,18 @@
 ghost use Rattle.std.specs.Prelude.{◌≡◌, ◌↔◌, ◌≤◌, Some, length, drop, ◌&&◌, ◌||◌, ◌⊎◌, IsTrue, IfSome, IfOk, IfErr, ◌+◌, []};
 ghost use Rattle.kc_expr.specs.declared.token.TokenKind.TheVariants.{Word, Quoted, Not, Open};
 ghost use Rattle.kc_expr.specs.Expr.{named};
-ghost use Rattle.kc_expr.specs.Grammar.{beyond, constant_or, extent, fault_of, is_close, is_operand_kind};
-ghost use Rattle.kc_expr.specs.checker.Parsing.{first_kind, first_operand, first_relation, operand_read, factor_read, ands_read, ors_read, whole_read, Parses, IsParsedWhole, IsRefusedWhole, MeetsFault};
-ghost use Rattle.kc_expr.specs.Token.{pieces_of};
+ghost use Rattle.kc_expr.specs.Grammar.{past_depth_limit, constant_or, extent, fault_of, is_close, is_operand_kind};
+ghost use Rattle.kc_expr.specs.checker.Parsing.{first_kind, first_operand, first_relation, operand_read, factor_read, ands_read, ors_read, read_all_tokens, Parses, IsParsedToEnd, IsRefusedToEnd, MeetsFault};
+ghost use Rattle.kc_expr.specs.Token.{lexemes_of};
 
 use super::fault::{ExprFault, ExprKind};
 use super::node::Node;
 use super::store::Store;
 use super::token::{Relop, Token, TokenKind};
 
-/// Whether a token of a kind stands at a place.
-fn stands_at(tokens: &[Token<'_>], at: usize, kind: TokenKind) -> bool
-    ensures { IsTrue result ↔ (first_kind (drop at (pieces_of tokens.now)) ≡ Some kind) }
+/// Whether the token at an index is of this kind.
+fn is_kind_at(tokens: &[Token<'_>], at: usize, kind: TokenKind) -> bool
+    ensures { IsTrue result ↔ (first_kind (drop at (lexemes_of tokens.now)) ≡ Some kind) }
 {
     at < tokens.len() && same_kind(tokens[at].kind, kind)
 }
@@ -24,9 +24,9 @@ fn same_kind(kind: TokenKind, other: TokenKind) -> bool
     kind == other
 }
 
-/// The relation at a place, if one stands there.
+/// The relation at an index, if there is one.
 fn relation_at(tokens: &[Token<'_>], at: usize) -> Option<Relop>
-    ensures { result ≡ first_relation (drop at (pieces_of tokens.now)) }
+    ensures { result ≡ first_relation (drop at (lexemes_of tokens.now)) }
 {
     if at >= tokens.len() {
         return None;
@@ -40,9 +40,9 @@ fn relation_at(tokens: &[Token<'_>], at: usize) -> Option<Relop>
 /// The text of the token at a place, where it is a word and the last one.
 fn last_word<'a>(tokens: &[Token<'a>], at: usize) -> Option<&'a str>
     requires { at ≤ length tokens.now }
-    ensures kind { IfSome result (λ _. first_kind (drop at (pieces_of tokens.now)) ≡ Some Word) }
-    ensures operand { IfSome result (λ text. first_operand (drop at (pieces_of tokens.now)) ≡ Some (constant_or named text.now)) }
-    ensures last { IfSome result (λ _. drop (at + 1) (pieces_of tokens.now) ≡ []) }
+    ensures kind { IfSome result (λ _. first_kind (drop at (lexemes_of tokens.now)) ≡ Some Word) }
+    ensures operand { IfSome result (λ text. first_operand (drop at (lexemes_of tokens.now)) ≡ Some (constant_or named text.now)) }
+    ensures last { IfSome result (λ _. drop (at + 1) (lexemes_of tokens.now) ≡ []) }
 {
     if at + 1 != tokens.len() {
         return None;
@@ -54,9 +54,9 @@ fn last_word<'a>(tokens: &[Token<'a>], at: usize) -> Option<&'a str>
     }
 }
 
-/// The fault of a kind at a place: at the token there, and behind the last one where there is none.
+/// The fault of a kind at a place: at the token there, and after the last one where there is none.
 fn fault_at(tokens: &[Token<'_>], at: usize, kind: ExprKind) -> ExprFault
-    ensures { result ≡ fault_of (pieces_of tokens.now) (kind, drop at (pieces_of tokens.now)) }
+    ensures { result ≡ fault_of (lexemes_of tokens.now) (kind, drop at (lexemes_of tokens.now)) }
 {
     let offset = if at < tokens.len() {
         tokens[at].start
@@ -68,43 +68,43 @@ fn fault_at(tokens: &[Token<'_>], at: usize, kind: ExprKind) -> ExprFault
     ExprFault { offset, kind }
 }
 
-/// Whether a `!` or a `(` stands at a place.
-fn opens_at(tokens: &[Token<'_>], at: usize) -> bool
-    ensures { IsTrue result ↔ ((first_kind (drop at (pieces_of tokens.now)) ≡ Some Not) ⊎ (first_kind (drop at (pieces_of tokens.now)) ≡ Some Open)) }
+/// Whether the token at an index is a `!` or a `(`.
+fn is_prefix_at(tokens: &[Token<'_>], at: usize) -> bool
+    ensures { IsTrue result ↔ ((first_kind (drop at (lexemes_of tokens.now)) ≡ Some Not) ⊎ (first_kind (drop at (lexemes_of tokens.now)) ≡ Some Open)) }
 {
-    stands_at(tokens, at, TokenKind::Not) || stands_at(tokens, at, TokenKind::Open)
+    is_kind_at(tokens, at, TokenKind::Not) || is_kind_at(tokens, at, TokenKind::Open)
 }
 
-/// Whether a word or a quoted token stands at a place.
-fn symbol_at(tokens: &[Token<'_>], at: usize) -> bool
-    ensures { IsTrue result ↔ ((first_kind (drop at (pieces_of tokens.now)) ≡ Some Word) ⊎ (first_kind (drop at (pieces_of tokens.now)) ≡ Some Quoted)) }
+/// Whether the token at an index is a word or a quoted text.
+fn is_symbol_at(tokens: &[Token<'_>], at: usize) -> bool
+    ensures { IsTrue result ↔ ((first_kind (drop at (lexemes_of tokens.now)) ≡ Some Word) ⊎ (first_kind (drop at (lexemes_of tokens.now)) ≡ Some Quoted)) }
 {
-    stands_at(tokens, at, TokenKind::Word) || stands_at(tokens, at, TokenKind::Quoted)
+    is_kind_at(tokens, at, TokenKind::Word) || is_kind_at(tokens, at, TokenKind::Quoted)
 }
 
 /// The fault past the greatest depth: the first symbol is too deep, unless something else stands before it.
 fn too_deep(tokens: &[Token<'_>], at: usize) -> ExprFault
     requires { at ≤ length tokens.now }
-    ensures { MeetsFault (pieces_of tokens.now) (beyond (drop at (pieces_of tokens.now))) result }
+    ensures { MeetsFault (lexemes_of tokens.now) (past_depth_limit (drop at (lexemes_of tokens.now))) result }
 {
     let mut symbol = at;
-    while opens_at(tokens, symbol) {
+    while is_prefix_at(tokens, symbol) {
         symbol += 1;
     }
-    if symbol_at(tokens, symbol) {
+    if is_symbol_at(tokens, symbol) {
         fault_at(tokens, symbol, ExprKind::TooDeep)
     } else {
         fault_at(tokens, symbol, ExprKind::Malformed)
     }
 }
 
-/// How many tokens an expression at the front has: up to the first word or quoted token behind an operand or a `)`.
+/// How many tokens an expression at the front has: up to the first word or quoted token after an operand or a `)`.
 pub(crate) fn extent_len(tokens: &[Token<'_>]) -> usize
-    ensures count { result ≡ length (extent (pieces_of tokens.now)) }
+    ensures count { result ≡ length (extent (lexemes_of tokens.now)) }
     ensures within { result ≤ length tokens.now }
 {
     for i in 1..tokens.len() {
-        if parts_at(tokens[i - 1].kind, tokens[i].kind) {
+        if ends_between(tokens[i - 1].kind, tokens[i].kind) {
             return i;
         }
     }
@@ -112,7 +112,7 @@ pub(crate) fn extent_len(tokens: &[Token<'_>]) -> usize
 }
 
 /// Whether an expression ends between two tokens.
-fn parts_at(left: TokenKind, right: TokenKind) -> bool
+fn ends_between(left: TokenKind, right: TokenKind) -> bool
     ensures { result ≡ ((is_operand_kind left || is_close left) && is_operand_kind right) }
 {
     matches!(left, TokenKind::Word | TokenKind::Quoted | TokenKind::Close)
@@ -134,7 +134,7 @@ impl Store {
         ensures sound { IsSound self.new }
         ensures extends { Extends self.old self.new }
         ensures names { IfOk result (λ r. HasNamesOf self.old self.new r.0) }
-        ensures parses { Parses self.new (pieces_of tokens.now) condition at (operand_read (drop at (pieces_of tokens.now))) result }
+        ensures parses { Parses self.new (lexemes_of tokens.now) condition at (operand_read (drop at (lexemes_of tokens.now))) result }
     {
         let Some(left) = self.leaf_at(tokens, at)? else {
             return Err(fault_at(tokens, at, ExprKind::Malformed));
@@ -148,7 +148,7 @@ impl Store {
         Ok((self.push(Node::Related(op, left, right))?, at + 3))
     }
 
-    /// A factor, with so many `!` and parentheses round a symbol at most.
+    /// A factor, with at most `depth` more `!` and parentheses around a symbol.
     #[cycle(parser)]
     fn parse_factor(
         &mut self,
@@ -162,10 +162,10 @@ impl Store {
         ensures sound { IsSound self.new }
         ensures extends { Extends self.old self.new }
         ensures names { IfOk result (λ r. HasNamesOf self.old self.new r.0) }
-        ensures parses { Parses self.new (pieces_of tokens.now) condition at (factor_read depth (drop at (pieces_of tokens.now))) result }
+        ensures parses { Parses self.new (lexemes_of tokens.now) condition at (factor_read depth (drop at (lexemes_of tokens.now))) result }
     {
-        let negated = stands_at(tokens, at, TokenKind::Not);
-        if !negated && !stands_at(tokens, at, TokenKind::Open) {
+        let negated = is_kind_at(tokens, at, TokenKind::Not);
+        if !negated && !is_kind_at(tokens, at, TokenKind::Open) {
             return self.parse_relation(tokens, at, condition);
         }
         if depth == 0 {
@@ -176,7 +176,7 @@ impl Store {
             return Ok((self.push(Node::Negated(part))?, next));
         }
         let (inside, next) = self.parse_ors(tokens, at + 1, depth - 1, condition)?;
-        if stands_at(tokens, next, TokenKind::Close) {
+        if is_kind_at(tokens, next, TokenKind::Close) {
             Ok((inside, next + 1))
         } else {
             Err(fault_at(tokens, next, ExprKind::Malformed))
@@ -197,10 +197,10 @@ impl Store {
         ensures sound { IsSound self.new }
         ensures extends { Extends self.old self.new }
         ensures names { IfOk result (λ r. HasNamesOf self.old self.new r.0) }
-        ensures parses { Parses self.new (pieces_of tokens.now) condition at (ands_read depth (drop at (pieces_of tokens.now))) result }
+        ensures parses { Parses self.new (lexemes_of tokens.now) condition at (ands_read depth (drop at (lexemes_of tokens.now))) result }
     {
         let (mut left, mut next) = self.parse_factor(tokens, at, depth, condition)?;
-        'ands: while stands_at(tokens, next, TokenKind::And) {
+        'ands: while is_kind_at(tokens, next, TokenKind::And) {
             let (right, after) = self.parse_factor(tokens, next + 1, depth, condition)?;
             left = self.push(Node::Both(left, right))?;
             next = after;
@@ -223,10 +223,10 @@ impl Store {
         ensures sound { IsSound self.new }
         ensures extends { Extends self.old self.new }
         ensures names { IfOk result (λ r. HasNamesOf self.old self.new r.0) }
-        ensures parses { Parses self.new (pieces_of tokens.now) condition at (ors_read depth (drop at (pieces_of tokens.now))) result }
+        ensures parses { Parses self.new (lexemes_of tokens.now) condition at (ors_read depth (drop at (lexemes_of tokens.now))) result }
     {
         let (mut left, mut next) = self.parse_ands(tokens, at, depth, condition)?;
-        'ors: while stands_at(tokens, next, TokenKind::Or) {
+        'ors: while is_kind_at(tokens, next, TokenKind::Or) {
             let (right, after) = self.parse_ands(tokens, next + 1, depth, condition)?;
             left = self.push(Node::Either(left, right))?;
             next = after;
@@ -236,7 +236,7 @@ impl Store {
 
     /// All tokens from a place on. Most expressions are one word alone.
     #[inline(always)]
-    pub(crate) fn parse_whole(
+    pub(crate) fn parse_to_end(
         &mut self,
         tokens: &[Token<'_>],
         at: usize,
@@ -248,8 +248,8 @@ impl Store {
         ensures sound { IsSound self.new }
         ensures extends { Extends self.old self.new }
         ensures names { IfOk result (HasNamesOf self.old self.new) }
-        ensures ok { IfOk result (IsParsedWhole self.new condition (whole_read depth (drop at (pieces_of tokens.now)))) }
-        ensures fault { IfErr result (IsRefusedWhole (pieces_of tokens.now) (whole_read depth (drop at (pieces_of tokens.now)))) }
+        ensures ok { IfOk result (IsParsedToEnd self.new condition (read_all_tokens depth (drop at (lexemes_of tokens.now)))) }
+        ensures fault { IfErr result (IsRefusedToEnd (lexemes_of tokens.now) (read_all_tokens depth (drop at (lexemes_of tokens.now)))) }
     {
         if let Some(text) = last_word(tokens, at) {
             return self.parse_word(text, condition);

@@ -1,11 +1,11 @@
-//! Texts for which quoted tokens stand.
+//! The texts that quoted tokens mean.
 ghost use Rattle.std.specs.Prelude.{◌≡◌, IfOk, string_bytes};
 ghost use Rattle.kc_expr.specs.Grammar.{between_quotes, is_quote, quoted_text};
 
 use kc_value::unescape;
 use std::alloc::{AllocError, Global};
 
-/// What stands between the quotes of a text; all of it where it doesn't stand in quotes.
+/// The text between quotes, or all of a text that isn't quoted.
 fn inside_quotes(text: &str) -> &str
     ensures { result.now ≡ between_quotes text.now }
 {
@@ -25,7 +25,7 @@ fn is_quote(byte: u8) -> bool
 }
 
 /// The text for which a quoted token of a text stands: what stands between its quotes, with the character alone for
-/// each `\` and character. An `Err` is want of memory.
+/// each `\` and character. An `Err` means out of memory.
 pub fn quoted_text(alloc: Global, text: &str) -> Result<String, AllocError>
     ensures { IfOk result (λ t. string_bytes t ≡ quoted_text text.now) }
 {

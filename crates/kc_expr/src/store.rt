@@ -1,8 +1,8 @@
 //! The lists that an arena holds.
 ghost use Rattle.std.specs.Prelude.{◌≡◌, ◌<◌, ◌^◌, [], length, take, Some, IsTrue, IfSome, IfOk, IfErr, OnOk, OnErr, slice_index_or};
 ghost use Rattle.kc_expr.specs.declared.fault.ExprKind.TheVariants.{OutOfMemory};
-ghost use Rattle.kc_expr.specs.Arena.{Stands};
-ghost use Rattle.kc_expr.specs.Lookup.{place_of};
+ghost use Rattle.kc_expr.specs.Arena.{Represents};
+ghost use Rattle.kc_expr.specs.Lookup.{index_of_name};
 ghost use Rattle.kc_expr.specs.Names.{with_name};
 ghost use Rattle.kc_expr.specs.checker.Nodes.{NodeFits, expr_of, some_node};
 
@@ -29,8 +29,8 @@ pub(crate) struct Mark {
     nodes: usize,
 }
 
-/// A place as a number of 32 bits. Want of memory where it is none.
-fn number_at(place: usize) -> Result<u32, ExprFault>
+/// A place as a number of 32 bits. Out of memory where it is none.
+fn index_of_32_bits(place: usize) -> Result<u32, ExprFault>
     ensures number { IfOk result (λ n. n ≡ place) }
     ensures below { OnOk result (place < 2 ^ 32) }
     ensures memory { IfErr result (λ e. e.kind ≡ OutOfMemory) }
@@ -42,7 +42,7 @@ fn number_at(place: usize) -> Result<u32, ExprFault>
 }
 
 impl Store {
-    ghost use Rattle.kc_expr.specs.checker.Store.{names_held, exprs_in, IsSound, Extends, IsMark};
+    ghost use Rattle.kc_expr.specs.checker.Store.{stored_names, exprs_in, IsSound, Extends, IsMark};
 
     /// No names, texts and nodes. Names are hashed by a seed.
     pub(crate) fn new(alloc: Global, seed: Seed) -> Store
@@ -63,7 +63,7 @@ impl Store {
     }
 
     pub(crate) fn name_count(&self) -> usize
-        ensures { result ≡ length (names_held self.now) }
+        ensures { result ≡ length (stored_names self.now) }
     {
         self.names.len()
     }
@@ -84,8 +84,8 @@ impl Store {
 
     /// The name of a number.
     pub(crate) fn name(&self, index: usize) -> &str
-        requires { index < length (names_held self.now) }
-        ensures { result.now ≡ slice_index_or (names_held self.now) index [] }
+        requires { index < length (stored_names self.now) }
+        ensures { result.now ≡ slice_index_or (stored_names self.now) index [] }
     {
         self.names.as_slice()[index].as_str()
     }
@@ -101,7 +101,7 @@ impl Store {
     /// The number of a name that is held.
     pub(crate) fn find(&self, name: &str) -> Option<u32>
         requires { IsSound self.now }
-        ensures { result ≡ place_of name.now (names_held self.now) }
+        ensures { result ≡ index_of_name name.now (stored_names self.now) }
     {
         match self.names.get_index_of(name) {
             Some(index) => Some(index as u32),
@@ -112,7 +112,7 @@ impl Store {
     /// The number of a name that is one of the last two: expressions often name what was just defined.
     pub(crate) fn find_newest(&self, name: &str) -> Option<u32>
         requires { IsSound self.now }
-        ensures place { IfSome result (λ i. place_of name.now (names_held self.now) ≡ Some i) }
+        ensures place { IfSome result (λ i. index_of_name name.now (stored_names self.now) ≡ Some i) }
     {
         let count = self.names.len();
         if count > 0 && self.has_at(count - 1, name) {
@@ -127,38 +127,38 @@ impl Store {
     /// Whether a name stands at a place. Names that follow one another differ mostly at their ends: these are compared
     /// first.
     fn has_at(&self, index: usize, name: &str) -> bool
-        requires { index < length (names_held self.now) }
-        ensures { IsTrue result → slice_index_or (names_held self.now) index [] ≡ name.now }
+        requires { index < length (stored_names self.now) }
+        ensures { IsTrue result → slice_index_or (stored_names self.now) index [] ≡ name.now }
     {
         let held = self.name(index);
         held.len() == name.len() && held.as_bytes().last() == name.as_bytes().last() && held == name
     }
 
-    /// Puts a node behind the others. 2^32 nodes are as many as there can be.
+    /// Appends a node. 2^32 nodes are as many as there can be.
     pub(crate) fn push(&mut self, node: Node) -> Result<u32, ExprFault>
         requires sound { IsSound self.old }
-        requires fits { NodeFits (length (names_held self.old)) (length self.old.texts.items) (length self.old.nodes.items) node }
+        requires fits { NodeFits (length (stored_names self.old)) (length self.old.texts.items) (length self.old.nodes.items) node }
         ensures sound { IsSound self.new }
         ensures extends { Extends self.old self.new }
-        ensures names { names_held self.new ≡ names_held self.old }
-        ensures stands { IfOk result (λ id. Stands (exprs_in self.new) id (expr_of (names_held self.old) self.old.texts.items (exprs_in self.old).nodes node)) }
+        ensures names { stored_names self.new ≡ stored_names self.old }
+        ensures stands { IfOk result (λ id. Represents (exprs_in self.new) id (expr_of (stored_names self.old) self.old.texts.items (exprs_in self.old).nodes node)) }
         ensures memory { IfErr result (λ e. e.kind ≡ OutOfMemory) }
         ensures err { OnErr result (exprs_in self.new ≡ exprs_in self.old) }
     {
-        let id = number_at(self.nodes.len())?;
+        let id = index_of_32_bits(self.nodes.len())?;
         self.nodes.push(node)?;
         Ok(id)
     }
 
-    /// The number of a name, which is put behind the others where it is new.
+    /// The number of a name, which is put after the others where it is new.
     pub(crate) fn intern(&mut self, name: &str) -> Result<u32, ExprFault>
         requires { IsSound self.old }
         ensures sound { IsSound self.new }
         ensures extends { Extends self.old self.new }
-        ensures place { IfOk result (λ i. place_of name.now (names_held self.new) ≡ Some i) }
-        ensures within { IfOk result (λ i. i < length (names_held self.new)) }
-        ensures name { IfOk result (λ i. slice_index_or (names_held self.new) i [] ≡ name.now) }
-        ensures names { IfOk result (λ i. names_held self.new ≡ with_name name.now (names_held self.old)) }
+        ensures place { IfOk result (λ i. index_of_name name.now (stored_names self.new) ≡ Some i) }
+        ensures within { IfOk result (λ i. i < length (stored_names self.new)) }
+        ensures name { IfOk result (λ i. slice_index_or (stored_names self.new) i [] ≡ name.now) }
+        ensures names { IfOk result (λ i. stored_names self.new ≡ with_name name.now (stored_names self.old)) }
         ensures texts { self.new.texts.items ≡ self.old.texts.items }
         ensures nodes { self.new.nodes.items ≡ self.old.nodes.items }
         ensures memory { IfErr result (λ e. e.kind ≡ OutOfMemory) }
@@ -166,40 +166,40 @@ impl Store {
     {
         match self.find(name) {
             Some(index) => Ok(index),
-            None => self.put_name(name),
+            None => self.insert_name(name),
         }
     }
 
-    /// The number of a name, which is put behind the others unless it is there. 2^32 names are as many as there can be.
-    pub(crate) fn put_name(&mut self, name: &str) -> Result<u32, ExprFault>
+    /// The number of a name, which is put after the others unless it is there. 2^32 names are as many as there can be.
+    pub(crate) fn insert_name(&mut self, name: &str) -> Result<u32, ExprFault>
         requires { IsSound self.old }
         ensures sound { IsSound self.new }
         ensures extends { Extends self.old self.new }
-        ensures place { IfOk result (λ i. place_of name.now (names_held self.new) ≡ Some i) }
-        ensures within { IfOk result (λ i. i < length (names_held self.new)) }
-        ensures name { IfOk result (λ i. slice_index_or (names_held self.new) i [] ≡ name.now) }
-        ensures names { IfOk result (λ i. names_held self.new ≡ with_name name.now (names_held self.old)) }
+        ensures place { IfOk result (λ i. index_of_name name.now (stored_names self.new) ≡ Some i) }
+        ensures within { IfOk result (λ i. i < length (stored_names self.new)) }
+        ensures name { IfOk result (λ i. slice_index_or (stored_names self.new) i [] ≡ name.now) }
+        ensures names { IfOk result (λ i. stored_names self.new ≡ with_name name.now (stored_names self.old)) }
         ensures texts { self.new.texts.items ≡ self.old.texts.items }
         ensures nodes { self.new.nodes.items ≡ self.old.nodes.items }
         ensures memory { IfErr result (λ e. e.kind ≡ OutOfMemory) }
         ensures err { OnErr result (exprs_in self.new ≡ exprs_in self.old) }
     {
-        let _ = number_at(self.names.len())?;
+        let _ = index_of_32_bits(self.names.len())?;
         let (index, _) = self.names.insert_full(String::from_str(self.alloc, name)?)?;
         Ok(index as u32)
     }
 
-    /// Puts a quoted text behind the others. 2^32 texts are as many as there can be.
+    /// Appends a quoted text. 2^32 texts are as many as there can be.
     pub(crate) fn keep(&mut self, text: Text) -> Result<u32, ExprFault>
         requires { IsSound self.old }
         ensures sound { IsSound self.new }
         ensures extends { Extends self.old self.new }
         ensures within { IfOk result (λ i. i < length self.new.texts.items) }
-        ensures names { names_held self.new ≡ names_held self.old }
+        ensures names { stored_names self.new ≡ stored_names self.old }
         ensures text { IfOk result (λ i. slice_index_or self.new.texts.items i [] ≡ text) }
         ensures memory { IfErr result (λ e. e.kind ≡ OutOfMemory) }
     {
-        let id = number_at(self.texts.len())?;
+        let id = index_of_32_bits(self.texts.len())?;
         self.texts.push(text)?;
         Ok(id)
     }

@@ -1,9 +1,9 @@
 //! Words, quoted texts and operators of a line.
 ghost use Rattle.std.specs.Prelude.{◌≡◌, ◌<◌, ◌≤◌, ◌⊎◌, true, length, take, IfSome, IfErr, OnOk, OnErr, position, take_while, ◌==◌, ◌-◌, slice_index, [], ◌∷◌};
 ghost use Rattle.kc_expr.specs.declared.fault.ExprKind.TheVariants.{OutOfMemory};
-ghost use Rattle.kc_expr.specs.Token.{is_white_byte, is_word_byte, lead_of, lead_of_quoted, lead_of_operator, lexed, pieces_of};
+ghost use Rattle.kc_expr.specs.Token.{is_white_byte, is_word_byte, next_token, next_quoted, next_operator, lexemes_from, lexemes_of};
 ghost use Rattle.kc_expr.specs.checker.Leads.{Reaches};
-ghost use Rattle.kc_expr.specs.Answers.{Answers, with_front};
+ghost use Rattle.kc_expr.specs.Results.{Returns, with_front};
 
 use super::fault::{ExprFault, ExprKind};
 use kc_value::closing_quote;
@@ -42,9 +42,9 @@ pub struct Token<'a> {
     pub text: &'a str,
 }
 
-/// What stands at the front of bytes.
+/// The token or white space at the front of bytes.
 #[derive(Clone, Copy)]
-pub(crate) enum Lead {
+pub(crate) enum NextToken {
     White,
     Comment,
     Token(TokenKind, usize),
@@ -82,7 +82,7 @@ fn dollar_in(bytes: &[u8]) -> Option<usize>
     bytes.iter().position(|b| *b == b'$')
 }
 
-/// How many word bytes stand at the front.
+/// How many bytes at the front are of a word.
 fn word_len(bytes: &[u8]) -> usize
     ensures count { result ≡ length (take_while is_word_byte bytes.now) }
     ensures within { result ≤ length bytes.now }
@@ -97,84 +97,84 @@ fn word_len(bytes: &[u8]) -> usize
     bytes.len()
 }
 
-/// What stands behind an opening quote, at bytes that begin with it.
-fn quoted_lead(bytes: &[u8]) -> Lead
+/// The quoted token at the front of bytes that begin with a quote.
+fn quoted_at_front(bytes: &[u8]) -> NextToken
     requires some { 0 < length bytes.now }
     requires quote { slice_index bytes.now 0 < 128 }
-    ensures lead { result ≡ lead_of_quoted bytes.now }
+    ensures lead { result ≡ next_quoted bytes.now }
     ensures reaches { Reaches bytes.now result }
 {
     match closing_quote(bytes[0], &bytes[1..]) {
-        None => Lead::Fault(ExprKind::UnclosedQuote, 0),
+        None => NextToken::Fault(ExprKind::UnclosedQuote, 0),
         Some(n) => match dollar_in(&bytes[..n + 1]) {
-            None => Lead::Token(TokenKind::Quoted, n + 1),
-            Some(k) => Lead::Fault(ExprKind::LeftOut, k),
+            None => NextToken::Token(TokenKind::Quoted, n + 1),
+            Some(k) => NextToken::Fault(ExprKind::LeftOut, k),
         },
     }
 }
 
 /// The operator at the front of bytes.
-fn operator_lead(first: u8, second: u8) -> Lead
-    ensures lead { result ≡ lead_of_operator first second }
+fn operator_at_front(first: u8, second: u8) -> NextToken
+    ensures lead { result ≡ next_operator first second }
     ensures reaches { Reaches (first ∷ second ∷ []) result }
     ensures one { second ≡ 0 → Reaches (first ∷ []) result }
 {
     match (first, second) {
-        (b'!', b'=') => Lead::Token(TokenKind::Relation(Relop::NotEqual), 2),
-        (b'<', b'=') => Lead::Token(TokenKind::Relation(Relop::LessEqual), 2),
-        (b'>', b'=') => Lead::Token(TokenKind::Relation(Relop::GreaterEqual), 2),
-        (b'&', b'&') => Lead::Token(TokenKind::And, 2),
-        (b'|', b'|') => Lead::Token(TokenKind::Or, 2),
-        (b'!', _) => Lead::Token(TokenKind::Not, 1),
-        (b'=', _) => Lead::Token(TokenKind::Relation(Relop::Equal), 1),
-        (b'<', _) => Lead::Token(TokenKind::Relation(Relop::Less), 1),
-        (b'>', _) => Lead::Token(TokenKind::Relation(Relop::Greater), 1),
-        (b'(', _) => Lead::Token(TokenKind::Open, 1),
-        (b')', _) => Lead::Token(TokenKind::Close, 1),
-        (b'$', _) => Lead::Fault(ExprKind::LeftOut, 0),
-        _ => Lead::Fault(ExprKind::BadToken, 0),
+        (b'!', b'=') => NextToken::Token(TokenKind::Relation(Relop::NotEqual), 2),
+        (b'<', b'=') => NextToken::Token(TokenKind::Relation(Relop::LessEqual), 2),
+        (b'>', b'=') => NextToken::Token(TokenKind::Relation(Relop::GreaterEqual), 2),
+        (b'&', b'&') => NextToken::Token(TokenKind::And, 2),
+        (b'|', b'|') => NextToken::Token(TokenKind::Or, 2),
+        (b'!', _) => NextToken::Token(TokenKind::Not, 1),
+        (b'=', _) => NextToken::Token(TokenKind::Relation(Relop::Equal), 1),
+        (b'<', _) => NextToken::Token(TokenKind::Relation(Relop::Less), 1),
+        (b'>', _) => NextToken::Token(TokenKind::Relation(Relop::Greater), 1),
+        (b'(', _) => NextToken::Token(TokenKind::Open, 1),
+        (b')', _) => NextToken::Token(TokenKind::Close, 1),
+        (b'$', _) => NextToken::Fault(ExprKind::LeftOut, 0),
+        _ => NextToken::Fault(ExprKind::BadToken, 0),
     }
 }
 
-/// What stands at the front of bytes.
-#[tactic(auto, unfolding(crate::specs::Token::lead_of))]
-fn front_of(bytes: &[u8]) -> Lead
+/// The token or white space at the front of bytes.
+#[tactic(auto, unfolding(crate::specs::Token::next_token))]
+fn token_at_front(bytes: &[u8]) -> NextToken
     requires { 0 < length bytes.now }
-    ensures lead { result ≡ lead_of bytes.now }
+    ensures lead { result ≡ next_token bytes.now }
     ensures reaches { Reaches bytes.now result }
 {
     let first = bytes[0];
     if is_white(first) {
-        Lead::White
+        NextToken::White
     } else if first == b'#' {
-        Lead::Comment
+        NextToken::Comment
     } else if is_word(first) {
-        Lead::Token(TokenKind::Word, word_len(bytes))
+        NextToken::Token(TokenKind::Word, word_len(bytes))
     } else if first == b'"' || first == b'\'' {
-        quoted_lead(bytes)
+        quoted_at_front(bytes)
     } else {
         let second = if bytes.len() > 1 { bytes[1] } else { 0 };
-        operator_lead(first, second)
+        operator_at_front(first, second)
     }
 }
 
 /// The tokens of a line, up to a comment.
 pub fn tokens(alloc: Global, line: &str) -> Result<Vec<Token<'_>>, ExprFault>
-    ensures { Answers (λ v. pieces_of v.items) result (lexed 0 0 line.now) }
+    ensures { Returns (λ v. lexemes_of v.items) result (lexemes_from 0 0 line.now) }
 {
     let mut found = Vec::new(alloc);
     push_tokens(line, &mut found)?;
     Ok(found)
 }
 
-/// Puts the tokens of a line, up to a comment, behind others. An `Err` leaves the others alone.
+/// Appends the tokens of a line, up to a comment. An `Err` leaves the list as it was.
 pub fn push_tokens<'a>(line: &'a str, found: &mut Vec<Token<'a>>) -> Result<(), ExprFault>
-    ensures tokens { OnOk result (with_front (pieces_of found.old.items) (lexed 0 0 line.now) ≡ Ok (pieces_of found.new.items)) }
-    ensures fault { IfErr result (λ e. (e.kind ≡ OutOfMemory) ⊎ (lexed 0 0 line.now ≡ Err e)) }
+    ensures tokens { OnOk result (with_front (lexemes_of found.old.items) (lexemes_from 0 0 line.now) ≡ Ok (lexemes_of found.new.items)) }
+    ensures fault { IfErr result (λ e. (e.kind ≡ OutOfMemory) ⊎ (lexemes_from 0 0 line.now ≡ Err e)) }
     ensures err { OnErr result (found.new.items ≡ found.old.items) }
 {
     let kept = found.len();
-    match cut(line, found) {
+    match scan_line(line, found) {
         Ok(()) => Ok(()),
         Err(fault) => {
             found.truncate(kept);
@@ -183,19 +183,19 @@ pub fn push_tokens<'a>(line: &'a str, found: &mut Vec<Token<'a>>) -> Result<(), 
     }
 }
 
-/// Puts the tokens of a line behind others, up to a comment or a fault.
-fn cut<'a>(line: &'a str, found: &mut Vec<Token<'a>>) -> Result<(), ExprFault>
-    ensures tokens { OnOk result (with_front (pieces_of found.old.items) (lexed 0 0 line.now) ≡ Ok (pieces_of found.new.items)) }
-    ensures fault { IfErr result (λ e. (e.kind ≡ OutOfMemory) ⊎ (lexed 0 0 line.now ≡ Err e)) }
+/// Appends the tokens of a line, up to a comment or a fault.
+fn scan_line<'a>(line: &'a str, found: &mut Vec<Token<'a>>) -> Result<(), ExprFault>
+    ensures tokens { OnOk result (with_front (lexemes_of found.old.items) (lexemes_from 0 0 line.now) ≡ Ok (lexemes_of found.new.items)) }
+    ensures fault { IfErr result (λ e. (e.kind ≡ OutOfMemory) ⊎ (lexemes_from 0 0 line.now ≡ Err e)) }
     ensures kept { take (length found.old.items) found.new.items ≡ found.old.items }
 {
     let bytes = line.as_bytes();
     let mut at = 0;
     while at < bytes.len() {
-        match front_of(&bytes[at..]) {
-            Lead::White => at += 1,
-            Lead::Comment => break,
-            Lead::Token(kind, len) => {
+        match token_at_front(&bytes[at..]) {
+            NextToken::White => at += 1,
+            NextToken::Comment => break,
+            NextToken::Token(kind, len) => {
                 let end = at + len;
                 let text = &line[at..end];
                 found.push(Token {
@@ -206,7 +206,7 @@ fn cut<'a>(line: &'a str, found: &mut Vec<Token<'a>>) -> Result<(), ExprFault>
                 })?;
                 at = end;
             }
-            Lead::Fault(kind, ahead) => {
+            NextToken::Fault(kind, ahead) => {
                 return Err(ExprFault {
                     offset: at + ahead,
                     kind,

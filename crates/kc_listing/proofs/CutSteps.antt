@@ -4,28 +4,28 @@ use Rattle.std.proofs.lemmas.List.{get_or-take, length-take-le}
 use Rattle.std.proofs.lemmas.Bool.Decides.{nat_tests}
 use Rattle.std.proofs.Math.Seq.{drop-length, take-length}
 use Rattle.bstr.specs.Find.{Nowhere, Passes, is_byte}
-use Rattle.kc_tree_model.specs.Lines.{cut, byte_before, physical_lines, without_return, without_last, last_byte}
-use Rattle.kc_listing.specs.checker.Cut.{IsLineAt}
+use Rattle.kc_tree_model.specs.LogicalLines.{split_at_newlines, with_first_byte, physical_lines, without_return, without_last, last_byte}
+use Rattle.kc_listing.specs.checker.LinePlaces.{IsLineAt}
 
 -- a newline at a place ends the line at the front
 pub cut_at_newline : (n : ℕ) (bs : List ℕ) → n < length bs → ((k : ℕ) → k < n → (get_or bs k 0 == 10) ≡ false) → (get_or bs n 0 == 10) ≡ true
-    → cut bs ≡ record { text = take n bs; ended = true } ∷ cut (drop (suc n) bs)
+    → split_at_newlines bs ≡ record { text = take n bs; ended = true } ∷ split_at_newlines (drop (suc n) bs)
 cut_at_newline n [] h before e = absurd (omega arith)
 cut_at_newline zero (b ∷ bs) h before e = rw e refl
 cut_at_newline (suc n) (b ∷ bs) h before e =
     let first : (b == 10) ≡ false = before 0 (omega arith) in
     let rest = cut_at_newline n bs (omega arith) (λ k l. before (suc k) (omega arith)) e in
-    rw first (ap (byte_before b) rest)
+    rw first (ap (with_first_byte b) rest)
 
 -- without a newline all that is left is one line
 pub cut_at_end : (bs : List ℕ) → 0 < length bs → ((k : ℕ) → k < length bs → (get_or bs k 0 == 10) ≡ false)
-    → cut bs ≡ record { text = bs; ended = false } ∷ []
+    → split_at_newlines bs ≡ record { text = bs; ended = false } ∷ []
 cut_at_end [] h none = absurd (omega arith)
 cut_at_end (b ∷ []) h none = let first : (b == 10) ≡ false = none 0 (omega arith) in rw first refl
 cut_at_end (b ∷ c ∷ bs) h none =
     let first : (b == 10) ≡ false = none 0 (omega arith) in
     let rest = cut_at_end (c ∷ bs) (omega arith) (λ k l. none (suc k) (omega arith)) in
-    rw first (ap (byte_before b) rest)
+    rw first (ap (with_first_byte b) rest)
 
 is_false : (b : Bool) → (b ≡ true → ⊥) → b ≡ false
 is_false true h = absurd (h refl)
@@ -69,11 +69,11 @@ no_return zero rest h none = refl
 no_return (suc n) rest h none = rw (last_of (suc n) rest (omega arith) h) (is_false (get_or rest (suc n - 1) 0 == 13) (λ e. none (omega arith) (grind (arith, nat_tests))))
 
 module _ (bytes : List ℕ) (at n : ℕ) (h : n < length (drop at bytes)) (before : Nowhere (Passes (is_byte 10) (drop at bytes)) 0 n) (here : Passes (is_byte 10) (drop at bytes) n) where
-  at_newline : cut (drop at bytes) ≡ record { text = take n (drop at bytes); ended = true } ∷ cut (drop (at + n + 1) bytes)
+  at_newline : split_at_newlines (drop at bytes) ≡ record { text = take n (drop at bytes); ended = true } ∷ split_at_newlines (drop (at + n + 1) bytes)
   at_newline =
       let behind : drop (suc n) (drop at bytes) ≡ drop (at + n + 1) bytes = rw drop-drop (ap (λ k. drop k bytes) (omega arith)) in
       cut_at_newline n (drop at bytes) h (λ k l. is_false (get_or (drop at bytes) k 0 == 10) (before k (omega arith) l)) here
-      ∙ ap (λ t. record { text = take n (drop at bytes); ended = true } ∷ cut t) behind
+      ∙ ap (λ t. record { text = take n (drop at bytes); ended = true } ∷ split_at_newlines t) behind
 
   pub line_returned : 0 < n → get_or (drop at bytes) (n - 1) 0 ≡ 13 → IsLineAt bytes at (record { end = at + n - 1; next = at + n + 1; ended = true })
   line_returned p e =

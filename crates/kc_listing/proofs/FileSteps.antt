@@ -1,10 +1,10 @@
 -- The file of a path.
 use Rattle.std.proofs.Common.{◌≡◌, ℕ, Bool, true, false, List, [], Option, Some, None, refl, ap, cond}
 use Rattle.std.specs.Prelude.{is_some}
-use Rattle.kc_tree_model.specs.Files.{file_at}
+use Rattle.kc_tree_model.specs.TreeFiles.{file_at}
 use Rattle.kc_tree_model.specs.Limits.{bytes_in}
-use Rattle.kc_listing.specs.declared.progress.Supply.{Supply}
-use Rattle.kc_listing.specs.checker.Progress.{origin_of}
+use Rattle.kc_listing.specs.declared.state.SourceFiles.{SourceFiles}
+use Rattle.kc_listing.specs.checker.StateViews.{file_source_of}
 
 bytes_or : Option (List ℕ) → List ℕ
 bytes_or None = []
@@ -29,14 +29,14 @@ absent_by false None e a = refl
 absent_by false (Some x) e a = cc
 absent_by true o e a = cc
 
-pub file_there : (f : Supply) (path bytes : List ℕ) → Some bytes ≡ file_at f.texts.now path → (is_some ((origin_of f).bytes path) ≡ true) × (bytes ≡ bytes_in (origin_of f) path)
-unfolding origin_of
+pub file_there : (f : SourceFiles) (path bytes : List ℕ) → Some bytes ≡ file_at f.texts.now path → (is_some ((file_source_of f).bytes path) ≡ true) × (bytes ≡ bytes_in (file_source_of f) path)
+unfolding file_source_of
 file_there f path bytes e = there_by f.absent_is_empty (file_at f.texts.now path) bytes e
 
-pub file_empty : (f : Supply) (path : List ℕ) → file_at f.texts.now path ≡ None → f.absent_is_empty ≡ true → (is_some ((origin_of f).bytes path) ≡ true) × ([] ≡ bytes_in (origin_of f) path)
-unfolding origin_of
+pub file_empty : (f : SourceFiles) (path : List ℕ) → file_at f.texts.now path ≡ None → f.absent_is_empty ≡ true → (is_some ((file_source_of f).bytes path) ≡ true) × ([] ≡ bytes_in (file_source_of f) path)
+unfolding file_source_of
 file_empty f path e a = empty_by f.absent_is_empty (file_at f.texts.now path) e a
 
-pub file_absent : (f : Supply) (path : List ℕ) → file_at f.texts.now path ≡ None → f.absent_is_empty ≡ false → is_some ((origin_of f).bytes path) ≡ false
-unfolding origin_of
+pub file_absent : (f : SourceFiles) (path : List ℕ) → file_at f.texts.now path ≡ None → f.absent_is_empty ≡ false → is_some ((file_source_of f).bytes path) ≡ false
+unfolding file_source_of
 file_absent f path e a = absent_by f.absent_is_empty (file_at f.texts.now path) e a

@@ -3,21 +3,21 @@ use Rattle.std.proofs.Common.{◌≡◌, ℕ, suc, zero, ◌-◌, ◌<◌, ◌�
 use Rattle.std.specs.Prelude.{slice_get, slice_range, All}
 use Rattle.std.proofs.lemmas.List.{take-append-drop, get_or_append_left, take-append-le, drop-append-le}
 use Rattle.std.proofs.lemmas.List.Elements.{All-take, All-drop}
-use Rattle.kc_expr.specs.Arena.{Exprs, Grows, stands_for}
+use Rattle.kc_expr.specs.Arena.{Exprs, Grows, node_expr}
 use Rattle.kc_expr.specs.Expr.{alone, constant}
 use Rattle.kc_value.specs.declared.tri.Tri.TheVariants.{N}
-use Rattle.kc_tree_model.specs.Blocks.{Group, What}
+use Rattle.kc_tree_model.specs.Blocks.{Group, GroupHead}
 use Rattle.kc_statements.specs.declared.statement.Attribute.{Attribute as CodeAttribute}
 use Rattle.kc_statements.specs.declared.statement.Attribute.TheVariants as attributes
-use Rattle.kc_statements.specs.declared.statement.Valued.{Valued as CodeValued}
-use Rattle.kc_statements.specs.declared.statement.Aimed.{Aimed as CodeAimed}
-use Rattle.kc_statements.specs.declared.statement.Bounded.{Bounded as CodeBounded}
-use Rattle.kc_statements.specs.Said.{attribute_in, AttributeHeld, IfHeld, if_in, OperandHeld, operand_in, operand_of_expr, ValuedHeld, valued_in, AimedHeld, aimed_in, BoundedHeld, bounded_in}
+use Rattle.kc_statements.specs.declared.statement.DefaultAttribute.{DefaultAttribute as CodeValued}
+use Rattle.kc_statements.specs.declared.statement.TargetAttribute.{TargetAttribute as CodeAimed}
+use Rattle.kc_statements.specs.declared.statement.RangeAttribute.{RangeAttribute as CodeBounded}
+use Rattle.kc_statements.specs.StatementViews.{attribute_in, AttributeNodesExist, IfNodeExists, if_in, OperandNodeExists, operand_or_n, operand_of_expr, DefaultNodesExist, default_in, TargetNodesExist, target_in, RangeNodesExist, range_in}
 use Rattle.kc_listing.specs.declared.listing.Group.{Group as CodeGroup}
 use Rattle.kc_listing.specs.declared.listing.Line.{Line as CodeLine}
-use Rattle.kc_listing.specs.declared.listing.What.{What as CodeWhat}
-use Rattle.kc_listing.specs.declared.listing.What.TheVariants as codes
-use Rattle.kc_listing.specs.Shown.{WhatShown, line_in, LineHeld, GroupShown, GroupsShown}
+use Rattle.kc_listing.specs.declared.listing.GroupHead.{GroupHead as CodeWhat}
+use Rattle.kc_listing.specs.declared.listing.GroupHead.TheVariants as codes
+use Rattle.kc_listing.specs.ListingView.{RepresentsHead, line_in, LineNodesExist, RepresentsGroup, RepresentsGroups}
 use Rattle.kc_listing.proofs.NameLemmas.{words_kept, longer}
 
 pub get_more : {A : Type 0} (xs ys : List A) (i : ℕ) (x : A) → slice_get xs i ≡ Some x → slice_get (xs ++ ys) i ≡ Some x
@@ -36,36 +36,36 @@ module _ (old new : Exprs) (grows : Grows old new) where
   node_held : (id : ℕ) → id < length old.nodes → id < length new.nodes
   node_held id h = let e = ap length nodes_are in omega (arith, e, length-append old.nodes (drop (length old.nodes) new.nodes))
 
-  pub node_kept : (id : ℕ) → id < length old.nodes → stands_for new id ≡ stands_for old id
+  pub node_kept : (id : ℕ) → id < length old.nodes → node_expr new id ≡ node_expr old id
   node_kept id h = ap (λ nodes. get_or nodes id (alone (constant N))) (sym nodes_are) ∙ get_or_append_left old.nodes (drop (length old.nodes) new.nodes) (alone (constant N)) id h
 
-  if_held : (c : Option ℕ) → IfHeld old c → IfHeld new c
+  if_held : (c : Option ℕ) → IfNodeExists old c → IfNodeExists new c
   if_held None h = tt
   if_held (Some id) h = node_held id h
 
-  if_kept : (c : Option ℕ) → IfHeld old c → if_in new c ≡ if_in old c
+  if_kept : (c : Option ℕ) → IfNodeExists old c → if_in new c ≡ if_in old c
   if_kept None h = refl
   if_kept (Some id) h = ap Some (node_kept id h)
 
-  operand_kept : (id : ℕ) → OperandHeld old id → operand_in new id ≡ operand_in old id
+  operand_kept : (id : ℕ) → OperandNodeExists old id → operand_or_n new id ≡ operand_or_n old id
   operand_kept id h = ap operand_of_expr (node_kept id h.within)
 
-  operand_held : (id : ℕ) → OperandHeld old id → OperandHeld new id
+  operand_held : (id : ℕ) → OperandNodeExists old id → OperandNodeExists new id
   operand_held id h = record { within = node_held id h.within; is = node_kept id h.within ∙ h.is ∙ ap alone (sym (operand_kept id h)) }
 
-  valued_kept : (d : CodeValued) → ValuedHeld old d → valued_in new d ≡ valued_in old d
+  valued_kept : (d : CodeValued) → DefaultNodesExist old d → default_in new d ≡ default_in old d
   valued_kept d h = rw (node_kept d.value h.0, if_kept d.condition h.1) refl
 
-  aimed_kept : (d : CodeAimed) → AimedHeld old d → aimed_in new d ≡ aimed_in old d
+  aimed_kept : (d : CodeAimed) → TargetNodesExist old d → target_in new d ≡ target_in old d
   aimed_kept d h = rw (words_kept old new grows d.name h.0, if_kept d.condition h.1) refl
 
-  aimed_held : (d : CodeAimed) → AimedHeld old d → AimedHeld new d
+  aimed_held : (d : CodeAimed) → TargetNodesExist old d → TargetNodesExist new d
   aimed_held d h = (let l = longer old new grows in let w = h.0 in omega arith, if_held d.condition h.1)
 
-  bounded_kept : (d : CodeBounded) → BoundedHeld old d → bounded_in new d ≡ bounded_in old d
+  bounded_kept : (d : CodeBounded) → RangeNodesExist old d → range_in new d ≡ range_in old d
   bounded_kept d h = rw (operand_kept d.low h.0, operand_kept d.high h.1, if_kept d.condition h.2) refl
 
-  attribute_kept : (a : CodeAttribute) → AttributeHeld old a → attribute_in new a ≡ attribute_in old a
+  attribute_kept : (a : CodeAttribute) → AttributeNodesExist old a → attribute_in new a ≡ attribute_in old a
   attribute_kept (attributes.Typed k) h = refl
   attribute_kept (attributes.TypedPrompt k c) h = rw (if_kept c h) refl
   attribute_kept (attributes.TypedDefault k d) h = rw (valued_kept d h) refl
@@ -79,7 +79,7 @@ module _ (old new : Exprs) (grows : Grows old new) where
   attribute_kept attributes.Help h = refl
   attribute_kept attributes.Modules h = refl
 
-  attribute_held : (a : CodeAttribute) → AttributeHeld old a → AttributeHeld new a
+  attribute_held : (a : CodeAttribute) → AttributeNodesExist old a → AttributeNodesExist new a
   attribute_held (attributes.Typed k) h = tt
   attribute_held (attributes.TypedPrompt k c) h = if_held c h
   attribute_held (attributes.TypedDefault k d) h = (node_held d.value h.0, if_held d.condition h.1)
@@ -93,14 +93,14 @@ module _ (old new : Exprs) (grows : Grows old new) where
   attribute_held attributes.Help h = tt
   attribute_held attributes.Modules h = tt
 
-  pub lines_held : (lines : List CodeLine) → All (LineHeld old) lines → All (LineHeld new) lines
+  pub lines_held : (lines : List CodeLine) → All (LineNodesExist old) lines → All (LineNodesExist new) lines
   lines_held lines h = λ k d i. attribute_held _ (h k d i)
 
-  lines_kept : (lines : List CodeLine) → All (LineHeld old) lines → map (line_in new) lines ≡ map (line_in old) lines
+  lines_kept : (lines : List CodeLine) → All (LineNodesExist old) lines → map (line_in new) lines ≡ map (line_in old) lines
   lines_kept [] h = refl
   lines_kept (l ∷ lines) h = rw (attribute_kept l.attribute (h 0 l (omega arith)), lines_kept lines (λ k d i. h (suc k) d (omega arith))) refl
 
-  what_kept : (names ns texts ts : List (List ℕ)) (c : CodeWhat) (w : What) → WhatShown old names texts c w → WhatShown new (names ++ ns) (texts ++ ts) c w
+  what_kept : (names ns texts ts : List (List ℕ)) (c : CodeWhat) (w : GroupHead) → RepresentsHead old names texts c w → RepresentsHead new (names ++ ns) (texts ++ ts) c w
   what_kept names ns texts ts (codes.Config s) w h = (h.0, get_more names ns s h.0 h.1, h.2)
   what_kept names ns texts ts codes.Choice w h = h
   what_kept names ns texts ts (codes.Menu t) w h = (h.0, get_more texts ts t h.0 h.1, h.2)
@@ -114,25 +114,25 @@ module _ (old new : Exprs) (grows : Grows old new) where
   range_kept : (lines ls : List CodeLine) (a end : ℕ) → a ≤ end → end ≤ length lines → slice_range (lines ++ ls) a end ≡ slice_range lines a end
   range_kept lines ls a end l e = ap (take (end - a)) (drop-append-le a lines ls (omega arith)) ∙ take-append-le (end - a) (drop a lines) ls (omega (arith, length-drop a lines))
 
-  group_kept : (names ns texts ts : List (List ℕ)) (lines ls : List CodeLine) (end before : ℕ) (g : CodeGroup) (m : Group) → All (LineHeld old) lines → g.attributes ≤ end → end ≤ length lines
-      → GroupShown old names texts (slice_range lines g.attributes end) before g m → GroupShown new (names ++ ns) (texts ++ ts) (slice_range (lines ++ ls) g.attributes end) before g m
+  group_kept : (names ns texts ts : List (List ℕ)) (lines ls : List CodeLine) (end before : ℕ) (g : CodeGroup) (m : Group) → All (LineNodesExist old) lines → g.attributes ≤ end → end ≤ length lines
+      → RepresentsGroup old names texts (slice_range lines g.attributes end) before g m → RepresentsGroup new (names ++ ns) (texts ++ ts) (slice_range (lines ++ ls) g.attributes end) before g m
   group_kept names ns texts ts lines ls end before g m held a e h = record {
     number_is = h.number_is;
     file_is = h.file_is;
     line_is = h.line_is;
     what = what_kept names ns texts ts g.what m.what h.what;
     attributes = rw (range_kept lines ls g.attributes end a e)
-        (h.attributes ∙ sym (lines_kept (slice_range lines g.attributes end) (All-take (LineHeld old) (end - g.attributes) (drop g.attributes lines) (All-drop (LineHeld old) g.attributes lines held))));
+        (h.attributes ∙ sym (lines_kept (slice_range lines g.attributes end) (All-take (LineNodesExist old) (end - g.attributes) (drop g.attributes lines) (All-drop (LineNodesExist old) g.attributes lines held))));
   }
 
-  pub groups_kept : (names ns texts ts : List (List ℕ)) (lines ls : List CodeLine) → All (LineHeld old) lines → (end : ℕ) → end ≤ length lines → (gs : List CodeGroup) (ms : List Group)
-      → GroupsShown old names texts lines end gs ms → GroupsShown new (names ++ ns) (texts ++ ts) (lines ++ ls) end gs ms
+  pub groups_kept : (names ns texts ts : List (List ℕ)) (lines ls : List CodeLine) → All (LineNodesExist old) lines → (end : ℕ) → end ≤ length lines → (gs : List CodeGroup) (ms : List Group)
+      → RepresentsGroups old names texts lines end gs ms → RepresentsGroups new (names ++ ns) (texts ++ ts) (lines ++ ls) end gs ms
   groups_kept names ns texts ts lines ls held end e [] [] h = tt
   groups_kept names ns texts ts lines ls held end e [] (m ∷ ms) h = absurd h
   groups_kept names ns texts ts lines ls held end e (g ∷ gs) [] h = absurd h
   groups_kept names ns texts ts lines ls held end e (g ∷ gs) (m ∷ ms) h =
       (group_kept names ns texts ts lines ls end (length ms) g m held h.1 e h.0, h.1, groups_kept names ns texts ts lines ls held g.attributes (let a = h.1 in omega arith) gs ms h.2)
 
-  pub groups_later : (names ns names2 texts ts texts2 : List (List ℕ)) (lines ls lines2 : List CodeLine) → names2 ≡ names ++ ns → texts2 ≡ texts ++ ts → lines2 ≡ lines ++ ls → All (LineHeld old) lines → (gs : List CodeGroup) (ms : List Group)
-      → (end : ℕ) → end ≤ length lines → GroupsShown old names texts lines end gs ms → GroupsShown new names2 texts2 lines2 end gs ms
+  pub groups_later : (names ns names2 texts ts texts2 : List (List ℕ)) (lines ls lines2 : List CodeLine) → names2 ≡ names ++ ns → texts2 ≡ texts ++ ts → lines2 ≡ lines ++ ls → All (LineNodesExist old) lines → (gs : List CodeGroup) (ms : List Group)
+      → (end : ℕ) → end ≤ length lines → RepresentsGroups old names texts lines end gs ms → RepresentsGroups new names2 texts2 lines2 end gs ms
   groups_later names ns names2 texts ts texts2 lines ls lines2 e f g held gs ms end l h = rw (e, f, g) (groups_kept names ns texts ts lines ls held end l gs ms h)

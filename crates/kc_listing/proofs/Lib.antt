@@ -3,11 +3,11 @@ pub mod Joining
 pub mod NameLemmas
 pub mod SymbolSteps
 pub mod Growing
-pub mod PutSteps
-pub mod StandSteps
+pub mod AppendSteps
+pub mod OpenBlockSteps
 pub mod FileSteps
 pub mod HeadSteps
 pub mod ReaderSteps
 pub mod PlaceSteps
-pub mod SayingSteps
+pub mod StatementSteps
 pub mod RootSteps

@@ -5,14 +5,14 @@ use Rattle.std.proofs.lemmas.List.{take-append-drop, get_or_past, get_or_append_
 use Rattle.std.proofs.lemmas.List.Elements.{All-append, All-cons, All-nil}
 use Rattle.std.proofs.lemmas.Slice.Eq.{bytes_eq-Decides}
 use Rattle.kc_expr.specs.Arena.{Exprs, Grows}
-use Rattle.kc_expr.specs.Lookup.{place_of}
+use Rattle.kc_expr.specs.Lookup.{index_of_name}
 use Rattle.kc_expr.proofs.Places.{place_there}
 use Rattle.std.proofs.lemmas.Option.{slice_get-get_or}
 use Rattle.std.specs.Prelude.{slice_get, nat_le}
 use Rattle.kc_expr.specs.Names.{with_name}
-use Rattle.kc_tree_model.specs.Limits.{most_symbols}
+use Rattle.kc_tree_model.specs.Limits.{max_symbols}
 use Rattle.kc_listing.specs.checker.Symbols.{is_full}
-use Rattle.kc_listing.specs.Names.{number_kept, number_in, word_in, HasNames}
+use Rattle.kc_listing.specs.SymbolTable.{number_in_slot, number_in, text_of_name, HasNames}
 
 none_by : (f : ℕ → Option ℕ) → ((i : ℕ) → f i ≡ None) → (o : Option ℕ) → option_and_then f o ≡ None
 none_by f h None = refl
@@ -27,21 +27,21 @@ step_by : (f : ℕ → Option ℕ) (b : Bool) (o p : Option ℕ) → option_and_
 step_by f true o p e = refl
 step_by f false o p e = over_suc f o ∙ e ∙ sym (over_suc f p)
 
--- names behind those of the table lead nowhere
-place_more : (f : ℕ → Option ℕ) (x : List ℕ) (xs ys : List (List ℕ)) → ((i : ℕ) → length xs ≤ i → f i ≡ None) → option_and_then f (place_of x (xs ++ ys)) ≡ option_and_then f (place_of x xs)
-place_more f x [] ys h = none_by f (λ i. h i (omega arith)) (place_of x ys)
-place_more f x (y ∷ xs) ys h = step_by f (bytes_eq x y) (place_of x (xs ++ ys)) (place_of x xs) (place_more (λ i. f (suc i)) x xs ys (λ i l. h (suc i) (omega arith)))
+-- names after those of the table lead nowhere
+place_more : (f : ℕ → Option ℕ) (x : List ℕ) (xs ys : List (List ℕ)) → ((i : ℕ) → length xs ≤ i → f i ≡ None) → option_and_then f (index_of_name x (xs ++ ys)) ≡ option_and_then f (index_of_name x xs)
+place_more f x [] ys h = none_by f (λ i. h i (omega arith)) (index_of_name x ys)
+place_more f x (y ∷ xs) ys h = step_by f (bytes_eq x y) (index_of_name x (xs ++ ys)) (index_of_name x xs) (place_more (λ i. f (suc i)) x xs ys (λ i l. h (suc i) (omega arith)))
 
 number_more : (held more : List (List ℕ)) (numbers : List ℕ) (x : List ℕ) → length numbers ≤ length held → number_in (held ++ more) numbers x ≡ number_in held numbers x
-number_more held more numbers x h = place_more (λ i. number_kept (get_or numbers i 0)) x held more (λ i l. ap number_kept (get_or_past numbers i 0 (omega arith)))
+number_more held more numbers x h = place_more (λ i. number_in_slot (get_or numbers i 0)) x held more (λ i l. ap number_in_slot (get_or_past numbers i 0 (omega arith)))
 
 split : (old new : Exprs) → Grows old new → old.names ++ drop (length old.names) new.names ≡ new.names
 split old new g = ap (λ xs. xs ++ drop (length old.names) new.names) (sym g.names) ∙ take-append-drop (length old.names) new.names
 
-pub words_kept : (old new : Exprs) → Grows old new → (id : ℕ) → id < length old.names → word_in new id ≡ word_in old id
+pub words_kept : (old new : Exprs) → Grows old new → (id : ℕ) → id < length old.names → text_of_name new id ≡ text_of_name old id
 words_kept old new g id h = ap (λ names. get_or names id []) (sym (split old new g)) ∙ get_or_append_left old.names (drop (length old.names) new.names) [] id h
 
-map_words : (old new : Exprs) → Grows old new → (ids : List ℕ) → All (λ id. id < length old.names) ids → map (word_in new) ids ≡ map (word_in old) ids
+map_words : (old new : Exprs) → Grows old new → (ids : List ℕ) → All (λ id. id < length old.names) ids → map (text_of_name new) ids ≡ map (text_of_name old) ids
 map_words old new g [] h = refl
 map_words old new g (i ∷ ids) h = rw (words_kept old new g i (h 0 0 (omega arith)), map_words old new g ids (λ k d l. h (suc k) d (omega arith))) refl
 
@@ -63,25 +63,25 @@ same_by : (x y : List ℕ) → bytes_eq y x ≡ true → y ≡ x
 same_by x y e = (bytes_eq-Decides y x).0 e
 
 -- the place of the last name
-place_last : (x : List ℕ) (names : List (List ℕ)) → place_of x names ≡ None → place_of x (names ++ x ∷ []) ≡ Some (length names)
+place_last : (x : List ℕ) (names : List (List ℕ)) → index_of_name x names ≡ None → index_of_name x (names ++ x ∷ []) ≡ Some (length names)
 place_last x [] h = let e : bytes_eq x x ≡ true = (bytes_eq-Decides x x).1 refl in rw e refl
-place_last x (y ∷ names) h = last_by (bytes_eq x y) (place_of x names) (place_last x names) h
+place_last x (y ∷ names) h = last_by (bytes_eq x y) (index_of_name x names) (place_last x names) h
   where
     none_of : (o : Option ℕ) → option_map suc o ≡ None → o ≡ None
     none_of None e = refl
     none_of (Some i) e = cc
 
-    last_by : (b : Bool) (o : Option ℕ) → (o ≡ None → place_of x (names ++ x ∷ []) ≡ Some (length names)) → cond b (Some 0) (option_map suc o) ≡ None
-        → cond b (Some 0) (option_map suc (place_of x (names ++ x ∷ []))) ≡ Some (suc (length names))
+    last_by : (b : Bool) (o : Option ℕ) → (o ≡ None → index_of_name x (names ++ x ∷ []) ≡ Some (length names)) → cond b (Some 0) (option_map suc o) ≡ None
+        → cond b (Some 0) (option_map suc (index_of_name x (names ++ x ∷ []))) ≡ Some (suc (length names))
     last_by true o f e = cc
     last_by false o f e = rw (f (none_of o e)) refl
 
 -- another name keeps its place
-place_other : (x y : List ℕ) (names : List (List ℕ)) → bytes_eq y x ≡ false → place_of y (names ++ x ∷ []) ≡ place_of y names
+place_other : (x y : List ℕ) (names : List (List ℕ)) → bytes_eq y x ≡ false → index_of_name y (names ++ x ∷ []) ≡ index_of_name y names
 place_other x y [] e = rw e refl
 place_other x y (z ∷ names) e = ap (λ o. cond (bytes_eq y z) (Some 0) (option_map suc o)) (place_other x y names e)
 
-kept_more : (n m : ℕ) → m ≡ suc n → number_kept m ≡ Some n
+kept_more : (n m : ℕ) → m ≡ suc n → number_in_slot m ≡ Some n
 kept_more n m e = rw e refl
 
 differ : (b : Bool) → b ≡ true → b ≡ false → ⊥
@@ -89,35 +89,35 @@ differ true e f = cc
 differ false e f = cc
 
 -- the names with a new one, whose number is put into the table
-module _ (old new : Exprs) (symbols numbers padded : List ℕ) (names : List (List ℕ)) (x : List ℕ) (id number : ℕ) (grows : Grows old new) (place : place_of x new.names ≡ Some id) (within : id < length padded) (few : length padded ≤ length new.names)
-    (same : (j : ℕ) → get_or padded j 0 ≡ get_or numbers j 0) (is : number ≡ length symbols) (h : HasNames old symbols numbers names) (new_name : place_of x names ≡ None) where
+module _ (old new : Exprs) (symbols numbers padded : List ℕ) (names : List (List ℕ)) (x : List ℕ) (id number : ℕ) (grows : Grows old new) (place : index_of_name x new.names ≡ Some id) (within : id < length padded) (few : length padded ≤ length new.names)
+    (same : (j : ℕ) → get_or padded j 0 ≡ get_or numbers j 0) (is : number ≡ length symbols) (h : HasNames old symbols numbers names) (new_name : index_of_name x names ≡ None) where
   there : (id < length new.names) × (get_or new.names id [] ≡ x)
   there = place_there x new.names id place
 
   as_many : length symbols ≡ length names
-  as_many = sym (length-map symbols (word_in old)) ∙ ap length h.words
+  as_many = sym (length-map symbols (text_of_name old)) ∙ ap length h.words
 
   own : number_in new.names (set padded id (number + 1)) x ≡ Some (length names)
   own =
       let g : get_or (set padded id (number + 1)) id 0 ≡ number + 1 = get_or-set_same padded id (number + 1) 0 within in
       let m = as_many in
-      ap (option_and_then (λ i. number_kept (get_or (set padded id (number + 1)) i 0))) place
+      ap (option_and_then (λ i. number_in_slot (get_or (set padded id (number + 1)) i 0))) place
       ∙ kept_more (length names) (get_or (set padded id (number + 1)) id 0) (omega (arith, g, m))
 
-  other_at : (y : List ℕ) (o : Option ℕ) → bytes_eq y x ≡ false → place_of y new.names ≡ o
-      → option_and_then (λ i. number_kept (get_or (set padded id (number + 1)) i 0)) o ≡ option_and_then (λ i. number_kept (get_or numbers i 0)) o
+  other_at : (y : List ℕ) (o : Option ℕ) → bytes_eq y x ≡ false → index_of_name y new.names ≡ o
+      → option_and_then (λ i. number_in_slot (get_or (set padded id (number + 1)) i 0)) o ≡ option_and_then (λ i. number_in_slot (get_or numbers i 0)) o
   other_at y None e p = refl
   other_at y (Some j) e p =
       let q = place_there y new.names j p in
       let apart : j ≡ id → ⊥ = λ f. differ (bytes_eq y x) ((bytes_eq-Decides y x).1 (sym q.1 ∙ ap (λ k. get_or new.names k []) f ∙ there.1)) e in
-      ap number_kept (get_or-set_other padded id j (number + 1) 0 apart ∙ same j)
+      ap number_in_slot (get_or-set_other padded id j (number + 1) 0 apart ∙ same j)
 
-  numbered_by : (b : Bool) (y : List ℕ) → bytes_eq y x ≡ b → number_in new.names (set padded id (number + 1)) y ≡ place_of y (names ++ x ∷ [])
+  numbered_by : (b : Bool) (y : List ℕ) → bytes_eq y x ≡ b → number_in new.names (set padded id (number + 1)) y ≡ index_of_name y (names ++ x ∷ [])
   numbered_by true y e =
       let f = (bytes_eq-Decides y x).0 e in
-      ap (number_in new.names (set padded id (number + 1))) f ∙ own ∙ sym (place_last x names new_name) ∙ ap (λ z. place_of z (names ++ x ∷ [])) (sym f)
+      ap (number_in new.names (set padded id (number + 1))) f ∙ own ∙ sym (place_last x names new_name) ∙ ap (λ z. index_of_name z (names ++ x ∷ [])) (sym f)
   numbered_by false y e =
-      other_at y (place_of y new.names) e refl
+      other_at y (index_of_name y new.names) e refl
       ∙ (names_later old new symbols numbers names grows h).numbered y
       ∙ sym (place_other x y names e)
 
@@ -125,27 +125,27 @@ module _ (old new : Exprs) (symbols numbers padded : List ℕ) (names : List (Li
   named_more =
       let l = names_later old new symbols numbers names grows h in
       record {
-        words = map-append (word_in new) symbols (id ∷ []) ∙ rw (l.words, there.1) refl;
+        words = map-append (text_of_name new) symbols (id ∷ []) ∙ rw (l.words, there.1) refl;
         held = All-append (λ i. i < length new.names) symbols (id ∷ []) l.held (All-cons (λ i. i < length new.names) id [] there.0 (All-nil (λ i. i < length new.names)));
         numbered = λ y. numbered_by (bytes_eq y x) y refl;
         few = rw length-set few;
       }
 
 -- a name that stands there, and one that doesn't
-pub place_get : (x : List ℕ) (names : List (List ℕ)) (i : ℕ) → place_of x names ≡ Some i → slice_get names i ≡ Some x
+pub place_get : (x : List ℕ) (names : List (List ℕ)) (i : ℕ) → index_of_name x names ≡ Some i → slice_get names i ≡ Some x
 place_get x names i e = let t = place_there x names i e in slice_get-get_or names i [] t.0 ∙ ap Some t.1
 
-pub full_there : (x : List ℕ) (names : List (List ℕ)) (i : ℕ) → place_of x names ≡ Some i → is_full x names ≡ false
+pub full_there : (x : List ℕ) (names : List (List ℕ)) (i : ℕ) → index_of_name x names ≡ Some i → is_full x names ≡ false
 full_there x names i e = rw e refl
 
-pub with_there : (x : List ℕ) (names : List (List ℕ)) (i : ℕ) → place_of x names ≡ Some i → with_name x names ≡ names
+pub with_there : (x : List ℕ) (names : List (List ℕ)) (i : ℕ) → index_of_name x names ≡ Some i → with_name x names ≡ names
 with_there x names i e = rw e refl
 
-pub with_new : (x : List ℕ) (names : List (List ℕ)) → place_of x names ≡ None → with_name x names ≡ names ++ x ∷ []
+pub with_new : (x : List ℕ) (names : List (List ℕ)) → index_of_name x names ≡ None → with_name x names ≡ names ++ x ∷ []
 with_new x names e = rw e refl
 
-pub full_is : (x : List ℕ) (names : List (List ℕ)) → place_of x names ≡ None → is_full x names ≡ nat_le most_symbols (length names)
+pub full_is : (x : List ℕ) (names : List (List ℕ)) → index_of_name x names ≡ None → is_full x names ≡ nat_le max_symbols (length names)
 full_is x names e = rw e refl
 
 pub as_many_names : (e : Exprs) (symbols numbers : List ℕ) (names : List (List ℕ)) → HasNames e symbols numbers names → length symbols ≡ length names
-as_many_names e symbols numbers names h = sym (length-map symbols (word_in e)) ∙ ap length h.words
+as_many_names e symbols numbers names h = sym (length-map symbols (text_of_name e)) ∙ ap length h.words

@@ -6,18 +6,18 @@ use Rattle.kc_expr.specs.Arena.{Exprs}
 use Rattle.kc_tree_model.specs.declared.fault.TreeFault.{TreeFault}
 use Rattle.kc_tree_model.specs.declared.fault.TreeKind.{TreeKind}
 use Rattle.kc_tree_model.specs.declared.fault.TreeKind.TheVariants.{MissingFile, TooMany, OutOfMemory}
-use Rattle.kc_tree_model.specs.Limits.{Origin, size_in, bytes_in}
-use Rattle.kc_tree_model.specs.Reading.{Outcome, read_root, read_file, faulty}
+use Rattle.kc_tree_model.specs.Limits.{FileSource, size_in, bytes_in}
+use Rattle.kc_tree_model.specs.Reading.{Outcome, read_root, read_file, ended_by_fault}
 use Rattle.kc_listing.specs.declared.listing.Group.{Group as CodeGroup}
 use Rattle.kc_listing.specs.declared.listing.Line.{Line as CodeLine}
 use Rattle.kc_listing.specs.declared.listing.Listing.{Listing}
-use Rattle.kc_listing.specs.declared.progress.Progress.{Progress}
-use Rattle.kc_listing.specs.declared.progress.Supply.{Supply}
-use Rattle.kc_listing.specs.Names.{number_in}
-use Rattle.kc_listing.specs.Shown.{Shows, ListsShown}
-use Rattle.kc_listing.specs.Told.{no_memory}
+use Rattle.kc_listing.specs.declared.state.ReaderState.{ReaderState}
+use Rattle.kc_listing.specs.declared.state.SourceFiles.{SourceFiles}
+use Rattle.kc_listing.specs.SymbolTable.{number_in}
+use Rattle.kc_listing.specs.ListingView.{RepresentsListing, RepresentsLists}
+use Rattle.kc_listing.specs.MemoryFaults.{no_memory}
 use Rattle.kc_listing.specs.checker.Faults.{fault_in}
-use Rattle.kc_listing.specs.checker.Progress.{Describes, origin_of, at_line}
+use Rattle.kc_listing.specs.checker.StateViews.{Describes, file_source_of, at_line}
 use Rattle.kc_listing.specs.checker.Roots.{OutcomeRead, of_first}
 use Rattle.kc_listing.specs.checker.Steps.{FileRead}
 use Rattle.kc_listing.proofs.ReaderSteps.{shown_of}
@@ -27,7 +27,7 @@ no_number [] numbers name e = refl
 no_number (x ∷ xs) numbers name e = cc
 
 lists_of_nothing : (exprs : Exprs) (symbols numbers : List ℕ) (texts : List (List ℕ)) (lines : List CodeLine) (groups : List CodeGroup)
-    → exprs.names ≡ [] → symbols ≡ [] → numbers ≡ [] → lines ≡ [] → groups ≡ [] → ListsShown exprs symbols numbers texts lines groups []
+    → exprs.names ≡ [] → symbols ≡ [] → numbers ≡ [] → lines ≡ [] → groups ≡ [] → RepresentsLists exprs symbols numbers texts lines groups []
 lists_of_nothing exprs symbols numbers texts lines groups e s n l g = record {
   names = record {
     words = rw s refl;
@@ -40,40 +40,40 @@ lists_of_nothing exprs symbols numbers texts lines groups e s n l g = record {
 }
 
 -- a new listing shows nothing
-pub nothing_shown : (l : Listing) → l.names.arena.names ≡ [] → l.names.symbols.items ≡ [] → l.names.numbers.items ≡ [] → l.lines.items ≡ [] → l.groups.items ≡ [] → Shows l []
-unfolding Shows
+pub nothing_shown : (l : Listing) → l.names.arena.names ≡ [] → l.names.symbols.items ≡ [] → l.names.numbers.items ≡ [] → l.lines.items ≡ [] → l.groups.items ≡ [] → RepresentsListing l []
+unfolding RepresentsListing
 nothing_shown l e s n i g = lists_of_nothing l.names.arena l.names.symbols.items l.names.numbers.items l.texts.items l.lines.items l.groups.items e s n i g
 
 -- nothing was read yet, and the first file counts
-pub begun : (r : Origin) (p : Progress) → Shows p.listing [] → p.stack.items ≡ [] → p.choices ≡ 0 → p.files ≡ 1 → p.bytes ≡ size_in r r.root → Describes r p []
+pub begun : (r : FileSource) (p : ReaderState) → RepresentsListing p.listing [] → p.stack.items ≡ [] → p.choices ≡ 0 → p.files ≡ 1 → p.bytes ≡ size_in r r.root → Describes r p []
 unfolding Describes
 begun r p s k c f b = record { shows = s; counted = record { stack = rw k tt; choices_are = c; files_are = f; bytes_are = omega (arith, b) } }
 
 -- the first file was read
-pub first_read : (r : Origin) (o : Outcome) (new : Progress) → (o.fault ≡ None) × Describes r new o.read → OutcomeRead o (new.listing, None)
+pub first_read : (r : FileSource) (o : Outcome) (new : ReaderState) → (o.fault ≡ None) × Describes r new o.read → OutcomeRead o (new.listing, None)
 first_read r o new h = inr (sym h.0, shown_of r new o.read h.1)
 
-pub first_faulty : (r : Origin) (o : Outcome) (new : Progress) (f : TreeFault) → FileRead r o new (Err f) → OutcomeRead o (new.listing, Some f)
+pub first_faulty : (r : FileSource) (o : Outcome) (new : ReaderState) (f : TreeFault) → FileRead r o new (Err f) → OutcomeRead o (new.listing, Some f)
 first_faulty r o new f (inl m) = inl (ap Some m)
 first_faulty r o new f (inr h) = inr (sym h.0, h.1)
 
 -- what is read of the first file
-pub first_of : (r : Origin) (number : ℕ) (bytes : List ℕ) (new : Progress) (result : Result (Unit {0}) TreeFault)
+pub first_of : (r : FileSource) (number : ℕ) (bytes : List ℕ) (new : ReaderState) (result : Result (Unit {0}) TreeFault)
     → (number ≡ r.number r.root → bytes ≡ bytes_in r r.root → FileRead r (read_file 32 r r.root []) new result)
     → number ≡ r.number r.root → bytes ≡ bytes_in r r.root → FileRead r (of_first r) new result
 unfolding of_first
 first_of r number bytes new result h n b = h n b
 
 -- the reading by the bytes of the first path
-absent_by : (r : Origin) (o : Option (List ℕ)) → is_some o ≡ false → read_root r o ≡ record { read = []; fault = Some (record { file = None; line = 0; kind = MissingFile }) }
+absent_by : (r : FileSource) (o : Option (List ℕ)) → is_some o ≡ false → read_root r o ≡ record { read = []; fault = Some (record { file = None; line = 0; kind = MissingFile }) }
 absent_by r None e = refl
 absent_by r (Some bytes) e = cc
 
-large_by : (r : Origin) (o : Option (List ℕ)) → is_some o ≡ true → 67108864 < length {A = ℕ} (elim o [ None ↦ [] | Some bytes ↦ bytes ]) → read_root r o ≡ faulty (at_line (r.number r.root) 0) TooMany []
+large_by : (r : FileSource) (o : Option (List ℕ)) → is_some o ≡ true → 67108864 < length {A = ℕ} (elim o [ None ↦ [] | Some bytes ↦ bytes ]) → read_root r o ≡ ended_by_fault (at_line (r.number r.root) 0) TooMany []
 large_by r None e h = cc
 large_by r (Some bytes) e h = let t : nat_lt 67108864 (length bytes) ≡ true = lt-ltb _ _ h in rw t refl
 
-fitting_by : (r : Origin) (o : Option (List ℕ)) → is_some o ≡ true → length {A = ℕ} (elim o [ None ↦ [] | Some bytes ↦ bytes ]) ≤ 67108864 → read_root r o ≡ of_first r
+fitting_by : (r : FileSource) (o : Option (List ℕ)) → is_some o ≡ true → length {A = ℕ} (elim o [ None ↦ [] | Some bytes ↦ bytes ]) ≤ 67108864 → read_root r o ≡ of_first r
 unfolding of_first
 fitting_by r None e h = cc
 fitting_by r (Some bytes) e h = let t : nat_lt 67108864 (length bytes) ≡ false = le-ltb _ _ h in rw t refl
@@ -83,32 +83,32 @@ outcome_as : (o p : Outcome) (l : Listing × Option TreeFault) → o ≡ p → O
 outcome_as o p l e h = rw e h
 
 -- the path of the first file
-pub root_is : (f : Supply) → (origin_of f).root ≡ f.root.now
-unfolding origin_of
+pub root_is : (f : SourceFiles) → (file_source_of f).root ≡ f.root.now
+unfolding file_source_of
 root_is f = refl
 
-pub absent_root : (f : Supply) (l : Listing) (k : TreeKind) → (k ≡ OutOfMemory) ⊎ ((k ≡ MissingFile) × (is_some ((origin_of f).bytes f.root.now) ≡ false)) → Shows l []
-    → OutcomeRead (read_root (origin_of f) ((origin_of f).bytes (origin_of f).root)) (l, Some (record { file = None; line = 0; kind = k }))
+pub absent_root : (f : SourceFiles) (l : Listing) (k : TreeKind) → (k ≡ OutOfMemory) ⊎ ((k ≡ MissingFile) × (is_some ((file_source_of f).bytes f.root.now) ≡ false)) → RepresentsListing l []
+    → OutcomeRead (read_root (file_source_of f) ((file_source_of f).bytes (file_source_of f).root)) (l, Some (record { file = None; line = 0; kind = k }))
 absent_root f l k (inl m) s = inl (rw m refl)
 absent_root f l k (inr h) s =
-    outcome_as _ _ (l, Some (record { file = None; line = 0; kind = k })) (absent_by (origin_of f) ((origin_of f).bytes (origin_of f).root) (rw (root_is f) h.1)) (inr (rw h.0 refl, s))
+    outcome_as _ _ (l, Some (record { file = None; line = 0; kind = k })) (absent_by (file_source_of f) ((file_source_of f).bytes (file_source_of f).root) (rw (root_is f) h.1)) (inr (rw h.0 refl, s))
 
-pub large_root : (f : Supply) (l : Listing) (number : ℕ) (bytes : List ℕ) → is_some ((origin_of f).bytes f.root.now) ≡ true → number ≡ (origin_of f).number f.root.now → bytes ≡ bytes_in (origin_of f) f.root.now
-    → 67108864 < length bytes → Shows l [] → OutcomeRead (read_root (origin_of f) ((origin_of f).bytes (origin_of f).root)) (l, Some (fault_in number 0 TooMany))
+pub large_root : (f : SourceFiles) (l : Listing) (number : ℕ) (bytes : List ℕ) → is_some ((file_source_of f).bytes f.root.now) ≡ true → number ≡ (file_source_of f).number f.root.now → bytes ≡ bytes_in (file_source_of f) f.root.now
+    → 67108864 < length bytes → RepresentsListing l [] → OutcomeRead (read_root (file_source_of f) ((file_source_of f).bytes (file_source_of f).root)) (l, Some (fault_in number 0 TooMany))
 large_root f l number bytes there n b h s =
-    outcome_as _ _ (l, Some (fault_in number 0 TooMany)) (large_by (origin_of f) ((origin_of f).bytes (origin_of f).root) (rw (root_is f) there) (rw (root_is f, sym b) h))
+    outcome_as _ _ (l, Some (fault_in number 0 TooMany)) (large_by (file_source_of f) ((file_source_of f).bytes (file_source_of f).root) (rw (root_is f) there) (rw (root_is f, sym b) h))
     (inr (rw (n, root_is f) refl, s))
 
-pub fitting_root : (f : Supply) (l : Listing × Option TreeFault) (bytes : List ℕ) → is_some ((origin_of f).bytes f.root.now) ≡ true → bytes ≡ bytes_in (origin_of f) f.root.now → length bytes ≤ 67108864
-    → OutcomeRead (of_first (origin_of f)) l → OutcomeRead (read_root (origin_of f) ((origin_of f).bytes (origin_of f).root)) l
+pub fitting_root : (f : SourceFiles) (l : Listing × Option TreeFault) (bytes : List ℕ) → is_some ((file_source_of f).bytes f.root.now) ≡ true → bytes ≡ bytes_in (file_source_of f) f.root.now → length bytes ≤ 67108864
+    → OutcomeRead (of_first (file_source_of f)) l → OutcomeRead (read_root (file_source_of f) ((file_source_of f).bytes (file_source_of f).root)) l
 fitting_root f l bytes there b h =
-    outcome_as _ _ l (fitting_by (origin_of f) ((origin_of f).bytes (origin_of f).root) (rw (root_is f) there) (rw (root_is f, sym b) h))
+    outcome_as _ _ l (fitting_by (file_source_of f) ((file_source_of f).bytes (file_source_of f).root) (rw (root_is f) there) (rw (root_is f, sym b) h))
 
 -- the parts of an outcome
 pub fault_of : (o : Outcome) (l : Listing × Option TreeFault) → OutcomeRead o l → (l.1 ≡ Some no_memory) ⊎ (l.1 ≡ o.fault)
 fault_of o l (inl m) = inl m
 fault_of o l (inr h) = inr h.0
 
-pub read_of : (o : Outcome) (l : Listing × Option TreeFault) → OutcomeRead o l → (l.1 ≡ Some no_memory) ⊎ Shows l.0 o.read
+pub read_of : (o : Outcome) (l : Listing × Option TreeFault) → OutcomeRead o l → (l.1 ≡ Some no_memory) ⊎ RepresentsListing l.0 o.read
 read_of o l (inl m) = inl m
 read_of o l (inr h) = inr h.1

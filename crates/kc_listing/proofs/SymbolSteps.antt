@@ -6,13 +6,13 @@ use Rattle.std.proofs.lemmas.List.{get_or-append_right}
 use Rattle.std.proofs.lemmas.Option.{slice_get-get_or}
 use Rattle.std.proofs.lemmas.Bool.Decides.{nat_tests}
 use Rattle.kc_expr.specs.Arena.{Exprs, Grows}
-use Rattle.kc_expr.specs.Lookup.{place_of}
-use Rattle.kc_tree_model.specs.Limits.{most_symbols}
+use Rattle.kc_expr.specs.Lookup.{index_of_name}
+use Rattle.kc_tree_model.specs.Limits.{max_symbols}
 use Rattle.kc_tree_model.specs.declared.fault.TreeKind.{TreeKind}
 use Rattle.kc_tree_model.specs.declared.fault.TreeKind.TheVariants.{OutOfMemory}
-use Rattle.kc_listing.specs.Names.{number_kept, HasNames}
-use Rattle.kc_listing.specs.declared.listing.Names.{Names}
-use Rattle.kc_listing.specs.checker.Symbols.{is_full, Keeps, SymbolTold}
+use Rattle.kc_listing.specs.SymbolTable.{number_in_slot, HasNames}
+use Rattle.kc_listing.specs.declared.listing.SymbolTable.{SymbolTable}
+use Rattle.kc_listing.specs.checker.Symbols.{is_full, KeepsNames, ReturnsSymbol}
 use Rattle.kc_listing.proofs.NameLemmas.{with_new, full_is, as_many_names}
 
 -- an arena that stays as it is
@@ -20,14 +20,14 @@ pub same_names : (e : Exprs) → Grows e e
 same_names e = record { names = take-length e.names; nodes = take-length e.nodes }
 
 -- the place of a name by the table
-pub place_known : (e : Exprs) (symbols numbers : List ℕ) (names : List (List ℕ)) (x : List ℕ) (id : ℕ) → HasNames e symbols numbers names → place_of x e.names ≡ Some id → place_of x names ≡ number_kept (get_or numbers id 0)
-place_known e symbols numbers names x id h p = sym (h.numbered x) ∙ ap (option_and_then (λ i. number_kept (get_or numbers i 0))) p
+pub place_known : (e : Exprs) (symbols numbers : List ℕ) (names : List (List ℕ)) (x : List ℕ) (id : ℕ) → HasNames e symbols numbers names → index_of_name x e.names ≡ Some id → index_of_name x names ≡ number_in_slot (get_or numbers id 0)
+place_known e symbols numbers names x id h p = sym (h.numbered x) ∙ ap (option_and_then (λ i. number_in_slot (get_or numbers i 0))) p
 
 -- where there may be one more
-most_is : (n k : ℕ) → k ≡ n → 1000000 ≤ k → nat_le most_symbols n ≡ true
+most_is : (n k : ℕ) → k ≡ n → 1000000 ≤ k → nat_le max_symbols n ≡ true
 most_is n k e h = grind (arith, nat_tests)
 
-most_not : (n k : ℕ) → k ≡ n → k < 1000000 → nat_le most_symbols n ≡ false
+most_not : (n k : ℕ) → k ≡ n → k < 1000000 → nat_le max_symbols n ≡ false
 most_not n k e h = grind (arith, nat_tests)
 
 -- the last one
@@ -37,11 +37,11 @@ got_last names x n e =
     slice_get-get_or (names ++ x ∷ []) n [] (omega (arith, length-append names (x ∷ [])))
     ∙ ap Some (get_or-append_right names (x ∷ []) (length names) n [] refl (omega arith) ∙ ap (λ k. get_or (x ∷ []) k []) z)
 
-module _ (e : Exprs) (symbols numbers : List ℕ) (names : List (List ℕ)) (x : List ℕ) (h : HasNames e symbols numbers names) (none : place_of x names ≡ None) where
+module _ (e : Exprs) (symbols numbers : List ℕ) (names : List (List ℕ)) (x : List ℕ) (h : HasNames e symbols numbers names) (none : index_of_name x names ≡ None) where
   pub told_full : 1000000 ≤ length symbols → is_full x names ≡ true
   told_full l = full_is x names none ∙ most_is (length names) (length symbols) (as_many_names e symbols numbers names h) l
 
-  pub told_new : (new : Names) (result : Result ℕ TreeKind) → length symbols < 1000000 → IfOk result (λ n. n ≡ length symbols) → OnOk result (Keeps new (names ++ x ∷ [])) → IfErr result (λ k. k ≡ OutOfMemory) → SymbolTold x names new result
+  pub told_new : (new : SymbolTable) (result : Result ℕ TreeKind) → length symbols < 1000000 → IfOk result (λ n. n ≡ length symbols) → OnOk result (KeepsNames new (names ++ x ∷ [])) → IfErr result (λ k. k ≡ OutOfMemory) → ReturnsSymbol x names new result
   told_new new (Ok n) l i k m = (
     full_is x names none ∙ most_not (length names) (length symbols) (as_many_names e symbols numbers names h) l,
     rw (with_new x names none) k,

@@ -1,4 +1,4 @@
-pub mod Names
-pub mod Shown
-pub mod Told
+pub mod SymbolTable
+pub mod ListingView
+pub mod MemoryFaults
 pub mod checker

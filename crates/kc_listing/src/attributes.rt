@@ -1,21 +1,21 @@
 //! Attributes of the open entry, and their limit.
 ghost use Rattle.std.specs.Prelude.{◌≡◌, List};
 ghost use Rattle.kc_tree_model.specs.Blocks.{Group as Placed};
-ghost use Rattle.kc_tree_model.specs.Limits.{Origin, too_many_by_attribute};
-ghost use Rattle.kc_statements.specs.Said.{attribute_in, AttributeHeld};
-ghost use Rattle.kc_listing.specs.checker.Progress.{Describes};
-ghost use Rattle.kc_listing.specs.checker.Steps.{AttributePut};
+ghost use Rattle.kc_tree_model.specs.Limits.{FileSource, too_many_by_attribute};
+ghost use Rattle.kc_statements.specs.StatementViews.{attribute_in, AttributeNodesExist};
+ghost use Rattle.kc_listing.specs.checker.StateViews.{Describes};
+ghost use Rattle.kc_listing.specs.checker.Steps.{AppendsAttribute};
 
 use super::heads::MAX_NAME;
 use super::listing::Line;
-use super::progress::Progress;
+use super::state::ReaderState;
 use kc_expr::Arena;
 use kc_statements::Attribute;
 use kc_tree_model::TreeKind;
 
 /// Whether an attribute selects or implies a name that is too long.
 fn has_long_name(arena: &Arena, attribute: &Attribute) -> bool
-    requires { AttributeHeld arena.now attribute.now }
+    requires { AttributeNodesExist arena.now attribute.now }
     ensures { result ≡ too_many_by_attribute (attribute_in arena.now attribute.now) }
 {
     match attribute {
@@ -26,14 +26,14 @@ fn has_long_name(arena: &Arena, attribute: &Attribute) -> bool
 }
 
 /// Puts an attribute to the newest group.
-pub(crate) fn put_attribute(
-    read: &mut Progress,
+pub(crate) fn push_attribute(
+    read: &mut ReaderState,
     line: u32,
     attribute: &Attribute,
 ) -> Result<(), TreeKind>
-    requires { AttributeHeld read.old.listing.names.arena attribute.now }
-    ensures { (r : Origin) (before : List Placed) → Describes r read.old before
-        → AttributePut r line before (attribute_in read.old.listing.names.arena attribute.now) read.new result }
+    requires { AttributeNodesExist read.old.listing.names.arena attribute.now }
+    ensures { (r : FileSource) (before : List Placed) → Describes r read.old before
+        → AppendsAttribute r line before (attribute_in read.old.listing.names.arena attribute.now) read.new result }
 {
     if has_long_name(&read.listing.names.arena, attribute) {
         return Err(TreeKind::TooMany);

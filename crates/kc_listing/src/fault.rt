@@ -5,7 +5,7 @@ ghost use Rattle.kc_listing.specs.checker.Faults.{IsMemory, fault_in};
 
 use kc_tree_model::{TreeFault, TreeKind};
 
-/// Want of memory.
+/// Out of memory.
 pub(crate) fn out_of_memory() -> TreeFault
     ensures { IsMemory result }
 {
@@ -27,8 +27,8 @@ pub(crate) fn fault_at(file: u32, line: u32, kind: TreeKind) -> TreeFault
     }
 }
 
-/// The same, unless memory ran out, which has no place.
-pub(crate) fn told_at(file: u32, line: u32, kind: TreeKind) -> TreeFault
+/// A fault at a line of a file, but out of memory has no place.
+pub(crate) fn fault_or_out_of_memory(file: u32, line: u32, kind: TreeKind) -> TreeFault
     ensures memory { kind ≡ OutOfMemory → IsMemory result }
     ensures told { IsMemory result ⊎ (result ≡ fault_in file line kind) }
 {

@@ -2,22 +2,22 @@
 //! reading meets.
 #![tactic(auto)]
 
+mod append;
 mod attributes;
 mod fault;
 mod heads;
 mod line;
 mod lines;
 mod listing;
-mod names;
+mod open_blocks;
 mod placement;
-mod progress;
-mod putting;
 mod read;
 mod reader;
 mod sources;
-mod standing;
+mod state;
 mod statements;
+mod symbol_table;
 mod text;
 
-pub use listing::{Group, Line, Listing, Names, What};
-pub use read::{read_files, read_found_files};
+pub use listing::{Group, GroupHead, Line, Listing, SymbolTable};
+pub use read::{read_files, read_files_leniently};

@@ -1,42 +1,42 @@
-//! What a line says.
+//! Reads a line.
 ghost use Rattle.std.specs.Cow.{cow_slice_items};
 ghost use Rattle.std.specs.Prelude.{◌≡◌, List, Some};
-ghost use Rattle.kc_expr.specs.Token.{pieces_of};
+ghost use Rattle.kc_expr.specs.Token.{lexemes_of};
 ghost use Rattle.kc_tree_model.specs.Blocks.{Group};
-ghost use Rattle.kc_tree_model.specs.Limits.{Origin};
-ghost use Rattle.kc_tree_model.specs.Lines.{is_help, is_help_word};
-ghost use Rattle.kc_tree_model.specs.Reading.{said_by, said_with};
-ghost use Rattle.kc_statements.specs.Meanings.{meant};
-ghost use Rattle.kc_listing.specs.checker.Progress.{Describes, origin_of};
-ghost use Rattle.kc_listing.specs.checker.Saying.{begins_with, Given};
+ghost use Rattle.kc_tree_model.specs.Limits.{FileSource};
+ghost use Rattle.kc_tree_model.specs.LogicalLines.{is_help, is_help_word};
+ghost use Rattle.kc_tree_model.specs.Reading.{statement_of_tokens, statement_by_keyword};
+ghost use Rattle.kc_statements.specs.KeywordViews.{keyword_view};
+ghost use Rattle.kc_listing.specs.checker.StateViews.{Describes, file_source_of};
+ghost use Rattle.kc_listing.specs.checker.StatementResults.{begins_with, ReturnsStatementRead};
 ghost use Rattle.kc_listing.specs.checker.Steps.{LineRead};
 
 use super::placement::fault_before_form;
-use super::progress::{Progress, Step, Supply};
-use super::statements::put_statement;
+use super::state::{ReaderState, SourceFiles, Step};
+use super::statements::push_statement;
 use super::text::text_of;
 use kc_expr::{Token, push_tokens};
-use kc_statements::{Keyword, keyword_of, kind_of, statement_of};
+use kc_statements::{Keyword, keyword_of, statement_of, tree_kind_of};
 use kc_tree_model::TreeKind;
 use std::borrow::CowSlice;
 
 /// Whether a keyword begins a help text.
 fn is_help_keyword(keyword: Keyword) -> bool
-    ensures { result ≡ is_help_word (Some (meant keyword)) }
+    ensures { result ≡ is_help_word (Some (keyword_view keyword)) }
 {
     matches!(keyword, Keyword::Help)
 }
 
-/// Reads the tokens of a line behind its keyword.
+/// Reads the tokens of a line after its keyword.
 fn read_form(
-    read: &mut Progress,
+    read: &mut ReaderState,
     file: u32,
     line: u32,
     keyword: Keyword,
     tokens: &[Token<'_>],
 ) -> Result<Step, TreeKind>
-    ensures { (r : Origin) (before : List Group) → Describes r read.old before
-        → Given r file line (said_with before (meant keyword) (pieces_of tokens.now)) (begins_with (meant keyword) (pieces_of tokens.now)) before read.new result }
+    ensures { (r : FileSource) (before : List Group) → Describes r read.old before
+        → ReturnsStatementRead r file line (statement_by_keyword before (keyword_view keyword) (lexemes_of tokens.now)) (begins_with (keyword_view keyword) (lexemes_of tokens.now)) before read.new result }
 {
     if let Some(kind) = fault_before_form(read, keyword, tokens) {
         return Err(kind);
@@ -45,7 +45,7 @@ fn read_form(
         Ok(said) => said,
         Err(kind) => return Err(kind),
     };
-    match put_statement(read, file, line, said) {
+    match push_statement(read, file, line, said) {
         Ok(Some(path)) => Ok(Step::Source(path)),
         Ok(None) if is_help_keyword(keyword) => Ok(Step::Help),
         Ok(None) => Ok(Step::Next),
@@ -55,13 +55,13 @@ fn read_form(
 
 /// Reads the tokens of a line.
 fn read_tokens(
-    read: &mut Progress,
+    read: &mut ReaderState,
     file: u32,
     line: u32,
     tokens: &[Token<'_>],
 ) -> Result<Step, TreeKind>
-    ensures { (r : Origin) (before : List Group) → Describes r read.old before
-        → Given r file line (said_by before (pieces_of tokens.now)) (is_help (pieces_of tokens.now)) before read.new result }
+    ensures { (r : FileSource) (before : List Group) → Describes r read.old before
+        → ReturnsStatementRead r file line (statement_of_tokens before (lexemes_of tokens.now)) (is_help (lexemes_of tokens.now)) before read.new result }
 {
     let Some((first, rest)) = tokens.split_first() else {
         return Ok(Step::Next);
@@ -74,14 +74,14 @@ fn read_tokens(
 
 /// Reads a line that isn't of a help text, with a list of tokens that is kept from line to line.
 pub(crate) fn read_line<'a>(
-    read: &mut Progress,
-    from: Supply<'_>,
+    read: &mut ReaderState,
+    from: SourceFiles<'_>,
     file: u32,
     line: u32,
     bytes: &'a [u8],
     found: &mut Vec<Token<'a>>,
 ) -> Result<Step, TreeKind>
-    ensures { (before : List Group) → Describes (origin_of from.entry) read.old before → LineRead (origin_of from.entry) file line bytes.now before read.new result }
+    ensures { (before : List Group) → Describes (file_source_of from.entry) read.old before → LineRead (file_source_of from.entry) file line bytes.now before read.new result }
 {
     let text = match text_of(bytes) {
         Ok(text) => text,
@@ -90,19 +90,19 @@ pub(crate) fn read_line<'a>(
     found.clear();
     match push_tokens(text, found) {
         Ok(()) => read_tokens(read, file, line, found.as_slice()),
-        Err(fault) => Err(kind_of(fault.kind)),
+        Err(fault) => Err(tree_kind_of(fault.kind)),
     }
 }
 
 /// Reads a line that is joined of several, which has a list of tokens of its own.
 fn read_joined(
-    read: &mut Progress,
-    from: Supply<'_>,
+    read: &mut ReaderState,
+    from: SourceFiles<'_>,
     file: u32,
     line: u32,
     bytes: &[u8],
 ) -> Result<Step, TreeKind>
-    ensures { (before : List Group) → Describes (origin_of from.entry) read.old before → LineRead (origin_of from.entry) file line bytes.now before read.new result }
+    ensures { (before : List Group) → Describes (file_source_of from.entry) read.old before → LineRead (file_source_of from.entry) file line bytes.now before read.new result }
 {
     let mut found = Vec::new(read.alloc);
     read_line(read, from, file, line, bytes, &mut found)
@@ -110,14 +110,14 @@ fn read_joined(
 
 /// Reads a logical line that isn't of a help text.
 pub(crate) fn read_logical<'a>(
-    read: &mut Progress,
-    from: Supply<'_>,
+    read: &mut ReaderState,
+    from: SourceFiles<'_>,
     file: u32,
     line: u32,
     text: &CowSlice<'a, u8>,
     found: &mut Vec<Token<'a>>,
 ) -> Result<Step, TreeKind>
-    ensures { (before : List Group) → Describes (origin_of from.entry) read.old before → LineRead (origin_of from.entry) file line (cow_slice_items text.now) before read.new result }
+    ensures { (before : List Group) → Describes (file_source_of from.entry) read.old before → LineRead (file_source_of from.entry) file line (cow_slice_items text.now) before read.new result }
 {
     match text {
         CowSlice::Borrowed(bytes) => read_line(read, from, file, line, bytes, found),

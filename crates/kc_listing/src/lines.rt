@@ -2,31 +2,31 @@
 ghost use Rattle.std.specs.Prelude.{◌≡◌, ◌<◌, ◌≤◌, ◌+◌, ◌-◌, ◌^◌, ◌∷◌, ◌↔◌, ◌&&◌, ◌||◌, nat_le, IsTrue, IfSome, IfNone, IfOk, length, drop, take, slice_index, slice_range, take_while};
 ghost use Rattle.std.specs.List.{list_all};
 ghost use Rattle.std.specs.Cow.{cow_slice_items};
-ghost use Rattle.kc_tree_model.specs.Lines.{physical_lines, goes_on, is_blank, indentation, first_indentation, help_len, joined, lines_joined, column_from};
-ghost use Rattle.kc_tree_model.specs.Lines.{Physical as Seen};
+ghost use Rattle.kc_tree_model.specs.LogicalLines.{physical_lines, is_continued, is_blank, indentation, first_indentation, help_line_count, joined_bytes, continuation_count, column_from};
+ghost use Rattle.kc_tree_model.specs.LogicalLines.{PhysicalLine as Seen};
 ghost use Rattle.kc_expr.specs.Token.{is_white_byte};
-ghost use Rattle.kc_listing.specs.checker.Cut.{line_of, IsLineAt, is_of_help, IsLogicalAt};
+ghost use Rattle.kc_listing.specs.checker.LinePlaces.{line_of, IsLineAt, is_of_help, IsLogicalAt};
 
 use bstr::ByteSlice;
 use std::alloc::{AllocError, Global};
 use std::borrow::CowSlice;
 
-/// A line as it stands: where its text ends, where the next one begins, and whether a newline ends it.
+/// A physical line: where its text ends, where the next one begins, and whether a newline ends it.
 #[derive(Clone, Copy)]
-pub(crate) struct Physical {
+pub(crate) struct PhysicalLine {
     pub end: usize,
     pub next: usize,
     pub ended: bool,
 }
 
 /// The line at a place.
-pub(crate) fn physical_at(bytes: &[u8], at: usize) -> Physical
+pub(crate) fn physical_at(bytes: &[u8], at: usize) -> PhysicalLine
     requires { at < length bytes.now }
     ensures { IsLineAt bytes.now at result }
 {
     let rest = &bytes[at..];
     let Some(n) = rest.find_byte(b'\n') else {
-        return Physical {
+        return PhysicalLine {
             end: bytes.len(),
             next: bytes.len(),
             ended: false,
@@ -38,7 +38,7 @@ pub(crate) fn physical_at(bytes: &[u8], at: usize) -> Physical
     } else {
         at + n
     };
-    Physical {
+    PhysicalLine {
         end,
         next,
         ended: true,
@@ -46,10 +46,10 @@ pub(crate) fn physical_at(bytes: &[u8], at: usize) -> Physical
 }
 
 /// Whether the line at a place goes on in the next one.
-fn is_joined(bytes: &[u8], at: usize, line: Physical) -> bool
+fn is_joined(bytes: &[u8], at: usize, line: PhysicalLine) -> bool
     requires start { at ≤ line.end }
     requires within { line.end ≤ length bytes.now }
-    ensures { result ≡ goes_on (line_of bytes.now at line) }
+    ensures { result ≡ is_continued (line_of bytes.now at line) }
 {
     line.ended && line.end > at && bytes[line.end - 1] == b'\\'
 }
@@ -111,27 +111,31 @@ pub(crate) fn is_of_help(text: &[u8], columns: usize) -> bool
 
 /// A logical line: its bytes, where the next one begins, and how many lines it takes.
 #[derive(Drop)]
-pub(crate) struct Logical<'a> {
+pub(crate) struct LogicalLine<'a> {
     pub text: CowSlice<'a, u8>,
     pub next: usize,
     pub lines: usize,
 }
 
-/// The logical line at a place. An `Err` is want of memory.
-pub(crate) fn logical_at(alloc: Global, bytes: &[u8], at: usize) -> Result<Logical<'_>, AllocError>
+/// The logical line at a place. An `Err` means out of memory.
+pub(crate) fn logical_at(
+    alloc: Global,
+    bytes: &[u8],
+    at: usize,
+) -> Result<LogicalLine<'_>, AllocError>
     requires { at < length bytes.now }
     ensures { IfOk result (λ l. IsLogicalAt bytes.now at (cow_slice_items l.text) l.next l.lines) }
 {
     let line = physical_at(bytes, at);
     if is_joined(bytes, at, line) {
         let (text, next, lines) = joined_at(alloc, bytes, at)?;
-        return Ok(Logical {
+        return Ok(LogicalLine {
             text: CowSlice::Owned(text),
             next,
             lines,
         });
     }
-    Ok(Logical {
+    Ok(LogicalLine {
         text: CowSlice::Borrowed(&bytes[at..line.end]),
         next: line.next,
         lines: 1,

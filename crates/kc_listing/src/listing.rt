@@ -1,4 +1,4 @@
-//! What was read.
+//! The statements of a tree's files.
 use kc_expr::{Arena, ExprId, NameId};
 use kc_statements::{Attribute, Block};
 use kc_value::Text;
@@ -6,7 +6,7 @@ use kc_value::Text;
 /// A statement that closes the open entry, or the end of a sourced file. A symbol is told by its number in order of
 /// first definition, a title or a path by its place among the texts.
 #[derive(Clone, Copy)]
-pub enum What {
+pub enum GroupHead {
     Config(u32),
     Choice,
     Menu(usize),
@@ -23,7 +23,7 @@ pub enum What {
 pub struct Group {
     pub file: u32,
     pub line: u32,
-    pub what: What,
+    pub what: GroupHead,
     pub attributes: usize,
 }
 
@@ -37,9 +37,9 @@ pub struct Line {
 /// The names of symbols in an arena.
 ///
 /// `symbols` has the name of each symbol. `numbers` has for a name of the arena one more than the number of its
-/// symbol, and 0 where no entry defines it; names behind its end are no symbol's.
+/// symbol, and 0 where no entry defines it; names after its end are no symbol's.
 #[derive(Drop)]
-pub struct Names {
+pub struct SymbolTable {
     pub arena: Arena,
     pub symbols: Vec<NameId>,
     pub numbers: Vec<u32>,
@@ -48,7 +48,7 @@ pub struct Names {
 /// All that was read, in reading order.
 #[derive(Drop)]
 pub struct Listing {
-    pub names: Names,
+    pub names: SymbolTable,
     pub texts: Vec<Text>,
     pub groups: Vec<Group>,
     pub lines: Vec<Line>,

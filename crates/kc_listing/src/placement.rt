@@ -1,22 +1,22 @@
-//! What is looked at before the form of a line.
+//! Checks before the form of a line.
 ghost use Rattle.std.specs.Prelude.{◌≡◌, List, option_map};
-ghost use Rattle.kc_expr.specs.Token.{pieces_of};
+ghost use Rattle.kc_expr.specs.Token.{lexemes_of};
 ghost use Rattle.kc_tree_model.specs.Blocks.{Group as Placed};
-ghost use Rattle.kc_tree_model.specs.Limits.{Origin};
+ghost use Rattle.kc_tree_model.specs.Limits.{FileSource};
 ghost use Rattle.kc_tree_model.specs.Placement.{is_allowed as allowed, is_stray_end, is_choice_open};
 ghost use Rattle.kc_tree_model.specs.Statements.{same_block as same};
-ghost use Rattle.kc_statements.specs.Meanings.{meant, block_meant, open_meant};
-ghost use Rattle.kc_listing.specs.checker.Placing.{place_of_keyword, block_ended, entry_kept, fault_before};
-ghost use Rattle.kc_listing.specs.checker.Progress.{Describes};
+ghost use Rattle.kc_statements.specs.KeywordViews.{keyword_view, block_view, open_entry_view};
+ghost use Rattle.kc_listing.specs.checker.LinePlacement.{place_of_keyword, block_ended, entry_kept, fault_before};
+ghost use Rattle.kc_listing.specs.checker.StateViews.{Describes};
 
-use super::listing::{Group, What};
-use super::progress::Progress;
-use super::standing::{blocks_open, in_choice, innermost};
+use super::listing::{Group, GroupHead};
+use super::open_blocks::{in_choice, innermost, open_block_count};
+use super::state::ReaderState;
 use kc_expr::Token;
-use kc_statements::{Block, Keyword, Open, is_left_out, takes};
+use kc_statements::{Block, Keyword, OpenEntry, allows_attribute, is_left_out};
 use kc_tree_model::TreeKind;
 
-/// Where a line may stand.
+/// Where a line is allowed.
 #[derive(Clone, Copy)]
 pub(crate) enum Place {
     Anywhere,
@@ -25,7 +25,7 @@ pub(crate) enum Place {
     InEntry,
 }
 
-/// Where a line with this keyword may stand.
+/// Where a line with this keyword is allowed.
 fn place_of(keyword: Keyword) -> Place
     ensures { result ≡ place_of_keyword keyword }
 {
@@ -39,7 +39,7 @@ fn place_of(keyword: Keyword) -> Place
 }
 
 /// The block that a line with this keyword ends.
-fn ended(keyword: Keyword) -> Option<Block>
+fn ended_block(keyword: Keyword) -> Option<Block>
     ensures { result ≡ block_ended keyword }
 {
     match keyword {
@@ -49,7 +49,7 @@ fn ended(keyword: Keyword) -> Option<Block>
 }
 
 fn same_block(a: Block, b: Block) -> bool
-    ensures { result ≡ same (block_meant a) (block_meant b) }
+    ensures { result ≡ same (block_view a) (block_view b) }
 {
     match a {
         Block::Menu => matches!(b, Block::Menu),
@@ -59,47 +59,47 @@ fn same_block(a: Block, b: Block) -> bool
 }
 
 /// The open entry.
-fn open_entry(groups: &[Group]) -> Option<Open>
+fn open_entry(groups: &[Group]) -> Option<OpenEntry>
     ensures { result ≡ entry_kept groups.now }
 {
     let Some(group) = groups.last() else {
         return None;
     };
     match group.what {
-        What::Config(_) => Some(Open::Config),
-        What::Choice => Some(Open::Choice),
-        What::Menu(_) => Some(Open::Menu),
-        What::Comment(_) => Some(Open::Comment),
+        GroupHead::Config(_) => Some(OpenEntry::Config),
+        GroupHead::Choice => Some(OpenEntry::Choice),
+        GroupHead::Menu(_) => Some(OpenEntry::Menu),
+        GroupHead::Comment(_) => Some(OpenEntry::Comment),
         _ => None,
     }
 }
 
-fn is_choice(entry: Option<Open>) -> bool
-    ensures { result ≡ is_choice_open (option_map open_meant entry) }
+fn is_choice(entry: Option<OpenEntry>) -> bool
+    ensures { result ≡ is_choice_open (option_map open_entry_view entry) }
 {
-    matches!(entry, Some(Open::Choice))
+    matches!(entry, Some(OpenEntry::Choice))
 }
 
-/// Whether a line with this keyword may stand here.
-fn is_allowed(read: &Progress, keyword: Keyword) -> bool
-    ensures { (r : Origin) (before : List Placed) → Describes r read.now before → result ≡ allowed before (meant keyword) }
+/// Whether a line with this keyword is allowed here.
+fn is_allowed(read: &ReaderState, keyword: Keyword) -> bool
+    ensures { (r : FileSource) (before : List Placed) → Describes r read.now before → result ≡ allowed before (keyword_view keyword) }
 {
     match place_of(keyword) {
         Place::Anywhere => true,
         Place::OutsideChoices => !in_choice(&read.stack),
-        Place::OutsideBlocks => blocks_open(&read.stack) == 0,
+        Place::OutsideBlocks => open_block_count(&read.stack) == 0,
         Place::InEntry => match open_entry(&read.listing.groups) {
-            Some(entry) => takes(entry, keyword),
+            Some(entry) => allows_attribute(entry, keyword),
             None => false,
         },
     }
 }
 
-/// Whether a line with this keyword ends a block that doesn't stand innermost in its file.
-fn is_stray(read: &Progress, keyword: Keyword) -> bool
-    ensures { (r : Origin) (before : List Placed) → Describes r read.now before → result ≡ is_stray_end before (meant keyword) }
+/// Whether a line with this keyword ends a block that isn't the innermost of its file.
+fn is_stray(read: &ReaderState, keyword: Keyword) -> bool
+    ensures { (r : FileSource) (before : List Placed) → Describes r read.now before → result ≡ is_stray_end before (keyword_view keyword) }
 {
-    let Some(block) = ended(keyword) else {
+    let Some(block) = ended_block(keyword) else {
         return false;
     };
     match innermost(&read.stack) {
@@ -108,14 +108,14 @@ fn is_stray(read: &Progress, keyword: Keyword) -> bool
     }
 }
 
-/// The fault of a line with this keyword that comes before those of its form, by the tokens behind its first: it is
-/// left out, it stands where it may not, or it ends no open block.
+/// The fault of a line with this keyword that comes before those of its form, by the tokens after its first: it is
+/// left out, it is misplaced, or it ends no open block.
 pub(crate) fn fault_before_form(
-    read: &Progress,
+    read: &ReaderState,
     keyword: Keyword,
     tokens: &[Token<'_>],
 ) -> Option<TreeKind>
-    ensures { (r : Origin) (before : List Placed) → Describes r read.now before → result ≡ fault_before before (meant keyword) (pieces_of tokens.now) }
+    ensures { (r : FileSource) (before : List Placed) → Describes r read.now before → result ≡ fault_before before (keyword_view keyword) (lexemes_of tokens.now) }
 {
     let entry = open_entry(&read.listing.groups);
     if is_left_out(keyword, tokens, is_choice(entry)) {

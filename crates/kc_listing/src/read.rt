@@ -1,17 +1,17 @@
-//! What the files of a tree say.
+//! Reads the files of a tree.
 ghost use Rattle.std.specs.Prelude.{◌≡◌, ◌⊎◌, ◌≤◌, [], length, Some};
-ghost use Rattle.kc_tree_model.specs.Limits.{Origin, size_in, bytes_in};
-ghost use Rattle.kc_tree_model.specs.Reading.{read_root, reading, full_reading};
-ghost use Rattle.kc_listing.specs.Shown.{Shows};
-ghost use Rattle.kc_listing.specs.Told.{no_memory};
-ghost use Rattle.kc_listing.specs.checker.Progress.{Describes, origin_of};
+ghost use Rattle.kc_tree_model.specs.Limits.{FileSource, size_in, bytes_in};
+ghost use Rattle.kc_tree_model.specs.Reading.{read_root, reading, lenient_reading};
+ghost use Rattle.kc_listing.specs.ListingView.{RepresentsListing};
+ghost use Rattle.kc_listing.specs.MemoryFaults.{no_memory};
+ghost use Rattle.kc_listing.specs.checker.StateViews.{Describes, file_source_of};
 ghost use Rattle.kc_listing.specs.checker.Roots.{OutcomeRead, of_first};
 
 use super::fault::fault_at;
-use super::listing::{Listing, Names};
-use super::progress::{Opened, Progress, Supply};
-use super::reader::read_opened;
+use super::listing::{Listing, SymbolTable};
+use super::reader::read_open_file;
 use super::sources::{MAX_BYTES, MAX_OPEN_FILES, file_of};
+use super::state::{ReaderState, SourceFile, SourceFiles};
 use kc_expr::Arena;
 use kc_tree_model::{Texts, TreeFault, TreeKind};
 use kc_value::Seed;
@@ -20,10 +20,10 @@ use std::alloc::Global;
 impl Listing {
     /// Nothing was read. Takes no memory. Names are hashed by this seed.
     fn new(alloc: Global, seed: Seed) -> Listing
-        ensures { Shows result [] }
+        ensures { RepresentsListing result [] }
     {
         Listing {
-            names: Names {
+            names: SymbolTable {
                 arena: Arena::with_seed(alloc, seed),
                 symbols: Vec::new(alloc),
                 numbers: Vec::new(alloc),
@@ -35,13 +35,13 @@ impl Listing {
     }
 }
 
-impl Progress {
-    /// Nothing was read yet of a first file of so many bytes.
-    fn new(alloc: Global, seed: Seed, bytes: usize) -> Progress
+impl ReaderState {
+    /// The state before a first file of this size.
+    fn new(alloc: Global, seed: Seed, bytes: usize) -> ReaderState
         requires { bytes ≤ 67108864 }
-        ensures { (r : Origin) → bytes ≡ size_in r r.root → Describes r result [] }
+        ensures { (r : FileSource) → bytes ≡ size_in r r.root → Describes r result [] }
     {
-        Progress {
+        ReaderState {
             alloc,
             listing: Listing::new(alloc, seed),
             stack: Vec::new(alloc),
@@ -53,13 +53,17 @@ impl Progress {
 }
 
 /// Reads the first file and all that it sources, where there is room for its bytes.
-fn read_first(alloc: Global, from: Supply<'_>, file: Opened<'_>) -> (Listing, Option<TreeFault>)
+fn read_first(
+    alloc: Global,
+    from: SourceFiles<'_>,
+    file: SourceFile<'_>,
+) -> (Listing, Option<TreeFault>)
     requires { length file.bytes.now ≤ 67108864 }
-    ensures { file.entry.number ≡ (origin_of from.entry).number (origin_of from.entry).root → file.entry.bytes.now ≡ bytes_in (origin_of from.entry) (origin_of from.entry).root
-        → OutcomeRead (of_first (origin_of from.entry)) result }
+    ensures { file.entry.number ≡ (file_source_of from.entry).number (file_source_of from.entry).root → file.entry.bytes.now ≡ bytes_in (file_source_of from.entry) (file_source_of from.entry).root
+        → OutcomeRead (of_first (file_source_of from.entry)) result }
 {
-    let mut read = Progress::new(alloc, from.texts.seed(), file.bytes.len());
-    let fault = match read_opened(&mut read, from, MAX_OPEN_FILES, file) {
+    let mut read = ReaderState::new(alloc, from.texts.seed(), file.bytes.len());
+    let fault = match read_open_file(&mut read, from, MAX_OPEN_FILES, file) {
         Ok(()) => None,
         Err(fault) => Some(fault),
     };
@@ -67,8 +71,8 @@ fn read_first(alloc: Global, from: Supply<'_>, file: Opened<'_>) -> (Listing, Op
 }
 
 /// Reads the first file, which may be absent or too large, and all that it sources.
-fn read_all(alloc: Global, from: Supply<'_>) -> (Listing, Option<TreeFault>)
-    ensures { OutcomeRead (read_root (origin_of from.entry) ((origin_of from.entry).bytes (origin_of from.entry).root)) result }
+fn read_all(alloc: Global, from: SourceFiles<'_>) -> (Listing, Option<TreeFault>)
+    ensures { OutcomeRead (read_root (file_source_of from.entry) ((file_source_of from.entry).bytes (file_source_of from.entry).root)) result }
 {
     let file = match file_of(from, from.root) {
         Ok(file) => file,
@@ -91,14 +95,14 @@ fn read_all(alloc: Global, from: Supply<'_>) -> (Listing, Option<TreeFault>)
 /// What the files of a tree say from a first one on, and the first fault that reading meets.
 ///
 /// The listing has all up to that fault. Where memory runs out, the fault is `OutOfMemory`, without a file, and the
-/// listing is any. A path whose number doesn't fit 32 bits is want of memory.
+/// listing is any. A path whose number doesn't fit 32 bits is out of memory.
 pub fn read_files(alloc: Global, texts: &Texts, root: &str) -> (Listing, Option<TreeFault>)
     ensures fault { (result.1 ≡ Some no_memory) ⊎ (result.1 ≡ (reading texts.now root.now).fault) }
-    ensures read { (result.1 ≡ Some no_memory) ⊎ Shows result.0 (reading texts.now root.now).read }
+    ensures read { (result.1 ≡ Some no_memory) ⊎ RepresentsListing result.0 (reading texts.now root.now).read }
 {
     read_all(
         alloc,
-        Supply {
+        SourceFiles {
             texts,
             root,
             absent_is_empty: false,
@@ -107,13 +111,17 @@ pub fn read_files(alloc: Global, texts: &Texts, root: &str) -> (Listing, Option<
 }
 
 /// The same where an absent path is an empty file.
-pub fn read_found_files(alloc: Global, texts: &Texts, root: &str) -> (Listing, Option<TreeFault>)
-    ensures fault { (result.1 ≡ Some no_memory) ⊎ (result.1 ≡ (full_reading texts.now root.now).fault) }
-    ensures read { (result.1 ≡ Some no_memory) ⊎ Shows result.0 (full_reading texts.now root.now).read }
+pub fn read_files_leniently(
+    alloc: Global,
+    texts: &Texts,
+    root: &str,
+) -> (Listing, Option<TreeFault>)
+    ensures fault { (result.1 ≡ Some no_memory) ⊎ (result.1 ≡ (lenient_reading texts.now root.now).fault) }
+    ensures read { (result.1 ≡ Some no_memory) ⊎ RepresentsListing result.0 (lenient_reading texts.now root.now).read }
 {
     read_all(
         alloc,
-        Supply {
+        SourceFiles {
             texts,
             root,
             absent_is_empty: true,

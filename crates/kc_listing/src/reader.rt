@@ -1,26 +1,26 @@
 //! Reading the files of a tree.
 ghost use Rattle.std.specs.Prelude.{◌≡◌, ◌<◌, ◌≤◌, ◌+◌, ◌-◌, ◌^◌, ◌∷◌, ℕ, List, length, drop, IfOk, IfErr, Ok};
 ghost use Rattle.kc_tree_model.specs.Blocks.{Group};
-ghost use Rattle.kc_tree_model.specs.Lines.{physical_lines, lines_of, logical, help_len};
-ghost use Rattle.kc_tree_model.specs.Limits.{Origin};
+ghost use Rattle.kc_tree_model.specs.LogicalLines.{physical_lines, lines_of, logical_lines_from, help_line_count};
+ghost use Rattle.kc_tree_model.specs.Limits.{FileSource};
 ghost use Rattle.kc_tree_model.specs.Reading.{read_lines, read_file};
 ghost use Rattle.kc_tree_model.specs.declared.fault.TreeKind.TheVariants.{OutOfMemory};
-ghost use Rattle.kc_listing.specs.checker.Progress.{Describes, origin_of};
+ghost use Rattle.kc_listing.specs.checker.StateViews.{Describes, file_source_of};
 ghost use Rattle.kc_listing.specs.checker.Steps.{LineRead, HelpRead, indented, SourceRead, OneRead, IsForward, FileOfRead, IsText};
 
-use super::fault::{fault_at, out_of_memory, told_at};
+use super::fault::{fault_at, fault_or_out_of_memory, out_of_memory};
 use super::line::read_logical;
 use super::lines::{first_columns, is_of_help, logical_at, physical_at};
-use super::progress::{Opened, Progress, Step, Supply};
 use super::sources::{close_source, end_of_file, open_source};
+use super::state::{ReaderState, SourceFile, SourceFiles, Step};
 use super::text::text_of;
 use kc_expr::Token;
 use kc_tree_model::TreeFault;
 use kc_value::Text;
 
-/// Reads the lines of a help text that is indented so far; answers the place behind it, and how many lines it has.
+/// Reads the lines of a help text that is indented so far; answers the place after it, and how many lines it has.
 fn read_indented(
-    file: Opened<'_>,
+    file: SourceFile<'_>,
     at: usize,
     number: u32,
     columns: usize,
@@ -47,12 +47,12 @@ fn read_indented(
     Ok((begin, lines))
 }
 
-/// Reads the lines of a help text; answers the place behind it, and how many lines it has.
-fn read_help(file: Opened<'_>, at: usize, number: u32) -> Result<(usize, u32), TreeFault>
+/// Reads the lines of a help text; answers the place after it, and how many lines it has.
+fn read_help(file: SourceFile<'_>, at: usize, number: u32) -> Result<(usize, u32), TreeFault>
     requires within { at ≤ length file.bytes.now }
     requires few { number ≤ at + 1 }
     requires small { length file.bytes.now < 2 ^ 31 }
-    ensures { HelpRead file.entry.number file.entry.bytes.now at number (help_len (physical_lines (drop at file.entry.bytes.now))) result }
+    ensures { HelpRead file.entry.number file.entry.bytes.now at number (help_line_count (physical_lines (drop at file.entry.bytes.now))) result }
 {
     let columns = first_columns(file.bytes, at);
     if columns == 0 {
@@ -61,30 +61,30 @@ fn read_help(file: Opened<'_>, at: usize, number: u32) -> Result<(usize, u32), T
     read_indented(file, at, number, columns)
 }
 
-/// Reads the file of a `source` and its end, where so many more may stand open within each other.
+/// Reads the file of a `source` and its end, where so many more may be open within each other.
 #[cycle(files)]
 fn read_sourced(
-    read: &mut Progress,
-    from: Supply<'_>,
+    read: &mut ReaderState,
+    from: SourceFiles<'_>,
     depth: usize,
     file: u32,
     line: u32,
     path: Text,
 ) -> Result<(), TreeFault>
-    ensures { (before : List Group) → Describes (origin_of from.entry) read.old before → SourceRead (origin_of from.entry) (read_file depth (origin_of from.entry)) file line path before read.new result }
+    ensures { (before : List Group) → Describes (file_source_of from.entry) read.old before → SourceRead (file_source_of from.entry) (read_file depth (file_source_of from.entry)) file line path before read.new result }
 {
     let sourced = open_source(read, from, file, line, path)?;
-    read_opened(read, from, depth, sourced)?;
+    read_open_file(read, from, depth, sourced)?;
     close_source(read, from, file, line)
 }
 
-/// Reads a logical line and what it leads to; answers the place behind it, and how many lines these are.
+/// Reads a logical line and what it leads to; answers the place after it, and how many lines these are.
 #[cycle(files)]
-fn read_one<'a>(
-    read: &mut Progress,
-    from: Supply<'_>,
+fn read_statement<'a>(
+    read: &mut ReaderState,
+    from: SourceFiles<'_>,
     depth: usize,
-    file: Opened<'a>,
+    file: SourceFile<'a>,
     found: &mut Vec<Token<'a>>,
     at: usize,
     number: u32,
@@ -93,7 +93,7 @@ fn read_one<'a>(
     requires few { number ≤ at + 1 }
     requires small { length file.bytes.now < 2 ^ 31 }
     ensures bounds { IfOk result (λ p. IsForward file.entry.bytes.now at p.0 p.1) }
-    ensures read { (before : List Group) → Describes (origin_of from.entry) read.old before → OneRead (origin_of from.entry) (read_file depth (origin_of from.entry)) file.entry.number file.entry.bytes.now at number before read.new result }
+    ensures read { (before : List Group) → Describes (file_source_of from.entry) read.old before → OneRead (file_source_of from.entry) (read_file depth (file_source_of from.entry)) file.entry.number file.entry.bytes.now at number before read.new result }
 {
     let Ok(line) = logical_at(read.alloc, file.bytes, at) else {
         return Err(out_of_memory());
@@ -101,7 +101,7 @@ fn read_one<'a>(
     let next = line.next;
     let lines = line.lines as u32;
     match read_logical(read, from, file.number, number, &line.text, found) {
-        Err(kind) => Err(told_at(file.number, number, kind)),
+        Err(kind) => Err(fault_or_out_of_memory(file.number, number, kind)),
         Ok(Step::Next) => Ok((next, lines)),
         Ok(Step::Help) => {
             let (behind, more) = read_help(file, next, number + lines)?;
@@ -114,17 +114,17 @@ fn read_one<'a>(
     }
 }
 
-/// Reads a file behind what was read, where so many may stand open within each other.
+/// Reads a file after what was read, where so many may be open within each other.
 #[cycle(files)]
-pub(crate) fn read_opened(
-    read: &mut Progress,
-    from: Supply<'_>,
+pub(crate) fn read_open_file(
+    read: &mut ReaderState,
+    from: SourceFiles<'_>,
     depth: usize,
-    file: Opened<'_>,
+    file: SourceFile<'_>,
 ) -> Result<(), TreeFault>
     requires { length file.bytes.now < 2 ^ 31 }
-    ensures { (before : List Group) → Describes (origin_of from.entry) read.old before
-        → FileOfRead (origin_of from.entry) depth file.entry before read.new result }
+    ensures { (before : List Group) → Describes (file_source_of from.entry) read.old before
+        → FileOfRead (file_source_of from.entry) depth file.entry before read.new result }
 {
     if depth == 0 {
         return Ok(());
@@ -133,7 +133,7 @@ pub(crate) fn read_opened(
     let mut at = 0;
     let mut number = 1;
     'lines: while at < file.bytes.len() {
-        let (next, lines) = read_one(read, from, depth - 1, file, &mut found, at, number)?;
+        let (next, lines) = read_statement(read, from, depth - 1, file, &mut found, at, number)?;
         at = next;
         number += lines;
     }

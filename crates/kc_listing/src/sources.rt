@@ -2,15 +2,15 @@
 ghost use Rattle.std.specs.Prelude.{◌≡◌, ◌<◌, ◌≤◌, ◌+◌, ◌^◌, ◌||◌, List, length, bytes_eq, IfOk};
 ghost use Rattle.std.specs.List.{list_any};
 ghost use Rattle.kc_tree_model.specs.Blocks.{Group};
-ghost use Rattle.kc_listing.specs.checker.Progress.{Describes, origin_of};
-ghost use Rattle.kc_listing.specs.checker.Standing.{is_file_of};
+ghost use Rattle.kc_listing.specs.checker.StateViews.{Describes, file_source_of};
+ghost use Rattle.kc_listing.specs.checker.OpenBlockViews.{is_file_of};
 ghost use Rattle.kc_listing.specs.checker.Steps.{Sourced, IsAfter, EndRead, SourcedFile, FileFound};
 
-use super::fault::{fault_at, out_of_memory, told_at};
-use super::listing::What;
-use super::progress::{Opened, Progress, Supply};
-use super::putting::{keep, put_end, put_group, put_source};
-use super::standing::{files_open, innermost, is_path_open};
+use super::append::{push_end, push_group, push_source, push_text};
+use super::fault::{fault_at, fault_or_out_of_memory, out_of_memory};
+use super::listing::GroupHead;
+use super::open_blocks::{innermost, is_path_open, open_file_count};
+use super::state::{ReaderState, SourceFile, SourceFiles};
 use kc_tree_model::{TreeFault, TreeKind};
 use kc_value::Text;
 
@@ -23,32 +23,36 @@ pub(crate) const MAX_BYTES: usize = 67_108_864;
 /// The most files within each other.
 pub(crate) const MAX_OPEN_FILES: usize = 32;
 
-/// The file of a path. A file whose number doesn't fit is want of memory.
-pub(crate) fn file_of<'a>(from: Supply<'a>, path: &str) -> Result<Opened<'a>, TreeKind>
-    ensures { FileFound (origin_of from.entry) path.now result }
+/// The file of a path. A file whose number doesn't fit is out of memory.
+pub(crate) fn file_of<'a>(from: SourceFiles<'a>, path: &str) -> Result<SourceFile<'a>, TreeKind>
+    ensures { FileFound (file_source_of from.entry) path.now result }
 {
     let Ok(number) = u32::try_from(from.texts.number_of(path)) else {
         return Err(TreeKind::OutOfMemory);
     };
     match from.texts.get(path) {
-        Some(bytes) => Ok(Opened { number, bytes }),
-        None if from.absent_is_empty => Ok(Opened { number, bytes: b"" }),
+        Some(bytes) => Ok(SourceFile { number, bytes }),
+        None if from.absent_is_empty => Ok(SourceFile { number, bytes: b"" }),
         None => Err(TreeKind::MissingFile),
     }
 }
 
-/// Whether a file stands open.
-fn is_open(read: &Progress, from: Supply<'_>, path: &str) -> bool
+/// Whether a file is open.
+fn is_open(read: &ReaderState, from: SourceFiles<'_>, path: &str) -> bool
     ensures { result ≡ (bytes_eq from.entry.root.now path.now || list_any (is_file_of read.now.listing.texts.items path.now) read.now.stack.items) }
 {
     from.root == path || is_path_open(&read.stack, &read.listing.texts, path)
 }
 
 /// The file that a `source` may read here.
-fn sourced<'a>(read: &Progress, from: Supply<'a>, path: &str) -> Result<Opened<'a>, TreeKind>
+fn sourced<'a>(
+    read: &ReaderState,
+    from: SourceFiles<'a>,
+    path: &str,
+) -> Result<SourceFile<'a>, TreeKind>
     ensures few { IfOk result (λ o. read.now.files < 4096) }
     ensures small { IfOk result (λ o. read.now.bytes + length o.bytes.now ≤ 67108864) }
-    ensures sourced { (before : List Group) → Describes (origin_of from.entry) read.now before → SourcedFile (origin_of from.entry) path.now before result }
+    ensures sourced { (before : List Group) → Describes (file_source_of from.entry) read.now before → SourcedFile (file_source_of from.entry) path.now before result }
 {
     if is_open(read, from, path) {
         return Err(TreeKind::SourceLoop);
@@ -57,7 +61,7 @@ fn sourced<'a>(read: &Progress, from: Supply<'a>, path: &str) -> Result<Opened<'
         Ok(file) => file,
         Err(kind) => return Err(kind),
     };
-    if files_open(&read.stack) >= MAX_OPEN_FILES - 1 {
+    if open_file_count(&read.stack) >= MAX_OPEN_FILES - 1 {
         return Err(TreeKind::TooDeep);
     }
     if read.files >= MAX_FILES {
@@ -69,51 +73,55 @@ fn sourced<'a>(read: &Progress, from: Supply<'a>, path: &str) -> Result<Opened<'
     Ok(file)
 }
 
-/// Puts a `source` to what was read, and answers its file.
+/// Appends a `source`, and returns its file.
 pub(crate) fn open_source<'a>(
-    read: &mut Progress,
-    from: Supply<'a>,
+    read: &mut ReaderState,
+    from: SourceFiles<'a>,
     file: u32,
     line: u32,
     path: Text,
-) -> Result<Opened<'a>, TreeFault>
+) -> Result<SourceFile<'a>, TreeFault>
     ensures small { IfOk result (λ o. length o.bytes.now < 2 ^ 31) }
-    ensures sourced { (before : List Group) → Describes (origin_of from.entry) read.old before → Sourced (origin_of from.entry) file line path before read.new result }
+    ensures sourced { (before : List Group) → Describes (file_source_of from.entry) read.old before → Sourced (file_source_of from.entry) file line path before read.new result }
 {
     let found = sourced(read, from, path.as_str());
-    let Ok(place) = keep(read, path) else {
+    let Ok(place) = push_text(read, path) else {
         return Err(out_of_memory());
     };
     match found {
-        Ok(opened) => match put_source(read, file, line, place, opened.bytes.len()) {
+        Ok(opened) => match push_source(read, file, line, place, opened.bytes.len()) {
             Ok(()) => Ok(opened),
             Err(_) => Err(out_of_memory()),
         },
-        Err(kind) => match put_group(&mut read.listing, file, line, What::Source(place)) {
-            Ok(()) => Err(told_at(file, line, kind)),
+        Err(kind) => match push_group(&mut read.listing, file, line, GroupHead::Source(place)) {
+            Ok(()) => Err(fault_or_out_of_memory(file, line, kind)),
             Err(_) => Err(out_of_memory()),
         },
     }
 }
 
-/// Puts the end of a sourced file to what was read.
+/// Appends the end of a sourced file.
 pub(crate) fn close_source(
-    read: &mut Progress,
-    from: Supply<'_>,
+    read: &mut ReaderState,
+    from: SourceFiles<'_>,
     file: u32,
     line: u32,
 ) -> Result<(), TreeFault>
-    ensures { (before : List Group) → Describes (origin_of from.entry) read.old before → IsAfter (origin_of from.entry) file line before read.new result }
+    ensures { (before : List Group) → Describes (file_source_of from.entry) read.old before → IsAfter (file_source_of from.entry) file line before read.new result }
 {
-    match put_end(read, file, line, What::FileEnd) {
+    match push_end(read, file, line, GroupHead::FileEnd) {
         Ok(()) => Ok(()),
         Err(_) => Err(out_of_memory()),
     }
 }
 
 /// At a file's end a block that is open in it isn't closed.
-pub(crate) fn end_of_file(read: &Progress, from: Supply<'_>, file: u32) -> Result<(), TreeFault>
-    ensures { (before : List Group) → Describes (origin_of from.entry) read.now before → EndRead file before result }
+pub(crate) fn end_of_file(
+    read: &ReaderState,
+    from: SourceFiles<'_>,
+    file: u32,
+) -> Result<(), TreeFault>
+    ensures { (before : List Group) → Describes (file_source_of from.entry) read.now before → EndRead file before result }
 {
     match innermost(&read.stack) {
         Some((_, line)) => Err(fault_at(file, line, TreeKind::Unclosed)),

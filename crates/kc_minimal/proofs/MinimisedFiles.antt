@@ -1,17 +1,17 @@
 -- What is written for a file that was read.
 use Rattle.std.proofs.Common.{◌≡◌, ℕ, ◌<◌, ◌-◌, ◌^◌, true, List, Option, length, take, sym, subst}
 use Rattle.std.specs.Io.KnownBytes.{Appends}
-use Rattle.kc_tree_model.specs.Trees.{Whole}
-use Rattle.kc_system.specs.Solutions.{Gives}
+use Rattle.kc_tree_model.specs.Trees.{Tree}
+use Rattle.kc_system.specs.Solutions.{UniquelySolves}
 use Rattle.kc_rules_model.specs.declared.profile.Profile.{Profile}
 use Rattle.kc_rules_model.specs.declared.values.UnitValue.{UnitValue}
 use Rattle.kc_rules_model.specs.Rule.{rule}
 use Rattle.kc_rules_model.specs.SettledTrees.{IsSettledTree}
-use Rattle.kc_dotconfig_model.specs.Names.{is_prefix}
+use Rattle.kc_dotconfig_model.specs.PrefixGrammar.{is_prefix}
 use Rattle.kc_dotconfig_model.proofs.AcceptedLines.{accepted_utf8}
 use Rattle.kc_dotconfig.specs.declared.fragment.Fragment.{Fragment}
 use Rattle.kc_dotconfig.specs.Fragments.{users_of}
-use Rattle.kc_dotconfig.specs.Reads.{IsReadAs}
+use Rattle.kc_dotconfig.specs.ReadResults.{IsReadAs}
 use Rattle.kc_minimal_model.specs.MinimalText.{IsMinimalText}
 use Rattle.kc_minimal_model.specs.Headline.{MinimalFilesAreCanonical}
 use Rattle.kc_minimal_model.specs.FilesAssign.{FilesAssignTheLines}
@@ -19,7 +19,7 @@ use Rattle.kc_minimal_model.specs.Loading.{Loads}
 use Rattle.kc_minimal.specs.Minimised.{IsCanonicalText, IsMinimised, IsCutOff}
 use Rattle.kc_minimal.proofs.CanonicalTexts.{canonical_text}
 
-module _ (canonical : MinimalFilesAreCanonical) (assign : FilesAssignTheLines) (prefix : List ℕ) (valid : is_prefix prefix ≡ true) (profile : Profile) (tree : Whole) (settled : IsSettledTree tree)
+module _ (canonical : MinimalFilesAreCanonical) (assign : FilesAssignTheLines) (prefix : List ℕ) (valid : is_prefix prefix ≡ true) (profile : Profile) (tree : Tree) (settled : IsSettledTree tree)
     (before after : Option (List ℕ)) (f : Fragment) (read : IsReadAs prefix tree before after f) (values : List UnitValue) (text : List ℕ) (minimal : IsMinimalText prefix profile tree (users_of tree f.assigns.items) values text) where
   abbrev loaded : Loads prefix profile tree read.told values
   loaded = record {
@@ -28,7 +28,7 @@ module _ (canonical : MinimalFilesAreCanonical) (assign : FilesAssignTheLines) (
       utf8 = accepted_utf8 prefix tree read.told valid read.accepted;
       sayings = read.sayings;
       says = read.says;
-      gives = subst (λ users. Gives (length tree.units) (rule profile tree) users values) read.users minimal.held;
+      gives = subst (λ users. UniquelySolves (length tree.units) (rule profile tree) users values) read.users minimal.held;
     };
   }
 

@@ -1,3 +1,3 @@
-pub mod Told
+pub mod DifferenceViews
 pub mod Minimised
 pub mod checker

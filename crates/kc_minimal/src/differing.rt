@@ -1,10 +1,10 @@
 //! The symbols whose values differ.
 ghost use Rattle.std.specs.Prelude.{◌≡◌, ◌<◌, ◌++◌, length, map, option_to_list, IfOk, OnOk};
-ghost use Rattle.kc_expr.specs.Lookup.{seen_of};
-ghost use Rattle.kc_rules_model.specs.SymbolValues.{symbol_seen};
-ghost use Rattle.kc_rules.specs.Told.{whole_of, value_seen};
-ghost use Rattle.kc_minimal_model.specs.Differences.{same_seen, difference_at, differences};
-ghost use Rattle.kc_minimal.specs.Told.{told};
+ghost use Rattle.kc_expr.specs.Lookup.{symbol_value_of};
+ghost use Rattle.kc_rules_model.specs.SymbolValues.{value_of_symbol};
+ghost use Rattle.kc_rules.specs.SettledViews.{tree_of_settled, value_view};
+ghost use Rattle.kc_minimal_model.specs.Differences.{is_same_value, difference_at, differences};
+ghost use Rattle.kc_minimal.specs.DifferenceViews.{difference_view};
 
 use kc_expr::Looked;
 use kc_rules::{Settled, UnitValue};
@@ -22,14 +22,14 @@ pub struct Difference {
 
 /// Whether two values are the same tristate and the same text.
 fn is_same(a: &Looked<'_>, b: &Looked<'_>) -> bool
-    ensures { result ≡ same_seen (seen_of a.now) (seen_of b.now) }
+    ensures { result ≡ is_same_value (symbol_value_of a.now) (symbol_value_of b.now) }
 {
     a.tri == b.tri && a.text.as_bytes() == b.text.as_bytes()
 }
 
 /// A copy of a value.
 fn value_of(alloc: Global, seen: &Looked<'_>) -> Result<Value, AllocError>
-    ensures { IfOk result (λ value. value ≡ value_seen (seen_of seen.now)) }
+    ensures { IfOk result (λ value. value ≡ value_view (symbol_value_of seen.now)) }
 {
     match seen.kind {
         Kind::Bool => Ok(Value::Tri(seen.tri)),
@@ -49,11 +49,11 @@ fn push_if_differing(
     right: &[UnitValue],
     s: Sym,
 ) -> Result<(), AllocError>
-    requires { s < length (whole_of settled.now).symbols }
-    ensures { OnOk result (found.new.items ≡ found.old.items ++ map told (option_to_list (difference_at s (symbol_seen (whole_of settled.now) left.now s) (symbol_seen (whole_of settled.now) right.now s)))) }
+    requires { s < length (tree_of_settled settled.now).symbols }
+    ensures { OnOk result (found.new.items ≡ found.old.items ++ map difference_view (option_to_list (difference_at s (value_of_symbol (tree_of_settled settled.now) left.now s) (value_of_symbol (tree_of_settled settled.now) right.now s)))) }
 {
-    let a = settled.symbol_seen(s, left);
-    let b = settled.symbol_seen(s, right);
+    let a = settled.value_of_symbol(s, left);
+    let b = settled.value_of_symbol(s, right);
     if is_same(&a, &b) {
         return Ok(());
     }
@@ -74,7 +74,7 @@ pub(crate) fn differing(
     left: &[UnitValue],
     right: &[UnitValue],
 ) -> Result<Vec<Difference>, AllocError>
-    ensures { IfOk result (λ found. found.items ≡ map told (differences (whole_of settled.now) left.now right.now)) }
+    ensures { IfOk result (λ found. found.items ≡ map difference_view (differences (tree_of_settled settled.now) left.now right.now)) }
 {
     let mut found = Vec::new(alloc);
     for number in 0..settled.tree().symbol_count() {

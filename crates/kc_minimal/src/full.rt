@@ -1,11 +1,11 @@
 //! Full files.
 ghost use Rattle.std.specs.Prelude.{◌≡◌, ◌<◌, ◌++◌, ◌∷◌, ◌&&◌, ℕ, Bool, true, false, not, List, [], length, IfOk, OnOk, slice_index_or, slice_set, if◌then◌else◌};
-ghost use Rattle.kc_expr.specs.Arena.{stands_for};
-ghost use Rattle.kc_tree.specs.Told.{entry_of, EntryFits};
+ghost use Rattle.kc_expr.specs.Arena.{node_expr};
+ghost use Rattle.kc_tree.specs.Views.{entry_view, EntryFits};
 ghost use Rattle.kc_tree_model.specs.Trees.{Entry as TreeEntry, definition};
 ghost use Rattle.kc_rules_model.specs.Reports.{is_written};
-ghost use Rattle.kc_rules.specs.Told.{whole_of, tree_of};
-ghost use Rattle.kc_dotconfig_model.specs.Prefixes.{text_of};
+ghost use Rattle.kc_rules.specs.SettledViews.{tree_of_settled, tree_model_of};
+ghost use Rattle.kc_dotconfig_model.specs.Prefixes.{prefix_bytes};
 ghost use Rattle.kc_minimal_model.specs.Spelling.{ended_line};
 ghost use Rattle.kc_minimal_model.specs.FullFile.{heading, end_line, applies, full_file};
 ghost use Rattle.kc_minimal.specs.checker.Drafts.{IsDraft};
@@ -17,7 +17,7 @@ use kc_rules::{Settled, UnitValue};
 use kc_tree::{Entry, Sym};
 use std::alloc::{AllocError, Global};
 
-/// What is written of a full file: its bytes, which symbols were defined, and whether an end line came last and no
+/// A full file so far: its bytes, which symbols were defined, and whether an end line came last and no
 /// heading or symbol since.
 #[derive(Drop)]
 pub(crate) struct Draft {
@@ -29,7 +29,7 @@ pub(crate) struct Draft {
 /// Appends what stands before a menu or for a comment. A title that begins with the prefix stands after two spaces, so
 /// that it is never read as an unset line.
 fn push_heading(out: &mut Vec<u8>, prefix: &Prefix, title: &str) -> Result<(), AllocError>
-    ensures { OnOk result (out.new.items ≡ out.old.items ++ heading (text_of prefix.now) title.now) }
+    ensures { OnOk result (out.new.items ≡ out.old.items ++ heading (prefix_bytes prefix.now) title.now) }
 {
     out.extend_from_slice(b"\n#\n# ")?;
     if title.as_bytes().starts_with(prefix.as_bytes()) {
@@ -40,7 +40,7 @@ fn push_heading(out: &mut Vec<u8>, prefix: &Prefix, title: &str) -> Result<(), A
     Ok(())
 }
 
-/// Appends the line behind a menu.
+/// Appends the line after a menu.
 fn push_end(out: &mut Vec<u8>, title: &str) -> Result<(), AllocError>
     ensures { OnOk result (out.new.items ≡ out.old.items ++ end_line title.now) }
 {
@@ -52,22 +52,22 @@ fn push_end(out: &mut Vec<u8>, title: &str) -> Result<(), AllocError>
 
 /// Whether a condition isn't `n`.
 fn applies(settled: &Settled, values: &[UnitValue], condition: ExprId) -> bool
-    requires { condition < length (tree_of settled.now).exprs.nodes }
-    ensures { result ≡ applies (whole_of settled.now) values.now (stands_for (tree_of settled.now).exprs condition) }
+    requires { condition < length (tree_model_of settled.now).exprs.nodes }
+    ensures { result ≡ applies (tree_of_settled settled.now) values.now (node_expr (tree_model_of settled.now).exprs condition) }
 {
     !is_n(settled.condition(condition, values))
 }
 
 /// Whether two conditions aren't `n`.
 fn both_apply(settled: &Settled, values: &[UnitValue], dependency: ExprId, visible: ExprId) -> bool
-    requires dependency { dependency < length (tree_of settled.now).exprs.nodes }
-    requires visible { visible < length (tree_of settled.now).exprs.nodes }
-    ensures { result ≡ (applies (whole_of settled.now) values.now (stands_for (tree_of settled.now).exprs dependency) && applies (whole_of settled.now) values.now (stands_for (tree_of settled.now).exprs visible)) }
+    requires dependency { dependency < length (tree_model_of settled.now).exprs.nodes }
+    requires visible { visible < length (tree_model_of settled.now).exprs.nodes }
+    ensures { result ≡ (applies (tree_of_settled settled.now) values.now (node_expr (tree_model_of settled.now).exprs dependency) && applies (tree_of_settled settled.now) values.now (node_expr (tree_model_of settled.now).exprs visible)) }
 {
     applies(settled, values, dependency) && applies(settled, values, visible)
 }
 
-/// Marks a symbol, and tells whether it wasn't marked.
+/// Marks a symbol, and returns whether it wasn't marked.
 fn mark(defined: &mut Vec<bool>, s: Sym) -> bool
     requires { s < length defined.old.items }
     ensures fresh { result ≡ not (slice_index_or defined.old.items s false) }
@@ -79,8 +79,8 @@ fn mark(defined: &mut Vec<bool>, s: Sym) -> bool
     fresh
 }
 
-/// Appends the line of a symbol, after an end line behind an empty line.
-fn push_behind(
+/// Appends the line of a symbol, after an end line after an empty line.
+fn push_spaced_line(
     out: &mut Vec<u8>,
     gap: bool,
     settled: &Settled,
@@ -88,8 +88,8 @@ fn push_behind(
     values: &[UnitValue],
     s: Sym,
 ) -> Result<(), AllocError>
-    requires { s < length (whole_of settled.now).symbols }
-    ensures { OnOk result (out.new.items ≡ out.old.items ++ (if gap then 10 ∷ ended_line (text_of prefix.now) (whole_of settled.now) values.now s else ended_line (text_of prefix.now) (whole_of settled.now) values.now s)) }
+    requires { s < length (tree_of_settled settled.now).symbols }
+    ensures { OnOk result (out.new.items ≡ out.old.items ++ (if gap then 10 ∷ ended_line (prefix_bytes prefix.now) (tree_of_settled settled.now) values.now s else ended_line (prefix_bytes prefix.now) (tree_of_settled settled.now) values.now s)) }
 {
     if gap {
         out.push(b'\n')?;
@@ -99,10 +99,10 @@ fn push_behind(
     }
 }
 
-/// Whether a symbol's line stands at a definition, which may be its first one.
-fn stands_here(settled: &Settled, values: &[UnitValue], s: Sym, fresh: bool) -> bool
-    requires { s < length (whole_of settled.now).symbols }
-    ensures { result ≡ (is_written (whole_of settled.now) values.now s && fresh) }
+/// Whether a symbol's line is written at this definition, if it is the first one.
+fn is_written_here(settled: &Settled, values: &[UnitValue], s: Sym, fresh: bool) -> bool
+    requires { s < length (tree_of_settled settled.now).symbols }
+    ensures { result ≡ (is_written (tree_of_settled settled.now) values.now s && fresh) }
 {
     if fresh {
         settled.written(s, values)
@@ -119,14 +119,14 @@ fn push_definition(
     values: &[UnitValue],
     s: Sym,
 ) -> Result<(), AllocError>
-    requires symbol { s < length (whole_of settled.now).symbols }
-    requires marks { length draft.old.defined.items ≡ length (whole_of settled.now).symbols }
+    requires symbol { s < length (tree_of_settled settled.now).symbols }
+    requires marks { length draft.old.defined.items ≡ length (tree_of_settled settled.now).symbols }
     ensures marks { length draft.new.defined.items ≡ length draft.old.defined.items }
-    ensures goes { OnOk result ((left : List TreeEntry) → IsDraft (text_of prefix.now) (whole_of settled.now) values.now (definition s ∷ left) draft.old → IsDraft (text_of prefix.now) (whole_of settled.now) values.now left draft.new) }
+    ensures goes { OnOk result ((left : List TreeEntry) → IsDraft (prefix_bytes prefix.now) (tree_of_settled settled.now) values.now (definition s ∷ left) draft.old → IsDraft (prefix_bytes prefix.now) (tree_of_settled settled.now) values.now left draft.new) }
 {
     let fresh = mark(&mut draft.defined, s);
-    if stands_here(settled, values, s, fresh) {
-        push_behind(&mut draft.text, draft.gap, settled, prefix, values, s)?;
+    if is_written_here(settled, values, s, fresh) {
+        push_spaced_line(&mut draft.text, draft.gap, settled, prefix, values, s)?;
         draft.gap = false;
         Ok(())
     } else {
@@ -134,14 +134,14 @@ fn push_definition(
     }
 }
 
-/// Appends what stands before a menu or for a comment, if it is shown.
+/// Appends the heading of a menu or of a comment, if it is shown.
 fn push_title(
     draft: &mut Draft,
     prefix: &Prefix,
     title: &str,
     shown: bool,
 ) -> Result<(), AllocError>
-    ensures goes { OnOk result ((draft.new.text.items ≡ draft.old.text.items ++ (if shown then heading (text_of prefix.now) title.now else [])) × (draft.new.gap ≡ (if shown then false else draft.old.gap))) }
+    ensures goes { OnOk result ((draft.new.text.items ≡ draft.old.text.items ++ (if shown then heading (prefix_bytes prefix.now) title.now else [])) × (draft.new.gap ≡ (if shown then false else draft.old.gap))) }
     ensures marks { draft.new.defined.items ≡ draft.old.defined.items }
 {
     if shown {
@@ -151,7 +151,7 @@ fn push_title(
     Ok(())
 }
 
-/// Appends the line behind a menu, if it is shown.
+/// Appends the line after a menu, if it is shown.
 fn push_menu_end(draft: &mut Draft, title: &str, shown: bool) -> Result<(), AllocError>
     ensures goes { OnOk result ((draft.new.text.items ≡ draft.old.text.items ++ (if shown then end_line title.now else [])) × (draft.new.gap ≡ (if shown then true else draft.old.gap))) }
     ensures marks { draft.new.defined.items ≡ draft.old.defined.items }
@@ -171,10 +171,10 @@ fn push_entry(
     values: &[UnitValue],
     entry: &Entry<'_>,
 ) -> Result<(), AllocError>
-    requires entry { EntryFits (length (tree_of settled.now).exprs.nodes) (length (whole_of settled.now).symbols) (length (whole_of settled.now).choices) entry.now }
-    requires marks { length draft.old.defined.items ≡ length (whole_of settled.now).symbols }
+    requires entry { EntryFits (length (tree_model_of settled.now).exprs.nodes) (length (tree_of_settled settled.now).symbols) (length (tree_of_settled settled.now).choices) entry.now }
+    requires marks { length draft.old.defined.items ≡ length (tree_of_settled settled.now).symbols }
     ensures marks { length draft.new.defined.items ≡ length draft.old.defined.items }
-    ensures goes { OnOk result ((left : List TreeEntry) → IsDraft (text_of prefix.now) (whole_of settled.now) values.now (entry_of (tree_of settled.now).exprs entry.now ∷ left) draft.old → IsDraft (text_of prefix.now) (whole_of settled.now) values.now left draft.new) }
+    ensures goes { OnOk result ((left : List TreeEntry) → IsDraft (prefix_bytes prefix.now) (tree_of_settled settled.now) values.now (entry_view (tree_model_of settled.now).exprs entry.now ∷ left) draft.old → IsDraft (prefix_bytes prefix.now) (tree_of_settled settled.now) values.now left draft.new) }
 {
     match *entry {
         Entry::Definition(s) => push_definition(draft, settled, prefix, values, s),
@@ -211,7 +211,7 @@ pub(crate) fn full_lines(
     prefix: &Prefix,
     values: &[UnitValue],
 ) -> Result<Vec<u8>, AllocError>
-    ensures { IfOk result (λ text. text.items ≡ full_file (text_of prefix.now) (whole_of settled.now) values.now) }
+    ensures { IfOk result (λ text. text.items ≡ full_file (prefix_bytes prefix.now) (tree_of_settled settled.now) values.now) }
 {
     let tree = settled.tree();
     let defined = vec![in alloc; false; tree.symbol_count() as usize]?;

@@ -1,7 +1,7 @@
 //! Minimal files.
 ghost use Rattle.std.specs.Prelude.{◌≡◌, ◌<◌, ◌++◌, [], length, IfOk, OnOk, if◌then◌else◌};
-ghost use Rattle.kc_rules.specs.Told.{whole_of, profile_of};
-ghost use Rattle.kc_dotconfig_model.specs.Prefixes.{text_of};
+ghost use Rattle.kc_rules.specs.SettledViews.{tree_of_settled, profile_of};
+ghost use Rattle.kc_dotconfig_model.specs.Prefixes.{prefix_bytes};
 ghost use Rattle.kc_minimal_model.specs.Spelling.{ended_line};
 ghost use Rattle.kc_minimal_model.specs.MinimalFile.{is_kept, has_line, minimal_file};
 ghost use Rattle.kc_minimal.specs.checker.Values.{FitValues};
@@ -20,9 +20,9 @@ fn is_kept(
     values: &[UnitValue],
     u: u32,
 ) -> Result<bool, AllocError>
-    requires unit { u < length (whole_of settled.now).units }
-    requires values { FitValues (whole_of settled.now) values.now }
-    ensures { IfOk result (λ kept. kept ≡ is_kept (profile_of settled.now) (whole_of settled.now) values.now u) }
+    requires unit { u < length (tree_of_settled settled.now).units }
+    requires values { FitValues (tree_of_settled settled.now) values.now }
+    ensures { IfOk result (λ kept. kept ≡ is_kept (profile_of settled.now) (tree_of_settled settled.now) values.now u) }
 {
     let mut steps = Steps::new();
     let value = settled.eval(alloc, u, None, values, &mut steps)?;
@@ -37,12 +37,12 @@ fn has_line(
     values: &[UnitValue],
     s: Sym,
 ) -> Result<bool, AllocError>
-    requires symbol { s < length (whole_of settled.now).symbols }
-    requires values { FitValues (whole_of settled.now) values.now }
-    ensures { IfOk result (λ line. line ≡ has_line (profile_of settled.now) (whole_of settled.now) values.now s) }
+    requires symbol { s < length (tree_of_settled settled.now).symbols }
+    requires values { FitValues (tree_of_settled settled.now) values.now }
+    ensures { IfOk result (λ line. line ≡ has_line (profile_of settled.now) (tree_of_settled settled.now) values.now s) }
 {
     let symbol = settled.tree().symbol(s);
-    if symbol.choice.is_some() && is_n(settled.symbol_seen(s, values).tri) {
+    if symbol.choice.is_some() && is_n(settled.value_of_symbol(s, values).tri) {
         Ok(false)
     } else {
         is_kept(alloc, settled, values, symbol.unit)
@@ -58,9 +58,9 @@ fn push_if_kept(
     values: &[UnitValue],
     s: Sym,
 ) -> Result<(), AllocError>
-    requires symbol { s < length (whole_of settled.now).symbols }
-    requires values { FitValues (whole_of settled.now) values.now }
-    ensures { OnOk result (out.new.items ≡ out.old.items ++ (if has_line (profile_of settled.now) (whole_of settled.now) values.now s then ended_line (text_of prefix.now) (whole_of settled.now) values.now s else [])) }
+    requires symbol { s < length (tree_of_settled settled.now).symbols }
+    requires values { FitValues (tree_of_settled settled.now) values.now }
+    ensures { OnOk result (out.new.items ≡ out.old.items ++ (if has_line (profile_of settled.now) (tree_of_settled settled.now) values.now s then ended_line (prefix_bytes prefix.now) (tree_of_settled settled.now) values.now s else [])) }
 {
     let line = has_line(alloc, settled, values, s)?;
     if line {
@@ -77,8 +77,8 @@ pub(crate) fn minimal_lines(
     prefix: &Prefix,
     values: &[UnitValue],
 ) -> Result<Vec<u8>, AllocError>
-    requires { FitValues (whole_of settled.now) values.now }
-    ensures { IfOk result (λ text. text.items ≡ minimal_file (text_of prefix.now) (profile_of settled.now) (whole_of settled.now) values.now) }
+    requires { FitValues (tree_of_settled settled.now) values.now }
+    ensures { IfOk result (λ text. text.items ≡ minimal_file (prefix_bytes prefix.now) (profile_of settled.now) (tree_of_settled settled.now) values.now) }
 {
     let mut text = Vec::new(alloc);
     for number in 0..settled.tree().symbol_count() {

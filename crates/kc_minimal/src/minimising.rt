@@ -1,11 +1,11 @@
 //! Minimising a configuration file.
 ghost use Rattle.std.specs.Prelude.{◌≡◌, ◌≤◌, ◌+◌, List, IfOk, IfErr, OnOk};
 ghost use Rattle.kc_rules_model.specs.declared.values.UnitValue.{UnitValue as Held};
-ghost use Rattle.kc_rules.specs.Told.{whole_of, profile_of};
-ghost use Rattle.kc_dotconfig_model.specs.Prefixes.{text_of};
+ghost use Rattle.kc_rules.specs.SettledViews.{tree_of_settled, profile_of};
+ghost use Rattle.kc_dotconfig_model.specs.Prefixes.{prefix_bytes};
 ghost use Rattle.kc_dotconfig.specs.Fragments.{FitsTree, users_of};
 ghost use Rattle.kc_minimal_model.specs.MinimalText.{IsMinimalText};
-ghost use Rattle.kc_minimal.specs.Minimised.{IsMinimised, EndsWith};
+ghost use Rattle.kc_minimal.specs.Minimised.{IsMinimised, FailsWith};
 
 use crate::texts::minimal_text;
 use crate::writing::{WriteFault, write_out};
@@ -37,8 +37,8 @@ fn minimal_of(
     prefix: &Prefix,
     fragment: &Fragment,
 ) -> Result<Vec<u8>, AllocError>
-    requires { FitsTree (whole_of settled.now) fragment.now.assigns.items }
-    ensures { IfOk result (λ text. (values : List Held) × IsMinimalText (text_of prefix.now) (profile_of settled.now) (whole_of settled.now) (users_of (whole_of settled.now) fragment.now.assigns.items) values text.items) }
+    requires { FitsTree (tree_of_settled settled.now) fragment.now.assigns.items }
+    ensures { IfOk result (λ text. (values : List Held) × IsMinimalText (prefix_bytes prefix.now) (profile_of settled.now) (tree_of_settled settled.now) (users_of (tree_of_settled settled.now) fragment.now.assigns.items) values text.items) }
 {
     let config = Config::of(alloc, settled, fragment)?;
     minimal_text(alloc, &config, prefix)
@@ -57,12 +57,12 @@ pub fn minimise<R: Source, W: Sink>(
     source: &mut R,
     sink: &mut W,
 ) -> Result<Vec<Notice>, RunFault>
-    ensures minimised { IfOk result (λ notices. IsMinimised (text_of prefix.now) (profile_of settled.now) (whole_of settled.now) (R.left source.old) (R.left source.new) (W.taken sink.old) (W.taken sink.new) notices.items) }
+    ensures minimised { IfOk result (λ notices. IsMinimised (prefix_bytes prefix.now) (profile_of settled.now) (tree_of_settled settled.now) (R.left source.old) (R.left source.new) (W.taken sink.old) (W.taken sink.new) notices.items) }
     ensures unfailed { OnOk result (W.failures sink.new ≡ W.failures sink.old) }
     ensures reads_unfailed { OnOk result (R.failures source.new ≡ R.failures source.old) }
     ensures one_read { R.failures source.new ≤ R.failures source.old + 1 }
     ensures one_write { W.failures sink.new ≤ W.failures sink.old + 1 }
-    ensures fault { IfErr result (EndsWith (text_of prefix.now) (profile_of settled.now) (whole_of settled.now) (R.left source.old) (R.left source.new) (R.failures source.old) (R.failures source.new) (W.taken sink.old) (W.taken sink.new) (W.failures sink.old) (W.failures sink.new)) }
+    ensures fault { IfErr result (FailsWith (prefix_bytes prefix.now) (profile_of settled.now) (tree_of_settled settled.now) (R.left source.old) (R.left source.new) (R.failures source.old) (R.failures source.new) (W.taken sink.old) (W.taken sink.new) (W.failures sink.old) (W.failures sink.new)) }
 {
     minimal_files_are_canonical();
     files_assign_the_lines();

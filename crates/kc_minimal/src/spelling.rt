@@ -1,9 +1,9 @@
 //! The line of a symbol's value.
 ghost use Rattle.std.specs.Prelude.{◌≡◌, ◌<◌, ◌++◌, ◌∷◌, ◌&&◌, [], length, OnOk};
-ghost use Rattle.kc_expr.specs.Lookup.{seen_of};
+ghost use Rattle.kc_expr.specs.Lookup.{symbol_value_of};
 ghost use Rattle.kc_rules_model.specs.Kinds.{is_n, is_tri_kind};
-ghost use Rattle.kc_rules.specs.Told.{whole_of};
-ghost use Rattle.kc_dotconfig_model.specs.Prefixes.{text_of};
+ghost use Rattle.kc_rules.specs.SettledViews.{tree_of_settled};
+ghost use Rattle.kc_dotconfig_model.specs.Prefixes.{prefix_bytes};
 ghost use Rattle.kc_minimal_model.specs.Spelling.{spelled, value_line, unset_line, line_with, ended_line};
 
 use kc_dotconfig_model::Prefix;
@@ -35,7 +35,7 @@ fn is_tri_kind(kind: Kind) -> bool
 
 /// Appends a prefix and a name.
 fn push_name(out: &mut Vec<u8>, prefix: &Prefix, name: &str) -> Result<(), AllocError>
-    ensures { OnOk result (out.new.items ≡ out.old.items ++ (text_of prefix.now ++ name.now)) }
+    ensures { OnOk result (out.new.items ≡ out.old.items ++ (prefix_bytes prefix.now ++ name.now)) }
 {
     out.extend_from_slice(prefix.as_bytes())?;
     out.extend_from_slice(name.as_bytes())?;
@@ -44,7 +44,7 @@ fn push_name(out: &mut Vec<u8>, prefix: &Prefix, name: &str) -> Result<(), Alloc
 
 /// Appends an unset line.
 fn push_unset(out: &mut Vec<u8>, prefix: &Prefix, name: &str) -> Result<(), AllocError>
-    ensures { OnOk result (out.new.items ≡ out.old.items ++ (unset_line (text_of prefix.now) name.now ++ 10 ∷ [])) }
+    ensures { OnOk result (out.new.items ≡ out.old.items ++ (unset_line (prefix_bytes prefix.now) name.now ++ 10 ∷ [])) }
 {
     out.extend_from_slice(b"# ")?;
     push_name(out, prefix, name)?;
@@ -83,7 +83,7 @@ fn push_set(
     kind: Kind,
     text: &str,
 ) -> Result<(), AllocError>
-    ensures { OnOk result (out.new.items ≡ out.old.items ++ (value_line (text_of prefix.now) name.now (spelled kind text.now) ++ 10 ∷ [])) }
+    ensures { OnOk result (out.new.items ≡ out.old.items ++ (value_line (prefix_bytes prefix.now) name.now (spelled kind text.now) ++ 10 ∷ [])) }
 {
     push_name(out, prefix, name)?;
     out.push(b'=')?;
@@ -99,7 +99,7 @@ fn push_line(
     name: &str,
     seen: &Looked<'_>,
 ) -> Result<(), AllocError>
-    ensures { OnOk result (out.new.items ≡ out.old.items ++ (line_with (text_of prefix.now) name.now (seen_of seen.now) ++ 10 ∷ [])) }
+    ensures { OnOk result (out.new.items ≡ out.old.items ++ (line_with (prefix_bytes prefix.now) name.now (symbol_value_of seen.now) ++ 10 ∷ [])) }
 {
     if is_tri_kind(seen.kind) && is_n(seen.tri) {
         push_unset(out, prefix, name)
@@ -116,9 +116,9 @@ pub(crate) fn push_symbol(
     values: &[UnitValue],
     s: Sym,
 ) -> Result<(), AllocError>
-    requires { s < length (whole_of settled.now).symbols }
-    ensures { OnOk result (out.new.items ≡ out.old.items ++ ended_line (text_of prefix.now) (whole_of settled.now) values.now s) }
+    requires { s < length (tree_of_settled settled.now).symbols }
+    ensures { OnOk result (out.new.items ≡ out.old.items ++ ended_line (prefix_bytes prefix.now) (tree_of_settled settled.now) values.now s) }
 {
-    let seen = settled.symbol_seen(s, values);
+    let seen = settled.value_of_symbol(s, values);
     push_line(out, prefix, settled.tree().name(s), &seen)
 }

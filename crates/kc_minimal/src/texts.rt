@@ -1,9 +1,9 @@
 //! The minimal and the full file of a configuration.
 ghost use Rattle.std.specs.Prelude.{◌≡◌, ◌≤◌, true, length, IfOk};
-ghost use Rattle.kc_rules.specs.Told.{profile_of};
-ghost use Rattle.kc_dotconfig_model.specs.Prefixes.{text_of};
-ghost use Rattle.kc_dotconfig_model.specs.Files.{file_lines};
-ghost use Rattle.kc_dotconfig_model.specs.LoadFaults.{MOST_BYTES, MOST_LINES};
+ghost use Rattle.kc_rules.specs.SettledViews.{profile_of};
+ghost use Rattle.kc_dotconfig_model.specs.Prefixes.{prefix_bytes};
+ghost use Rattle.kc_dotconfig_model.specs.ConfigFiles.{file_lines};
+ghost use Rattle.kc_dotconfig_model.specs.LoadFaults.{MAX_BYTES, MAX_LINES};
 ghost use Rattle.kc_dotconfig.specs.Configured.{tree_in};
 ghost use Rattle.kc_minimal_model.specs.FullFile.{full_file};
 ghost use Rattle.kc_minimal_model.specs.FullFilesBack.{IsUnlifted};
@@ -18,7 +18,7 @@ use std::alloc::{AllocError, Global};
 
 /// The minimal file of a configuration (`make savedefconfig`): a line for each symbol whose value isn't what its rule
 /// gives without a user value, all other values as they are, and of a choice for the selected member alone, in order of
-/// first definition. What the configuration holds plays no part but by its values. An `Err` is want of memory.
+/// first definition. What the configuration holds plays no part but by its values. An `Err` means out of memory.
 ///
 /// The values are the one solution of what is held, and the one solution of the minimal file's own assignment; without
 /// any of its lines some symbol has another value; and every assignment that gives the values needs just the units
@@ -28,20 +28,20 @@ pub fn minimal_text(
     config: &Config<'_>,
     prefix: &Prefix,
 ) -> Result<Vec<u8>, AllocError>
-    ensures { IfOk result (λ text. IsMinimalText (text_of prefix.now) (profile_of config.now.system) (tree_in config.now) config.now.users config.now.values text.items) }
+    ensures { IfOk result (λ text. IsMinimalText (prefix_bytes prefix.now) (profile_of config.now.system) (tree_in config.now) config.now.users config.now.values text.items) }
 {
     minimal_texts_are_minimal();
     minimal_lines(alloc, config.settled(), prefix, config.values())
 }
 
 /// The full file of a configuration: its symbols that are visible, have a default or are selected, each at its first
-/// definition, with the titles of menus and comments. An `Err` is want of memory.
+/// definition, with the titles of menus and comments. An `Err` means out of memory.
 ///
 /// Where no tristate stands above its visibility, reading it gives the values back.
 pub fn full_text(alloc: Global, config: &Config<'_>, prefix: &Prefix) -> Result<Vec<u8>, AllocError>
-    ensures text { IfOk result (λ text. text.items ≡ full_file (text_of prefix.now) (tree_in config.now) config.now.values) }
-    ensures back { IfOk result (λ text. IsUnlifted (profile_of config.now.system) (tree_in config.now) config.now.values → ReadsTo (text_of prefix.now) (profile_of config.now.system) (tree_in config.now) text.items config.now.values) }
-    ensures accepted { IfOk result (λ text. IsUnlifted (profile_of config.now.system) (tree_in config.now) config.now.values → length text.items ≤ MOST_BYTES → length (file_lines text.items) ≤ MOST_LINES → has_short_lines text.items ≡ true → Loads (text_of prefix.now) (profile_of config.now.system) (tree_in config.now) text.items config.now.values) }
+    ensures text { IfOk result (λ text. text.items ≡ full_file (prefix_bytes prefix.now) (tree_in config.now) config.now.values) }
+    ensures back { IfOk result (λ text. IsUnlifted (profile_of config.now.system) (tree_in config.now) config.now.values → ReadsTo (prefix_bytes prefix.now) (profile_of config.now.system) (tree_in config.now) text.items config.now.values) }
+    ensures accepted { IfOk result (λ text. IsUnlifted (profile_of config.now.system) (tree_in config.now) config.now.values → length text.items ≤ MAX_BYTES → length (file_lines text.items) ≤ MAX_LINES → has_short_lines text.items ≡ true → Loads (prefix_bytes prefix.now) (profile_of config.now.system) (tree_in config.now) text.items config.now.values) }
 {
     full_files_lead_back();
     read_files_are_accepted();

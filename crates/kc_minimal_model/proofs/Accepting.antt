@@ -6,7 +6,7 @@ use Rattle.std.specs.List.{AllZip, list_all, flat_map}
 use Rattle.std.proofs.lemmas.Bool.{and_parts, leb-true}
 use Rattle.std.proofs.lemmas.List.{length-map}
 use Rattle.std.proofs.lemmas.Str.{IsUtf8-from_is_utf8}
-use Rattle.kc_tree_model.specs.Trees.{Whole}
+use Rattle.kc_tree_model.specs.Trees.{Tree}
 use Rattle.kc_tree_model.specs.TreeLookup.{IsConsistent, unit_of}
 use Rattle.kc_system.specs.Solutions.{Solves, FitsUsers}
 use Rattle.kc_rules_model.specs.declared.profile.Profile.{Profile}
@@ -14,10 +14,10 @@ use Rattle.kc_rules_model.specs.declared.values.UnitValue.{UnitValue}
 use Rattle.kc_rules_model.specs.declared.values.UserValue.{UserValue}
 use Rattle.kc_rules_model.specs.Rule.{rule}
 use Rattle.kc_rules_model.specs.Shapes.{user_fits}
-use Rattle.kc_dotconfig_model.specs.Names.{is_prefix}
-use Rattle.kc_dotconfig_model.specs.Lines.{Saying, Says, without_white_end}
-use Rattle.kc_dotconfig_model.specs.Files.{FileSays, file_lines, has_utf8_lines}
-use Rattle.kc_dotconfig_model.specs.LoadFaults.{MOST_BYTES, MOST_LINES, MOST_LINE_BYTES, IsAccepted}
+use Rattle.kc_dotconfig_model.specs.PrefixGrammar.{is_prefix}
+use Rattle.kc_dotconfig_model.specs.ConfigLines.{LineMeaning, Means, without_white_end}
+use Rattle.kc_dotconfig_model.specs.ConfigFiles.{FileMeans, file_lines, has_utf8_lines}
+use Rattle.kc_dotconfig_model.specs.LoadFaults.{MAX_BYTES, MAX_LINES, MAX_LINE_BYTES, IsAccepted}
 use Rattle.kc_dotconfig_model.proofs.AcceptedLines.{accepted_of_lines}
 use Rattle.kc_minimal_model.specs.Spelling.{symbol_line, ended_line}
 use Rattle.kc_minimal_model.specs.MinimalFile.{has_line}
@@ -34,20 +34,20 @@ passes_at p (y ∷ xs) zero x all at = let same : y ≡ x = cc in ap p (sym same
 passes_at p (y ∷ xs) (suc i) x all at = passes_at p xs i x (and_parts (p y) (list_all p xs) all).1 at
 
 -- a line of a file that says something
-line_says : (prefix : List ℕ) (tree : Whole) (lines : List (List ℕ)) (sayings : List Saying) (i : ℕ) (line : List ℕ) → AllZip (λ l saying. Says prefix tree (without_white_end l) saying) lines sayings → slice_get lines i ≡ Some line
-    → (saying : Saying) × Says prefix tree (without_white_end line) saying
+line_says : (prefix : List ℕ) (tree : Tree) (lines : List (List ℕ)) (sayings : List LineMeaning) (i : ℕ) (line : List ℕ) → AllZip (λ l saying. Means prefix tree (without_white_end l) saying) lines sayings → slice_get lines i ≡ Some line
+    → (saying : LineMeaning) × Means prefix tree (without_white_end line) saying
 line_says prefix tree [] sayings i line all at = cc
 line_says prefix tree (l ∷ lines) [] i line all at = absurd all
-line_says prefix tree (l ∷ lines) (saying ∷ sayings) zero line all at = let same : l ≡ line = cc in (saying, subst (λ k. Says prefix tree (without_white_end k) saying) same all.0)
+line_says prefix tree (l ∷ lines) (saying ∷ sayings) zero line all at = let same : l ≡ line = cc in (saying, subst (λ k. Means prefix tree (without_white_end k) saying) same all.0)
 line_says prefix tree (l ∷ lines) (saying ∷ sayings) (suc i) line all at = line_says prefix tree lines sayings i line all.1 at
 
 -- a file that is read is accepted within the limits
-pub accepted_within : (prefix : List ℕ) (tree : Whole) (bytes : List ℕ) (sayings : List Saying) → has_utf8_lines bytes ≡ true → FileSays prefix tree bytes sayings
-    → length bytes ≤ MOST_BYTES → length (file_lines bytes) ≤ MOST_LINES → has_short_lines bytes ≡ true → IsAccepted prefix tree bytes
+pub accepted_within : (prefix : List ℕ) (tree : Tree) (bytes : List ℕ) (sayings : List LineMeaning) → has_utf8_lines bytes ≡ true → FileMeans prefix tree bytes sayings
+    → length bytes ≤ MAX_BYTES → length (file_lines bytes) ≤ MAX_LINES → has_short_lines bytes ≡ true → IsAccepted prefix tree bytes
 accepted_within prefix tree bytes sayings utf8 says small few short = accepted_of_lines prefix tree bytes small few (λ i line at.
     let said = line_says prefix tree (file_lines bytes) sayings i line says at in
     record {
-      short = leb-true (length line) MOST_LINE_BYTES (passes_at (λ (l : List ℕ). nat_le (length l) MOST_LINE_BYTES) (file_lines bytes) i line short at);
+      short = leb-true (length line) MAX_LINE_BYTES (passes_at (λ (l : List ℕ). nat_le (length l) MAX_LINE_BYTES) (file_lines bytes) i line short at);
       utf8 = IsUtf8-from_is_utf8 line (passes_at is_utf8 (file_lines bytes) i line utf8 at);
       saying = said.0;
       says = said.1;
@@ -60,19 +60,19 @@ all_of_map : {X Y : Type 0} (p : Y → Bool) (f : X → Y) (xs : List X) → lis
 all_of_map p f [] = refl
 all_of_map p f (x ∷ xs) = ap (λ b. p (f x) && b) (all_of_map p f xs)
 
-module _ (prefix : List ℕ) (valid : is_prefix prefix ≡ true) (profile : Profile) (tree : Whole) (sound : IsConsistent tree) (users : List (Option UserValue)) (values : List UnitValue)
+module _ (prefix : List ℕ) (valid : is_prefix prefix ≡ true) (profile : Profile) (tree : Tree) (sound : IsConsistent tree) (users : List (Option UserValue)) (values : List UnitValue)
     (fitting : FitsUsers (length tree.units) (λ u x. IsTrue (user_fits tree u x)) users) (solved : Solves (length tree.units) (rule profile tree) users values) where
   -- whether the line of a symbol is short
   abbrev pub is_short : ℕ → Bool
-  is_short s = nat_le (length (symbol_line prefix tree values s)) MOST_LINE_BYTES
+  is_short s = nat_le (length (symbol_line prefix tree values s)) MAX_LINE_BYTES
 
   short_lines : (xs : List ℕ) → list_all (has_line profile tree values) xs ≡ true → has_short_lines (flat_map (ended_line prefix tree values) xs) ≡ list_all is_short xs
   short_lines xs all =
-      ap (list_all (λ (line : List ℕ). nat_le (length line) MOST_LINE_BYTES)) (lines_of_symbols prefix valid profile tree sound users values fitting solved xs all)
-      ∙ all_of_map (λ (line : List ℕ). nat_le (length line) MOST_LINE_BYTES) (symbol_line prefix tree values) xs
+      ap (list_all (λ (line : List ℕ). nat_le (length line) MAX_LINE_BYTES)) (lines_of_symbols prefix valid profile tree sound users values fitting solved xs all)
+      ∙ all_of_map (λ (line : List ℕ). nat_le (length line) MAX_LINE_BYTES) (symbol_line prefix tree values) xs
 
   -- the short lines of some symbols that have one
-  pub accepted_symbols : (xs : List ℕ) → list_all (has_line profile tree values) xs ≡ true → list_all is_short xs ≡ true → length xs ≤ MOST_LINES → length (flat_map (ended_line prefix tree values) xs) ≤ MOST_BYTES
+  pub accepted_symbols : (xs : List ℕ) → list_all (has_line profile tree values) xs ≡ true → list_all is_short xs ≡ true → length xs ≤ MAX_LINES → length (flat_map (ended_line prefix tree values) xs) ≤ MAX_BYTES
       → IsAccepted prefix tree (flat_map (ended_line prefix tree values) xs)
   accepted_symbols xs all short few small =
       let bytes = flat_map (ended_line prefix tree values) xs in

@@ -8,9 +8,9 @@ use Rattle.std.proofs.Math.Seq.{take-length}
 use Rattle.kc_expr.specs.Token.{is_white_byte}
 use Rattle.kc_tree_model.specs.TreeLookup.{is_name_byte}
 use Rattle.kc_rules_model.proofs.Ink.{is_ink, isn't, all_weaker}
-use Rattle.kc_dotconfig_model.specs.Names.{lacks}
-use Rattle.kc_dotconfig_model.specs.Lines.{without_white_end}
-use Rattle.kc_dotconfig_model.specs.Files.{file_lines}
+use Rattle.kc_dotconfig_model.specs.PrefixGrammar.{lacks}
+use Rattle.kc_dotconfig_model.specs.ConfigLines.{without_white_end}
+use Rattle.kc_dotconfig_model.specs.ConfigFiles.{file_lines}
 
 pub all_of_both : (p : ℕ → Bool) (xs ys : List ℕ) → list_all p xs ≡ true → list_all p ys ≡ true → list_all p (xs ++ ys) ≡ true
 all_of_both p xs ys a b = list_all-append p xs ys ∙ and_from (list_all p xs) (list_all p ys) a b

@@ -3,7 +3,7 @@ use Rattle.std.proofs.Common.{◌≡◌, ◌≢◌, ◌⊎◌, ◌↔◌, inl, i
 use Rattle.std.specs.Prelude.{slice_get}
 use Rattle.std.specs.List.{list_any, list_all}
 use Rattle.std.proofs.lemmas.Bool.{cases_Bool, false≢true, and_from, and_parts, eqb-true, or_cases, or_left, or_right}
-use Rattle.kc_tree_model.specs.Trees.{Whole}
+use Rattle.kc_tree_model.specs.Trees.{Tree}
 use Rattle.kc_tree_model.specs.TreeLookup.{unit_of}
 use Rattle.kc_system.specs.Solutions.{user_of, Solves, FitsUsers}
 use Rattle.kc_system.specs.LeastAssignments.{IsKept, IsCutTo}
@@ -19,11 +19,11 @@ use Rattle.kc_rules_model.specs.Dependencies.{dependencies}
 use Rattle.kc_rules_model.specs.Shapes.{user_fits}
 use Rattle.kc_rules_model.specs.checker.FrameLaw.{rules_frame}
 use Rattle.kc_rules_model.specs.checker.RestoreLaw.{rules_restore}
-use Rattle.kc_dotconfig_model.specs.Names.{is_prefix}
-use Rattle.kc_dotconfig_model.specs.Lines.{Saying}
-use Rattle.kc_rules_model.specs.SymbolValues.{symbol_seen}
+use Rattle.kc_dotconfig_model.specs.PrefixGrammar.{is_prefix}
+use Rattle.kc_dotconfig_model.specs.ConfigLines.{LineMeaning}
+use Rattle.kc_rules_model.specs.SymbolValues.{value_of_symbol}
 use Rattle.kc_rules_model.specs.Reports.{symbol_numbers}
-use Rattle.kc_dotconfig_model.specs.Files.{FileSays, file_users, no_users, has_utf8_lines}
+use Rattle.kc_dotconfig_model.specs.ConfigFiles.{FileMeans, file_assignment, empty_assignment, has_utf8_lines}
 use Rattle.kc_dotconfig_model.proofs.FittingFiles.{file_fits}
 use Rattle.kc_dotconfig_model.proofs.LineLaws.{file_read}
 use Rattle.kc_minimal_model.specs.MinimalFile.{is_kept, has_line, may_have_line, minimal_symbols, minimal_file}
@@ -39,35 +39,35 @@ use Rattle.kc_minimal_model.proofs.LeastFile.{passes_filter, none_held, none_len
 pub decides : (a b : UnitValue) → (a ≡ b) ⊎ (a ≢ b)
 decides a b = elim (cases_Bool (same_value a b)) [ inl same ↦ inl ((values_decided a b).0 same) | inr other ↦ inr (λ e. false≢true (sym other ∙ (values_decided a b).1 e)) ]
 
-abbrev pub Fitting : Whole → List (Option UserValue) → Type 0
+abbrev pub Fitting : Tree → List (Option UserValue) → Type 0
 Fitting tree users = FitsUsers (length tree.units) (λ u x. IsTrue (user_fits tree u x)) users
 
-module _ (prefix : List ℕ) (valid : is_prefix prefix ≡ true) (profile : Profile) (tree : Whole) (settled : IsOrderedTree tree) where
-  pub fits_of : (bytes : List ℕ) (sayings : List Saying) → has_utf8_lines bytes ≡ true → FileSays prefix tree bytes sayings → Fitting tree (file_users tree sayings)
+module _ (prefix : List ℕ) (valid : is_prefix prefix ≡ true) (profile : Profile) (tree : Tree) (settled : IsOrderedTree tree) where
+  pub fits_of : (bytes : List ℕ) (sayings : List LineMeaning) → has_utf8_lines bytes ≡ true → FileMeans prefix tree bytes sayings → Fitting tree (file_assignment tree sayings)
   fits_of bytes sayings utf8 says = file_fits prefix tree bytes sayings settled.consistent utf8 says
 
   -- what a file that can be read gives
-  pub each : (bytes : List ℕ) (sayings : List Saying) → has_utf8_lines bytes ≡ true → FileSays prefix tree bytes sayings → (values : List UnitValue) × ReadsTo prefix profile tree bytes values
+  pub each : (bytes : List ℕ) (sayings : List LineMeaning) → has_utf8_lines bytes ≡ true → FileMeans prefix tree bytes sayings → (values : List UnitValue) × ReadsTo prefix profile tree bytes values
   each bytes sayings utf8 says =
       let fitting = fits_of bytes sayings utf8 says in
-      let found = solving.solution (length tree.units) (dependencies tree) (rule profile tree) (λ u x. IsTrue (user_fits tree u x)) settled.order settled.ordered (rules_frame profile tree) (file_users tree sayings) fitting.1 in
-      (found.0, record { utf8 = utf8; sayings = sayings; says = says; gives = solving.gives (length tree.units) (dependencies tree) (rule profile tree) (λ u x. IsTrue (user_fits tree u x)) settled.order settled.ordered (rules_frame profile tree) (file_users tree sayings) fitting.1 found.0 found.1 })
+      let found = solving.solution (length tree.units) (dependencies tree) (rule profile tree) (λ u x. IsTrue (user_fits tree u x)) settled.order settled.ordered (rules_frame profile tree) (file_assignment tree sayings) fitting.1 in
+      (found.0, record { utf8 = utf8; sayings = sayings; says = says; gives = solving.gives (length tree.units) (dependencies tree) (rule profile tree) (λ u x. IsTrue (user_fits tree u x)) settled.order settled.ordered (rules_frame profile tree) (file_assignment tree sayings) fitting.1 found.0 found.1 })
 
   -- a file says one thing
-  same_sayings : (bytes : List ℕ) (a b : List Saying) → FileSays prefix tree bytes a → FileSays prefix tree bytes b → a ≡ b
+  same_sayings : (bytes : List ℕ) (a b : List LineMeaning) → FileMeans prefix tree bytes a → FileMeans prefix tree bytes b → a ≡ b
   same_sayings bytes a b first second = let e = (file_read prefix tree bytes a valid).1 first in let f = (file_read prefix tree bytes b valid).1 second in cc (e, f)
 
   pub one : (bytes : List ℕ) (v w : List UnitValue) → ReadsTo prefix profile tree bytes v → ReadsTo prefix profile tree bytes w → v ≡ w
   one bytes v w a b =
       let same = same_sayings bytes a.sayings b.sayings a.says b.says in
-      b.gives.only v (subst (λ s. Solves (length tree.units) (rule profile tree) (file_users tree s) v) same a.gives.solves)
+      b.gives.only v (subst (λ s. Solves (length tree.units) (rule profile tree) (file_assignment tree s) v) same a.gives.solves)
 
   -- the minimal file of the values of any fitting assignment gives them back
   pub reads_back : (users : List (Option UserValue)) (values : List UnitValue) → Fitting tree users → Solves (length tree.units) (rule profile tree) users values → ReadsTo prefix profile tree (minimal_file prefix profile tree values) values
   reads_back users values fitting solved =
       let l = reads_as_least prefix valid profile tree settled.consistent users values fitting solved in
       let given = least_gives (length tree.units) (dependencies tree) (rule profile tree) (λ u x. IsTrue (user_fits tree u x)) settled.order settled.ordered (rules_frame profile tree) decides as_user (rules_restore profile tree)
-      users (file_users tree l.sayings) values fitting solved l.least in
+      users (file_assignment tree l.sayings) values fitting solved l.least in
       record {
         utf8 = lines_are_utf8 prefix valid profile tree settled.consistent users values fitting solved (minimal_symbols profile tree values) (passes_filter (has_line profile tree values) (symbol_numbers tree));
         sayings = l.sayings;
@@ -107,7 +107,7 @@ none_of_two p q r (x ∷ xs) fails = go (r x) (q x) refl refl (none_of_two p q r
     at_head true f = ap (λ b. list_any p (cond b (x ∷ filter q (filter r xs)) (filter q (filter r xs)))) f ∙ ap (λ b. b || list_any p (filter q (filter r xs))) (fails x f e) ∙ rest
     at_head false f = ap (λ b. list_any p (cond b (x ∷ filter q (filter r xs)) (filter q (filter r xs)))) f ∙ rest
 
-module _ (prefix : List ℕ) (valid : is_prefix prefix ≡ true) (profile : Profile) (tree : Whole) (settled : IsOrderedTree tree) (users : List (Option UserValue)) (values : List UnitValue)
+module _ (prefix : List ℕ) (valid : is_prefix prefix ≡ true) (profile : Profile) (tree : Tree) (settled : IsOrderedTree tree) (users : List (Option UserValue)) (values : List UnitValue)
     (fitting : FitsUsers (length tree.units) (λ u x. IsTrue (user_fits tree u x)) users) (solved : Solves (length tree.units) (rule profile tree) users values) (keeps : ℕ → Bool) where
   pub some_have_lines : list_all (has_line profile tree values) (filter keeps (minimal_symbols profile tree values)) ≡ true
   some_have_lines = all_of_filter (has_line profile tree values) keeps (minimal_symbols profile tree values) (passes_filter (has_line profile tree values) (symbol_numbers tree))
@@ -115,31 +115,31 @@ module _ (prefix : List ℕ) (valid : is_prefix prefix ≡ true) (profile : Prof
   utf8_some : has_utf8_lines (with_lines keeps prefix profile tree values) ≡ true
   utf8_some = lines_are_utf8 prefix valid profile tree settled.consistent users values fitting solved (filter keeps (minimal_symbols profile tree values)) some_have_lines
 
-  says_some : FileSays prefix tree (with_lines keeps prefix profile tree values) (map (λ s. meant values (unit_of tree s)) (filter keeps (minimal_symbols profile tree values)))
+  says_some : FileMeans prefix tree (with_lines keeps prefix profile tree values) (map (λ s. meant values (unit_of tree s)) (filter keeps (minimal_symbols profile tree values)))
   says_some = lines_say prefix valid profile tree settled.consistent users values fitting solved (filter keeps (minimal_symbols profile tree values))
       some_have_lines
 
-  user_after : (xs : List ℕ) (u : ℕ) → u < length tree.units → user_of (file_users tree (map (λ s. meant values (unit_of tree s)) xs)) u ≡ cond (list_any (λ s. unit_of tree s == u) xs) (user_meant values u) None
-  user_after xs u h = after_lines tree values u xs (no_users tree) false (let len = none_length (length tree.units) in omega (arith, len)) (none_held (length tree.units) u)
+  user_after : (xs : List ℕ) (u : ℕ) → u < length tree.units → user_of (file_assignment tree (map (λ s. meant values (unit_of tree s)) xs)) u ≡ cond (list_any (λ s. unit_of tree s == u) xs) (user_meant values u) None
+  user_after xs u h = after_lines tree values u xs (empty_assignment tree) false (let len = none_length (length tree.units) in omega (arith, len)) (none_held (length tree.units) u)
 
   cut : IsCutTo (length tree.units) (λ u. list_any (λ s. unit_of tree s == u) (filter keeps (minimal_symbols profile tree values)))
-      (file_users tree (map (λ s. meant values (unit_of tree s)) (minimal_symbols profile tree values))) (file_users tree (map (λ s. meant values (unit_of tree s)) (filter keeps (minimal_symbols profile tree values))))
+      (file_assignment tree (map (λ s. meant values (unit_of tree s)) (minimal_symbols profile tree values))) (file_assignment tree (map (λ s. meant values (unit_of tree s)) (filter keeps (minimal_symbols profile tree values))))
   cut = record {
-    one_each = length_after tree values (filter keeps (minimal_symbols profile tree values)) (no_users tree) ∙ none_length (length tree.units);
+    one_each = length_after tree values (filter keeps (minimal_symbols profile tree values)) (empty_assignment tree) ∙ none_length (length tree.units);
     cut = λ u h. user_after (filter keeps (minimal_symbols profile tree values)) u h ∙ elim (cases_Bool (list_any (λ s. unit_of tree s == u) (filter keeps (minimal_symbols profile tree values)))) [
       | inl some ↦
           let there = any_of_filter (λ s. unit_of tree s == u) keeps (minimal_symbols profile tree values) some in
           ap (λ b. cond b (user_meant values u) None) some
-          ∙ sym (ap (λ b. cond b (user_of (file_users tree (map (λ s. meant values (unit_of tree s)) (minimal_symbols profile tree values))) u) None) some ∙ user_after (minimal_symbols profile tree values) u h ∙ ap (λ b. cond b (user_meant values u) None) there)
+          ∙ sym (ap (λ b. cond b (user_of (file_assignment tree (map (λ s. meant values (unit_of tree s)) (minimal_symbols profile tree values))) u) None) some ∙ user_after (minimal_symbols profile tree values) u h ∙ ap (λ b. cond b (user_meant values u) None) there)
       | inr lost ↦
-          ap (λ b. cond b (user_meant values u) None) lost ∙ sym (ap (λ b. cond b (user_of (file_users tree (map (λ s. meant values (unit_of tree s)) (minimal_symbols profile tree values))) u) None) lost)
+          ap (λ b. cond b (user_meant values u) None) lost ∙ sym (ap (λ b. cond b (user_of (file_assignment tree (map (λ s. meant values (unit_of tree s)) (minimal_symbols profile tree values))) u) None) lost)
     ];
   }
 
   -- without a line, and others or not, it gives other values
   pub needed : (s : ℕ) → has_line profile tree values s ≡ true → keeps s ≡ false → (others : List UnitValue) × ReadsTo prefix profile tree (with_lines keeps prefix profile tree values) others × (others ≢ values)
   needed s has dropped =
-      let parts = and_parts (is_kept profile tree values (unit_of tree s)) (may_have_line (slice_get tree.symbols s) (symbol_seen tree values s)) has in
+      let parts = and_parts (is_kept profile tree values (unit_of tree s)) (may_have_line (slice_get tree.symbols s) (value_of_symbol tree values s)) has in
       let inside = unit_inside prefix valid profile tree settled.consistent users values fitting solved s (slice_get tree.symbols s) refl parts.1 in
       let kept : IsKept (rule profile tree) values (unit_of tree s) = λ same. false≢true (sym (others_fail profile tree users values fitting solved (unit_of tree s) same) ∙ parts.0) in
       let fails : (t : ℕ) → keeps t ≡ true → has_line profile tree values t ≡ true → (unit_of tree t == unit_of tree s) ≡ false = λ t kept_line line. elim (cases_Bool (unit_of tree t == unit_of tree s)) [
@@ -150,7 +150,7 @@ module _ (prefix : List ℕ) (valid : is_prefix prefix ≡ true) (profile : Prof
       ] in
       let lost = none_of_two (λ t. unit_of tree t == unit_of tree s) keeps (has_line profile tree values) (symbol_numbers tree) fails in
       let given = least_gives (length tree.units) (dependencies tree) (rule profile tree) (λ u x. IsTrue (user_fits tree u x)) settled.order settled.ordered (rules_frame profile tree) decides as_user (rules_restore profile tree)
-      users (file_users tree (map (λ t. meant values (unit_of tree t)) (minimal_symbols profile tree values))) values fitting solved
+      users (file_assignment tree (map (λ t. meant values (unit_of tree t)) (minimal_symbols profile tree values))) values fitting solved
       (least_of_lines prefix valid profile tree settled.consistent users values fitting solved) in
-      let found = given.3 (λ u. list_any (λ t. unit_of tree t == u) (filter keeps (minimal_symbols profile tree values))) (file_users tree (map (λ t. meant values (unit_of tree t)) (filter keeps (minimal_symbols profile tree values)))) (unit_of tree s) cut inside kept lost in
+      let found = given.3 (λ u. list_any (λ t. unit_of tree t == u) (filter keeps (minimal_symbols profile tree values))) (file_assignment tree (map (λ t. meant values (unit_of tree t)) (filter keeps (minimal_symbols profile tree values)))) (unit_of tree s) cut inside kept lost in
       (found.0, record { utf8 = utf8_some; sayings = map (λ t. meant values (unit_of tree t)) (filter keeps (minimal_symbols profile tree values)); says = says_some; gives = found.1 }, found.2)

@@ -10,22 +10,22 @@ use Rattle.kc_value.specs.declared.tri.Tri.{Tri}
 use Rattle.kc_value.specs.declared.tri.Tri.TheVariants.{N, M, Y}
 use Rattle.kc_value.specs.declared.value.Kind.{Kind}
 use Rattle.kc_value.specs.declared.value.Kind.TheVariants.{Bool as Boolean, Tristate, Text, Int, Hex}
-use Rattle.kc_expr.specs.Expr.{Seen}
-use Rattle.kc_tree_model.specs.Trees.{Whole, Symbol, Choice, TreeUnit, of_symbol, of_choice}
-use Rattle.kc_tree_model.specs.TreeLookup.{IsConsistent, unit_of, place_of_unit}
+use Rattle.kc_expr.specs.Expr.{SymbolValue}
+use Rattle.kc_tree_model.specs.Trees.{Tree, Symbol, Choice, TreeUnit, of_symbol, of_choice}
+use Rattle.kc_tree_model.specs.TreeLookup.{IsConsistent, unit_of, index_of_unit}
 use Rattle.kc_system.specs.Solutions.{FitsValues}
 use Rattle.kc_rules_model.specs.declared.values.UnitValue.{UnitValue}
 use Rattle.kc_rules_model.specs.declared.values.UnitValue.TheVariants.{Tri as TriValue, Text as TextValue, Member as MemberValue}
 use Rattle.kc_rules_model.specs.Kinds.{is_tri_kind}
-use Rattle.kc_rules_model.specs.SymbolValues.{symbol_seen, seen_in, seen_as_tri, tri_of, text_of, member_of, tri_if_chosen}
+use Rattle.kc_rules_model.specs.SymbolValues.{value_of_symbol, value_in_unit, tri_symbol_value, tri_of, text_of, member_of, tri_if_selected}
 use Rattle.kc_rules_model.specs.Shapes.{value_fits, unit_value_fits, symbol_value_fits, choice_value_fits, is_member, tri_fits, text_fits}
 use Rattle.kc_rules_model.specs.Equality.{same_tri}
 use Rattle.kc_rules_model.specs.checker.EqualityLaws.{values_decided}
 use Rattle.kc_rules_model.specs.Reports.{symbol_numbers}
 use Rattle.kc_tree_model.proofs.Lookups.{inside, place_is, unit_is}
-use Rattle.kc_minimal_model.specs.Differences.{Difference, same_seen, difference_at, differences}
+use Rattle.kc_minimal_model.specs.Differences.{Difference, is_same_value, difference_at, differences}
 use Rattle.kc_minimal_model.proofs.KeptLines.{tri_kind}
-use Rattle.kc_minimal_model.specs.Laws.{DifferencesTell}
+use Rattle.kc_minimal_model.specs.MinimalFileLaws.{DifferencesAreExact}
 
 same_by_get : (v w : List UnitValue) → length v ≡ length w → ((u : ℕ) → u < length v → slice_get v u ≡ slice_get w u) → v ≡ w
 same_by_get [] [] len same = refl
@@ -53,7 +53,7 @@ tri_same N = refl
 tri_same M = refl
 tri_same Y = refl
 
-pub same_as_itself : (s : ℕ) (o : Option Seen) → difference_at s o o ≡ None
+pub same_as_itself : (s : ℕ) (o : Option SymbolValue) → difference_at s o o ≡ None
 same_as_itself s None = refl
 same_as_itself s (Some a) = ap (λ t. cond {A = Option Difference} t None (Some (record { symbol = s; left = a; right = a }))) (and_from (same_tri a.tri a.tri) (bytes_eq a.text a.text) (tri_same a.tri) ((bytes_eq-Decides a.text a.text).1 refl))
 
@@ -65,36 +65,36 @@ text_kind Int t e = refl
 text_kind Hex t e = refl
 
 -- two values of one shape that read the same
-record ReadSame (a b : Seen) : Type 0 where
+record ReadSame (a b : SymbolValue) : Type 0 where
   tri : a.tri ≡ b.tri
   text : a.text ≡ b.text
 
 tri_from : (a b : Tri) → same_tri a b ≡ true → a ≡ b
 tri_from a b e = let same : TriValue a ≡ TriValue b = (values_decided (TriValue a) (TriValue b)).0 e in cc
 
-read_same : (s : ℕ) (a b : Seen) → difference_at s (Some a) (Some b) ≡ None → ReadSame a b
-read_same s a b e = go (same_seen a b) refl e where
-  go : (t : Bool) → same_seen a b ≡ t → cond {A = Option Difference} t None (Some (record { symbol = s; left = a; right = b })) ≡ None → ReadSame a b
+read_same : (s : ℕ) (a b : SymbolValue) → difference_at s (Some a) (Some b) ≡ None → ReadSame a b
+read_same s a b e = go (is_same_value a b) refl e where
+  go : (t : Bool) → is_same_value a b ≡ t → cond {A = Option Difference} t None (Some (record { symbol = s; left = a; right = b })) ≡ None → ReadSame a b
   go true same e = let parts = and_parts (same_tri a.tri b.tri) (bytes_eq a.text b.text) same in record { tri = tri_from a.tri b.tri parts.0; text = (bytes_eq-Decides a.text b.text).0 parts.1 }
   go false same e = cc
 
-tri_if_y : (s : ℕ) (o : Option ℕ) → tri_if_chosen s o ≡ Y → o ≡ Some s
+tri_if_y : (s : ℕ) (o : Option ℕ) → tri_if_selected s o ≡ Y → o ≡ Some s
 tri_if_y s None e = cc
 tri_if_y s (Some m) e = elim (cases_Bool (m == s)) [
   | inl same ↦ ap Some (eqb-true m s same)
-  | inr other ↦ (let none : tri_if_chosen s (Some m) ≡ N = ap (λ b. cond b Y N) other in cc)
+  | inr other ↦ (let none : tri_if_selected s (Some m) ≡ N = ap (λ b. cond b Y N) other in cc)
 ]
 
-module _ (tree : Whole) (sound : IsConsistent tree) (v w : List UnitValue) (fits_v : FitsValues (length tree.units) (λ u x. IsTrue (value_fits tree u x)) v) (fits_w : FitsValues (length tree.units) (λ u x. IsTrue (value_fits tree u x)) w)
+module _ (tree : Tree) (sound : IsConsistent tree) (v w : List UnitValue) (fits_v : FitsValues (length tree.units) (λ u x. IsTrue (value_fits tree u x)) v) (fits_w : FitsValues (length tree.units) (λ u x. IsTrue (value_fits tree u x)) w)
     (none : differences tree v w ≡ []) where
-  symbol_same : (s : ℕ) (symbol : Symbol) → slice_get tree.symbols s ≡ Some symbol → ReadSame (seen_in tree v s symbol symbol.choice) (seen_in tree w s symbol symbol.choice)
+  symbol_same : (s : ℕ) (symbol : Symbol) → slice_get tree.symbols s ≡ Some symbol → ReadSame (value_in_unit tree v s symbol symbol.choice) (value_in_unit tree w s symbol symbol.choice)
   symbol_same s symbol at =
       let below : s < length tree.symbols = inside tree.symbols s symbol at in
-      let nothing = none_each (λ t. difference_at t (symbol_seen tree v t) (symbol_seen tree w t)) (length tree.symbols) 0 s (omega arith) (omega arith) none in
-      read_same s _ _ (sym (ap (λ o. difference_at s (option_map (λ (t : Symbol). seen_in tree v s t t.choice) o) (option_map (λ (t : Symbol). seen_in tree w s t t.choice) o)) at) ∙ nothing)
+      let nothing = none_each (λ t. difference_at t (value_of_symbol tree v t) (value_of_symbol tree w t)) (length tree.symbols) 0 s (omega arith) (omega arith) none in
+      read_same s _ _ (sym (ap (λ o. difference_at s (option_map (λ (t : Symbol). value_in_unit tree v s t t.choice) o) (option_map (λ (t : Symbol). value_in_unit tree w s t t.choice) o)) at) ∙ nothing)
 
   of_kind : (kind : Kind) (a b : UnitValue) (symbol : Symbol) → symbol.kind ≡ kind → symbol_value_fits (Some symbol) a ≡ true → symbol_value_fits (Some symbol) b ≡ true → (t : Bool) → is_tri_kind kind ≡ t
-      → ReadSame (cond t (seen_as_tri kind (tri_of (Some a))) (record { kind = kind; tri = N; text = text_of (Some a) })) (cond t (seen_as_tri kind (tri_of (Some b))) (record { kind = kind; tri = N; text = text_of (Some b) })) → a ≡ b
+      → ReadSame (cond t (tri_symbol_value kind (tri_of (Some a))) (record { kind = kind; tri = N; text = text_of (Some a) })) (cond t (tri_symbol_value kind (tri_of (Some b))) (record { kind = kind; tri = N; text = text_of (Some b) })) → a ≡ b
   of_kind kind (TriValue a) (TriValue b) symbol is fa fb true tri same = ap (λ t. TriValue t) same.tri
   of_kind kind (TextValue a) (TextValue b) symbol is fa fb false tri same = ap (λ t. TextValue t) same.text
   of_kind kind (TriValue a) (TriValue b) symbol is fa fb false tri same = absurd (false≢true (sym tri ∙ tri_kind kind a (sym (ap (λ k. tri_fits k a) is) ∙ fa)))
@@ -115,20 +115,20 @@ module _ (tree : Whole) (sound : IsConsistent tree) (v w : List UnitValue) (fits
       let found = sound.symbol_units u s at in
       let number : unit_of tree s ≡ u = unit_is tree sound s u found.0 None found.1 found.2 at in
       let same = symbol_same s found.0 found.1 in
-      let F : List UnitValue → Option UnitValue → Seen = λ values h. cond (is_tri_kind found.0.kind) (seen_as_tri found.0.kind (tri_of h)) (record { kind = found.0.kind; tri = N; text = text_of h }) in
-      let left : seen_in tree v s found.0 found.0.choice ≡ F v (Some a) = ap (seen_in tree v s found.0) found.2 ∙ ap (F v) (ap (slice_get v) number ∙ va) in
-      let right : seen_in tree w s found.0 found.0.choice ≡ F w (Some b) = ap (seen_in tree w s found.0) found.2 ∙ ap (F w) (ap (slice_get w) number ∙ wb) in
+      let F : List UnitValue → Option UnitValue → SymbolValue = λ values h. cond (is_tri_kind found.0.kind) (tri_symbol_value found.0.kind (tri_of h)) (record { kind = found.0.kind; tri = N; text = text_of h }) in
+      let left : value_in_unit tree v s found.0 found.0.choice ≡ F v (Some a) = ap (value_in_unit tree v s found.0) found.2 ∙ ap (F v) (ap (slice_get v) number ∙ va) in
+      let right : value_in_unit tree w s found.0 found.0.choice ≡ F w (Some b) = ap (value_in_unit tree w s found.0) found.2 ∙ ap (F w) (ap (slice_get w) number ∙ wb) in
       of_kind found.0.kind a b found.0 refl (sym (ap (λ o. symbol_value_fits o a) found.1) ∙ fa) (sym (ap (λ o. symbol_value_fits o b) found.1) ∙ fb) (is_tri_kind found.0.kind) refl
-      (subst (λ e. ReadSame e (F w (Some b))) left (subst (ReadSame (seen_in tree v s found.0 found.0.choice)) right same))
+      (subst (λ e. ReadSame e (F w (Some b))) left (subst (ReadSame (value_in_unit tree v s found.0 found.0.choice)) right same))
   unit_same u (of_choice c) at a b va wb fa fb =
       let x = member_value (slice_get tree.choices c) a fa in
       let y = member_value (slice_get tree.choices c) b fb in
       x.1 ∙ ap (λ m. MemberValue m) (chosen x.0 y.0 (va ∙ ap Some x.1) (wb ∙ ap Some y.1) (subst (λ z. choice_value_fits (slice_get tree.choices c) z ≡ true) x.1 fa) (subst (λ z. choice_value_fits (slice_get tree.choices c) z ≡ true) y.1 fb)) ∙ sym y.1 where
-        place : place_of_unit tree (of_choice c) ≡ u
+        place : index_of_unit tree (of_choice c) ≡ u
         place = place_is tree sound u (of_choice c) at
 
-        reads : (values : List UnitValue) (m : Option ℕ) (s : ℕ) (symbol : Symbol) → slice_get values u ≡ Some (MemberValue m) → symbol.choice ≡ Some c → (seen_in tree values s symbol symbol.choice).tri ≡ tri_if_chosen s m
-        reads values m s symbol has within = ap (λ d. (seen_in tree values s symbol d).tri) within ∙ ap (λ o. tri_if_chosen s (member_of o)) (ap (slice_get values) place ∙ has)
+        reads : (values : List UnitValue) (m : Option ℕ) (s : ℕ) (symbol : Symbol) → slice_get values u ≡ Some (MemberValue m) → symbol.choice ≡ Some c → (value_in_unit tree values s symbol symbol.choice).tri ≡ tri_if_selected s m
+        reads values m s symbol has within = ap (λ d. (value_in_unit tree values s symbol d).tri) within ∙ ap (λ o. tri_if_selected s (member_of o)) (ap (slice_get values) place ∙ has)
 
         listed : (s : ℕ) → choice_value_fits (slice_get tree.choices c) (MemberValue (Some s)) ≡ true → (symbol : Symbol) × (slice_get tree.symbols s ≡ Some symbol) × (symbol.choice ≡ Some c)
         listed s fits = let choice = sound.choice_units u c at in sound.members c s choice.0 choice.1 (sym (ap (λ o. is_member o s) choice.1) ∙ fits)
@@ -161,8 +161,8 @@ module _ (tree : Whole) (sound : IsConsistent tree) (v w : List UnitValue) (fits
       (subst (λ o. IfSome (slice_get v u) (λ x. IsTrue (unit_value_fits tree o x))) at (fits_v.1 u below))
       (subst (λ o. IfSome (slice_get w u) (λ x. IsTrue (unit_value_fits tree o x))) at (fits_w.1 u below)))
 
-pub differences_tell : DifferencesTell
-differences_tell tree v w sound fits_v fits_w = (
+pub differences_are_exact : DifferencesAreExact
+differences_are_exact tree v w sound fits_v fits_w = (
   λ none. values_same tree sound v w fits_v fits_w none,
-  λ same. ap (differences tree v) (sym same) ∙ none_left (λ s. difference_at s (symbol_seen tree v s) (symbol_seen tree v s)) (symbol_numbers tree) (λ s. same_as_itself s (symbol_seen tree v s)),
+  λ same. ap (differences tree v) (sym same) ∙ none_left (λ s. difference_at s (value_of_symbol tree v s) (value_of_symbol tree v s)) (symbol_numbers tree) (λ s. same_as_itself s (value_of_symbol tree v s)),
 )

@@ -1,16 +1,16 @@
 -- Values that aren't the same differ at a symbol.
 use Rattle.std.proofs.Common.{◌≡◌, ◌≢◌, ℕ, IsTrue, List, [], ◌∷◌, Option, Some, None, length, refl, sym, ap, ◌∙◌}
 use Rattle.std.specs.List.{filter_map, cons_option}
-use Rattle.kc_tree_model.specs.Trees.{Whole}
+use Rattle.kc_tree_model.specs.Trees.{Tree}
 use Rattle.kc_tree_model.specs.TreeLookup.{IsConsistent}
 use Rattle.kc_system.specs.Solutions.{FitsValues}
 use Rattle.kc_rules_model.specs.declared.values.UnitValue.{UnitValue}
-use Rattle.kc_rules_model.specs.SymbolValues.{symbol_seen}
+use Rattle.kc_rules_model.specs.SymbolValues.{value_of_symbol}
 use Rattle.kc_rules_model.specs.Shapes.{value_fits}
 use Rattle.kc_rules_model.specs.Reports.{symbol_numbers}
 use Rattle.kc_minimal_model.specs.Differences.{Difference, difference_at, differences}
 use Rattle.kc_minimal_model.specs.Loading.{HaveSameValues, DifferAtASymbol}
-use Rattle.kc_minimal_model.proofs.DifferenceLaws.{differences_tell, none_left, same_as_itself}
+use Rattle.kc_minimal_model.proofs.DifferenceLaws.{differences_are_exact, none_left, same_as_itself}
 
 -- a list of what some elements give, that isn't empty, has one of them
 found_some : {X Z : Type 0} (f : X → Option Z) (xs : List X) (z : Z) (zs : List Z) → filter_map f xs ≡ z ∷ zs → (x : X) × (y : Z) × (f x ≡ Some y)
@@ -20,22 +20,22 @@ found_some {X = X} {Z = Z} f (x ∷ xs) z zs e = go (f x) refl e (found_some f x
   go (Some y) here e next = (x, y, here)
   go None here e next = next e
 
-abbrev Fits : Whole → List UnitValue → Type 0
+abbrev Fits : Tree → List UnitValue → Type 0
 Fits tree values = FitsValues (length tree.units) (λ u x. IsTrue (value_fits tree u x)) values
 
 -- the same value at a symbol is no difference
-no_difference : (tree : Whole) (v w : List UnitValue) (s : ℕ) → symbol_seen tree v s ≡ symbol_seen tree w s → difference_at s (symbol_seen tree v s) (symbol_seen tree w s) ≡ None
-no_difference tree v w s same = ap (difference_at s (symbol_seen tree v s)) (sym same) ∙ same_as_itself s (symbol_seen tree v s)
+no_difference : (tree : Tree) (v w : List UnitValue) (s : ℕ) → value_of_symbol tree v s ≡ value_of_symbol tree w s → difference_at s (value_of_symbol tree v s) (value_of_symbol tree w s) ≡ None
+no_difference tree v w s same = ap (difference_at s (value_of_symbol tree v s)) (sym same) ∙ same_as_itself s (value_of_symbol tree v s)
 
 -- values are the same where every symbol has the same
-pub same_values : (tree : Whole) (v w : List UnitValue) → IsConsistent tree → Fits tree v → Fits tree w → HaveSameValues tree v w → v ≡ w
-same_values tree v w sound fits_v fits_w same = (differences_tell tree v w sound fits_v fits_w).0 (none_left (λ s. difference_at s (symbol_seen tree v s) (symbol_seen tree w s)) (symbol_numbers tree) (λ s. no_difference tree v w s (same s)))
+pub same_values : (tree : Tree) (v w : List UnitValue) → IsConsistent tree → Fits tree v → Fits tree w → HaveSameValues tree v w → v ≡ w
+same_values tree v w sound fits_v fits_w same = (differences_are_exact tree v w sound fits_v fits_w).0 (none_left (λ s. difference_at s (value_of_symbol tree v s) (value_of_symbol tree w s)) (symbol_numbers tree) (λ s. no_difference tree v w s (same s)))
 
 -- and differ at a symbol where they aren't the same
-pub differ_somewhere : (tree : Whole) (v w : List UnitValue) → IsConsistent tree → Fits tree v → Fits tree w → v ≢ w → DifferAtASymbol tree v w
+pub differ_somewhere : (tree : Tree) (v w : List UnitValue) → IsConsistent tree → Fits tree v → Fits tree w → v ≢ w → DifferAtASymbol tree v w
 differ_somewhere tree v w sound fits_v fits_w differ = go (differences tree v w) refl where
-  go : (ds : List Difference) → differences tree v w ≡ ds → (s : ℕ) × (symbol_seen tree v s ≢ symbol_seen tree w s)
-  go [] e = absurd (differ ((differences_tell tree v w sound fits_v fits_w).0 e))
+  go : (ds : List Difference) → differences tree v w ≡ ds → (s : ℕ) × (value_of_symbol tree v s ≢ value_of_symbol tree w s)
+  go [] e = absurd (differ ((differences_are_exact tree v w sound fits_v fits_w).0 e))
   go (d ∷ ds) e =
-      let found = found_some (λ s. difference_at s (symbol_seen tree v s) (symbol_seen tree w s)) (symbol_numbers tree) d ds e in
+      let found = found_some (λ s. difference_at s (value_of_symbol tree v s) (value_of_symbol tree w s)) (symbol_numbers tree) d ds e in
       (found.0, λ same. (let none = no_difference tree v w found.0 same in let some = found.2 in cc (none, some)))

@@ -3,7 +3,7 @@ use Rattle.std.proofs.Common.{◌≡◌, ◌⊎◌, inl, inr, ℕ, zero, suc, �
 use Rattle.std.specs.Prelude.{eqb}
 use Rattle.std.specs.List.{list_any, IsDistinct, range_with_len, AllByRecursion}
 use Rattle.std.proofs.lemmas.Bool.{cases_Bool, cases_eq, false≢true, eqb-true, eq-eqb, or_left, or_right, or_cases}
-use Rattle.kc_tree_model.specs.Trees.{Whole}
+use Rattle.kc_tree_model.specs.Trees.{Tree}
 use Rattle.kc_tree_model.specs.TreeLookup.{unit_of}
 use Rattle.kc_system.specs.Solutions.{user_of, FitsUsers}
 use Rattle.kc_system.specs.LeastAssignments.{IsCutTo}
@@ -11,8 +11,8 @@ use Rattle.kc_rules_model.specs.declared.profile.Profile.{Profile}
 use Rattle.kc_rules_model.specs.declared.values.UnitValue.{UnitValue}
 use Rattle.kc_rules_model.specs.declared.values.UserValue.{UserValue}
 use Rattle.kc_rules_model.specs.Shapes.{user_fits}
-use Rattle.kc_dotconfig_model.specs.Lines.{Saying, assigns, notice, silent}
-use Rattle.kc_dotconfig_model.specs.Files.{file_users, assigned_over, no_users}
+use Rattle.kc_dotconfig_model.specs.ConfigLines.{LineMeaning, assigns, notice, silent}
+use Rattle.kc_dotconfig_model.specs.ConfigFiles.{file_assignment, assigned_over, empty_assignment}
 use Rattle.kc_dotconfig_model.proofs.FittingFiles.{file_fits}
 use Rattle.kc_minimal_model.specs.MinimalFile.{has_line, minimal_symbols}
 use Rattle.kc_rules_model.proofs.OrderedTrees.{IsOrderedTree, ordered_tree}
@@ -42,7 +42,7 @@ eqb_laws = record {
 }
 
 -- what is assigned after some lines was assigned before, or by one of them
-by_a_line : (sayings : List Saying) (held : List (Option UserValue)) (u : ℕ) → is_some (user_of (assigned_over sayings held) u) ≡ true
+by_a_line : (sayings : List LineMeaning) (held : List (Option UserValue)) (u : ℕ) → is_some (user_of (assigned_over sayings held) u) ≡ true
     → (is_some (user_of held u) ≡ true) ⊎ (list_any (eqb u) (assigned_units sayings) ≡ true)
 by_a_line [] held u some = inl some
 by_a_line (notice kind ∷ sayings) held u some = by_a_line sayings held u some
@@ -85,22 +85,22 @@ comes_from p f q (x ∷ xs) any = go (p x) refl any (comes_from p f q xs) where
   go false e any next = next any
   go true e any next = elim (or_cases (eqb q (f x)) (list_any (eqb q) (map f (filter p xs))) any) [ inl here ↦ (x, e, eqb-true q (f x) here) | inr later ↦ next later ]
 
-module _ (prefix : List ℕ) (profile : Profile) (tree : Whole) (settled : IsOrderedTree tree) (bytes : List ℕ) (values : List UnitValue) (reads : ReadsTo prefix profile tree bytes values) where
-  fitting : FitsUsers (length tree.units) (λ u x. IsTrue (user_fits tree u x)) (file_users tree reads.sayings)
+module _ (prefix : List ℕ) (profile : Profile) (tree : Tree) (settled : IsOrderedTree tree) (bytes : List ℕ) (values : List UnitValue) (reads : ReadsTo prefix profile tree bytes values) where
+  fitting : FitsUsers (length tree.units) (λ u x. IsTrue (user_fits tree u x)) (file_assignment tree reads.sayings)
   fitting = file_fits prefix tree bytes reads.sayings settled.consistent reads.utf8 reads.says
 
-  needed : NeedsTheLines profile tree values (file_users tree reads.sayings)
-  needed = needs profile tree (file_users tree reads.sayings) values settled fitting reads.gives.solves
+  needed : NeedsTheLines profile tree values (file_assignment tree reads.sayings)
+  needed = needs profile tree (file_assignment tree reads.sayings) values settled fitting reads.gives.solves
 
-  held_each : (s : ℕ) → has_line profile tree values s ≡ true → is_some (user_of (file_users tree reads.sayings) (unit_of tree s)) ≡ true
+  held_each : (s : ℕ) → has_line profile tree values s ≡ true → is_some (user_of (file_assignment tree reads.sayings) (unit_of tree s)) ≡ true
   held_each s has =
-      let held = file_users tree reads.sayings in
+      let held = file_assignment tree reads.sayings in
       let keeps : ℕ → Bool = λ u. is_some (user_of held u) in
       let cut : IsCutTo (length tree.units) keeps held held = record { one_each = fitting.0; cut = λ u h. kept_if_some (user_of held u) } in
       (needed.cut keeps held cut).0 reads.gives s has
 
   assigns_each : (s : ℕ) → has_line profile tree values s ≡ true → list_any (eqb (unit_of tree s)) (assigned_units reads.sayings) ≡ true
-  assigns_each s has = elim (by_a_line reads.sayings (no_users tree) (unit_of tree s) (held_each s has)) [
+  assigns_each s has = elim (by_a_line reads.sayings (empty_assignment tree) (unit_of tree s) (held_each s has)) [
     | inl before ↦ absurd (false≢true (sym (ap is_some (none_held (length tree.units) (unit_of tree s))) ∙ before))
     | inr line ↦ line
   ]
@@ -110,7 +110,7 @@ module _ (prefix : List ℕ) (profile : Profile) (tree : Whole) (settled : IsOrd
   assigns_as_many =
       let p = has_line profile tree values in
       let f = unit_of tree in
-      let one = different_units profile tree settled.consistent (file_users tree reads.sayings) values fitting reads.gives.solves in
+      let one = different_units profile tree settled.consistent (file_assignment tree reads.sayings) values fitting reads.gives.solves in
       let listed : (q : ℕ) → list_any (eqb q) (map f (filter p (symbol_numbers tree))) ≡ true → list_any (eqb q) (assigned_units reads.sayings) ≡ true =
       λ q any. let s = comes_from p f q (symbol_numbers tree) any in ap (λ u. list_any (eqb u) (assigned_units reads.sayings)) s.2 ∙ assigns_each s.0 s.1 in
       let long = length-le_from_is_member eqb_laws (map f (filter p (symbol_numbers tree))) (assigned_units reads.sayings) (distinct p f 0 (length tree.symbols) one) listed in

@@ -6,8 +6,8 @@ use Rattle.std.specs.List.{AllByRecursion, list_any}
 use Rattle.std.proofs.lemmas.Bool.{cases_Bool, false≢true, and_parts, and_from, or_left, or_right, eq-eqb, eqb-true, eqb-false}
 use Rattle.std.proofs.lemmas.List.{get_or-set_same, get_or-set_other, length-set}
 use Rattle.kc_value.specs.declared.tri.Tri.TheVariants.{N, Y}
-use Rattle.kc_tree_model.specs.Trees.{Whole, Symbol, Choice, Entry, of_symbol, of_choice, definition}
-use Rattle.kc_tree_model.specs.TreeLookup.{unit_of, place_of_unit, has_newline, title_of_entry}
+use Rattle.kc_tree_model.specs.Trees.{Tree, Symbol, Choice, Entry, of_symbol, of_choice, definition}
+use Rattle.kc_tree_model.specs.TreeLookup.{unit_of, index_of_unit, has_newline, title_of_entry}
 use Rattle.std.specs.Str.{is_utf8}
 use Rattle.kc_system.specs.Solutions.{user_of, Solves, FitsUsers}
 use Rattle.kc_system.proofs.Lists.{get-some}
@@ -18,17 +18,17 @@ use Rattle.kc_rules_model.specs.declared.values.UnitValue.TheVariants.{Tri as Tr
 use Rattle.kc_rules_model.specs.declared.values.UserValue.{UserValue}
 use Rattle.kc_rules_model.specs.declared.values.UserValue.TheVariants.{Member as MemberUser}
 use Rattle.kc_rules_model.specs.Kinds.{is_n}
-use Rattle.kc_rules_model.specs.SymbolValues.{symbol_seen, seen_in, member_of, tri_if_chosen}
+use Rattle.kc_rules_model.specs.SymbolValues.{value_of_symbol, value_in_unit, member_of, tri_if_selected}
 use Rattle.kc_rules_model.specs.Rule.{rule, rule_of_unit, rule_of_choice, as_user, is_visible, is_visible_member, is_shown, or_else}
 use Rattle.kc_rules_model.specs.Dependencies.{dependencies}
 use Rattle.kc_rules_model.specs.Shapes.{user_fits, is_line}
 use Rattle.kc_rules_model.specs.Reports.{is_written, is_written_symbol, symbol_numbers}
 use Rattle.kc_rules_model.specs.checker.FrameLaw.{rules_frame}
 use Rattle.kc_tree_model.proofs.Lookups.{inside, place_is, unit_is}
-use Rattle.kc_dotconfig_model.specs.Lines.{Saying, assigns, notice, silent}
-use Rattle.kc_dotconfig_model.specs.Files.{assigned_over, file_users, no_users}
+use Rattle.kc_dotconfig_model.specs.ConfigLines.{LineMeaning, assigns, notice, silent}
+use Rattle.kc_dotconfig_model.specs.ConfigFiles.{assigned_over, file_assignment, empty_assignment}
 use Rattle.kc_dotconfig_model.proofs.FittingFiles.{file_fits}
-use Rattle.kc_minimal_model.specs.MinimalFile.{is_kept, has_line, may_have_line, stands_for_its_unit}
+use Rattle.kc_minimal_model.specs.MinimalFile.{is_kept, has_line, may_have_line, is_line_of_its_unit}
 use Rattle.kc_minimal_model.specs.FullFile.{full_file}
 use Rattle.kc_rules_model.proofs.OrderedTrees.{IsOrderedTree, ordered_tree}
 use Rattle.kc_minimal_model.specs.FullFilesBack.{FullFilesLeadBack}
@@ -43,7 +43,7 @@ use Rattle.kc_minimal_model.proofs.OwnValues.{own_values, hidden_values}
 use Rattle.kc_rules_model.proofs.SolutionsFit.{solutions_fit}
 
 -- lines that assign each unit its own value or nothing give a unit its own value if one is for it
-after_own : (values : List UnitValue) (u : ℕ) (sayings : List Saying) (held : List (Option UserValue)) (before : Bool) → u < length held → AllByRecursion (IsOwn values) sayings → user_of held u ≡ cond before (user_meant values u) None
+after_own : (values : List UnitValue) (u : ℕ) (sayings : List LineMeaning) (held : List (Option UserValue)) (before : Bool) → u < length held → AllByRecursion (IsOwn values) sayings → user_of held u ≡ cond before (user_meant values u) None
     → user_of (assigned_over sayings held) u ≡ cond (before || list_any (is_for u) sayings) (user_meant values u) None
 after_own values u [] held before h own e = e ∙ ap (λ b. cond b (user_meant values u) None) (sym (or_false before))
 after_own values u (notice kind ∷ sayings) held before h own e = absurd own.0
@@ -68,7 +68,7 @@ defined (entry ∷ entries) zero s at =
 defined (entry ∷ entries) (suc k) s at = or_right (is_definition s entry) (list_any (is_definition s) entries) (defined entries k s at)
 
 -- the member of a choice that isn't `n` is the choice's value
-chosen_is : (s : ℕ) (o : Option UnitValue) → not (is_n (tri_if_chosen s (member_of o))) ≡ true → o ≡ Some (MemberValue (Some s))
+chosen_is : (s : ℕ) (o : Option UnitValue) → not (is_n (tri_if_selected s (member_of o))) ≡ true → o ≡ Some (MemberValue (Some s))
 chosen_is s None e = absurd (false≢true e)
 chosen_is s (Some (TriValue t)) e = absurd (false≢true e)
 chosen_is s (Some (TextValue t)) e = absurd (false≢true e)
@@ -82,11 +82,11 @@ chosen_is s (Some (MemberValue (Some m))) e = elim (cases_Bool (m == s)) [
 hidden_choice : (shown seen : Bool) (s : ℕ) (other : Option ℕ) → seen ≡ false → cond shown (or_else (cond seen (Some s) None) other) None ≡ cond shown (or_else None other) None
 hidden_choice shown seen s other e = ap (λ b. cond shown (or_else (cond b (Some s) None) other) None) e
 
-hidden_member : (tree : Whole) (values : List UnitValue) (o : Option Choice) (s : ℕ) → is_visible_member tree values s ≡ false → rule_of_choice tree o (Some (MemberUser s)) values ≡ rule_of_choice tree o None values
+hidden_member : (tree : Tree) (values : List UnitValue) (o : Option Choice) (s : ℕ) → is_visible_member tree values s ≡ false → rule_of_choice tree o (Some (MemberUser s)) values ≡ rule_of_choice tree o None values
 hidden_member tree values None s e = refl
 hidden_member tree values (Some choice) s e = ap MemberValue (hidden_choice (is_shown tree values choice) (is_visible_member tree values s) s _ e)
 
-module _ (profile : Profile) (tree : Whole) (settled : IsOrderedTree tree) (users : List (Option UserValue)) (values : List UnitValue)
+module _ (profile : Profile) (tree : Tree) (settled : IsOrderedTree tree) (users : List (Option UserValue)) (values : List UnitValue)
     (fitting : FitsUsers (length tree.units) (λ u x. IsTrue (user_fits tree u x)) users) (solved : Solves (length tree.units) (rule profile tree) users values) where
   seen_is_written : (s : ℕ) (symbol : Symbol) → slice_get tree.symbols s ≡ Some symbol → is_visible tree values symbol ≡ true → is_written tree values s ≡ true
   seen_is_written s symbol at seen = ap (λ o. unwrap_or (option_map (is_written_symbol tree values) o) false) at ∙ or_left (is_visible tree values symbol) _ seen
@@ -105,13 +105,13 @@ module _ (profile : Profile) (tree : Whole) (settled : IsOrderedTree tree) (user
       ]
 
   member_written : (s c : ℕ) (symbol : Symbol) → slice_get tree.symbols s ≡ Some symbol → symbol.choice ≡ Some c → has_line profile tree values s ≡ true → is_kept profile tree values (unit_of tree s) ≡ true
-      → not (is_n (tri_if_chosen s (member_of (slice_get values (place_of_unit tree (of_choice c)))))) ≡ true → is_written tree values s ≡ true
+      → not (is_n (tri_if_selected s (member_of (slice_get values (index_of_unit tree (of_choice c)))))) ≡ true → is_written tree values s ≡ true
   unfolding rule
   member_written s c symbol at within has kept chosen =
       let own = settled.consistent.units_of_members s c symbol at within in
       let u = unit_of tree s in
       let here : slice_get tree.units (unit_of tree s) ≡ Some (of_choice c) = ap (slice_get tree.units) (unit_is tree settled.consistent s own.0 symbol (Some c) at within own.1) ∙ own.1 in
-      let holds : slice_get values (unit_of tree s) ≡ Some (MemberValue (Some s)) = ap (slice_get values) (sym (place_is tree settled.consistent (unit_of tree s) (of_choice c) here)) ∙ chosen_is s (slice_get values (place_of_unit tree (of_choice c))) chosen in
+      let holds : slice_get values (unit_of tree s) ≡ Some (MemberValue (Some s)) = ap (slice_get values) (sym (place_is tree settled.consistent (unit_of tree s) (of_choice c) here)) ∙ chosen_is s (slice_get values (index_of_unit tree (of_choice c))) chosen in
       let assigned : user_of users (unit_of tree s) ≡ Some (MemberUser s) = (needs profile tree users values settled fitting solved).same s (MemberValue (Some s)) has holds refl in
       elim (cases_Bool (is_visible_member tree values s)) [
         | inl seen ↦ seen_is_written s symbol at (sym (ap (λ o. unwrap_or (option_map (is_visible tree values) o) false) at) ∙ seen)
@@ -123,14 +123,14 @@ module _ (profile : Profile) (tree : Whole) (settled : IsOrderedTree tree) (user
       ]
 
   at_choice : (s : ℕ) (symbol : Symbol) → slice_get tree.symbols s ≡ Some symbol → (c : Option ℕ) → symbol.choice ≡ c → has_line profile tree values s ≡ true → is_kept profile tree values (unit_of tree s) ≡ true
-      → stands_for_its_unit c (seen_in tree values s symbol c) ≡ true → is_written tree values s ≡ true
+      → is_line_of_its_unit c (value_in_unit tree values s symbol c) ≡ true → is_written tree values s ≡ true
   at_choice s symbol at None out has kept may = outside_written s symbol at out kept
   at_choice s symbol at (Some c) within has kept may = member_written s c symbol at within has kept may
 
   abbrev WrittenSymbol : ℕ → Type 0
   WrittenSymbol s = (symbol : Symbol) × (slice_get tree.symbols s ≡ Some symbol) × (is_written tree values s ≡ true)
 
-  at_symbol : (s : ℕ) (o : Option Symbol) → slice_get tree.symbols s ≡ o → has_line profile tree values s ≡ true → is_kept profile tree values (unit_of tree s) ≡ true → may_have_line o (option_map (λ (symbol : Symbol). seen_in tree values s symbol symbol.choice) o) ≡ true
+  at_symbol : (s : ℕ) (o : Option Symbol) → slice_get tree.symbols s ≡ o → has_line profile tree values s ≡ true → is_kept profile tree values (unit_of tree s) ≡ true → may_have_line o (option_map (λ (symbol : Symbol). value_in_unit tree values s symbol symbol.choice) o) ≡ true
       → (symbol : Symbol) × (slice_get tree.symbols s ≡ Some symbol) × (is_written tree values s ≡ true)
   at_symbol s None at has kept may = absurd (false≢true may)
   at_symbol s (Some symbol) at has kept may = (symbol, at, at_choice s symbol at symbol.choice refl has kept may)
@@ -138,7 +138,7 @@ module _ (profile : Profile) (tree : Whole) (settled : IsOrderedTree tree) (user
   -- a symbol with a line in the minimal file is written in the full file
   pub line_written : (s : ℕ) → has_line profile tree values s ≡ true → (symbol : Symbol) × (slice_get tree.symbols s ≡ Some symbol) × (is_written tree values s ≡ true)
   line_written s has =
-      let parts = and_parts (is_kept profile tree values (unit_of tree s)) (may_have_line (slice_get tree.symbols s) (symbol_seen tree values s)) has in
+      let parts = and_parts (is_kept profile tree values (unit_of tree s)) (may_have_line (slice_get tree.symbols s) (value_of_symbol tree values s)) has in
       at_symbol s (slice_get tree.symbols s) refl has parts.0 parts.1
 
 -- where nothing is lifted, reading the full file gives the values back
@@ -158,13 +158,13 @@ full_files_back prefix profile tree users values valid whole fitting gives unlif
       full = told prefix valid profile tree settled users values fitting solved (solutions_fit profile tree settled users fitting values solved) tree.entries [] false plain
 
       again : List (Option UserValue)
-      again = file_users tree full.sayings
+      again = file_assignment tree full.sayings
 
-      fits_again : FitsUsers (length tree.units) (λ u x. IsTrue (user_fits tree u x)) (file_users tree full.sayings)
+      fits_again : FitsUsers (length tree.units) (λ u x. IsTrue (user_fits tree u x)) (file_assignment tree full.sayings)
       fits_again = file_fits prefix tree (full_file prefix tree values) full.sayings settled.consistent full.utf8 full.says
 
-      user_again : (u : ℕ) → u < length tree.units → user_of (file_users tree full.sayings) u ≡ cond (list_any (is_for u) full.sayings) (user_meant values u) None
-      user_again u below = after_own values u full.sayings (no_users tree) false (let len = none_length (length tree.units) in omega (arith, len, below)) full.own (none_held (length tree.units) u)
+      user_again : (u : ℕ) → u < length tree.units → user_of (file_assignment tree full.sayings) u ≡ cond (list_any (is_for u) full.sayings) (user_meant values u) None
+      user_again u below = after_own values u full.sayings (empty_assignment tree) false (let len = none_length (length tree.units) in omega (arith, len, below)) full.own (none_held (length tree.units) u)
 
       -- a kept unit has a line in the full file
       listed : (u : ℕ) → u < length tree.units → is_kept profile tree values u ≡ true → list_any (is_for u) full.sayings ≡ true
@@ -177,13 +177,13 @@ full_files_back prefix profile tree users values valid whole fitting gives unlif
           let place = whole.consistent.defined s.0 written.0 written.1 in
           subst (λ w. list_any (is_for w) full.sayings ≡ true) (eqb-true (unit_of tree s.0) u s.2) (full.covers s.0 (defined tree.entries place.0 s.0 place.1, refl, written.2, s.1))
 
-      same_value : (u : ℕ) → u < length tree.units → (held : UnitValue) → slice_get values u ≡ Some held → rule profile tree u (user_of (file_users tree full.sayings) u) values ≡ held
+      same_value : (u : ℕ) → u < length tree.units → (held : UnitValue) → slice_get values u ≡ Some held → rule profile tree u (user_of (file_assignment tree full.sayings) u) values ≡ held
       same_value u below held has = elim (cases_Bool (list_any (is_for u) full.sayings)) [
         | inl for_u ↦
-            let user : user_of (file_users tree full.sayings) u ≡ as_user held = user_again u below ∙ ap (λ b. cond b (user_meant values u) None) for_u ∙ ap (option_and_then as_user) has in
+            let user : user_of (file_assignment tree full.sayings) u ≡ as_user held = user_again u below ∙ ap (λ b. cond b (user_meant values u) None) for_u ∙ ap (option_and_then as_user) has in
             ap (λ x. rule profile tree u x values) user ∙ own_values profile tree users values fitting solved u held below has (unlifted u)
         | inr not_for ↦
-            let user : user_of (file_users tree full.sayings) u ≡ None = user_again u below ∙ ap (λ b. cond b (user_meant values u) None) not_for in
+            let user : user_of (file_assignment tree full.sayings) u ≡ None = user_again u below ∙ ap (λ b. cond b (user_meant values u) None) not_for in
             ap (λ x. rule profile tree u x values) user ∙ elim (decides (rule profile tree u None values) held) [
               | inl same ↦ same
               | inr differs ↦
@@ -194,7 +194,7 @@ full_files_back prefix profile tree users values valid whole fitting gives unlif
         some_same : {a b : UnitValue} → Some a ≡ Some b → a ≡ b
         some_same e = cc
 
-      solves : Solves (length tree.units) (rule profile tree) (file_users tree full.sayings) values
+      solves : Solves (length tree.units) (rule profile tree) (file_assignment tree full.sayings) values
       solves = record {
         one_each = solved.one_each;
         holds = λ u below.

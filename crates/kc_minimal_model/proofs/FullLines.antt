@@ -8,7 +8,7 @@ use Rattle.std.proofs.lemmas.Str.{IsUtf8-nil, IsUtf8-append, IsUtf8-from_is_utf8
 use Rattle.kc_value.proofs.UnquotedUtf8.{ascii_then, ascii_alone}
 use Rattle.kc_dotconfig_model.proofs.TrimmedLines.{low_utf8}
 use Rattle.std.proofs.lemmas.Bool.{cases_Bool, false≢true, and_parts, and_from, or_left, or_right, or_parts, not-true, eq-eqb, eqb-true}
-use Rattle.kc_tree_model.specs.Trees.{Whole, Symbol, Entry, definition, choice_begins, menu_begins, menu_ends, comment}
+use Rattle.kc_tree_model.specs.Trees.{Tree, Symbol, Entry, definition, choice_begins, menu_begins, menu_ends, comment}
 use Rattle.kc_tree_model.specs.TreeLookup.{has_newline, unit_of, title_of_entry}
 use Rattle.kc_system.specs.Solutions.{Solves, FitsUsers, FitsValues}
 use Rattle.kc_rules_model.specs.declared.profile.Profile.{Profile}
@@ -17,12 +17,12 @@ use Rattle.kc_rules_model.specs.declared.values.UserValue.{UserValue}
 use Rattle.kc_rules_model.specs.Rule.{rule, as_user}
 use Rattle.kc_rules_model.specs.Shapes.{user_fits, value_fits, is_line}
 use Rattle.kc_rules_model.specs.Reports.{is_written, is_written_symbol}
-use Rattle.kc_dotconfig_model.specs.Names.{is_prefix, lacks}
-use Rattle.kc_dotconfig_model.specs.Lines.{Saying, assigns, notice, silent, Says, without_white_end}
-use Rattle.kc_dotconfig_model.specs.Files.{FileSays, file_lines, has_utf8_lines}
+use Rattle.kc_dotconfig_model.specs.PrefixGrammar.{is_prefix, lacks}
+use Rattle.kc_dotconfig_model.specs.ConfigLines.{LineMeaning, assigns, notice, silent, Means, without_white_end}
+use Rattle.kc_dotconfig_model.specs.ConfigFiles.{FileMeans, file_lines, has_utf8_lines}
 use Rattle.kc_minimal_model.specs.Spelling.{symbol_line, ended_line}
 use Rattle.kc_minimal_model.specs.MinimalFile.{has_line}
-use Rattle.kc_minimal_model.specs.FullFile.{heading_title, heading, end_line, applies, pieces}
+use Rattle.kc_minimal_model.specs.FullFile.{heading_title, heading, end_line, applies, entry_texts}
 use Rattle.kc_rules_model.proofs.OrderedTrees.{IsOrderedTree}
 use Rattle.kc_minimal_model.proofs.Bytes.{first_line, all_of_both}
 use Rattle.kc_minimal_model.proofs.HeadingLines.{blank_says, hash_says, heading_says, end_says}
@@ -31,7 +31,7 @@ use Rattle.kc_minimal_model.proofs.LineReads.{IsLine}
 use Rattle.kc_minimal_model.proofs.OwnLines.{IsOwn, own_line}
 
 -- whether a line assigns this unit
-abbrev pub is_for : ℕ → Saying → Bool
+abbrev pub is_for : ℕ → LineMeaning → Bool
 is_for u (assigns w x) = nat_eq w u
 is_for u (notice kind) = false
 is_for u silent = false
@@ -45,9 +45,9 @@ is_definition s (menu_ends title dependency visible) = false
 is_definition s (comment title dependency) = false
 
 -- bytes whose lines assign each unit its own value or nothing, with a line for each of these symbols
-pub record IsTold (prefix : List ℕ) (tree : Whole) (values : List UnitValue) (covered : ℕ → Type 0) (bytes : List ℕ) : Type 0 where
-  pub sayings : List Saying
-  pub says : FileSays prefix tree bytes sayings
+pub record IsTold (prefix : List ℕ) (tree : Tree) (values : List UnitValue) (covered : ℕ → Type 0) (bytes : List ℕ) : Type 0 where
+  pub sayings : List LineMeaning
+  pub says : FileMeans prefix tree bytes sayings
   pub utf8 : has_utf8_lines bytes ≡ true
   pub own : AllByRecursion (IsOwn values) sayings
   pub covers : (s : ℕ) → covered s → list_any (is_for (unit_of tree s)) sayings ≡ true
@@ -70,13 +70,13 @@ plain_title title e =
     let parts = and_parts (not (has_newline title)) (is_utf8 title) e in
     record { one = one_line title (not-true (has_newline title) parts.0); utf8 = IsUtf8-from_is_utf8 title parts.1 }
 
-module _ (prefix : List ℕ) (valid : is_prefix prefix ≡ true) (tree : Whole) (values : List UnitValue) where
+module _ (prefix : List ℕ) (valid : is_prefix prefix ≡ true) (tree : Tree) (values : List UnitValue) where
   -- one more line
-  told_line : (C D : ℕ → Type 0) (line rest : List ℕ) (saying : Saying) → lacks 10 line ≡ true → IsUtf8 line → Says prefix tree (without_white_end line) saying → IsOwn values saying → IsTold prefix tree values C rest
+  told_line : (C D : ℕ → Type 0) (line rest : List ℕ) (saying : LineMeaning) → lacks 10 line ≡ true → IsUtf8 line → Means prefix tree (without_white_end line) saying → IsOwn values saying → IsTold prefix tree values C rest
       → ((s : ℕ) → D s → (is_for (unit_of tree s) saying ≡ true) ⊎ C s) → IsTold prefix tree values D (line ++ 10 ∷ rest)
   told_line C D line rest saying one utf8 says own t covers = record {
     sayings = saying ∷ t.sayings;
-    says = subst (λ ls. AllZip (λ l x. Says prefix tree (without_white_end l) x) ls (saying ∷ t.sayings)) (sym (first_line line rest one)) (says, t.says);
+    says = subst (λ ls. AllZip (λ l x. Means prefix tree (without_white_end l) x) ls (saying ∷ t.sayings)) (sym (first_line line rest one)) (says, t.says);
     utf8 = ap (list_all is_utf8) (first_line line rest one) ∙ and_from (is_utf8 line) (list_all is_utf8 (file_lines rest)) (is_utf8-from_IsUtf8 line utf8) t.utf8;
     own = (own, t.own);
     covers = λ s d. elim (covers s d) [
@@ -86,7 +86,7 @@ module _ (prefix : List ℕ) (valid : is_prefix prefix ≡ true) (tree : Whole) 
   }
 
   -- one more line that says nothing
-  silent_line : (C : ℕ → Type 0) (line rest : List ℕ) → lacks 10 line ≡ true → IsUtf8 line → Says prefix tree (without_white_end line) silent → IsTold prefix tree values C rest → IsTold prefix tree values C (line ++ 10 ∷ rest)
+  silent_line : (C : ℕ → Type 0) (line rest : List ℕ) → lacks 10 line ≡ true → IsUtf8 line → Means prefix tree (without_white_end line) silent → IsTold prefix tree values C rest → IsTold prefix tree values C (line ++ 10 ∷ rest)
   silent_line C line rest one utf8 says t = told_line C C line rest silent one utf8 says tt t (λ s c. inr c)
 
   -- of fewer symbols
@@ -126,7 +126,7 @@ module _ (prefix : List ℕ) (valid : is_prefix prefix ≡ true) (tree : Whole) 
       let same : end_line title ++ rest ≡ (codes "# end of " ++ title) ++ 10 ∷ rest = ap (λ l. codes "# end of " ++ l) (append_assoc title (10 ∷ []) rest) in
       subst (IsTold prefix tree values C) (sym same) line
 
-module _ (prefix : List ℕ) (valid : is_prefix prefix ≡ true) (profile : Profile) (tree : Whole) (settled : IsOrderedTree tree) (users : List (Option UserValue)) (values : List UnitValue)
+module _ (prefix : List ℕ) (valid : is_prefix prefix ≡ true) (profile : Profile) (tree : Tree) (settled : IsOrderedTree tree) (users : List (Option UserValue)) (values : List UnitValue)
     (fitting : FitsUsers (length tree.units) (λ u x. IsTrue (user_fits tree u x)) users) (solved : Solves (length tree.units) (rule profile tree) users values)
     (fits : FitsValues (length tree.units) (λ u v. IsTrue (value_fits tree u v)) values) where
   -- a symbol that is defined by these entries for the first time, is written, and has a line in the minimal file
@@ -135,7 +135,7 @@ module _ (prefix : List ℕ) (valid : is_prefix prefix ≡ true) (profile : Prof
 
   -- what the line of a symbol says
   record SymbolTold (s : ℕ) : Type 0 where
-    saying : Saying
+    saying : LineMeaning
     reads : IsLine prefix tree (symbol_line prefix tree values s) saying
     own : IsOwn values saying
     assigning : has_line profile tree values s ≡ true → is_for (unit_of tree s) saying ≡ true
@@ -165,12 +165,12 @@ module _ (prefix : List ℕ) (valid : is_prefix prefix ≡ true) (profile : Prof
         record { saying = line.saying; reads = line.reads; own = line.own; assigning = λ e. absurd (false≢true (sym none ∙ e)) }
   ]
 
-  -- the line of a symbol, and those behind it
+  -- the line of a symbol, and those after it
   told_symbol : (s : ℕ) (symbol : Symbol) → slice_get tree.symbols s ≡ Some symbol → (seen : List ℕ) (gap : Bool) (entries : List Entry) (rest : List ℕ) → IsTold prefix tree values (IsToCome (s ∷ seen) entries) rest
       → IsTold prefix tree values (IsToCome seen (definition s ∷ entries)) (cond gap (10 ∷ ended_line prefix tree values s) (ended_line prefix tree values s) ++ rest)
   told_symbol s symbol at seen gap entries rest t =
       let line = symbol_told s symbol at in
-      let next = told_line prefix valid tree values (IsToCome (s ∷ seen) entries) (IsToCome seen (definition s ∷ entries)) (symbol_line prefix tree values s) rest line.saying line.reads.one line.reads.utf8 (subst (λ l. Says prefix tree l line.saying) (sym line.reads.whole) line.reads.says) line.own t (covered line) in
+      let next = told_line prefix valid tree values (IsToCome (s ∷ seen) entries) (IsToCome seen (definition s ∷ entries)) (symbol_line prefix tree values s) rest line.saying line.reads.one line.reads.utf8 (subst (λ l. Means prefix tree l line.saying) (sym line.reads.whole) line.reads.says) line.own t (covered line) in
       let ended = subst (IsTold prefix tree values (IsToCome seen (definition s ∷ entries))) (sym (append_assoc (symbol_line prefix tree values s) (10 ∷ []) rest)) next in
       go gap ended where
         covered : (line : SymbolTold s) (w : ℕ) → IsToCome seen (definition s ∷ entries) w → (is_for (unit_of tree w) line.saying ≡ true) ⊎ IsToCome (s ∷ seen) entries w
@@ -188,15 +188,15 @@ module _ (prefix : List ℕ) (valid : is_prefix prefix ≡ true) (profile : Prof
   written_there s (Some symbol) at e = (symbol, at)
 
   -- what all entries write
-  pub told : (entries : List Entry) (seen : List ℕ) (gap : Bool) → HasPlainTitles entries → IsTold prefix tree values (IsToCome seen entries) (pieces prefix tree values seen gap entries)
+  pub told : (entries : List Entry) (seen : List ℕ) (gap : Bool) → HasPlainTitles entries → IsTold prefix tree values (IsToCome seen entries) (entry_texts prefix tree values seen gap entries)
   told [] seen gap plain = record { sayings = []; says = tt; utf8 = refl; own = tt; covers = λ s c. absurd (false≢true c.0) }
   told (definition s ∷ entries) seen gap plain = go (is_written tree values s && not (list_any (nat_eq s) seen)) refl (told entries (s ∷ seen) false (λ k entry title at is. plain (suc k) entry title at is)) (told entries (s ∷ seen) gap (λ k entry title at is. plain (suc k) entry title at is)) where
-    go : (t : Bool) → (is_written tree values s && not (list_any (nat_eq s) seen)) ≡ t → IsTold prefix tree values (IsToCome (s ∷ seen) entries) (pieces prefix tree values (s ∷ seen) false entries) → IsTold prefix tree values (IsToCome (s ∷ seen) entries) (pieces prefix tree values (s ∷ seen) gap entries)
-        → IsTold prefix tree values (IsToCome seen (definition s ∷ entries)) (cond t (cond gap (10 ∷ ended_line prefix tree values s) (ended_line prefix tree values s) ++ pieces prefix tree values (s ∷ seen) false entries) (pieces prefix tree values (s ∷ seen) gap entries))
+    go : (t : Bool) → (is_written tree values s && not (list_any (nat_eq s) seen)) ≡ t → IsTold prefix tree values (IsToCome (s ∷ seen) entries) (entry_texts prefix tree values (s ∷ seen) false entries) → IsTold prefix tree values (IsToCome (s ∷ seen) entries) (entry_texts prefix tree values (s ∷ seen) gap entries)
+        → IsTold prefix tree values (IsToCome seen (definition s ∷ entries)) (cond t (cond gap (10 ∷ ended_line prefix tree values s) (ended_line prefix tree values s) ++ entry_texts prefix tree values (s ∷ seen) false entries) (entry_texts prefix tree values (s ∷ seen) gap entries))
     go true e one two =
         let there = written_there s (slice_get tree.symbols s) refl (and_parts (is_written tree values s) (not (list_any (nat_eq s) seen)) e).0 in
-        told_symbol s there.0 there.1 seen gap entries (pieces prefix tree values (s ∷ seen) false entries) one
-    go false e one two = told_fewer prefix valid tree values (IsToCome (s ∷ seen) entries) (IsToCome seen (definition s ∷ entries)) (pieces prefix tree values (s ∷ seen) gap entries) fewer two where
+        told_symbol s there.0 there.1 seen gap entries (entry_texts prefix tree values (s ∷ seen) false entries) one
+    go false e one two = told_fewer prefix valid tree values (IsToCome (s ∷ seen) entries) (IsToCome seen (definition s ∷ entries)) (entry_texts prefix tree values (s ∷ seen) gap entries) fewer two where
       fewer : (w : ℕ) → IsToCome seen (definition s ∷ entries) w → IsToCome (s ∷ seen) entries w
       fewer w c = elim (cases_Bool (nat_eq w s)) [
         | inl same ↦
@@ -205,25 +205,25 @@ module _ (prefix : List ℕ) (valid : is_prefix prefix ≡ true) (profile : Prof
             absurd (false≢true (sym e ∙ both))
         | inr other ↦ (ap (λ b. b || list_any (is_definition w) entries) (sym other) ∙ c.0, ap (λ b. b || list_any (nat_eq w) seen) other ∙ c.1, c.2, c.3)
       ]
-  told (choice_begins c ∷ entries) seen gap plain = told_fewer prefix valid tree values (IsToCome seen entries) (IsToCome seen (choice_begins c ∷ entries)) (pieces prefix tree values seen gap entries) (λ s d. (d.0, d.1, d.2, d.3)) (told entries seen gap (λ k entry title at is. plain (suc k) entry title at is))
+  told (choice_begins c ∷ entries) seen gap plain = told_fewer prefix valid tree values (IsToCome seen entries) (IsToCome seen (choice_begins c ∷ entries)) (entry_texts prefix tree values seen gap entries) (λ s d. (d.0, d.1, d.2, d.3)) (told entries seen gap (λ k entry title at is. plain (suc k) entry title at is))
   told (menu_begins title dependency visible ∷ entries) seen gap plain =
       go (applies tree values dependency && applies tree values visible) (told entries seen false (λ k entry title at is. plain (suc k) entry title at is)) (told entries seen gap (λ k entry title at is. plain (suc k) entry title at is)) where
-        go : (t : Bool) → IsTold prefix tree values (IsToCome seen entries) (pieces prefix tree values seen false entries) → IsTold prefix tree values (IsToCome seen entries) (pieces prefix tree values seen gap entries)
-            → IsTold prefix tree values (IsToCome seen (menu_begins title dependency visible ∷ entries)) (cond t (heading prefix title ++ pieces prefix tree values seen false entries) (pieces prefix tree values seen gap entries))
-        go true one two = told_fewer prefix valid tree values (IsToCome seen entries) (IsToCome seen (menu_begins title dependency visible ∷ entries)) (heading prefix title ++ pieces prefix tree values seen false entries) (λ s d. (d.0, d.1, d.2, d.3))
-            (told_heading prefix valid tree values (IsToCome seen entries) title (pieces prefix tree values seen false entries) (plain_title title (plain 0 (menu_begins title dependency visible) title refl refl)) one)
-        go false one two = told_fewer prefix valid tree values (IsToCome seen entries) (IsToCome seen (menu_begins title dependency visible ∷ entries)) (pieces prefix tree values seen gap entries) (λ s d. (d.0, d.1, d.2, d.3)) two
+        go : (t : Bool) → IsTold prefix tree values (IsToCome seen entries) (entry_texts prefix tree values seen false entries) → IsTold prefix tree values (IsToCome seen entries) (entry_texts prefix tree values seen gap entries)
+            → IsTold prefix tree values (IsToCome seen (menu_begins title dependency visible ∷ entries)) (cond t (heading prefix title ++ entry_texts prefix tree values seen false entries) (entry_texts prefix tree values seen gap entries))
+        go true one two = told_fewer prefix valid tree values (IsToCome seen entries) (IsToCome seen (menu_begins title dependency visible ∷ entries)) (heading prefix title ++ entry_texts prefix tree values seen false entries) (λ s d. (d.0, d.1, d.2, d.3))
+            (told_heading prefix valid tree values (IsToCome seen entries) title (entry_texts prefix tree values seen false entries) (plain_title title (plain 0 (menu_begins title dependency visible) title refl refl)) one)
+        go false one two = told_fewer prefix valid tree values (IsToCome seen entries) (IsToCome seen (menu_begins title dependency visible ∷ entries)) (entry_texts prefix tree values seen gap entries) (λ s d. (d.0, d.1, d.2, d.3)) two
   told (menu_ends title dependency visible ∷ entries) seen gap plain =
       go (applies tree values dependency && applies tree values visible) (told entries seen true (λ k entry title at is. plain (suc k) entry title at is)) (told entries seen gap (λ k entry title at is. plain (suc k) entry title at is)) where
-        go : (t : Bool) → IsTold prefix tree values (IsToCome seen entries) (pieces prefix tree values seen true entries) → IsTold prefix tree values (IsToCome seen entries) (pieces prefix tree values seen gap entries)
-            → IsTold prefix tree values (IsToCome seen (menu_ends title dependency visible ∷ entries)) (cond t (end_line title ++ pieces prefix tree values seen true entries) (pieces prefix tree values seen gap entries))
-        go true one two = told_fewer prefix valid tree values (IsToCome seen entries) (IsToCome seen (menu_ends title dependency visible ∷ entries)) (end_line title ++ pieces prefix tree values seen true entries) (λ s d. (d.0, d.1, d.2, d.3))
-            (told_end prefix valid tree values (IsToCome seen entries) title (pieces prefix tree values seen true entries) (plain_title title (plain 0 (menu_ends title dependency visible) title refl refl)) one)
-        go false one two = told_fewer prefix valid tree values (IsToCome seen entries) (IsToCome seen (menu_ends title dependency visible ∷ entries)) (pieces prefix tree values seen gap entries) (λ s d. (d.0, d.1, d.2, d.3)) two
+        go : (t : Bool) → IsTold prefix tree values (IsToCome seen entries) (entry_texts prefix tree values seen true entries) → IsTold prefix tree values (IsToCome seen entries) (entry_texts prefix tree values seen gap entries)
+            → IsTold prefix tree values (IsToCome seen (menu_ends title dependency visible ∷ entries)) (cond t (end_line title ++ entry_texts prefix tree values seen true entries) (entry_texts prefix tree values seen gap entries))
+        go true one two = told_fewer prefix valid tree values (IsToCome seen entries) (IsToCome seen (menu_ends title dependency visible ∷ entries)) (end_line title ++ entry_texts prefix tree values seen true entries) (λ s d. (d.0, d.1, d.2, d.3))
+            (told_end prefix valid tree values (IsToCome seen entries) title (entry_texts prefix tree values seen true entries) (plain_title title (plain 0 (menu_ends title dependency visible) title refl refl)) one)
+        go false one two = told_fewer prefix valid tree values (IsToCome seen entries) (IsToCome seen (menu_ends title dependency visible ∷ entries)) (entry_texts prefix tree values seen gap entries) (λ s d. (d.0, d.1, d.2, d.3)) two
   told (comment title dependency ∷ entries) seen gap plain =
       go (applies tree values dependency) (told entries seen false (λ k entry title at is. plain (suc k) entry title at is)) (told entries seen gap (λ k entry title at is. plain (suc k) entry title at is)) where
-        go : (t : Bool) → IsTold prefix tree values (IsToCome seen entries) (pieces prefix tree values seen false entries) → IsTold prefix tree values (IsToCome seen entries) (pieces prefix tree values seen gap entries)
-            → IsTold prefix tree values (IsToCome seen (comment title dependency ∷ entries)) (cond t (heading prefix title ++ pieces prefix tree values seen false entries) (pieces prefix tree values seen gap entries))
-        go true one two = told_fewer prefix valid tree values (IsToCome seen entries) (IsToCome seen (comment title dependency ∷ entries)) (heading prefix title ++ pieces prefix tree values seen false entries) (λ s d. (d.0, d.1, d.2, d.3))
-            (told_heading prefix valid tree values (IsToCome seen entries) title (pieces prefix tree values seen false entries) (plain_title title (plain 0 (comment title dependency) title refl refl)) one)
-        go false one two = told_fewer prefix valid tree values (IsToCome seen entries) (IsToCome seen (comment title dependency ∷ entries)) (pieces prefix tree values seen gap entries) (λ s d. (d.0, d.1, d.2, d.3)) two
+        go : (t : Bool) → IsTold prefix tree values (IsToCome seen entries) (entry_texts prefix tree values seen false entries) → IsTold prefix tree values (IsToCome seen entries) (entry_texts prefix tree values seen gap entries)
+            → IsTold prefix tree values (IsToCome seen (comment title dependency ∷ entries)) (cond t (heading prefix title ++ entry_texts prefix tree values seen false entries) (entry_texts prefix tree values seen gap entries))
+        go true one two = told_fewer prefix valid tree values (IsToCome seen entries) (IsToCome seen (comment title dependency ∷ entries)) (heading prefix title ++ entry_texts prefix tree values seen false entries) (λ s d. (d.0, d.1, d.2, d.3))
+            (told_heading prefix valid tree values (IsToCome seen entries) title (entry_texts prefix tree values seen false entries) (plain_title title (plain 0 (comment title dependency) title refl refl)) one)
+        go false one two = told_fewer prefix valid tree values (IsToCome seen entries) (IsToCome seen (comment title dependency ∷ entries)) (entry_texts prefix tree values seen gap entries) (λ s d. (d.0, d.1, d.2, d.3)) two

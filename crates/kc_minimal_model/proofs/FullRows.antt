@@ -2,7 +2,7 @@
 use Rattle.std.proofs.Common.{◌≡◌, ℕ, [], ◌∷◌, Some, None, refl}
 use Rattle.std.specs.Prelude.{codes}
 use Rattle.kc_value.specs.declared.value.Kind.TheVariants.{Bool as Boolean, Int}
-use Rattle.kc_tree_model.specs.Trees.{Whole, definition}
+use Rattle.kc_tree_model.specs.Trees.{Tree, definition}
 use Rattle.kc_rules_model.specs.declared.values.UnitValue.{UnitValue}
 use Rattle.kc_rules_model.specs.declared.values.UnitValue.TheVariants.{Member as MemberValue}
 use Rattle.kc_rules_model.proofs.RowTrees.{n, m, y, text, always, name, otherwise, plain, one_symbol, three_symbols, tree_a, tree_lifted, tree_int, tree_pick, tree_shown_if, tree_select, tree_hidden, tree_menu, tree_titled}
@@ -13,7 +13,7 @@ abbrev picks : ℕ → UnitValue
 picks s = MemberValue (Some s)
 
 -- config A / bool "a" / default y / config B / bool "b" / depends on A / config C / bool / default B
-abbrev tree_three : Whole
+abbrev tree_three : Tree
 tree_three = three_symbols (plain (codes "A") Boolean (always ∷ []) (otherwise always ∷ [])) (record (plain (codes "B") Boolean (name (codes "A") ∷ []) []) { direct = name (codes "A") ∷ [] })
     (plain (codes "C") Boolean [] (otherwise (name (codes "B")) ∷ []))
 

@@ -4,31 +4,31 @@ use Rattle.std.specs.Prelude.{slice_get}
 use Rattle.std.specs.List.{flat_map, range_with_len}
 use Rattle.std.proofs.lemmas.Bool.{cases_Bool, eqb-true, eq-eqb}
 use Rattle.std.proofs.lemmas.List.{length-map}
-use Rattle.kc_tree_model.specs.Trees.{Whole}
+use Rattle.kc_tree_model.specs.Trees.{Tree}
 use Rattle.kc_tree_model.specs.Contents.{tree_of_files}
 use Rattle.kc_tree_model.proofs.Consistency.Consistent.{tree_is_consistent}
 use Rattle.kc_system.specs.Solutions.{FitsUsers, FitsValues}
 use Rattle.kc_system.proofs.Lists.{get-some}
 use Rattle.kc_rules_model.specs.declared.profile.Profile.{Profile}
 use Rattle.kc_rules_model.specs.declared.values.UnitValue.{UnitValue}
-use Rattle.kc_rules_model.specs.SymbolValues.{symbol_seen}
+use Rattle.kc_rules_model.specs.SymbolValues.{value_of_symbol}
 use Rattle.kc_rules_model.specs.Shapes.{user_fits, value_fits}
 use Rattle.kc_rules_model.specs.SettledTrees.{IsSettledTree}
 use Rattle.kc_rules_model.specs.Reports.{symbol_numbers}
-use Rattle.kc_dotconfig_model.specs.Names.{is_prefix}
-use Rattle.kc_dotconfig_model.specs.Files.{file_lines, file_users}
-use Rattle.kc_dotconfig_model.specs.LoadFaults.{MOST_BYTES, IsAccepted}
+use Rattle.kc_dotconfig_model.specs.PrefixGrammar.{is_prefix}
+use Rattle.kc_dotconfig_model.specs.ConfigFiles.{file_lines, file_assignment}
+use Rattle.kc_dotconfig_model.specs.LoadFaults.{MAX_BYTES, IsAccepted}
 use Rattle.kc_dotconfig_model.proofs.AcceptedFiles.{accepted_read}
 use Rattle.kc_dotconfig_model.proofs.AcceptedLines.{accepted_utf8}
 use Rattle.kc_minimal_model.specs.Spelling.{symbol_line, ended_line}
 use Rattle.kc_minimal_model.specs.MinimalFile.{has_line, minimal_symbols, minimal_file}
 use Rattle.kc_minimal_model.specs.Loading.{ReadsTo, Loads, DifferAtASymbol, without_line}
 use Rattle.kc_minimal_model.specs.MinimalText.{with_lines}
-use Rattle.kc_minimal_model.specs.Headline.{MinimalFilesAreCanonical, DifferencesTellMinimalFiles, Headline}
+use Rattle.kc_minimal_model.specs.Headline.{MinimalFilesAreCanonical, DifferencesDecideMinimalFiles, Headline}
 use Rattle.kc_rules_model.proofs.OrderedTrees.{IsOrderedTree, ordered_tree}
 use Rattle.kc_minimal_model.proofs.LeastFile.{passes_filter}
 use Rattle.kc_minimal_model.proofs.MinimalLineList.{minimal_file_lines}
-use Rattle.kc_minimal_model.proofs.DifferenceLaws.{differences_tell}
+use Rattle.kc_minimal_model.proofs.DifferenceLaws.{differences_are_exact}
 use Rattle.kc_rules_model.proofs.SolutionsFit.{solutions_fit}
 use Rattle.kc_minimal_model.proofs.Canonical.{fits_of, each, one, reads_back, same_files, needed}
 use Rattle.kc_minimal_model.proofs.Accepting.{passes_at}
@@ -86,15 +86,15 @@ one_out p a (suc n) k x at = go (p a) k at (one_out p (a + 1) n) where
       ap (λ b. cond (not b) (a ∷ filter (λ t. not (t == x)) (filter p (range_with_len (a + 1) n))) (filter (λ t. not (t == x)) (filter p (range_with_len (a + 1) n)))) other ∙ ap (λ l. a ∷ l) (next k x at)
   go false k at next = next k x at
 
-module _ (prefix : List ℕ) (valid : is_prefix prefix ≡ true) (profile : Profile) (tree : Whole) (settled : IsSettledTree tree) where
+module _ (prefix : List ℕ) (valid : is_prefix prefix ≡ true) (profile : Profile) (tree : Tree) (settled : IsSettledTree tree) where
   ordered : IsOrderedTree tree
   ordered = ordered_tree tree settled
 
-  reads_fit : (bytes : List ℕ) (values : List UnitValue) → (reads : ReadsTo prefix profile tree bytes values) → FitsUsers (length tree.units) (λ u x. IsTrue (user_fits tree u x)) (file_users tree reads.sayings)
+  reads_fit : (bytes : List ℕ) (values : List UnitValue) → (reads : ReadsTo prefix profile tree bytes values) → FitsUsers (length tree.units) (λ u x. IsTrue (user_fits tree u x)) (file_assignment tree reads.sayings)
   reads_fit bytes values reads = fits_of prefix valid profile tree ordered bytes reads.sayings reads.utf8 reads.says
 
   values_fit : (bytes : List ℕ) (values : List UnitValue) → ReadsTo prefix profile tree bytes values → FitsValues (length tree.units) (λ u x. IsTrue (value_fits tree u x)) values
-  values_fit bytes values reads = solutions_fit profile tree ordered (file_users tree reads.sayings) (reads_fit bytes values reads) values reads.gives.solves
+  values_fit bytes values reads = solutions_fit profile tree ordered (file_assignment tree reads.sayings) (reads_fit bytes values reads) values reads.gives.solves
 
   -- an accepted file gives values
   loads : (bytes : List ℕ) → IsAccepted prefix tree bytes → (values : List UnitValue) × Loads prefix profile tree bytes values
@@ -104,7 +104,7 @@ module _ (prefix : List ℕ) (valid : is_prefix prefix ≡ true) (profile : Prof
       (found.0, record { accepted = accepted; reads = found.1 })
 
   back_reads : (bytes : List ℕ) (values : List UnitValue) → ReadsTo prefix profile tree bytes values → ReadsTo prefix profile tree (minimal_file prefix profile tree values) values
-  back_reads bytes values reads = reads_back prefix valid profile tree ordered (file_users tree reads.sayings) values (reads_fit bytes values reads) reads.gives.solves
+  back_reads bytes values reads = reads_back prefix valid profile tree ordered (file_assignment tree reads.sayings) values (reads_fit bytes values reads) reads.gives.solves
 
   -- the minimal file without a line is that of the symbols but one
   cut_line : (bytes : List ℕ) (values : List UnitValue) → ReadsTo prefix profile tree bytes values → (k s : ℕ) → slice_get (minimal_symbols profile tree values) k ≡ Some s
@@ -113,17 +113,17 @@ module _ (prefix : List ℕ) (valid : is_prefix prefix ≡ true) (profile : Prof
       let xs = minimal_symbols profile tree values in
       let f = symbol_line prefix tree values in
       let ended : List ℕ → List ℕ = λ line. line ++ 10 ∷ [] in
-      let lines = minimal_file_lines prefix valid profile tree settled.consistent (file_users tree reads.sayings) values (reads_fit bytes values reads) reads.gives.solves in
+      let lines = minimal_file_lines prefix valid profile tree settled.consistent (file_assignment tree reads.sayings) values (reads_fit bytes values reads) reads.gives.solves in
       let next : k + 1 ≡ suc k = omega arith in
       ap (λ ls. flat_map ended (take k ls ++ drop (k + 1) ls)) lines ∙ ap (λ n. flat_map ended (take k (map f xs) ++ drop n (map f xs))) next
       ∙ ap (flat_map ended) (cut_map f k xs) ∙ flat_of_map ended f (take k xs ++ drop (suc k) xs)
       ∙ ap (flat_map (ended_line prefix tree values)) (sym (one_out (has_line profile tree values) 0 (length tree.symbols) k s at))
 
   -- without one of its lines
-  without_one : (bytes : List ℕ) (values : List UnitValue) → Loads prefix profile tree bytes values → length (minimal_file prefix profile tree values) ≤ MOST_BYTES → (k : ℕ) → k < length (file_lines (minimal_file prefix profile tree values))
+  without_one : (bytes : List ℕ) (values : List UnitValue) → Loads prefix profile tree bytes values → length (minimal_file prefix profile tree values) ≤ MAX_BYTES → (k : ℕ) → k < length (file_lines (minimal_file prefix profile tree values))
       → (others : List UnitValue) × Loads prefix profile tree (without_line k (minimal_file prefix profile tree values)) others × DifferAtASymbol tree others values
   without_one bytes values loads small k below =
-      let users = file_users tree loads.reads.sayings in
+      let users = file_assignment tree loads.reads.sayings in
       let fitting = reads_fit bytes values loads.reads in
       let solved = loads.reads.gives.solves in
       let lines = ap length (minimal_file_lines prefix valid profile tree settled.consistent users values fitting solved) in
@@ -147,7 +147,7 @@ canonical prefix profile tree a b valid settled accepted_a accepted_b =
     let second = loads prefix valid profile tree settled b accepted_b in
     let left = first.1.reads in
     let right = second.1.reads in
-    let equal = same_files prefix valid profile tree (ordered_tree tree settled) (file_users tree left.sayings) (file_users tree right.sayings) first.0 second.0 (reads_fit prefix valid profile tree settled a first.0 left) (reads_fit prefix valid profile tree settled b second.0 right) left.gives.solves right.gives.solves in
+    let equal = same_files prefix valid profile tree (ordered_tree tree settled) (file_assignment tree left.sayings) (file_assignment tree right.sayings) first.0 second.0 (reads_fit prefix valid profile tree settled a first.0 left) (reads_fit prefix valid profile tree settled b second.0 right) left.gives.solves right.gives.solves in
     record {
       left = first.0;
       right = second.0;
@@ -155,17 +155,17 @@ canonical prefix profile tree a b valid settled accepted_a accepted_b =
       loads_right = second.1;
       same = (
         λ same. equal.0 (same_values tree first.0 second.0 settled.consistent (values_fit prefix valid profile tree settled a first.0 left) (values_fit prefix valid profile tree settled b second.0 right) same),
-        λ files. (let e = equal.1 files in λ s. ap (λ values. symbol_seen tree values s) e),
+        λ files. (let e = equal.1 files in λ s. ap (λ values. value_of_symbol tree values s) e),
       );
       back = λ small. minimal_files_accepted prefix profile tree a first.0 valid settled first.1 small;
       once = λ again loaded. ap (minimal_file prefix profile tree) (one prefix valid profile tree (ordered_tree tree settled) (minimal_file prefix profile tree first.0) again first.0 loaded.reads (back_reads prefix valid profile tree settled a first.0 left));
       needed = λ small k below. without_one prefix valid profile tree settled a first.0 first.1 small k below;
     }
 
-pub differences_tell_files : DifferencesTellMinimalFiles
+pub differences_tell_files : DifferencesDecideMinimalFiles
 differences_tell_files prefix profile tree a b left right valid settled fits_a fits_b gives_a gives_b =
     let ordered = ordered_tree tree settled in
-    let tell = differences_tell tree left right settled.consistent (solutions_fit profile tree ordered a fits_a left gives_a.solves) (solutions_fit profile tree ordered b fits_b right gives_b.solves) in
+    let tell = differences_are_exact tree left right settled.consistent (solutions_fit profile tree ordered a fits_a left gives_a.solves) (solutions_fit profile tree ordered b fits_b right gives_b.solves) in
     let equal = same_files prefix valid profile tree ordered a b left right fits_a fits_b gives_a.solves gives_b.solves in
     (λ none. equal.0 (tell.0 none), λ files. tell.1 (equal.1 files))
 

@@ -7,9 +7,9 @@ use Rattle.kc_value.specs.declared.tri.Tri.{Tri}
 use Rattle.kc_value.specs.declared.tri.Tri.TheVariants.{N, Y}
 use Rattle.kc_value.specs.declared.value.Kind.{Kind}
 use Rattle.kc_value.specs.declared.value.Kind.TheVariants.{Bool as Boolean, Tristate, Text, Int, Hex}
-use Rattle.kc_expr.specs.Expr.{Seen}
-use Rattle.kc_tree_model.specs.Trees.{Whole, Symbol, of_symbol, of_choice}
-use Rattle.kc_tree_model.specs.TreeLookup.{IsConsistent, unit_of, place_of_unit}
+use Rattle.kc_expr.specs.Expr.{SymbolValue}
+use Rattle.kc_tree_model.specs.Trees.{Tree, Symbol, of_symbol, of_choice}
+use Rattle.kc_tree_model.specs.TreeLookup.{IsConsistent, unit_of, index_of_unit}
 use Rattle.kc_system.specs.Solutions.{Solves, FitsUsers}
 use Rattle.kc_rules_model.specs.declared.profile.Profile.{Profile}
 use Rattle.kc_rules_model.specs.declared.values.UnitValue.{UnitValue}
@@ -17,19 +17,19 @@ use Rattle.kc_rules_model.specs.declared.values.UnitValue.TheVariants.{Tri as Tr
 use Rattle.kc_rules_model.specs.declared.values.UserValue.{UserValue}
 use Rattle.kc_rules_model.specs.declared.values.UserValue.TheVariants.{Tri as TriUser, Text as TextUser, Member as MemberUser}
 use Rattle.kc_rules_model.specs.Kinds.{is_n, is_tri_kind}
-use Rattle.kc_rules_model.specs.SymbolValues.{symbol_seen, seen_in, seen_as_tri, tri_of, text_of, member_of, tri_if_chosen}
+use Rattle.kc_rules_model.specs.SymbolValues.{value_of_symbol, value_in_unit, tri_symbol_value, tri_of, text_of, member_of, tri_if_selected}
 use Rattle.kc_rules_model.specs.Rule.{rule, as_user}
 use Rattle.kc_rules_model.specs.Shapes.{user_fits, unit_user_fits, symbol_user_fits, choice_user_fits, tri_fits, user_text_fits}
-use Rattle.kc_dotconfig_model.specs.Names.{is_prefix}
-use Rattle.kc_dotconfig_model.specs.Lines.{Saying, assigns, silent, Says}
-use Rattle.kc_minimal_model.specs.Spelling.{symbol_line, line_if_seen, line_with}
-use Rattle.kc_minimal_model.specs.MinimalFile.{is_kept, has_line, may_have_line, stands_for_its_unit}
-use Rattle.kc_minimal_model.specs.Laws.{IsReadAsItsAssignment}
+use Rattle.kc_dotconfig_model.specs.PrefixGrammar.{is_prefix}
+use Rattle.kc_dotconfig_model.specs.ConfigLines.{LineMeaning, assigns, silent, Means}
+use Rattle.kc_minimal_model.specs.Spelling.{symbol_line, line_of_value, line_with}
+use Rattle.kc_minimal_model.specs.MinimalFile.{is_kept, has_line, may_have_line, is_line_of_its_unit}
+use Rattle.kc_minimal_model.specs.MinimalFileLaws.{IsReadAsItsAssignment}
 use Rattle.kc_tree_model.proofs.Lookups.{inside, place_is, unit_is}
 use Rattle.kc_minimal_model.proofs.LineReads.{IsLine, tri_line, text_line, member_line}
 use Rattle.kc_minimal_model.proofs.KeptUnits.{KeptUnit, kept_unit}
 
-abbrev pub saying_of_user : ℕ → Option UserValue → Saying
+abbrev pub saying_of_user : ℕ → Option UserValue → LineMeaning
 saying_of_user u None = silent
 saying_of_user u (Some x) = assigns u x
 
@@ -38,7 +38,7 @@ abbrev pub user_meant : List UnitValue → ℕ → Option UserValue
 user_meant values u = option_and_then as_user (slice_get values u)
 
 -- what a line of this unit says
-abbrev pub meant : List UnitValue → ℕ → Saying
+abbrev pub meant : List UnitValue → ℕ → LineMeaning
 meant values u = saying_of_user u (user_meant values u)
 
 value_of_tri : (held : UnitValue) (t : Tri) → as_user held ≡ Some (TriUser t) → held ≡ TriValue t
@@ -73,19 +73,19 @@ text_kind Text t e = refl
 text_kind Int t e = refl
 text_kind Hex t e = refl
 
-module _ (prefix : List ℕ) (valid : is_prefix prefix ≡ true) (profile : Profile) (tree : Whole) (sound : IsConsistent tree) (users : List (Option UserValue)) (values : List UnitValue)
+module _ (prefix : List ℕ) (valid : is_prefix prefix ≡ true) (profile : Profile) (tree : Tree) (sound : IsConsistent tree) (users : List (Option UserValue)) (values : List UnitValue)
     (fitting : FitsUsers (length tree.units) (λ u x. IsTrue (user_fits tree u x)) users) (solved : Solves (length tree.units) (rule profile tree) users values) where
   -- a symbol outside choices, by the user value that gives its value again
   line_by_user : (s : ℕ) (symbol : Symbol) → slice_get tree.symbols s ≡ Some symbol → symbol.choice ≡ None → (held : UnitValue) → slice_get values (unit_of tree s) ≡ Some held
-      → (again : UserValue) → as_user held ≡ Some again → symbol_user_fits (Some symbol) again ≡ true → IsLine prefix tree (line_with prefix symbol.name (seen_in tree values s symbol None)) (assigns (unit_of tree s) again)
+      → (again : UserValue) → as_user held ≡ Some again → symbol_user_fits (Some symbol) again ≡ true → IsLine prefix tree (line_with prefix symbol.name (value_in_unit tree values s symbol None)) (assigns (unit_of tree s) again)
   line_by_user s symbol at out held has (TriUser t) assigned fits =
-      let F : Option UnitValue → Bool → Seen = λ h b. cond b (seen_as_tri symbol.kind (tri_of h)) (record { kind = symbol.kind; tri = N; text = text_of h }) in
-      let seen : seen_in tree values s symbol None ≡ seen_as_tri symbol.kind t =
+      let F : Option UnitValue → Bool → SymbolValue = λ h b. cond b (tri_symbol_value symbol.kind (tri_of h)) (record { kind = symbol.kind; tri = N; text = text_of h }) in
+      let seen : value_in_unit tree values s symbol None ≡ tri_symbol_value symbol.kind t =
       ap (λ h. F h (is_tri_kind symbol.kind)) (has ∙ ap Some (value_of_tri held t assigned)) ∙ ap (F (Some (TriValue t))) (tri_kind symbol.kind t fits) in
       subst (λ e. IsLine prefix tree (line_with prefix symbol.name e) (assigns (unit_of tree s) (TriUser t))) (sym seen) (tri_line prefix valid tree sound s symbol at symbol.kind t refl out fits)
   line_by_user s symbol at out held has (TextUser text) assigned fits =
-      let F : Option UnitValue → Bool → Seen = λ h b. cond b (seen_as_tri symbol.kind (tri_of h)) (record { kind = symbol.kind; tri = N; text = text_of h }) in
-      let seen : seen_in tree values s symbol None ≡ record { kind = symbol.kind; tri = N; text = text } =
+      let F : Option UnitValue → Bool → SymbolValue = λ h b. cond b (tri_symbol_value symbol.kind (tri_of h)) (record { kind = symbol.kind; tri = N; text = text_of h }) in
+      let seen : value_in_unit tree values s symbol None ≡ record { kind = symbol.kind; tri = N; text = text } =
       ap (λ h. F h (is_tri_kind symbol.kind)) (has ∙ ap Some (value_of_text held text assigned)) ∙ ap (F (Some (TextValue text))) (text_kind symbol.kind text fits) in
       subst (λ e. IsLine prefix tree (line_with prefix symbol.name e) (assigns (unit_of tree s) (TextUser text))) (sym seen) (text_line prefix valid tree sound s symbol at symbol.kind text refl fits)
   line_by_user s symbol at out held has (MemberUser m) assigned fits = absurd (false≢true fits)
@@ -94,35 +94,35 @@ module _ (prefix : List ℕ) (valid : is_prefix prefix ≡ true) (profile : Prof
   said u k = sym (ap (λ o. saying_of_user u (option_and_then as_user o)) k.has ∙ ap (saying_of_user u) k.assigned)
 
   outside : (s : ℕ) (symbol : Symbol) → slice_get tree.symbols s ≡ Some symbol → symbol.choice ≡ None → is_kept profile tree values (unit_of tree s) ≡ true
-      → IsLine prefix tree (line_with prefix symbol.name (seen_in tree values s symbol None)) (meant values (unit_of tree s))
+      → IsLine prefix tree (line_with prefix symbol.name (value_in_unit tree values s symbol None)) (meant values (unit_of tree s))
   unfolding user_fits
   outside s symbol at out kept =
       let own = sound.own_units s symbol at out in
       let here : slice_get tree.units (unit_of tree s) ≡ Some (of_symbol s) = ap (slice_get tree.units) (unit_is tree sound s own.0 symbol None at out own.1) ∙ own.1 in
       let k = kept_unit profile tree users values fitting solved (unit_of tree s) (inside tree.units (unit_of tree s) (of_symbol s) here) kept in
       let fits : symbol_user_fits (Some symbol) k.again ≡ true = sym (ap (λ o. unit_user_fits tree o k.again) here ∙ ap (λ o. symbol_user_fits o k.again) at) ∙ k.fits in
-      subst (IsLine prefix tree (line_with prefix symbol.name (seen_in tree values s symbol None))) (said (unit_of tree s) k) (line_by_user s symbol at out k.held k.has k.again k.assigned fits)
+      subst (IsLine prefix tree (line_with prefix symbol.name (value_in_unit tree values s symbol None))) (said (unit_of tree s) k) (line_by_user s symbol at out k.held k.has k.again k.assigned fits)
 
   -- a member, by the user's member that gives its choice's value again
-  member_by_user : (s c : ℕ) (symbol : Symbol) → slice_get tree.symbols s ≡ Some symbol → symbol.choice ≡ Some c → place_of_unit tree (of_choice c) ≡ unit_of tree s → not (is_n (seen_in tree values s symbol (Some c)).tri) ≡ true
+  member_by_user : (s c : ℕ) (symbol : Symbol) → slice_get tree.symbols s ≡ Some symbol → symbol.choice ≡ Some c → index_of_unit tree (of_choice c) ≡ unit_of tree s → not (is_n (value_in_unit tree values s symbol (Some c)).tri) ≡ true
       → (held : UnitValue) → slice_get values (unit_of tree s) ≡ Some held → (again : UserValue) → as_user held ≡ Some again → choice_user_fits (slice_get tree.choices c) again ≡ true
-      → IsLine prefix tree (line_with prefix symbol.name (seen_in tree values s symbol (Some c))) (assigns (unit_of tree s) again)
+      → IsLine prefix tree (line_with prefix symbol.name (value_in_unit tree values s symbol (Some c))) (assigns (unit_of tree s) again)
   member_by_user s c symbol at within place chosen held has (TriUser t) assigned fits = absurd (false≢true fits)
   member_by_user s c symbol at within place chosen held has (TextUser t) assigned fits = absurd (false≢true fits)
   member_by_user s c symbol at within place chosen held has (MemberUser m) assigned fits =
-      let tri : (seen_in tree values s symbol (Some c)).tri ≡ cond (m == s) Y N =
-      ap (λ o. tri_if_chosen s (member_of o)) (ap (slice_get values) place ∙ has ∙ ap Some (value_of_member held m assigned)) in
+      let tri : (value_in_unit tree values s symbol (Some c)).tri ≡ cond (m == s) Y N =
+      ap (λ o. tri_if_selected s (member_of o)) (ap (slice_get values) place ∙ has ∙ ap Some (value_of_member held m assigned)) in
       elim (cases_Bool (m == s)) [
         | inl same ↦
-            let seen : seen_in tree values s symbol (Some c) ≡ seen_as_tri Boolean Y = ap (seen_as_tri symbol.kind) (tri ∙ ap (λ b. cond b Y N) same) ∙ ap (λ k. seen_as_tri k Y) (sound.bool_members s c symbol at within) in
+            let seen : value_in_unit tree values s symbol (Some c) ≡ tri_symbol_value Boolean Y = ap (tri_symbol_value symbol.kind) (tri ∙ ap (λ b. cond b Y N) same) ∙ ap (λ k. tri_symbol_value k Y) (sound.bool_members s c symbol at within) in
             let line = member_line prefix valid tree sound s symbol at c within (sound.bool_members s c symbol at within) in
             subst (λ e. IsLine prefix tree (line_with prefix symbol.name e) (assigns (unit_of tree s) (MemberUser m))) (sym seen)
-            (subst (λ x. IsLine prefix tree (line_with prefix symbol.name (seen_as_tri Boolean Y)) (assigns (unit_of tree s) (MemberUser x))) (sym (eqb-true m s same)) line)
+            (subst (λ x. IsLine prefix tree (line_with prefix symbol.name (tri_symbol_value Boolean Y)) (assigns (unit_of tree s) (MemberUser x))) (sym (eqb-true m s same)) line)
         | inr other ↦ absurd (false≢true (sym (ap (λ t. not (is_n t)) (tri ∙ ap (λ b. cond b Y N) other)) ∙ chosen))
       ]
 
-  within_choice : (s c : ℕ) (symbol : Symbol) → slice_get tree.symbols s ≡ Some symbol → symbol.choice ≡ Some c → is_kept profile tree values (unit_of tree s) ≡ true → not (is_n (seen_in tree values s symbol (Some c)).tri) ≡ true
-      → IsLine prefix tree (line_with prefix symbol.name (seen_in tree values s symbol (Some c))) (meant values (unit_of tree s))
+  within_choice : (s c : ℕ) (symbol : Symbol) → slice_get tree.symbols s ≡ Some symbol → symbol.choice ≡ Some c → is_kept profile tree values (unit_of tree s) ≡ true → not (is_n (value_in_unit tree values s symbol (Some c)).tri) ≡ true
+      → IsLine prefix tree (line_with prefix symbol.name (value_in_unit tree values s symbol (Some c))) (meant values (unit_of tree s))
   unfolding user_fits
   within_choice s c symbol at within kept chosen =
       let own = sound.units_of_members s c symbol at within in
@@ -130,16 +130,16 @@ module _ (prefix : List ℕ) (valid : is_prefix prefix ≡ true) (profile : Prof
       let here : slice_get tree.units (unit_of tree s) ≡ Some (of_choice c) = ap (slice_get tree.units) number ∙ own.1 in
       let k = kept_unit profile tree users values fitting solved (unit_of tree s) (inside tree.units (unit_of tree s) (of_choice c) here) kept in
       let fits : choice_user_fits (slice_get tree.choices c) k.again ≡ true = sym (ap (λ o. unit_user_fits tree o k.again) here) ∙ k.fits in
-      subst (IsLine prefix tree (line_with prefix symbol.name (seen_in tree values s symbol (Some c)))) (said (unit_of tree s) k)
+      subst (IsLine prefix tree (line_with prefix symbol.name (value_in_unit tree values s symbol (Some c)))) (said (unit_of tree s) k)
       (member_by_user s c symbol at within (place_is tree sound (unit_of tree s) (of_choice c) here) chosen k.held k.has k.again k.assigned fits)
 
-  at_choice : (s : ℕ) (symbol : Symbol) → slice_get tree.symbols s ≡ Some symbol → (c : Option ℕ) → symbol.choice ≡ c → is_kept profile tree values (unit_of tree s) ≡ true → stands_for_its_unit c (seen_in tree values s symbol c) ≡ true
-      → IsLine prefix tree (line_with prefix symbol.name (seen_in tree values s symbol c)) (meant values (unit_of tree s))
+  at_choice : (s : ℕ) (symbol : Symbol) → slice_get tree.symbols s ≡ Some symbol → (c : Option ℕ) → symbol.choice ≡ c → is_kept profile tree values (unit_of tree s) ≡ true → is_line_of_its_unit c (value_in_unit tree values s symbol c) ≡ true
+      → IsLine prefix tree (line_with prefix symbol.name (value_in_unit tree values s symbol c)) (meant values (unit_of tree s))
   at_choice s symbol at None out kept may = outside s symbol at out kept
   at_choice s symbol at (Some c) within kept may = within_choice s c symbol at within kept may
 
-  at_symbol : (s : ℕ) (o : Option Symbol) → slice_get tree.symbols s ≡ o → is_kept profile tree values (unit_of tree s) ≡ true → may_have_line o (option_map (λ (symbol : Symbol). seen_in tree values s symbol symbol.choice) o) ≡ true
-      → IsLine prefix tree (line_if_seen prefix o (option_map (λ (symbol : Symbol). seen_in tree values s symbol symbol.choice) o)) (meant values (unit_of tree s))
+  at_symbol : (s : ℕ) (o : Option Symbol) → slice_get tree.symbols s ≡ o → is_kept profile tree values (unit_of tree s) ≡ true → may_have_line o (option_map (λ (symbol : Symbol). value_in_unit tree values s symbol symbol.choice) o) ≡ true
+      → IsLine prefix tree (line_of_value prefix o (option_map (λ (symbol : Symbol). value_in_unit tree values s symbol symbol.choice) o)) (meant values (unit_of tree s))
   at_symbol s None at kept may = absurd (false≢true may)
   at_symbol s (Some symbol) at kept may = at_choice s symbol at symbol.choice refl kept may
 
@@ -147,11 +147,11 @@ module _ (prefix : List ℕ) (valid : is_prefix prefix ≡ true) (profile : Prof
   pub line_reads : (s : ℕ) → has_line profile tree values s ≡ true → IsLine prefix tree (symbol_line prefix tree values s) (meant values (unit_of tree s))
   unfolding symbol_line
   line_reads s has =
-      let parts = and_parts (is_kept profile tree values (unit_of tree s)) (may_have_line (slice_get tree.symbols s) (symbol_seen tree values s)) has in
+      let parts = and_parts (is_kept profile tree values (unit_of tree s)) (may_have_line (slice_get tree.symbols s) (value_of_symbol tree values s)) has in
       at_symbol s (slice_get tree.symbols s) refl parts.0 parts.1
 
   -- the number of a unit that a line is of
-  pub unit_inside : (s : ℕ) (o : Option Symbol) → slice_get tree.symbols s ≡ o → may_have_line o (option_map (λ (symbol : Symbol). seen_in tree values s symbol symbol.choice) o) ≡ true → unit_of tree s < length tree.units
+  pub unit_inside : (s : ℕ) (o : Option Symbol) → slice_get tree.symbols s ≡ o → may_have_line o (option_map (λ (symbol : Symbol). value_in_unit tree values s symbol symbol.choice) o) ≡ true → unit_of tree s < length tree.units
   unit_inside s None at may = absurd (false≢true may)
   unit_inside s (Some symbol) at may = by_choice symbol.choice refl where
     by_choice : (c : Option ℕ) → symbol.choice ≡ c → unit_of tree s < length tree.units
@@ -161,7 +161,7 @@ module _ (prefix : List ℕ) (valid : is_prefix prefix ≡ true) (profile : Prof
   -- the line of a symbol that has one is read as its unit's assignment
   pub read_as_assignment : (s : ℕ) → has_line profile tree values s ≡ true → IsReadAsItsAssignment prefix tree values s
   read_as_assignment s has =
-      let parts = and_parts (is_kept profile tree values (unit_of tree s)) (may_have_line (slice_get tree.symbols s) (symbol_seen tree values s)) has in
+      let parts = and_parts (is_kept profile tree values (unit_of tree s)) (may_have_line (slice_get tree.symbols s) (value_of_symbol tree values s)) has in
       let k = kept_unit profile tree users values fitting solved (unit_of tree s) (unit_inside s (slice_get tree.symbols s) refl parts.1) parts.0 in
       let line = line_reads s has in
       record {
@@ -170,5 +170,5 @@ module _ (prefix : List ℕ) (valid : is_prefix prefix ≡ true) (profile : Prof
         has = k.has;
         meant = k.assigned;
         trimmed = line.whole;
-        says = subst (Says prefix tree (symbol_line prefix tree values s)) (sym (said (unit_of tree s) k)) line.says;
+        says = subst (Means prefix tree (symbol_line prefix tree values s)) (sym (said (unit_of tree s) k)) line.says;
       }

@@ -2,7 +2,7 @@
 use Rattle.std.proofs.Common.{◌≡◌, ◌≢◌, inl, inr, ℕ, ◌<◌, true, false, not, IsTrue, List, Option, Some, None, length, refl, sym, ◌∙◌, ap}
 use Rattle.std.specs.Prelude.{slice_get}
 use Rattle.std.proofs.lemmas.Bool.{cases_Bool, false≢true}
-use Rattle.kc_tree_model.specs.Trees.{Whole}
+use Rattle.kc_tree_model.specs.Trees.{Tree}
 use Rattle.kc_system.specs.Solutions.{user_of, Solves, FitsUsers}
 use Rattle.kc_system.specs.LeastAssignments.{IsKept}
 use Rattle.kc_rules_model.specs.declared.profile.Profile.{Profile}
@@ -16,14 +16,14 @@ use Rattle.kc_rules_model.specs.checker.RestoreLaw.{rules_restore}
 use Rattle.kc_minimal_model.specs.MinimalFile.{is_kept}
 
 -- its value, and the fitting user value that gives it again
-pub record KeptUnit (tree : Whole) (values : List UnitValue) (u : ℕ) : Type 0 where
+pub record KeptUnit (tree : Tree) (values : List UnitValue) (u : ℕ) : Type 0 where
   pub held : UnitValue
   pub again : UserValue
   pub has : slice_get values u ≡ Some held
   pub assigned : as_user held ≡ Some again
   pub fits : user_fits tree u again ≡ true
 
-module _ (profile : Profile) (tree : Whole) (users : List (Option UserValue)) (values : List UnitValue) (fitting : FitsUsers (length tree.units) (λ u x. IsTrue (user_fits tree u x)) users) (solved : Solves (length tree.units) (rule profile tree) users values) where
+module _ (profile : Profile) (tree : Tree) (users : List (Option UserValue)) (values : List UnitValue) (fitting : FitsUsers (length tree.units) (λ u x. IsTrue (user_fits tree u x)) users) (solved : Solves (length tree.units) (rule profile tree) users values) where
   pub kept_unit : (u : ℕ) → u < length tree.units → is_kept profile tree values u ≡ true → KeptUnit tree values u
   kept_unit u inside kept =
       let without = rule profile tree u None values in

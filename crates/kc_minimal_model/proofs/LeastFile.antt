@@ -7,8 +7,8 @@ use Rattle.std.proofs.lemmas.Bool.{cases_Bool, cases_eq, false≢true, and_from,
 use Rattle.std.proofs.lemmas.List.{get_or-set_same, get_or-set_other, length-set}
 use Rattle.std.proofs.lemmas.Option.{slice_get-get_or}
 use Rattle.kc_value.specs.declared.tri.Tri.TheVariants.{N, Y}
-use Rattle.kc_tree_model.specs.Trees.{Whole, Symbol, TreeUnit, of_symbol, of_choice}
-use Rattle.kc_tree_model.specs.TreeLookup.{IsConsistent, unit_of, place_of_unit}
+use Rattle.kc_tree_model.specs.Trees.{Tree, Symbol, TreeUnit, of_symbol, of_choice}
+use Rattle.kc_tree_model.specs.TreeLookup.{IsConsistent, unit_of, index_of_unit}
 use Rattle.kc_system.specs.Solutions.{user_of, Solves, FitsUsers}
 use Rattle.kc_system.specs.LeastAssignments.{IsLeastAssignment}
 use Rattle.kc_rules_model.specs.declared.profile.Profile.{Profile}
@@ -16,16 +16,16 @@ use Rattle.kc_rules_model.specs.declared.values.UnitValue.{UnitValue}
 use Rattle.kc_rules_model.specs.declared.values.UserValue.{UserValue}
 use Rattle.kc_rules_model.specs.declared.values.UserValue.TheVariants.{Tri as TriUser, Text as TextUser, Member as MemberUser}
 use Rattle.kc_rules_model.specs.Kinds.{is_n}
-use Rattle.kc_rules_model.specs.SymbolValues.{seen_in, tri_if_chosen, member_of}
+use Rattle.kc_rules_model.specs.SymbolValues.{value_in_unit, tri_if_selected, member_of}
 use Rattle.kc_rules_model.specs.Rule.{rule, as_user}
 use Rattle.kc_rules_model.specs.Shapes.{user_fits, unit_user_fits, choice_user_fits, is_member}
 use Rattle.kc_rules_model.specs.Reports.{symbol_numbers}
-use Rattle.kc_dotconfig_model.specs.Names.{is_prefix}
-use Rattle.kc_dotconfig_model.specs.Lines.{Saying, Says, without_white_end}
-use Rattle.kc_dotconfig_model.specs.Files.{file_lines, assigned, assigned_over, file_users, no_users}
+use Rattle.kc_dotconfig_model.specs.PrefixGrammar.{is_prefix}
+use Rattle.kc_dotconfig_model.specs.ConfigLines.{LineMeaning, Means, without_white_end}
+use Rattle.kc_dotconfig_model.specs.ConfigFiles.{file_lines, assigned, assigned_over, file_assignment, empty_assignment}
 use Rattle.kc_minimal_model.specs.Spelling.{symbol_line, ended_line}
-use Rattle.kc_minimal_model.specs.MinimalFile.{is_kept, has_line, may_have_line, stands_for_its_unit, minimal_symbols}
-use Rattle.kc_minimal_model.specs.Laws.{IsReadAsLeast}
+use Rattle.kc_minimal_model.specs.MinimalFile.{is_kept, has_line, may_have_line, is_line_of_its_unit, minimal_symbols}
+use Rattle.kc_minimal_model.specs.MinimalFileLaws.{IsReadAsLeast}
 use Rattle.kc_minimal_model.proofs.Bytes.{first_line}
 use Rattle.kc_tree_model.proofs.Lookups.{inside, place_is, unit_is}
 use Rattle.kc_minimal_model.proofs.KeptUnits.{KeptUnit, kept_unit, kept_passes, others_fail}
@@ -103,9 +103,9 @@ same_length : (w : ℕ) (o : Option UserValue) (users : List (Option UserValue))
 same_length w None users = refl
 same_length w (Some x) users = length-set users w (Some x)
 
-module _ (tree : Whole) (values : List UnitValue) where
+module _ (tree : Tree) (values : List UnitValue) where
   -- what the lines of some symbols say
-  abbrev pub meanings : List ℕ → List Saying
+  abbrev pub meanings : List ℕ → List LineMeaning
   meanings xs = map (λ s. meant values (unit_of tree s)) xs
 
   pub after_lines : (u : ℕ) (xs : List ℕ) (users : List (Option UserValue)) (before : Bool) → u < length users → user_of users u ≡ cond before (user_meant values u) None
@@ -122,11 +122,11 @@ module _ (tree : Whole) (values : List UnitValue) where
   length_after [] users = refl
   length_after (s ∷ xs) users = length_after xs (assigned (meant values (unit_of tree s)) users) ∙ same_length (unit_of tree s) (user_meant values (unit_of tree s)) users
 
-module _ (prefix : List ℕ) (valid : is_prefix prefix ≡ true) (profile : Profile) (tree : Whole) (sound : IsConsistent tree) (users : List (Option UserValue)) (values : List UnitValue)
+module _ (prefix : List ℕ) (valid : is_prefix prefix ≡ true) (profile : Profile) (tree : Tree) (sound : IsConsistent tree) (users : List (Option UserValue)) (values : List UnitValue)
     (fitting : FitsUsers (length tree.units) (λ u x. IsTrue (user_fits tree u x)) users) (solved : Solves (length tree.units) (rule profile tree) users values) where
   -- the lines of some symbols that have one
   pub lines_say : (xs : List ℕ) → list_all (has_line profile tree values) xs ≡ true
-      → AllZip (λ line saying. Says prefix tree (without_white_end line) saying) (file_lines (flat_map (ended_line prefix tree values) xs)) (map (λ s. meant values (unit_of tree s)) xs)
+      → AllZip (λ line saying. Means prefix tree (without_white_end line) saying) (file_lines (flat_map (ended_line prefix tree values) xs)) (map (λ s. meant values (unit_of tree s)) xs)
   lines_say [] all = tt
   lines_say (s ∷ xs) all =
       let rest = flat_map (ended_line prefix tree values) xs in
@@ -134,8 +134,8 @@ module _ (prefix : List ℕ) (valid : is_prefix prefix ≡ true) (profile : Prof
       let line = line_reads prefix valid profile tree sound users values fitting solved s parts.0 in
       let cut : file_lines (ended_line prefix tree values s ++ rest) ≡ symbol_line prefix tree values s ∷ file_lines rest =
       ap file_lines (append_assoc (symbol_line prefix tree values s) (10 ∷ []) rest) ∙ first_line (symbol_line prefix tree values s) rest line.one in
-      subst (λ lines. AllZip (λ l saying. Says prefix tree (without_white_end l) saying) lines (meant values (unit_of tree s) ∷ map (λ t. meant values (unit_of tree t)) xs)) (sym cut)
-      (subst (λ l. Says prefix tree l (meant values (unit_of tree s))) (sym line.whole) line.says, lines_say xs parts.1)
+      subst (λ lines. AllZip (λ l saying. Means prefix tree (without_white_end l) saying) lines (meant values (unit_of tree s) ∷ map (λ t. meant values (unit_of tree t)) xs)) (sym cut)
+      (subst (λ l. Means prefix tree l (meant values (unit_of tree s))) (sym line.whole) line.says, lines_say xs parts.1)
 
   -- a symbol whose line is of the unit
   pub speaks_at : (u : ℕ) → is_kept profile tree values u ≡ true → KeptUnit tree values u → (unit : TreeUnit) → slice_get tree.units u ≡ Some unit
@@ -144,8 +144,8 @@ module _ (prefix : List ℕ) (valid : is_prefix prefix ≡ true) (profile : Prof
   speaks_at u kept k (of_symbol s) at =
       let found = sound.symbol_units u s at in
       let number : unit_of tree s ≡ u = unit_is tree sound s u found.0 None found.1 found.2 at in
-      let may : may_have_line (slice_get tree.symbols s) (option_map (λ (symbol : Symbol). seen_in tree values s symbol symbol.choice) (slice_get tree.symbols s)) ≡ true =
-      ap (λ o. may_have_line o (option_map (λ (symbol : Symbol). seen_in tree values s symbol symbol.choice) o)) found.1 ∙ ap (λ c. stands_for_its_unit c (seen_in tree values s found.0 found.0.choice)) found.2 in
+      let may : may_have_line (slice_get tree.symbols s) (option_map (λ (symbol : Symbol). value_in_unit tree values s symbol symbol.choice) (slice_get tree.symbols s)) ≡ true =
+      ap (λ o. may_have_line o (option_map (λ (symbol : Symbol). value_in_unit tree values s symbol symbol.choice) o)) found.1 ∙ ap (λ c. is_line_of_its_unit c (value_in_unit tree values s found.0 found.0.choice)) found.2 in
       let below : s < length tree.symbols = inside tree.symbols s found.0 found.1 in
       one_of_filter (λ t. unit_of tree t == u) (has_line profile tree values) (length tree.symbols) 0 s (omega arith) (omega arith)
       (and_from (is_kept profile tree values (unit_of tree s)) _ (ap (is_kept profile tree values) number ∙ kept) may) (eq-eqb (unit_of tree s) u number)
@@ -157,11 +157,11 @@ module _ (prefix : List ℕ) (valid : is_prefix prefix ≡ true) (profile : Prof
         let choice = sound.choice_units u c at in
         let found = sound.members c m choice.0 choice.1 (sym (ap (λ o. is_member o m) choice.1) ∙ fits) in
         let number : unit_of tree m ≡ u = unit_is tree sound m u found.0 (Some c) found.1 found.2 at in
-        let tri : tri_if_chosen m (member_of (slice_get values (place_of_unit tree (of_choice c)))) ≡ Y =
-        ap (λ o. tri_if_chosen m (member_of o)) (ap (slice_get values) (place_is tree sound u (of_choice c) at) ∙ k.has ∙ ap Some (value_of_member k.held m gives)) ∙ ap (λ b. cond b Y N) (eq-eqb m m refl) in
-        let may : may_have_line (slice_get tree.symbols m) (option_map (λ (symbol : Symbol). seen_in tree values m symbol symbol.choice) (slice_get tree.symbols m)) ≡ true =
-        ap (λ o. may_have_line o (option_map (λ (symbol : Symbol). seen_in tree values m symbol symbol.choice) o)) found.1
-        ∙ ap (λ c. stands_for_its_unit c (seen_in tree values m found.0 c)) found.2 ∙ ap (λ t. not (is_n t)) tri in
+        let tri : tri_if_selected m (member_of (slice_get values (index_of_unit tree (of_choice c)))) ≡ Y =
+        ap (λ o. tri_if_selected m (member_of o)) (ap (slice_get values) (place_is tree sound u (of_choice c) at) ∙ k.has ∙ ap Some (value_of_member k.held m gives)) ∙ ap (λ b. cond b Y N) (eq-eqb m m refl) in
+        let may : may_have_line (slice_get tree.symbols m) (option_map (λ (symbol : Symbol). value_in_unit tree values m symbol symbol.choice) (slice_get tree.symbols m)) ≡ true =
+        ap (λ o. may_have_line o (option_map (λ (symbol : Symbol). value_in_unit tree values m symbol symbol.choice) o)) found.1
+        ∙ ap (λ c. is_line_of_its_unit c (value_in_unit tree values m found.0 c)) found.2 ∙ ap (λ t. not (is_n t)) tri in
         let below : m < length tree.symbols = inside tree.symbols m found.0 found.1 in
         one_of_filter (λ t. unit_of tree t == u) (has_line profile tree values) (length tree.symbols) 0 m (omega arith) (omega arith)
         (and_from (is_kept profile tree values (unit_of tree m)) _ (ap (is_kept profile tree values) number ∙ kept) may) (eq-eqb (unit_of tree m) u number)
@@ -169,14 +169,14 @@ module _ (prefix : List ℕ) (valid : is_prefix prefix ≡ true) (profile : Prof
   pub unit_there : (u : ℕ) → u < length tree.units → (unit : TreeUnit) × (slice_get tree.units u ≡ Some unit)
   unit_there u h = (get_or tree.units u (of_symbol 0), slice_get-get_or tree.units u (of_symbol 0) h)
 
-  pub file_user : (u : ℕ) → u < length tree.units → user_of (file_users tree (map (λ s. meant values (unit_of tree s)) (minimal_symbols profile tree values))) u
+  pub file_user : (u : ℕ) → u < length tree.units → user_of (file_assignment tree (map (λ s. meant values (unit_of tree s)) (minimal_symbols profile tree values))) u
       ≡ cond (list_any (λ s. unit_of tree s == u) (minimal_symbols profile tree values)) (user_meant values u) None
-  file_user u h = after_lines tree values u (minimal_symbols profile tree values) (no_users tree) false (let len = none_length (length tree.units) in omega (arith, len)) (none_held (length tree.units) u)
+  file_user u h = after_lines tree values u (minimal_symbols profile tree values) (empty_assignment tree) false (let len = none_length (length tree.units) in omega (arith, len)) (none_held (length tree.units) u)
 
   -- what the lines of the minimal file assign
-  pub least_of_lines : IsLeastAssignment (length tree.units) (rule profile tree) as_user values (file_users tree (map (λ s. meant values (unit_of tree s)) (minimal_symbols profile tree values)))
+  pub least_of_lines : IsLeastAssignment (length tree.units) (rule profile tree) as_user values (file_assignment tree (map (λ s. meant values (unit_of tree s)) (minimal_symbols profile tree values)))
   least_of_lines = record {
-    one_each = length_after tree values (minimal_symbols profile tree values) (no_users tree) ∙ none_length (length tree.units);
+    one_each = length_after tree values (minimal_symbols profile tree values) (empty_assignment tree) ∙ none_length (length tree.units);
     kept = λ u value h has kept.
         let test = kept_passes profile tree users values fitting solved u h kept in
         let unit = unit_there u h in

@@ -8,15 +8,15 @@ use Rattle.kc_value.specs.declared.tri.Tri.TheVariants.{N, M, Y}
 use Rattle.kc_value.specs.declared.value.Kind.{Kind}
 use Rattle.kc_value.specs.declared.value.Kind.TheVariants.{Bool as Boolean, Tristate, Text, Int, Hex}
 use Rattle.kc_value.specs.Quoted.{quoted, escaped_byte, IsBody, none, plain, pair, IsQuoted}
-use Rattle.kc_expr.specs.Expr.{Seen, letter}
-use Rattle.kc_tree_model.specs.Trees.{Whole, Symbol}
+use Rattle.kc_expr.specs.Expr.{SymbolValue, letter}
+use Rattle.kc_tree_model.specs.Trees.{Tree, Symbol}
 use Rattle.kc_tree_model.specs.TreeLookup.{has_newline, IsConsistent, is_name_byte, unit_of}
 use Rattle.kc_rules_model.specs.declared.values.UserValue.TheVariants.{Tri as TriUser, Text as TextUser, Member as MemberUser}
 use Rattle.kc_rules_model.specs.Kinds.{is_tri_kind}
 use Rattle.kc_value.specs.Number.{number_of_text}
 use Rattle.kc_rules_model.specs.Shapes.{tri_fits, user_text_fits}
-use Rattle.kc_dotconfig_model.specs.Names.{is_prefix, lacks}
-use Rattle.kc_dotconfig_model.specs.Lines.{Saying, assigns, silent, Says, value, unset, unset_saying, ValueSays, tri as says_tri, chosen, quoted as says_quoted, number, tri_meant, without_white_end}
+use Rattle.kc_dotconfig_model.specs.PrefixGrammar.{is_prefix, lacks}
+use Rattle.kc_dotconfig_model.specs.ConfigLines.{LineMeaning, assigns, silent, Means, value, unset, unset_meaning, ValueMeans, tri as says_tri, chosen, quoted as says_quoted, number, tri_of_text, without_white_end}
 use Rattle.kc_minimal_model.specs.Spelling.{line_with, value_line, unset_line}
 use Rattle.kc_minimal_model.proofs.Bytes.{name_lacks, all_of_both, keeps_text, ends_in_ink}
 use Rattle.std.specs.Str.{IsUtf8, is_utf8}
@@ -50,8 +50,8 @@ escaped_lacks (c ∷ text) e =
       go false = and_from (not (c == 10)) true (ap not (or_parts (c == 10) (has_newline text) e).0) refl
 
 -- what is asked of a written line
-pub record IsLine (prefix : List ℕ) (tree : Whole) (line : List ℕ) (saying : Saying) : Type 0 where
-  pub says : Says prefix tree line saying
+pub record IsLine (prefix : List ℕ) (tree : Tree) (line : List ℕ) (saying : LineMeaning) : Type 0 where
+  pub says : Means prefix tree line saying
   pub whole : without_white_end line ≡ line
   pub one : lacks 10 line ≡ true
   pub utf8 : IsUtf8 line
@@ -59,7 +59,7 @@ pub record IsLine (prefix : List ℕ) (tree : Whole) (line : List ℕ) (saying :
 prefix_bytes : (prefix : List ℕ) → is_prefix prefix ≡ true → list_all is_name_byte prefix ≡ true
 prefix_bytes prefix e = (and_parts _ (list_all is_name_byte prefix) e).1
 
-module _ (prefix : List ℕ) (valid : is_prefix prefix ≡ true) (tree : Whole) (sound : IsConsistent tree) (s : ℕ) (symbol : Symbol) (at : slice_get tree.symbols s ≡ Some symbol) where
+module _ (prefix : List ℕ) (valid : is_prefix prefix ≡ true) (tree : Tree) (sound : IsConsistent tree) (s : ℕ) (symbol : Symbol) (at : slice_get tree.symbols s ≡ Some symbol) where
   one_value_line : (text : List ℕ) → lacks 10 text ≡ true → lacks 10 (value_line prefix symbol.name text) ≡ true
   one_value_line text one =
       all_of_both (λ c. not (c == 10)) prefix (symbol.name ++ (61 ∷ text)) (name_lacks 10 refl prefix (prefix_bytes prefix valid))
@@ -73,13 +73,13 @@ module _ (prefix : List ℕ) (valid : is_prefix prefix ≡ true) (tree : Whole) 
   split_value_line : (text : List ℕ) → value_line prefix symbol.name text ≡ (prefix ++ (symbol.name ++ 61 ∷ [])) ++ text
   split_value_line text = simp append_assoc
 
-  says_value : (text : List ℕ) (saying : Saying) → ValueSays tree s symbol text saying → Says prefix tree (value_line prefix symbol.name text) saying
+  says_value : (text : List ℕ) (saying : LineMeaning) → ValueMeans tree s symbol text saying → Means prefix tree (value_line prefix symbol.name text) saying
   says_value text saying says =
       value (value_line prefix symbol.name text) symbol.name text s symbol saying ((sound.words s symbol at).0, name_lacks 61 refl symbol.name (sound.words s symbol at).1, refl)
       (found_by_name tree sound s symbol at) at says
 
   -- a value line whose text is of ink
-  pub ink_line : (text : List ℕ) (saying : Saying) → IsInk text → ValueSays tree s symbol text saying → IsLine prefix tree (value_line prefix symbol.name text) saying
+  pub ink_line : (text : List ℕ) (saying : LineMeaning) → IsInk text → ValueMeans tree s symbol text saying → IsLine prefix tree (value_line prefix symbol.name text) saying
   ink_line text saying ink says = record {
     says = says_value text saying says;
     whole = ap without_white_end (split_value_line text) ∙ keeps_text (prefix ++ (symbol.name ++ 61 ∷ [])) text ink.some ink.ink ∙ sym (split_value_line text);
@@ -90,7 +90,7 @@ module _ (prefix : List ℕ) (valid : is_prefix prefix ≡ true) (tree : Whole) 
     ink_newline b e = ap not (or_parts _ (b == 10) (not-true _ e)).1
 
   -- the line of a string
-  pub string_line : (text : List ℕ) (saying : Saying) → has_newline text ≡ false → IsUtf8 text → ValueSays tree s symbol (quoted text) saying → IsLine prefix tree (value_line prefix symbol.name (quoted text)) saying
+  pub string_line : (text : List ℕ) (saying : LineMeaning) → has_newline text ≡ false → IsUtf8 text → ValueMeans tree s symbol (quoted text) saying → IsLine prefix tree (value_line prefix symbol.name (quoted text)) saying
   string_line text saying one utf8 says =
       let front = prefix ++ (symbol.name ++ (61 ∷ 34 ∷ flat_map escaped_byte text)) in
       let same : value_line prefix symbol.name (quoted text) ≡ front ++ 34 ∷ [] = simp append_assoc in
@@ -102,7 +102,7 @@ module _ (prefix : List ℕ) (valid : is_prefix prefix ≡ true) (tree : Whole) 
       }
 
   -- an unset line
-  pub not_set_line : IsLine prefix tree (unset_line prefix symbol.name) (unset_saying tree s symbol symbol.choice)
+  pub not_set_line : IsLine prefix tree (unset_line prefix symbol.name) (unset_meaning tree s symbol symbol.choice)
   not_set_line =
       let front = codes "# " ++ (prefix ++ (symbol.name ++ codes " is not ")) in
       let same : unset_line prefix symbol.name ≡ front ++ codes "set" = simp append_assoc in
@@ -117,23 +117,23 @@ module _ (prefix : List ℕ) (valid : is_prefix prefix ≡ true) (tree : Whole) 
             (IsUtf8-append symbol.name (codes " is not set") (name_utf8 symbol.name (sound.words s symbol at).1) (low_utf8 (codes " is not set") refl)));
       }
 
-  abbrev of_tri : Kind → Tri → Seen
+  abbrev of_tri : Kind → Tri → SymbolValue
   of_tri kind t = record { kind = kind; tri = t; text = letter t }
 
-  abbrev of_text : Kind → List ℕ → Seen
+  abbrev of_text : Kind → List ℕ → SymbolValue
   of_text kind text = record { kind = kind; tri = N; text = text }
 
-  letter_line : (t : Tri) → symbol.choice ≡ None → tri_meant symbol.kind (letter t) ≡ Some t → IsInk (letter t) → IsLine prefix tree (value_line prefix symbol.name (letter t)) (assigns (unit_of tree s) (TriUser t))
+  letter_line : (t : Tri) → symbol.choice ≡ None → tri_of_text symbol.kind (letter t) ≡ Some t → IsInk (letter t) → IsLine prefix tree (value_line prefix symbol.name (letter t)) (assigns (unit_of tree s) (TriUser t))
   letter_line t out meant ink = ink_line (letter t) (assigns (unit_of tree s) (TriUser t)) ink (says_tri (letter t) t out meant)
 
   -- the line of a bool or tristate outside choices
   pub tri_line : (kind : Kind) (t : Tri) → symbol.kind ≡ kind → symbol.choice ≡ None → tri_fits kind t ≡ true → IsLine prefix tree (line_with prefix symbol.name (of_tri kind t)) (assigns (unit_of tree s) (TriUser t))
-  tri_line Boolean N is out fits = subst (IsLine prefix tree (unset_line prefix symbol.name)) (ap (unset_saying tree s symbol) out ∙ ap (λ k. cond (is_tri_kind k) (assigns (unit_of tree s) (TriUser N)) silent) is) not_set_line
+  tri_line Boolean N is out fits = subst (IsLine prefix tree (unset_line prefix symbol.name)) (ap (unset_meaning tree s symbol) out ∙ ap (λ k. cond (is_tri_kind k) (assigns (unit_of tree s) (TriUser N)) silent) is) not_set_line
   tri_line Boolean M is out fits = absurd (false≢true fits)
-  tri_line Boolean Y is out fits = letter_line Y out (ap (λ k. tri_meant k (letter Y)) is) (record { some = omega arith; ink = refl; low = refl })
-  tri_line Tristate N is out fits = subst (IsLine prefix tree (unset_line prefix symbol.name)) (ap (unset_saying tree s symbol) out ∙ ap (λ k. cond (is_tri_kind k) (assigns (unit_of tree s) (TriUser N)) silent) is) not_set_line
-  tri_line Tristate M is out fits = letter_line M out (ap (λ k. tri_meant k (letter M)) is) (record { some = omega arith; ink = refl; low = refl })
-  tri_line Tristate Y is out fits = letter_line Y out (ap (λ k. tri_meant k (letter Y)) is) (record { some = omega arith; ink = refl; low = refl })
+  tri_line Boolean Y is out fits = letter_line Y out (ap (λ k. tri_of_text k (letter Y)) is) (record { some = omega arith; ink = refl; low = refl })
+  tri_line Tristate N is out fits = subst (IsLine prefix tree (unset_line prefix symbol.name)) (ap (unset_meaning tree s symbol) out ∙ ap (λ k. cond (is_tri_kind k) (assigns (unit_of tree s) (TriUser N)) silent) is) not_set_line
+  tri_line Tristate M is out fits = letter_line M out (ap (λ k. tri_of_text k (letter M)) is) (record { some = omega arith; ink = refl; low = refl })
+  tri_line Tristate Y is out fits = letter_line Y out (ap (λ k. tri_of_text k (letter Y)) is) (record { some = omega arith; ink = refl; low = refl })
   tri_line Text t is out fits = absurd (false≢true fits)
   tri_line Int t is out fits = absurd (false≢true fits)
   tri_line Hex t is out fits = absurd (false≢true fits)
@@ -150,4 +150,4 @@ module _ (prefix : List ℕ) (valid : is_prefix prefix ≡ true) (tree : Whole) 
 
   -- the line of a selected member
   pub member_line : (c : ℕ) → symbol.choice ≡ Some c → symbol.kind ≡ Boolean → IsLine prefix tree (line_with prefix symbol.name (of_tri Boolean Y)) (assigns (unit_of tree s) (MemberUser s))
-  member_line c within is = ink_line (letter Y) (assigns (unit_of tree s) (MemberUser s)) (record { some = omega arith; ink = refl; low = refl }) (chosen c (letter Y) within (ap (λ k. tri_meant k (letter Y)) is))
+  member_line c within is = ink_line (letter Y) (assigns (unit_of tree s) (MemberUser s)) (record { some = omega arith; ink = refl; low = refl }) (chosen c (letter Y) within (ap (λ k. tri_of_text k (letter Y)) is))

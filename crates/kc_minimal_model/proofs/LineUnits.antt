@@ -4,29 +4,29 @@ use Rattle.std.specs.Prelude.{slice_get}
 use Rattle.std.specs.Option.{option_map, option_and_then}
 use Rattle.std.proofs.lemmas.Bool.{cases_Bool, false≢true, and_parts, eqb-true}
 use Rattle.kc_value.specs.declared.tri.Tri.TheVariants.{N, Y}
-use Rattle.kc_tree_model.specs.Trees.{Whole, Symbol, of_symbol, of_choice}
-use Rattle.kc_tree_model.specs.TreeLookup.{IsConsistent, unit_of, place_of_unit}
+use Rattle.kc_tree_model.specs.Trees.{Tree, Symbol, of_symbol, of_choice}
+use Rattle.kc_tree_model.specs.TreeLookup.{IsConsistent, unit_of, index_of_unit}
 use Rattle.kc_system.specs.Solutions.{Solves, FitsUsers}
 use Rattle.kc_rules_model.specs.declared.profile.Profile.{Profile}
 use Rattle.kc_rules_model.specs.declared.values.UnitValue.{UnitValue}
 use Rattle.kc_rules_model.specs.declared.values.UserValue.{UserValue}
 use Rattle.kc_rules_model.specs.declared.values.UserValue.TheVariants.{Tri as TriUser, Text as TextUser, Member as MemberUser}
 use Rattle.kc_rules_model.specs.Kinds.{is_n}
-use Rattle.kc_rules_model.specs.SymbolValues.{symbol_seen, seen_in, member_of, tri_if_chosen}
+use Rattle.kc_rules_model.specs.SymbolValues.{value_of_symbol, value_in_unit, member_of, tri_if_selected}
 use Rattle.kc_rules_model.specs.Rule.{rule, as_user}
 use Rattle.kc_rules_model.specs.Shapes.{user_fits, unit_user_fits, choice_user_fits}
-use Rattle.kc_minimal_model.specs.MinimalFile.{is_kept, has_line, may_have_line, stands_for_its_unit}
+use Rattle.kc_minimal_model.specs.MinimalFile.{is_kept, has_line, may_have_line, is_line_of_its_unit}
 use Rattle.kc_tree_model.proofs.Lookups.{inside, place_is, unit_is}
 use Rattle.kc_minimal_model.proofs.KeptUnits.{kept_unit}
 use Rattle.kc_minimal_model.proofs.KeptLines.{user_meant, value_of_member}
 
-module _ (profile : Profile) (tree : Whole) (sound : IsConsistent tree) (users : List (Option UserValue)) (values : List UnitValue)
+module _ (profile : Profile) (tree : Tree) (sound : IsConsistent tree) (users : List (Option UserValue)) (values : List UnitValue)
     (fitting : FitsUsers (length tree.units) (λ u x. IsTrue (user_fits tree u x)) users) (solved : Solves (length tree.units) (rule profile tree) users values) where
   -- a symbol's unit is its own, or it is the selected member of its unit's choice
   abbrev SpeaksOf : ℕ → Type 0
   SpeaksOf s = (slice_get tree.units (unit_of tree s) ≡ Some (of_symbol s)) ⊎ ((c : ℕ) × (slice_get tree.units (unit_of tree s) ≡ Some (of_choice c)) × (user_meant values (unit_of tree s) ≡ Some (MemberUser s)))
 
-  of_member : (s c : ℕ) (symbol : Symbol) → slice_get tree.symbols s ≡ Some symbol → symbol.choice ≡ Some c → is_kept profile tree values (unit_of tree s) ≡ true → not (is_n (seen_in tree values s symbol (Some c)).tri) ≡ true
+  of_member : (s c : ℕ) (symbol : Symbol) → slice_get tree.symbols s ≡ Some symbol → symbol.choice ≡ Some c → is_kept profile tree values (unit_of tree s) ≡ true → not (is_n (value_in_unit tree values s symbol (Some c)).tri) ≡ true
       → (c : ℕ) × (slice_get tree.units (unit_of tree s) ≡ Some (of_choice c)) × (user_meant values (unit_of tree s) ≡ Some (MemberUser s))
   unfolding user_fits
   of_member s c symbol at within kept chosen =
@@ -36,11 +36,11 @@ module _ (profile : Profile) (tree : Whole) (sound : IsConsistent tree) (users :
       let fits : choice_user_fits (slice_get tree.choices c) k.again ≡ true = sym (ap (λ o. unit_user_fits tree o k.again) here) ∙ k.fits in
       (c, here, ap (option_and_then as_user) k.has ∙ k.assigned ∙ by_member k.held k.has k.again k.assigned fits (place_is tree sound (unit_of tree s) (of_choice c) here)) where
         by_member : (held : UnitValue) → slice_get values (unit_of tree s) ≡ Some held → (again : UserValue) → as_user held ≡ Some again → choice_user_fits (slice_get tree.choices c) again ≡ true
-            → place_of_unit tree (of_choice c) ≡ unit_of tree s → Some again ≡ Some (MemberUser s)
+            → index_of_unit tree (of_choice c) ≡ unit_of tree s → Some again ≡ Some (MemberUser s)
         by_member held has (TriUser t) gives fits place = absurd (false≢true fits)
         by_member held has (TextUser t) gives fits place = absurd (false≢true fits)
         by_member held has (MemberUser m) gives fits place =
-            let tri : (seen_in tree values s symbol (Some c)).tri ≡ cond (m == s) Y N = ap (λ o. tri_if_chosen s (member_of o)) (ap (slice_get values) place ∙ has ∙ ap Some (value_of_member held m gives)) in
+            let tri : (value_in_unit tree values s symbol (Some c)).tri ≡ cond (m == s) Y N = ap (λ o. tri_if_selected s (member_of o)) (ap (slice_get values) place ∙ has ∙ ap Some (value_of_member held m gives)) in
             elim (cases_Bool (m == s)) [
               | inl same ↦ ap (λ x. Some (MemberUser x)) (eqb-true m s same)
               | inr other ↦ absurd (false≢true (sym (ap (λ t. not (is_n t)) (tri ∙ ap (λ b. cond b Y N) other)) ∙ chosen))
@@ -48,13 +48,13 @@ module _ (profile : Profile) (tree : Whole) (sound : IsConsistent tree) (users :
 
   speaks_of : (s : ℕ) → has_line profile tree values s ≡ true → SpeaksOf s
   speaks_of s has =
-      let parts = and_parts (is_kept profile tree values (unit_of tree s)) (may_have_line (slice_get tree.symbols s) (symbol_seen tree values s)) has in
+      let parts = and_parts (is_kept profile tree values (unit_of tree s)) (may_have_line (slice_get tree.symbols s) (value_of_symbol tree values s)) has in
       at_symbol (slice_get tree.symbols s) refl parts.0 parts.1 where
-        at_choice : (symbol : Symbol) → slice_get tree.symbols s ≡ Some symbol → (c : Option ℕ) → symbol.choice ≡ c → is_kept profile tree values (unit_of tree s) ≡ true → stands_for_its_unit c (seen_in tree values s symbol c) ≡ true → SpeaksOf s
+        at_choice : (symbol : Symbol) → slice_get tree.symbols s ≡ Some symbol → (c : Option ℕ) → symbol.choice ≡ c → is_kept profile tree values (unit_of tree s) ≡ true → is_line_of_its_unit c (value_in_unit tree values s symbol c) ≡ true → SpeaksOf s
         at_choice symbol at None out kept may = let own = sound.own_units s symbol at out in inl (ap (slice_get tree.units) (unit_is tree sound s own.0 symbol None at out own.1) ∙ own.1)
         at_choice symbol at (Some c) within kept may = inr (of_member s c symbol at within kept may)
 
-        at_symbol : (o : Option Symbol) → slice_get tree.symbols s ≡ o → is_kept profile tree values (unit_of tree s) ≡ true → may_have_line o (option_map (λ (symbol : Symbol). seen_in tree values s symbol symbol.choice) o) ≡ true → SpeaksOf s
+        at_symbol : (o : Option Symbol) → slice_get tree.symbols s ≡ o → is_kept profile tree values (unit_of tree s) ≡ true → may_have_line o (option_map (λ (symbol : Symbol). value_in_unit tree values s symbol symbol.choice) o) ≡ true → SpeaksOf s
         at_symbol None at kept may = absurd (false≢true may)
         at_symbol (Some symbol) at kept may = at_choice symbol at symbol.choice refl kept may
 

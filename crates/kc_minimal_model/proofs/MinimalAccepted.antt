@@ -10,9 +10,9 @@ use Rattle.kc_value.specs.declared.value.Kind.{Kind}
 use Rattle.kc_value.specs.declared.value.Kind.TheVariants.{Bool as Boolean, Tristate, Text, Int, Hex}
 use Rattle.kc_value.specs.Number.{number_of_text}
 use Rattle.kc_value.specs.Quoted.{IsQuoted, quoted}
-use Rattle.kc_expr.specs.Expr.{Seen}
-use Rattle.kc_tree_model.specs.Trees.{Whole, Symbol, of_symbol, of_choice}
-use Rattle.kc_tree_model.specs.TreeLookup.{IsConsistent, unit_of, place_of_unit}
+use Rattle.kc_expr.specs.Expr.{SymbolValue}
+use Rattle.kc_tree_model.specs.Trees.{Tree, Symbol, of_symbol, of_choice}
+use Rattle.kc_tree_model.specs.TreeLookup.{IsConsistent, unit_of, index_of_unit}
 use Rattle.kc_system.specs.Solutions.{user_of, FitsUsers}
 use Rattle.kc_rules_model.specs.declared.profile.Profile.{Profile}
 use Rattle.kc_rules_model.specs.declared.values.UnitValue.{UnitValue}
@@ -20,17 +20,17 @@ use Rattle.kc_rules_model.specs.declared.values.UnitValue.TheVariants.{Text as T
 use Rattle.kc_rules_model.specs.declared.values.UserValue.{UserValue}
 use Rattle.kc_rules_model.specs.declared.values.UserValue.TheVariants.{Tri as TriUser, Text as TextUser, Member as MemberUser}
 use Rattle.kc_rules_model.specs.Kinds.{is_tri_kind}
-use Rattle.kc_rules_model.specs.SymbolValues.{symbol_seen, seen_in, seen_as_tri, tri_of, text_of, member_of, tri_if_chosen}
+use Rattle.kc_rules_model.specs.SymbolValues.{value_of_symbol, value_in_unit, tri_symbol_value, tri_of, text_of, member_of, tri_if_selected}
 use Rattle.kc_rules_model.specs.Rule.{as_user}
 use Rattle.kc_rules_model.specs.Shapes.{user_fits, unit_user_fits, symbol_user_fits}
 use Rattle.kc_rules_model.specs.Reports.{symbol_numbers}
 use Rattle.kc_tree_model.proofs.Lookups.{inside, unit_is}
-use Rattle.kc_dotconfig_model.specs.Names.{is_prefix}
-use Rattle.kc_dotconfig_model.specs.Lines.{without_white_end}
-use Rattle.kc_dotconfig_model.specs.Files.{file_lines, file_users, no_users}
-use Rattle.kc_dotconfig_model.specs.LoadFaults.{MOST_LINES, MOST_LINE_BYTES, IsAccepted}
+use Rattle.kc_dotconfig_model.specs.PrefixGrammar.{is_prefix}
+use Rattle.kc_dotconfig_model.specs.ConfigLines.{without_white_end}
+use Rattle.kc_dotconfig_model.specs.ConfigFiles.{file_lines, file_assignment, empty_assignment}
+use Rattle.kc_dotconfig_model.specs.LoadFaults.{MAX_LINES, MAX_LINE_BYTES, IsAccepted}
 use Rattle.kc_dotconfig_model.proofs.FittingFiles.{file_fits}
-use Rattle.kc_minimal_model.specs.Spelling.{spelled, symbol_line, line_if_seen, line_with}
+use Rattle.kc_minimal_model.specs.Spelling.{spelled, symbol_line, line_of_value, line_with}
 use Rattle.kc_minimal_model.specs.MinimalFile.{is_kept, has_line, may_have_line, minimal_symbols}
 use Rattle.kc_rules_model.proofs.OrderedTrees.{IsOrderedTree, ordered_tree}
 use Rattle.kc_minimal_model.specs.Loading.{ReadsTo}
@@ -75,28 +75,28 @@ text_held symbol held (TriUser t) large e fits = absurd (false≢true (sym large
 text_held symbol held (TextUser text) large e fits = (text, value_of_text held text e)
 text_held symbol held (MemberUser m) large e fits = absurd (false≢true fits)
 
-module _ (prefix : List ℕ) (profile : Profile) (tree : Whole) (bytes : List ℕ) (values : List UnitValue) (valid : is_prefix prefix ≡ true) (settled : IsOrderedTree tree)
+module _ (prefix : List ℕ) (profile : Profile) (tree : Tree) (bytes : List ℕ) (values : List UnitValue) (valid : is_prefix prefix ≡ true) (settled : IsOrderedTree tree)
     (accepted : IsAccepted prefix tree bytes) (reads : ReadsTo prefix profile tree bytes values) where
   abbrev held_users : List (Option UserValue)
-  held_users = file_users tree reads.sayings
+  held_users = file_assignment tree reads.sayings
 
-  fitting : FitsUsers (length tree.units) (λ u x. IsTrue (user_fits tree u x)) (file_users tree reads.sayings)
+  fitting : FitsUsers (length tree.units) (λ u x. IsTrue (user_fits tree u x)) (file_assignment tree reads.sayings)
   fitting = file_fits prefix tree bytes reads.sayings settled.consistent reads.utf8 reads.says
 
   -- a text that the file assigns to a symbol stands on a short line
-  text_is_short : (s : ℕ) (symbol : Symbol) (text : List ℕ) → slice_get tree.symbols s ≡ Some symbol → symbol.choice ≡ None → unit_of tree s < length tree.units → user_of (file_users tree reads.sayings) (unit_of tree s) ≡ Some (TextUser text)
-      → (length prefix + length symbol.name + 1 + length (spelled symbol.kind text) ≤ MOST_LINE_BYTES) × IsUtf8 (spelled symbol.kind text)
+  text_is_short : (s : ℕ) (symbol : Symbol) (text : List ℕ) → slice_get tree.symbols s ≡ Some symbol → symbol.choice ≡ None → unit_of tree s < length tree.units → user_of (file_assignment tree reads.sayings) (unit_of tree s) ≡ Some (TextUser text)
+      → (length prefix + length symbol.name + 1 + length (spelled symbol.kind text) ≤ MAX_LINE_BYTES) × IsUtf8 (spelled symbol.kind text)
   text_is_short s symbol text at out below has =
       let u = unit_of tree s in
       let all = none_length (length tree.units) in
-      elim (assigning_line prefix tree (file_lines bytes) reads.sayings (no_users tree) u (TextUser text) reads.says (omega arith) has) [
+      elim (assigning_line prefix tree (file_lines bytes) reads.sayings (empty_assignment tree) u (TextUser text) reads.says (omega arith) has) [
         | inl before ↦ (let none = none_held (length tree.units) u in absurd (some_not_none (sym before ∙ none)))
         | inr l ↦ on_line l
       ] where
         some_not_none : Some (TextUser text) ≡ None → ⊥
         some_not_none e = cc
 
-        on_line : HasAssigningLine prefix tree (file_lines bytes) (unit_of tree s) (TextUser text) → (length prefix + length symbol.name + 1 + length (spelled symbol.kind text) ≤ MOST_LINE_BYTES) × IsUtf8 (spelled symbol.kind text)
+        on_line : HasAssigningLine prefix tree (file_lines bytes) (unit_of tree s) (TextUser text) → (length prefix + length symbol.name + 1 + length (spelled symbol.kind text) ≤ MAX_LINE_BYTES) × IsUtf8 (spelled symbol.kind text)
         on_line l =
             let fits = accepted_line prefix tree bytes valid accepted l.number l.line l.at in
             let t = text_line prefix tree (without_white_end l.line) (unit_of tree s) text l.says in
@@ -122,7 +122,7 @@ module _ (prefix : List ℕ) (profile : Profile) (tree : Whole) (bytes : List �
               outside r other written there stands (Some c) e = absurd (not_bool other written text stands (settled.consistent.bool_members r c other there e))
 
   outside_line : (s : ℕ) (symbol : Symbol) → slice_get tree.symbols s ≡ Some symbol → symbol.choice ≡ None → has_line profile tree values s ≡ true → is_kept profile tree values (unit_of tree s) ≡ true
-      → IsFitLine (line_with prefix symbol.name (seen_in tree values s symbol None))
+      → IsFitLine (line_with prefix symbol.name (value_in_unit tree values s symbol None))
   unfolding user_fits
   outside_line s symbol at out has kept =
       let word = (settled.consistent.words s symbol at).1 in
@@ -130,32 +130,32 @@ module _ (prefix : List ℕ) (profile : Profile) (tree : Whole) (bytes : List �
       let own = settled.consistent.own_units s symbol at out in
       let here : slice_get tree.units (unit_of tree s) ≡ Some (of_symbol s) = ap (slice_get tree.units) (unit_is tree settled.consistent s own.0 symbol None at out own.1) ∙ own.1 in
       let below = inside tree.units (unit_of tree s) (of_symbol s) here in
-      let k = kept_unit profile tree (file_users tree reads.sayings) values fitting reads.gives.solves (unit_of tree s) below kept in
+      let k = kept_unit profile tree (file_assignment tree reads.sayings) values fitting reads.gives.solves (unit_of tree s) below kept in
       let fits : symbol_user_fits (Some symbol) k.again ≡ true = sym (ap (λ o. unit_user_fits tree o k.again) here ∙ ap (λ o. symbol_user_fits o k.again) at) ∙ k.fits in
-      let F : Option UnitValue → Bool → Seen = λ h b. cond b (seen_as_tri symbol.kind (tri_of h)) (record { kind = symbol.kind; tri = N; text = text_of h }) in
+      let F : Option UnitValue → Bool → SymbolValue = λ h b. cond b (tri_symbol_value symbol.kind (tri_of h)) (record { kind = symbol.kind; tri = N; text = text_of h }) in
       elim (cases_Bool (is_tri_kind symbol.kind)) [
         | inl small ↦
-            let seen : seen_in tree values s symbol None ≡ seen_as_tri symbol.kind (tri_of (slice_get values (unit_of tree s))) = ap (F (slice_get values (unit_of tree s))) small in
+            let seen : value_in_unit tree values s symbol None ≡ tri_symbol_value symbol.kind (tri_of (slice_get values (unit_of tree s))) = ap (F (slice_get values (unit_of tree s))) small in
             subst (λ e. IsFitLine (line_with prefix symbol.name e)) (sym seen) (tri_fits_line prefix valid symbol.name short word symbol.kind (tri_of (slice_get values (unit_of tree s))) small)
         | inr large ↦
             let t = text_held symbol k.held k.again large k.assigned fits in
             let holds : slice_get values (unit_of tree s) ≡ Some (TextValue t.0) = k.has ∙ ap Some t.1 in
-            let seen : seen_in tree values s symbol None ≡ record { kind = symbol.kind; tri = N; text = t.0 } = ap (λ h. F h (is_tri_kind symbol.kind)) holds ∙ ap (F (Some (TextValue t.0))) large in
-            let assigned = (needs profile tree (file_users tree reads.sayings) values settled fitting reads.gives.solves).same s (TextValue t.0) has holds refl in
+            let seen : value_in_unit tree values s symbol None ≡ record { kind = symbol.kind; tri = N; text = t.0 } = ap (λ h. F h (is_tri_kind symbol.kind)) holds ∙ ap (F (Some (TextValue t.0))) large in
+            let assigned = (needs profile tree (file_assignment tree reads.sayings) values settled fitting reads.gives.solves).same s (TextValue t.0) has holds refl in
             let good = text_is_short s symbol t.0 at out below assigned in
             subst (λ e. IsFitLine (line_with prefix symbol.name e)) (sym seen) (text_fits_line prefix valid symbol.name short word symbol.kind t.0 good.0 good.1)
       ]
 
-  member_line : (s c : ℕ) (symbol : Symbol) → slice_get tree.symbols s ≡ Some symbol → symbol.choice ≡ Some c → IsFitLine (line_with prefix symbol.name (seen_in tree values s symbol (Some c)))
+  member_line : (s c : ℕ) (symbol : Symbol) → slice_get tree.symbols s ≡ Some symbol → symbol.choice ≡ Some c → IsFitLine (line_with prefix symbol.name (value_in_unit tree values s symbol (Some c)))
   member_line s c symbol at within =
-      tri_fits_line prefix valid symbol.name (settled.consistent.short_names s symbol at) (settled.consistent.words s symbol at).1 symbol.kind (tri_if_chosen s (member_of (slice_get values (place_of_unit tree (of_choice c))))) (ap is_tri_kind (settled.consistent.bool_members s c symbol at within))
+      tri_fits_line prefix valid symbol.name (settled.consistent.short_names s symbol at) (settled.consistent.words s symbol at).1 symbol.kind (tri_if_selected s (member_of (slice_get values (index_of_unit tree (of_choice c))))) (ap is_tri_kind (settled.consistent.bool_members s c symbol at within))
 
-  at_choice : (s : ℕ) (symbol : Symbol) → slice_get tree.symbols s ≡ Some symbol → (c : Option ℕ) → symbol.choice ≡ c → has_line profile tree values s ≡ true → is_kept profile tree values (unit_of tree s) ≡ true → IsFitLine (line_with prefix symbol.name (seen_in tree values s symbol c))
+  at_choice : (s : ℕ) (symbol : Symbol) → slice_get tree.symbols s ≡ Some symbol → (c : Option ℕ) → symbol.choice ≡ c → has_line profile tree values s ≡ true → is_kept profile tree values (unit_of tree s) ≡ true → IsFitLine (line_with prefix symbol.name (value_in_unit tree values s symbol c))
   at_choice s symbol at None out has kept = outside_line s symbol at out has kept
   at_choice s symbol at (Some c) within has kept = member_line s c symbol at within
 
-  at_symbol : (s : ℕ) (o : Option Symbol) → slice_get tree.symbols s ≡ o → has_line profile tree values s ≡ true → is_kept profile tree values (unit_of tree s) ≡ true → may_have_line o (option_map (λ (symbol : Symbol). seen_in tree values s symbol symbol.choice) o) ≡ true
-      → IsFitLine (line_if_seen prefix o (option_map (λ (symbol : Symbol). seen_in tree values s symbol symbol.choice) o))
+  at_symbol : (s : ℕ) (o : Option Symbol) → slice_get tree.symbols s ≡ o → has_line profile tree values s ≡ true → is_kept profile tree values (unit_of tree s) ≡ true → may_have_line o (option_map (λ (symbol : Symbol). value_in_unit tree values s symbol symbol.choice) o) ≡ true
+      → IsFitLine (line_of_value prefix o (option_map (λ (symbol : Symbol). value_in_unit tree values s symbol symbol.choice) o))
   at_symbol s None at has kept may = absurd (false≢true may)
   at_symbol s (Some symbol) at has kept may = at_choice s symbol at symbol.choice refl has kept
 
@@ -163,7 +163,7 @@ module _ (prefix : List ℕ) (profile : Profile) (tree : Whole) (bytes : List �
   pub symbol_line_fits : (s : ℕ) → has_line profile tree values s ≡ true → IsFitLine (symbol_line prefix tree values s)
   unfolding symbol_line
   symbol_line_fits s has =
-      let parts = and_parts (is_kept profile tree values (unit_of tree s)) (may_have_line (slice_get tree.symbols s) (symbol_seen tree values s)) has in
+      let parts = and_parts (is_kept profile tree values (unit_of tree s)) (may_have_line (slice_get tree.symbols s) (value_of_symbol tree values s)) has in
       at_symbol s (slice_get tree.symbols s) refl has parts.0 parts.1
 
 -- each of some lines is short
@@ -172,14 +172,14 @@ short_each p q [] each all = refl
 short_each p q (x ∷ xs) each all = let parts = and_parts (p x) (list_all p xs) all in and_from (q x) (list_all q xs) (each x parts.0) (short_each p q xs each parts.1)
 
 -- so no line of the minimal file is too long
-pub lines_are_short : (prefix : List ℕ) (profile : Profile) (tree : Whole) (bytes : List ℕ) (values : List UnitValue) → (valid : is_prefix prefix ≡ true) → IsOrderedTree tree → IsAccepted prefix tree bytes → ReadsTo prefix profile tree bytes values
-    → list_all (λ s. nat_le (length (symbol_line prefix tree values s)) MOST_LINE_BYTES) (minimal_symbols profile tree values) ≡ true
+pub lines_are_short : (prefix : List ℕ) (profile : Profile) (tree : Tree) (bytes : List ℕ) (values : List UnitValue) → (valid : is_prefix prefix ≡ true) → IsOrderedTree tree → IsAccepted prefix tree bytes → ReadsTo prefix profile tree bytes values
+    → list_all (λ s. nat_le (length (symbol_line prefix tree values s)) MAX_LINE_BYTES) (minimal_symbols profile tree values) ≡ true
 lines_are_short prefix profile tree bytes values valid settled accepted reads =
-    short_each (has_line profile tree values) (λ s. nat_le (length (symbol_line prefix tree values s)) MOST_LINE_BYTES) (minimal_symbols profile tree values)
-    (λ s has. le-leb (length (symbol_line prefix tree values s)) MOST_LINE_BYTES (symbol_line_fits prefix profile tree bytes values valid settled accepted reads s has).0) (passes_filter (has_line profile tree values) (symbol_numbers tree))
+    short_each (has_line profile tree values) (λ s. nat_le (length (symbol_line prefix tree values s)) MAX_LINE_BYTES) (minimal_symbols profile tree values)
+    (λ s has. le-leb (length (symbol_line prefix tree values s)) MAX_LINE_BYTES (symbol_line_fits prefix profile tree bytes values valid settled accepted reads s has).0) (passes_filter (has_line profile tree values) (symbol_numbers tree))
 
 -- a minimal file has no more lines than the tree has symbols
-pub few_lines : (profile : Profile) (tree : Whole) (values : List UnitValue) → IsConsistent tree → length (minimal_symbols profile tree values) ≤ MOST_LINES
+pub few_lines : (profile : Profile) (tree : Tree) (values : List UnitValue) → IsConsistent tree → length (minimal_symbols profile tree values) ≤ MAX_LINES
 few_lines profile tree values sound =
     let c = filter_shorter (has_line profile tree values) (symbol_numbers tree) in
     let d = length-range_with_len 0 (length tree.symbols) in
@@ -190,7 +190,7 @@ few_lines profile tree values sound =
 pub minimal_files_accepted : MinimalFilesAreAccepted
 minimal_files_accepted prefix profile tree bytes values valid settled loads small =
     let ordered = ordered_tree tree settled in
-    let users = file_users tree loads.reads.sayings in
+    let users = file_assignment tree loads.reads.sayings in
     let fits = file_fits prefix tree bytes loads.reads.sayings settled.consistent loads.reads.utf8 loads.reads.says in
     record {
       accepted = accepted_symbols prefix valid profile tree settled.consistent users values fits loads.reads.gives.solves (minimal_symbols profile tree values) (passes_filter (has_line profile tree values) (symbol_numbers tree))

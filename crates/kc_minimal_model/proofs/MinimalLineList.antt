@@ -4,7 +4,7 @@ use Rattle.std.specs.List.{list_all, flat_map}
 use Rattle.std.proofs.lemmas.Bool.{and_parts, and_from}
 use Rattle.std.specs.Str.{is_utf8}
 use Rattle.std.proofs.lemmas.Str.{is_utf8-from_IsUtf8}
-use Rattle.kc_tree_model.specs.Trees.{Whole}
+use Rattle.kc_tree_model.specs.Trees.{Tree}
 use Rattle.kc_tree_model.specs.TreeLookup.{IsConsistent}
 use Rattle.kc_system.specs.Solutions.{Solves, FitsUsers}
 use Rattle.kc_rules_model.specs.declared.profile.Profile.{Profile}
@@ -13,8 +13,8 @@ use Rattle.kc_rules_model.specs.declared.values.UserValue.{UserValue}
 use Rattle.kc_rules_model.specs.Rule.{rule}
 use Rattle.kc_rules_model.specs.Shapes.{user_fits}
 use Rattle.kc_rules_model.specs.Reports.{symbol_numbers}
-use Rattle.kc_dotconfig_model.specs.Names.{is_prefix}
-use Rattle.kc_dotconfig_model.specs.Files.{file_lines, has_utf8_lines}
+use Rattle.kc_dotconfig_model.specs.PrefixGrammar.{is_prefix}
+use Rattle.kc_dotconfig_model.specs.ConfigFiles.{file_lines, has_utf8_lines}
 use Rattle.kc_minimal_model.specs.Spelling.{symbol_line, ended_line}
 use Rattle.kc_minimal_model.specs.MinimalFile.{has_line, minimal_symbols, minimal_file}
 use Rattle.kc_minimal_model.specs.FileLimits.{MinimalFileLines}
@@ -22,7 +22,7 @@ use Rattle.kc_minimal_model.proofs.Bytes.{first_line}
 use Rattle.kc_minimal_model.proofs.KeptLines.{line_reads}
 use Rattle.kc_minimal_model.proofs.LeastFile.{passes_filter}
 
-module _ (prefix : List ℕ) (valid : is_prefix prefix ≡ true) (profile : Profile) (tree : Whole) (sound : IsConsistent tree) (users : List (Option UserValue)) (values : List UnitValue)
+module _ (prefix : List ℕ) (valid : is_prefix prefix ≡ true) (profile : Profile) (tree : Tree) (sound : IsConsistent tree) (users : List (Option UserValue)) (values : List UnitValue)
     (fitting : FitsUsers (length tree.units) (λ u x. IsTrue (user_fits tree u x)) users) (solved : Solves (length tree.units) (rule profile tree) users values) where
   -- the ended lines of symbols that have one are cut into these lines
   pub lines_of_symbols : (xs : List ℕ) → list_all (has_line profile tree values) xs ≡ true → file_lines (flat_map (ended_line prefix tree values) xs) ≡ map (symbol_line prefix tree values) xs

@@ -3,7 +3,7 @@ use Rattle.std.proofs.Common.{◌≡◌, inl, inr, ℕ, ◌<◌, Bool, true, fal
 use Rattle.std.specs.Prelude.{slice_get}
 use Rattle.std.specs.List.{list_any}
 use Rattle.std.proofs.lemmas.Bool.{false≢true, and_parts, or_cases, eqb-true}
-use Rattle.kc_tree_model.specs.Trees.{Whole}
+use Rattle.kc_tree_model.specs.Trees.{Tree}
 use Rattle.kc_tree_model.specs.TreeLookup.{unit_of}
 use Rattle.kc_system.specs.Solutions.{user_of, Solves, FitsUsers}
 use Rattle.kc_system.specs.LeastAssignments.{IsKept}
@@ -11,15 +11,15 @@ use Rattle.kc_system.proofs.Least.{cut_gives}
 use Rattle.kc_rules_model.specs.declared.profile.Profile.{Profile}
 use Rattle.kc_rules_model.specs.declared.values.UnitValue.{UnitValue}
 use Rattle.kc_rules_model.specs.declared.values.UserValue.{UserValue}
-use Rattle.kc_rules_model.specs.SymbolValues.{symbol_seen}
+use Rattle.kc_rules_model.specs.SymbolValues.{value_of_symbol}
 use Rattle.kc_rules_model.specs.Rule.{rule, as_user}
 use Rattle.kc_rules_model.specs.Dependencies.{dependencies}
 use Rattle.kc_rules_model.specs.Shapes.{user_fits}
 use Rattle.kc_rules_model.specs.Reports.{symbol_numbers}
-use Rattle.kc_rules_model.specs.Laws.{is_tri_value}
+use Rattle.kc_rules_model.specs.RuleLaws.{is_tri_value}
 use Rattle.kc_rules_model.specs.checker.FrameLaw.{rules_frame}
 use Rattle.kc_rules_model.proofs.AssignedTexts.{texts_assigned}
-use Rattle.kc_dotconfig_model.specs.Names.{is_prefix}
+use Rattle.kc_dotconfig_model.specs.PrefixGrammar.{is_prefix}
 use Rattle.kc_minimal_model.specs.MinimalFile.{is_kept, has_line, may_have_line}
 use Rattle.kc_rules_model.proofs.OrderedTrees.{IsOrderedTree, ordered_tree}
 use Rattle.kc_minimal_model.specs.MinimalText.{NeedsTheLines, MinimalLinesAreNeeded}
@@ -43,12 +43,12 @@ valid : is_prefix plain ≡ true
 unfolding plain
 valid = refl
 
-module _ (profile : Profile) (tree : Whole) (users : List (Option UserValue)) (values : List UnitValue) (settled : IsOrderedTree tree)
+module _ (profile : Profile) (tree : Tree) (users : List (Option UserValue)) (values : List UnitValue) (settled : IsOrderedTree tree)
     (fitting : FitsUsers (length tree.units) (λ u x. IsTrue (user_fits tree u x)) users) (solved : Solves (length tree.units) (rule profile tree) users values) where
   -- a symbol with a line has a kept unit
   line_kept : (s : ℕ) → has_line profile tree values s ≡ true → (unit_of tree s < length tree.units) × IsKept (rule profile tree) values (unit_of tree s)
   line_kept s has =
-      let parts = and_parts (is_kept profile tree values (unit_of tree s)) (may_have_line (slice_get tree.symbols s) (symbol_seen tree values s)) has in (
+      let parts = and_parts (is_kept profile tree values (unit_of tree s)) (may_have_line (slice_get tree.symbols s) (value_of_symbol tree values s)) has in (
         unit_inside plain valid profile tree settled.consistent users values fitting solved s (slice_get tree.symbols s) refl parts.1,
         λ same. false≢true (sym (others_fail profile tree users values fitting solved (unit_of tree s) same) ∙ parts.0),
       )

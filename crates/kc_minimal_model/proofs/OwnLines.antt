@@ -10,36 +10,36 @@ use Rattle.kc_value.specs.declared.tri.Tri.TheVariants.{N, Y}
 use Rattle.kc_value.specs.declared.value.Kind.{Kind}
 use Rattle.kc_value.specs.declared.value.Kind.TheVariants.{Bool as Boolean, Tristate, Text, Int, Hex}
 use Rattle.kc_value.specs.Number.{number_of_text}
-use Rattle.kc_expr.specs.Expr.{Seen}
-use Rattle.kc_tree_model.specs.Trees.{Whole, Symbol, of_symbol, of_choice}
-use Rattle.kc_tree_model.specs.TreeLookup.{IsConsistent, is_name_byte, unit_of, place_of_unit}
+use Rattle.kc_expr.specs.Expr.{SymbolValue}
+use Rattle.kc_tree_model.specs.Trees.{Tree, Symbol, of_symbol, of_choice}
+use Rattle.kc_tree_model.specs.TreeLookup.{IsConsistent, is_name_byte, unit_of, index_of_unit}
 use Rattle.kc_system.specs.Solutions.{FitsValues}
 use Rattle.kc_system.proofs.Lists.{get-some}
 use Rattle.kc_rules_model.specs.declared.values.UnitValue.{UnitValue}
 use Rattle.kc_rules_model.specs.declared.values.UnitValue.TheVariants.{Tri as TriValue, Text as TextValue, Member as MemberValue}
 use Rattle.kc_rules_model.specs.declared.values.UserValue.TheVariants.{Tri as TriUser, Text as TextUser, Member as MemberUser}
 use Rattle.kc_rules_model.specs.Kinds.{is_tri_kind}
-use Rattle.kc_rules_model.specs.SymbolValues.{seen_in, seen_as_tri, tri_of, text_of, member_of, tri_if_chosen}
+use Rattle.kc_rules_model.specs.SymbolValues.{value_in_unit, tri_symbol_value, tri_of, text_of, member_of, tri_if_selected}
 use Rattle.kc_rules_model.specs.Rule.{as_user}
 use Rattle.kc_rules_model.specs.Shapes.{value_fits, unit_value_fits, symbol_value_fits, text_fits, user_text_fits}
 use Rattle.kc_tree_model.proofs.Lookups.{inside, found_by_name, place_is, unit_is}
-use Rattle.kc_dotconfig_model.specs.Names.{is_prefix}
-use Rattle.kc_dotconfig_model.specs.Lines.{Saying, assigns, notice, silent, value, unset_saying, ValueSays, no_int, no_hex, without_white_end}
-use Rattle.kc_minimal_model.specs.Spelling.{symbol_line, line_if_seen, line_with, value_line, unset_line}
+use Rattle.kc_dotconfig_model.specs.PrefixGrammar.{is_prefix}
+use Rattle.kc_dotconfig_model.specs.ConfigLines.{LineMeaning, assigns, notice, silent, value, unset_meaning, ValueMeans, no_int, no_hex, without_white_end}
+use Rattle.kc_minimal_model.specs.Spelling.{symbol_line, line_of_value, line_with, value_line, unset_line}
 use Rattle.kc_minimal_model.proofs.Bytes.{name_lacks, all_of_both, ends_in_ink}
 use Rattle.kc_minimal_model.proofs.DifferenceLaws.{text_kind}
 use Rattle.kc_minimal_model.proofs.KeptLines.{tri_kind, user_meant}
 use Rattle.kc_minimal_model.proofs.LineReads.{IsLine, utf8_value_line, tri_line, text_line, member_line, not_set_line}
 
 -- nothing is assigned but the value that is held
-abbrev pub IsOwn : List UnitValue → Saying → Type 0
+abbrev pub IsOwn : List UnitValue → LineMeaning → Type 0
 IsOwn values (assigns u x) = user_meant values u ≡ Some x
 IsOwn values (notice kind) = ⊥
 IsOwn values silent = Unit {0}
 
 -- a written line that says so
-pub record IsOwnLine (prefix : List ℕ) (tree : Whole) (values : List UnitValue) (line : List ℕ) : Type 0 where
-  pub saying : Saying
+pub record IsOwnLine (prefix : List ℕ) (tree : Tree) (values : List UnitValue) (line : List ℕ) : Type 0 where
+  pub saying : LineMeaning
   pub reads : IsLine prefix tree line saying
   pub own : IsOwn values saying
 
@@ -47,9 +47,9 @@ no_bytes : (text : List ℕ) → (length text == 0) ≡ true → text ≡ []
 no_bytes [] e = refl
 no_bytes (b ∷ text) e = let zero_long = eqb-true (length (b ∷ text)) 0 e in absurd (omega (arith, zero_long))
 
-module _ (prefix : List ℕ) (valid : is_prefix prefix ≡ true) (tree : Whole) (sound : IsConsistent tree) (values : List UnitValue) (fits : FitsValues (length tree.units) (λ u v. IsTrue (value_fits tree u v)) values) where
+module _ (prefix : List ℕ) (valid : is_prefix prefix ≡ true) (tree : Tree) (sound : IsConsistent tree) (values : List UnitValue) (fits : FitsValues (length tree.units) (λ u v. IsTrue (value_fits tree u v)) values) where
   -- the line of an int or hex without a number
-  empty_line : (s : ℕ) (symbol : Symbol) → slice_get tree.symbols s ≡ Some symbol → ValueSays tree s symbol [] silent → IsLine prefix tree (value_line prefix symbol.name []) silent
+  empty_line : (s : ℕ) (symbol : Symbol) → slice_get tree.symbols s ≡ Some symbol → ValueMeans tree s symbol [] silent → IsLine prefix tree (value_line prefix symbol.name []) silent
   empty_line s symbol at says =
       let words = sound.words s symbol at in
       let bytes = (and_parts _ (list_all is_name_byte prefix) valid).1 in
@@ -61,7 +61,7 @@ module _ (prefix : List ℕ) (valid : is_prefix prefix ≡ true) (tree : Whole) 
         utf8 = utf8_value_line prefix valid tree sound s symbol at [] IsUtf8-nil;
       }
 
-  abbrev of_text : Kind → List ℕ → Seen
+  abbrev of_text : Kind → List ℕ → SymbolValue
   of_text kind text = record { kind = kind; tri = N; text = text }
 
   text_says : (s : ℕ) (symbol : Symbol) → slice_get tree.symbols s ≡ Some symbol → (text : List ℕ) → user_meant values (unit_of tree s) ≡ Some (TextUser text) → user_text_fits symbol.kind text ≡ true
@@ -69,7 +69,7 @@ module _ (prefix : List ℕ) (valid : is_prefix prefix ≡ true) (tree : Whole) 
   text_says s symbol at text held good = record { saying = assigns (unit_of tree s) (TextUser text); reads = text_line prefix valid tree sound s symbol at symbol.kind text refl good; own = held }
 
   number_says : (s : ℕ) (symbol : Symbol) → slice_get tree.symbols s ≡ Some symbol → (text : List ℕ) → user_meant values (unit_of tree s) ≡ Some (TextUser text) → (kind : Kind) → symbol.kind ≡ kind
-      → ((length text == 0) || is_some (number_of_text kind text)) ≡ true → (is_some (number_of_text kind text) ≡ true → user_text_fits kind text ≡ true) → (value_line prefix symbol.name [] ≡ line_with prefix symbol.name (of_text kind [])) → ValueSays tree s symbol [] silent
+      → ((length text == 0) || is_some (number_of_text kind text)) ≡ true → (is_some (number_of_text kind text) ≡ true → user_text_fits kind text ≡ true) → (value_line prefix symbol.name [] ≡ line_with prefix symbol.name (of_text kind [])) → ValueMeans tree s symbol [] silent
       → IsOwnLine prefix tree values (line_with prefix symbol.name (of_text symbol.kind text))
   number_says s symbol at text held kind is good number form says = elim (or_cases (length text == 0) (is_some (number_of_text kind text)) good) [
     | inl none ↦
@@ -88,19 +88,19 @@ module _ (prefix : List ℕ) (valid : is_prefix prefix ≡ true) (tree : Whole) 
   text_of_kind s symbol at text held Hex is good = number_says s symbol at text held Hex is good (λ e. e) refl (no_hex is)
 
   by_held : (s : ℕ) (symbol : Symbol) → slice_get tree.symbols s ≡ Some symbol → symbol.choice ≡ None → (held : UnitValue) → slice_get values (unit_of tree s) ≡ Some held → symbol_value_fits (Some symbol) held ≡ true
-      → IsOwnLine prefix tree values (line_with prefix symbol.name (seen_in tree values s symbol None))
+      → IsOwnLine prefix tree values (line_with prefix symbol.name (value_in_unit tree values s symbol None))
   by_held s symbol at out (TriValue t) has good =
-      let F : Option UnitValue → Bool → Seen = λ h b. cond b (seen_as_tri symbol.kind (tri_of h)) (record { kind = symbol.kind; tri = N; text = text_of h }) in
-      let seen : seen_in tree values s symbol None ≡ seen_as_tri symbol.kind t = ap (λ h. F h (is_tri_kind symbol.kind)) has ∙ ap (F (Some (TriValue t))) (tri_kind symbol.kind t good) in
+      let F : Option UnitValue → Bool → SymbolValue = λ h b. cond b (tri_symbol_value symbol.kind (tri_of h)) (record { kind = symbol.kind; tri = N; text = text_of h }) in
+      let seen : value_in_unit tree values s symbol None ≡ tri_symbol_value symbol.kind t = ap (λ h. F h (is_tri_kind symbol.kind)) has ∙ ap (F (Some (TriValue t))) (tri_kind symbol.kind t good) in
       subst (λ e. IsOwnLine prefix tree values (line_with prefix symbol.name e)) (sym seen)
       (record { saying = assigns (unit_of tree s) (TriUser t); reads = tri_line prefix valid tree sound s symbol at symbol.kind t refl out good; own = ap (option_and_then as_user) has })
   by_held s symbol at out (TextValue text) has good =
-      let F : Option UnitValue → Bool → Seen = λ h b. cond b (seen_as_tri symbol.kind (tri_of h)) (record { kind = symbol.kind; tri = N; text = text_of h }) in
-      let seen : seen_in tree values s symbol None ≡ record { kind = symbol.kind; tri = N; text = text } = ap (λ h. F h (is_tri_kind symbol.kind)) has ∙ ap (F (Some (TextValue text))) (text_kind symbol.kind text good) in
+      let F : Option UnitValue → Bool → SymbolValue = λ h b. cond b (tri_symbol_value symbol.kind (tri_of h)) (record { kind = symbol.kind; tri = N; text = text_of h }) in
+      let seen : value_in_unit tree values s symbol None ≡ record { kind = symbol.kind; tri = N; text = text } = ap (λ h. F h (is_tri_kind symbol.kind)) has ∙ ap (F (Some (TextValue text))) (text_kind symbol.kind text good) in
       subst (λ e. IsOwnLine prefix tree values (line_with prefix symbol.name e)) (sym seen) (text_of_kind s symbol at text (ap (option_and_then as_user) has) symbol.kind refl good)
   by_held s symbol at out (MemberValue m) has good = absurd (false≢true good)
 
-  outside : (s : ℕ) (symbol : Symbol) → slice_get tree.symbols s ≡ Some symbol → symbol.choice ≡ None → IsOwnLine prefix tree values (line_with prefix symbol.name (seen_in tree values s symbol None))
+  outside : (s : ℕ) (symbol : Symbol) → slice_get tree.symbols s ≡ Some symbol → symbol.choice ≡ None → IsOwnLine prefix tree values (line_with prefix symbol.name (value_in_unit tree values s symbol None))
   unfolding value_fits
   outside s symbol at out =
       let own = sound.own_units s symbol at out in
@@ -112,14 +112,14 @@ module _ (prefix : List ℕ) (valid : is_prefix prefix ≡ true) (tree : Whole) 
       by_held s symbol at out held.0 held.1 (sym (ap (λ o. unit_value_fits tree o held.0) here ∙ ap (λ o. symbol_value_fits o held.0) at) ∙ good)
 
   -- a member that isn't selected
-  n_line : (s c : ℕ) (symbol : Symbol) → slice_get tree.symbols s ≡ Some symbol → symbol.choice ≡ Some c → (t : Tri) → t ≡ N → IsOwnLine prefix tree values (line_with prefix symbol.name (seen_as_tri symbol.kind t))
+  n_line : (s c : ℕ) (symbol : Symbol) → slice_get tree.symbols s ≡ Some symbol → symbol.choice ≡ Some c → (t : Tri) → t ≡ N → IsOwnLine prefix tree values (line_with prefix symbol.name (tri_symbol_value symbol.kind t))
   n_line s c symbol at within t is =
       let kind = sound.bool_members s c symbol at within in
-      let line : IsLine prefix tree (line_with prefix symbol.name (seen_as_tri Boolean N)) silent = subst (IsLine prefix tree (unset_line prefix symbol.name)) (ap (unset_saying tree s symbol) within) (not_set_line prefix valid tree sound s symbol at) in
-      record { saying = silent; own = tt; reads = subst (λ k. IsLine prefix tree (line_with prefix symbol.name (seen_as_tri k t)) silent) (sym kind) (subst (λ x. IsLine prefix tree (line_with prefix symbol.name (seen_as_tri Boolean x)) silent) (sym is) line) }
+      let line : IsLine prefix tree (line_with prefix symbol.name (tri_symbol_value Boolean N)) silent = subst (IsLine prefix tree (unset_line prefix symbol.name)) (ap (unset_meaning tree s symbol) within) (not_set_line prefix valid tree sound s symbol at) in
+      record { saying = silent; own = tt; reads = subst (λ k. IsLine prefix tree (line_with prefix symbol.name (tri_symbol_value k t)) silent) (sym kind) (subst (λ x. IsLine prefix tree (line_with prefix symbol.name (tri_symbol_value Boolean x)) silent) (sym is) line) }
 
   member_by_held : (s c : ℕ) (symbol : Symbol) → slice_get tree.symbols s ≡ Some symbol → symbol.choice ≡ Some c → (o : Option UnitValue) → slice_get values (unit_of tree s) ≡ o
-      → IsOwnLine prefix tree values (line_with prefix symbol.name (seen_as_tri symbol.kind (tri_if_chosen s (member_of o))))
+      → IsOwnLine prefix tree values (line_with prefix symbol.name (tri_symbol_value symbol.kind (tri_if_selected s (member_of o))))
   member_by_held s c symbol at within None has = n_line s c symbol at within N refl
   member_by_held s c symbol at within (Some (TriValue t)) has = n_line s c symbol at within N refl
   member_by_held s c symbol at within (Some (TextValue t)) has = n_line s c symbol at within N refl
@@ -131,25 +131,25 @@ module _ (prefix : List ℕ) (valid : is_prefix prefix ≡ true) (tree : Whole) 
         let tri : cond (m == s) Y N ≡ Y = ap (λ b. cond b Y N) same in
         record {
           saying = assigns (unit_of tree s) (MemberUser s);
-          reads = subst (λ k. IsLine prefix tree (line_with prefix symbol.name (seen_as_tri k (cond (m == s) Y N))) (assigns (unit_of tree s) (MemberUser s))) (sym kind)
-              (subst (λ t. IsLine prefix tree (line_with prefix symbol.name (seen_as_tri Boolean t)) (assigns (unit_of tree s) (MemberUser s))) (sym tri) line);
+          reads = subst (λ k. IsLine prefix tree (line_with prefix symbol.name (tri_symbol_value k (cond (m == s) Y N))) (assigns (unit_of tree s) (MemberUser s))) (sym kind)
+              (subst (λ t. IsLine prefix tree (line_with prefix symbol.name (tri_symbol_value Boolean t)) (assigns (unit_of tree s) (MemberUser s))) (sym tri) line);
           own = ap (option_and_then as_user) has ∙ ap (λ n. Some (MemberUser n)) (eqb-true m s same);
         }
     | inr other ↦ n_line s c symbol at within (cond (m == s) Y N) (ap (λ b. cond b Y N) other)
   ]
 
-  within_choice : (s c : ℕ) (symbol : Symbol) → slice_get tree.symbols s ≡ Some symbol → symbol.choice ≡ Some c → IsOwnLine prefix tree values (line_with prefix symbol.name (seen_in tree values s symbol (Some c)))
+  within_choice : (s c : ℕ) (symbol : Symbol) → slice_get tree.symbols s ≡ Some symbol → symbol.choice ≡ Some c → IsOwnLine prefix tree values (line_with prefix symbol.name (value_in_unit tree values s symbol (Some c)))
   within_choice s c symbol at within =
       let own = sound.units_of_members s c symbol at within in
       let here : slice_get tree.units (unit_of tree s) ≡ Some (of_choice c) = ap (slice_get tree.units) (unit_is tree sound s own.0 symbol (Some c) at within own.1) ∙ own.1 in
       let place = place_is tree sound (unit_of tree s) (of_choice c) here in
-      member_by_held s c symbol at within (slice_get values (place_of_unit tree (of_choice c))) (ap (slice_get values) (sym place))
+      member_by_held s c symbol at within (slice_get values (index_of_unit tree (of_choice c))) (ap (slice_get values) (sym place))
 
-  at_choice : (s : ℕ) (symbol : Symbol) → slice_get tree.symbols s ≡ Some symbol → (c : Option ℕ) → symbol.choice ≡ c → IsOwnLine prefix tree values (line_with prefix symbol.name (seen_in tree values s symbol c))
+  at_choice : (s : ℕ) (symbol : Symbol) → slice_get tree.symbols s ≡ Some symbol → (c : Option ℕ) → symbol.choice ≡ c → IsOwnLine prefix tree values (line_with prefix symbol.name (value_in_unit tree values s symbol c))
   at_choice s symbol at None out = outside s symbol at out
   at_choice s symbol at (Some c) within = within_choice s c symbol at within
 
-  at_symbol : (s : ℕ) (symbol : Symbol) (o : Option Symbol) → slice_get tree.symbols s ≡ o → o ≡ Some symbol → IsOwnLine prefix tree values (line_if_seen prefix o (option_map (λ (x : Symbol). seen_in tree values s x x.choice) o))
+  at_symbol : (s : ℕ) (symbol : Symbol) (o : Option Symbol) → slice_get tree.symbols s ≡ o → o ≡ Some symbol → IsOwnLine prefix tree values (line_of_value prefix o (option_map (λ (x : Symbol). value_in_unit tree values s x x.choice) o))
   at_symbol s symbol None at is = cc
   at_symbol s symbol (Some x) at is = at_choice s x at x.choice refl
 

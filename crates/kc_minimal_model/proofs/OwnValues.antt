@@ -8,7 +8,7 @@ use Rattle.kc_value.specs.declared.value.Kind.{Kind}
 use Rattle.kc_value.specs.declared.value.Kind.TheVariants.{Bool as Boolean, Tristate, Text, Int, Hex}
 use Rattle.kc_value.specs.Tri.{tri_and, tri_or}
 use Rattle.kc_value.specs.Number.{number_of_text, int_text, hex_text}
-use Rattle.kc_tree_model.specs.Trees.{Whole, Symbol, Choice, TreeUnit, of_symbol, of_choice}
+use Rattle.kc_tree_model.specs.Trees.{Tree, Symbol, Choice, TreeUnit, of_symbol, of_choice}
 use Rattle.kc_system.specs.Solutions.{user_of, Solves, FitsUsers}
 use Rattle.kc_rules_model.specs.declared.profile.Profile.{Profile}
 use Rattle.kc_rules_model.specs.declared.values.UnitValue.{UnitValue}
@@ -16,7 +16,7 @@ use Rattle.kc_rules_model.specs.declared.values.UnitValue.TheVariants.{Tri as Tr
 use Rattle.kc_rules_model.specs.declared.values.UserValue.{UserValue}
 use Rattle.kc_rules_model.specs.declared.values.UserValue.TheVariants.{Tri as TriUser, Text as TextUser, Member as MemberUser}
 use Rattle.kc_rules_model.specs.Kinds.{is_n, y_for_m, is_bool, is_tristate, largest}
-use Rattle.kc_rules_model.specs.Rule.{rule, rule_of_unit, rule_of_symbol, rule_of_choice, symbol_rule, tri_rule, string_rule, number_rule, choice_rule, as_user, is_visible, visibility, conditions, modules_value, unassigned, selected, leaves_no_m, default_text, number_default, is_within, active_range, or_else, is_shown, is_visible_member, assigned_text}
+use Rattle.kc_rules_model.specs.Rule.{rule, rule_of_unit, rule_of_symbol, rule_of_choice, symbol_rule, tri_rule, string_rule, number_rule, choice_rule, as_user, is_visible, visibility, conditions, modules_value, unassigned_value, selected, leaves_no_m, default_text, number_default, is_within, active_range, or_else, is_shown, is_visible_member, assigned_text}
 use Rattle.kc_rules_model.specs.Reports.{IsLifted}
 use Rattle.kc_rules_model.specs.checker.RestoreLaw.{rules_restore, promoted_if}
 use Rattle.kc_rules_model.specs.Shapes.{user_fits, unit_user_fits, symbol_user_fits, user_text_fits}
@@ -112,14 +112,14 @@ no_number false within d = refl
 abbrev Own : (Option UserValue → UnitValue) → Type 0
 Own f = (y : UserValue) → as_user (f None) ≡ Some y → f (Some y) ≡ f None
 
-module _ (profile : Profile) (tree : Whole) (values : List UnitValue) where
+module _ (profile : Profile) (tree : Tree) (values : List UnitValue) where
   own_bool : (symbol : Symbol) → symbol.kind ≡ Boolean → Own (λ x. TriValue (tri_rule profile tree symbol x values))
   own_bool symbol e y h =
       let b = is_bool symbol.kind || (is_tristate symbol.kind && is_n (modules_value tree values)) in
       let yes_bool : b ≡ true = ap (λ k. is_bool k || (is_tristate k && is_n (modules_value tree values))) e in
       let l = leaves_no_m profile tree values symbol in
       let t = largest (conditions tree values symbol.prompts) in
-      let un = unassigned profile tree values symbol in
+      let un = unassigned_value profile tree values symbol in
       let s = selected tree values symbol in
       let mine : Some (TriUser (promoted_if l (promoted_if b (tri_or un s)))) ≡ Some y = h in
       let again : TriUser (promoted_if l (promoted_if b (tri_or un s))) ≡ y = cc in
@@ -162,7 +162,7 @@ module _ (profile : Profile) (tree : Whole) (values : List UnitValue) where
   hidden_tri symbol e (Some (TriUser a)) =
       let b = is_bool symbol.kind || (is_tristate symbol.kind && is_n (modules_value tree values)) in
       let l = leaves_no_m profile tree values symbol in
-      ap (λ c. TriValue (promoted_if l (promoted_if b (tri_or c (selected tree values symbol))))) (unseen (visibility tree values symbol) (unassigned profile tree values symbol) a e)
+      ap (λ c. TriValue (promoted_if l (promoted_if b (tri_or c (selected tree values symbol))))) (unseen (visibility tree values symbol) (unassigned_value profile tree values symbol) a e)
 
   own_symbol : (symbol : Symbol) (kind : Kind) → symbol.kind ≡ kind
       → (kind ≡ Tristate → is_visible tree values symbol ≡ true → Own (λ x. symbol_rule kind profile tree symbol x values)) → Own (λ x. symbol_rule kind profile tree symbol x values)
@@ -196,7 +196,7 @@ module _ (profile : Profile) (tree : Whole) (values : List UnitValue) where
   own_unit (Some (of_choice c)) lifted = own_choice_at (slice_get tree.choices c)
 
 -- In a solution, a unit that isn't lifted has its value again by that value as its user value.
-pub own_values : (profile : Profile) (tree : Whole) (users : List (Option UserValue)) (values : List UnitValue)
+pub own_values : (profile : Profile) (tree : Tree) (users : List (Option UserValue)) (values : List UnitValue)
     → FitsUsers (length tree.units) (λ u x. IsTrue (user_fits tree u x)) users → Solves (length tree.units) (rule profile tree) users values
     → (u : ℕ) (held : UnitValue) → u < length tree.units → slice_get values u ≡ Some held → (IsLifted profile tree values u → ⊥)
     → rule profile tree u (as_user held) values ≡ held
@@ -222,7 +222,7 @@ own_values profile tree users values fitting solved u held inside has not_lifted
           ] in
           ap (λ p. rule profile tree u p values) e ∙ own_unit profile tree values (slice_get tree.units u) free y (ap as_user (sym default) ∙ e) ∙ sym default
 
-hidden_number : (tree : Whole) (values : List UnitValue) (symbol : Symbol) (x : Option UserValue) → is_visible tree values symbol ≡ false → TextValue (number_rule tree symbol x values) ≡ TextValue (number_rule tree symbol None values)
+hidden_number : (tree : Tree) (values : List UnitValue) (symbol : Symbol) (x : Option UserValue) → is_visible tree values symbol ≡ false → TextValue (number_rule tree symbol x values) ≡ TextValue (number_rule tree symbol None values)
 hidden_number tree values symbol x e =
     let d = number_default tree values symbol in
     let within : List ℕ → Bool = λ text. is_within tree values symbol.kind (active_range tree values symbol) (unwrap_or (number_of_text symbol.kind text) (pos 0)) in
@@ -230,7 +230,7 @@ hidden_number tree values symbol x e =
     ∙ sym (ap (λ b. TextValue (unwrap_or (option_and_then (λ t. cond (within t) (Some t) None) (cond b (assigned_text None) None)) d)) e)
 
 -- A user value of a symbol that isn't visible counts for nothing.
-hidden_symbol : (profile : Profile) (tree : Whole) (values : List UnitValue) (symbol : Symbol) (kind : Kind) (x : Option UserValue) → is_visible tree values symbol ≡ false
+hidden_symbol : (profile : Profile) (tree : Tree) (values : List UnitValue) (symbol : Symbol) (kind : Kind) (x : Option UserValue) → is_visible tree values symbol ≡ false
     → symbol_rule kind profile tree symbol x values ≡ symbol_rule kind profile tree symbol None values
 hidden_symbol profile tree values symbol Boolean x e = hidden_tri profile tree values symbol (hidden_is (is_n (visibility tree values symbol)) e) x where
   hidden_is : (b : Bool) → not b ≡ false → b ≡ true
@@ -246,7 +246,7 @@ hidden_symbol profile tree values symbol Text x e =
 hidden_symbol profile tree values symbol Int x e = hidden_number tree values symbol x e
 hidden_symbol profile tree values symbol Hex x e = hidden_number tree values symbol x e
 
-pub hidden_values : (profile : Profile) (tree : Whole) (values : List UnitValue) (u s : ℕ) (symbol : Symbol) (x : Option UserValue)
+pub hidden_values : (profile : Profile) (tree : Tree) (values : List UnitValue) (u s : ℕ) (symbol : Symbol) (x : Option UserValue)
     → slice_get tree.units u ≡ Some (of_symbol s) → slice_get tree.symbols s ≡ Some symbol → is_visible tree values symbol ≡ false
     → rule profile tree u x values ≡ rule profile tree u None values
 unfolding rule
@@ -255,7 +255,7 @@ hidden_values profile tree values u s symbol x unit there hidden =
     ∙ sym (ap (λ o. rule_of_unit profile tree o None values) unit ∙ ap (λ o. rule_of_symbol profile tree o None values) there)
 
 -- A number's empty value is what it has without a user value.
-pub empty_numbers : (profile : Profile) (tree : Whole) (users : List (Option UserValue)) (values : List UnitValue)
+pub empty_numbers : (profile : Profile) (tree : Tree) (users : List (Option UserValue)) (values : List UnitValue)
     → FitsUsers (length tree.units) (λ u x. IsTrue (user_fits tree u x)) users → Solves (length tree.units) (rule profile tree) users values
     → (u s : ℕ) (symbol : Symbol) → u < length tree.units → slice_get tree.units u ≡ Some (of_symbol s) → slice_get tree.symbols s ≡ Some symbol → (symbol.kind ≡ Int) ⊎ (symbol.kind ≡ Hex)
     → slice_get values u ≡ Some (TextValue []) → rule profile tree u None values ≡ TextValue []

@@ -3,15 +3,15 @@ use Rattle.std.proofs.Common.{◌≡◌, true, ℕ, List, [], ◌∷◌, Some, N
 use Rattle.kc_system.proofs.Lists.{get-some, get_from_Contains}
 use Rattle.std.specs.Prelude.{codes}
 use Rattle.std.specs.Str.{is_utf8, chars}
-use Rattle.kc_expr.specs.Token.{lead_of}
+use Rattle.kc_expr.specs.Token.{next_token}
 use Rattle.kc_expr.specs.Grammar.{read_expr}
-use Rattle.kc_tree_model.specs.Lines.{lines_of}
+use Rattle.kc_tree_model.specs.LogicalLines.{lines_of}
 use Rattle.kc_tree_model.specs.Limits.{source_fault}
-use Rattle.kc_tree_model.specs.Reading.{line_says, reading}
-use Rattle.kc_tree_model.specs.Contents.{whole_of, tree_of_files}
-use Rattle.kc_tree_model.specs.TreeFaults.{tree_faults, fault_told}
-use Rattle.kc_tree_model.specs.Files.{Files}
-use Rattle.kc_tree_model.specs.Trees.{Whole}
+use Rattle.kc_tree_model.specs.Reading.{statement_on_line, reading}
+use Rattle.kc_tree_model.specs.Contents.{tree_of_groups, tree_of_files}
+use Rattle.kc_tree_model.specs.TreeFaults.{tree_faults, first_tree_fault}
+use Rattle.kc_tree_model.specs.TreeFiles.{Files}
+use Rattle.kc_tree_model.specs.Trees.{Tree}
 use Rattle.kc_tree_model.proofs.Consistency.Consistent.{tree_is_consistent}
 use Rattle.kc_system.specs.Dependencies.{HasNoCycle}
 use Rattle.kc_rules_model.specs.Dependencies.{dependencies}
@@ -19,10 +19,10 @@ use Rattle.kc_rules_model.specs.SettledTrees.{IsSettledTree}
 use Rattle.kc_rules_model.specs.declared.profile.Profile.TheVariants.{Present}
 use Rattle.kc_rules_model.specs.declared.values.UserValue.TheVariants.{Tri as TriUser}
 use Rattle.kc_value.specs.declared.tri.Tri.TheVariants.{Y}
-use Rattle.kc_dotconfig_model.specs.Lines.{assigns}
-use Rattle.kc_dotconfig_model.specs.Files.{file_lines, has_utf8_lines}
+use Rattle.kc_dotconfig_model.specs.ConfigLines.{assigns}
+use Rattle.kc_dotconfig_model.specs.ConfigFiles.{file_lines, has_utf8_lines}
 use Rattle.kc_dotconfig_model.specs.LoadFaults.{IsAccepted}
-use Rattle.kc_dotconfig_model.specs.checker.Reading.{line_saying, file_sayings}
+use Rattle.kc_dotconfig_model.specs.checker.LineMeanings.{line_meaning, file_meanings}
 use Rattle.kc_dotconfig_model.proofs.LineLaws.{file_read}
 use Rattle.kc_minimal_model.specs.Headline.{AreCanonical}
 use Rattle.kc_minimal_model.proofs.Accepting.{accepted_within}
@@ -31,19 +31,19 @@ use Rattle.kc_minimal_model.proofs.Headlines.{canonical}
 abbrev files : Files
 files = (codes "K", codes "config A\n\tbool \"a\"\n") ∷ []
 
-abbrev tree : Whole
+abbrev tree : Tree
 tree = tree_of_files files (codes "K")
 
-no_fault : fault_told files (codes "K") ≡ None
-unfolding lead_of is_utf8 chars read_expr lines_of source_fault line_says reading tree_faults fault_told lib.Utf8.encode whole_of
+no_fault : first_tree_fault files (codes "K") ≡ None
+unfolding next_token is_utf8 chars read_expr lines_of source_fault statement_on_line reading tree_faults first_tree_fault lib.Utf8.encode tree_of_groups
 no_fault = refl
 
 one_unit : length tree.units ≡ 1
-unfolding lead_of is_utf8 chars read_expr lines_of source_fault line_says reading lib.Utf8.encode whole_of tree_of_files
+unfolding next_token is_utf8 chars read_expr lines_of source_fault statement_on_line reading lib.Utf8.encode tree_of_groups tree_of_files
 one_unit = refl
 
 no_needs : dependencies tree 0 ≡ []
-unfolding dependencies lead_of is_utf8 chars read_expr lines_of source_fault line_says reading lib.Utf8.encode whole_of tree_of_files
+unfolding dependencies next_token is_utf8 chars read_expr lines_of source_fault statement_on_line reading lib.Utf8.encode tree_of_groups tree_of_files
 no_needs = refl
 
 empty_holds : (d : ℕ) (xs : List ℕ) → xs ≡ [] → Contains xs d → ⊥
@@ -70,8 +70,8 @@ plain = codes "CONFIG_"
 abbrev file : List ℕ
 file = codes "CONFIG_A=y\n"
 
-said : file_sayings plain tree file ≡ Some (assigns 0 (TriUser Y) ∷ [])
-unfolding line_saying lead_of is_utf8 chars read_expr lines_of source_fault line_says reading lib.Utf8.encode whole_of tree_of_files
+said : file_meanings plain tree file ≡ Some (assigns 0 (TriUser Y) ∷ [])
+unfolding line_meaning next_token is_utf8 chars read_expr lines_of source_fault statement_on_line reading lib.Utf8.encode tree_of_groups tree_of_files
 said = refl
 
 is_text : has_utf8_lines file ≡ true

@@ -1,7 +1,7 @@
 -- The full file's way back.
 use Rattle.std.specs.Prelude.{◌≡◌, ℕ, true, List, Option, length, IsTrue}
-use Rattle.kc_tree_model.specs.Trees.{Whole}
-use Rattle.kc_system.specs.Solutions.{Gives, FitsUsers}
+use Rattle.kc_tree_model.specs.Trees.{Tree}
+use Rattle.kc_system.specs.Solutions.{UniquelySolves, FitsUsers}
 use Rattle.kc_rules_model.specs.declared.profile.Profile.{Profile}
 use Rattle.kc_rules_model.specs.declared.values.UnitValue.{UnitValue}
 use Rattle.kc_rules_model.specs.declared.values.UserValue.{UserValue}
@@ -9,18 +9,18 @@ use Rattle.kc_rules_model.specs.Rule.{rule}
 use Rattle.kc_rules_model.specs.Shapes.{user_fits}
 use Rattle.kc_rules_model.specs.SettledTrees.{IsSettledTree}
 use Rattle.kc_rules_model.specs.Reports.{IsLifted}
-use Rattle.kc_dotconfig_model.specs.Names.{is_prefix}
+use Rattle.kc_dotconfig_model.specs.PrefixGrammar.{is_prefix}
 use Rattle.kc_minimal_model.specs.FullFile.{full_file}
 use Rattle.kc_minimal_model.specs.Loading.{ReadsTo}
 
--- no tristate stands above its visibility
-abbrev pub IsUnlifted : Profile → Whole → List UnitValue → Type 0
+-- no tristate's value is above its visibility
+abbrev pub IsUnlifted : Profile → Tree → List UnitValue → Type 0
 IsUnlifted profile tree values = (u : ℕ) → IsLifted profile tree values u → ⊥
 
 -- where nothing is lifted, the full file gives the values of each fitting assignment back
 abbrev pub FullFilesLeadBack : Type 0
-FullFilesLeadBack = (prefix : List ℕ) (profile : Profile) (tree : Whole) (users : List (Option UserValue)) (values : List UnitValue)
+FullFilesLeadBack = (prefix : List ℕ) (profile : Profile) (tree : Tree) (users : List (Option UserValue)) (values : List UnitValue)
     → is_prefix prefix ≡ true → IsSettledTree tree
     → FitsUsers (length tree.units) (λ u x. IsTrue (user_fits tree u x)) users
-    → Gives (length tree.units) (rule profile tree) users values → IsUnlifted profile tree values
+    → UniquelySolves (length tree.units) (rule profile tree) users values → IsUnlifted profile tree values
     → ReadsTo prefix profile tree (full_file prefix tree values) values

@@ -3,7 +3,7 @@ pub mod MinimalFile
 pub mod FullFile
 pub mod Differences
 pub mod Loading
-pub mod Laws
+pub mod MinimalFileLaws
 pub mod FileLimits
 pub mod MinimalText
 pub mod FilesAssign

@@ -1,39 +1,39 @@
 -- What reading a file gives.
 use Rattle.std.specs.Prelude.{◌≡◌, ◌≢◌, ℕ, ◌+◌, Bool, true, nat_le, List, [], ◌∷◌, ◌++◌, length, take, drop}
 use Rattle.std.specs.List.{list_all, flat_map}
-use Rattle.kc_tree_model.specs.Trees.{Whole}
-use Rattle.kc_system.specs.Solutions.{Gives}
+use Rattle.kc_tree_model.specs.Trees.{Tree}
+use Rattle.kc_system.specs.Solutions.{UniquelySolves}
 use Rattle.kc_rules_model.specs.declared.profile.Profile.{Profile}
 use Rattle.kc_rules_model.specs.declared.values.UnitValue.{UnitValue}
-use Rattle.kc_rules_model.specs.SymbolValues.{symbol_seen}
+use Rattle.kc_rules_model.specs.SymbolValues.{value_of_symbol}
 use Rattle.kc_rules_model.specs.Rule.{rule}
-use Rattle.kc_dotconfig_model.specs.Lines.{Saying}
-use Rattle.kc_dotconfig_model.specs.Files.{FileSays, file_lines, file_users, has_utf8_lines}
-use Rattle.kc_dotconfig_model.specs.LoadFaults.{MOST_LINE_BYTES, IsAccepted}
+use Rattle.kc_dotconfig_model.specs.ConfigLines.{LineMeaning}
+use Rattle.kc_dotconfig_model.specs.ConfigFiles.{FileMeans, file_lines, file_assignment, has_utf8_lines}
+use Rattle.kc_dotconfig_model.specs.LoadFaults.{MAX_LINE_BYTES, IsAccepted}
 
 -- each line of the file is UTF-8 and not malformed, and its assignment gives these values and no others
-pub record ReadsTo (prefix : List ℕ) (profile : Profile) (tree : Whole) (bytes : List ℕ) (values : List UnitValue) : Type 0 where
+pub record ReadsTo (prefix : List ℕ) (profile : Profile) (tree : Tree) (bytes : List ℕ) (values : List UnitValue) : Type 0 where
   pub utf8 : has_utf8_lines bytes ≡ true
-  pub sayings : List Saying
-  pub says : FileSays prefix tree bytes sayings
-  pub gives : Gives (length tree.units) (rule profile tree) (file_users tree sayings) values
+  pub sayings : List LineMeaning
+  pub says : FileMeans prefix tree bytes sayings
+  pub gives : UniquelySolves (length tree.units) (rule profile tree) (file_assignment tree sayings) values
 
 -- an accepted file that gives these values and no others
-pub record Loads (prefix : List ℕ) (profile : Profile) (tree : Whole) (bytes : List ℕ) (values : List UnitValue) : Type 0 where
+pub record Loads (prefix : List ℕ) (profile : Profile) (tree : Tree) (bytes : List ℕ) (values : List UnitValue) : Type 0 where
   pub accepted : IsAccepted prefix tree bytes
   pub reads : ReadsTo prefix profile tree bytes values
 
 -- whether no line is longer than a line of a file may be
 abbrev pub has_short_lines : List ℕ → Bool
-has_short_lines bytes = list_all (λ (line : List ℕ). nat_le (length line) MOST_LINE_BYTES) (file_lines bytes)
+has_short_lines bytes = list_all (λ (line : List ℕ). nat_le (length line) MAX_LINE_BYTES) (file_lines bytes)
 
 -- every symbol has the same value
-abbrev pub HaveSameValues : Whole → List UnitValue → List UnitValue → Type 0
-HaveSameValues tree v w = (s : ℕ) → symbol_seen tree v s ≡ symbol_seen tree w s
+abbrev pub HaveSameValues : Tree → List UnitValue → List UnitValue → Type 0
+HaveSameValues tree v w = (s : ℕ) → value_of_symbol tree v s ≡ value_of_symbol tree w s
 
 -- some symbol has another value
-abbrev pub DifferAtASymbol : Whole → List UnitValue → List UnitValue → Type 0
-DifferAtASymbol tree v w = (s : ℕ) × (symbol_seen tree v s ≢ symbol_seen tree w s)
+abbrev pub DifferAtASymbol : Tree → List UnitValue → List UnitValue → Type 0
+DifferAtASymbol tree v w = (s : ℕ) × (value_of_symbol tree v s ≢ value_of_symbol tree w s)
 
 -- a file without the line of this number, the first having the number 0
 abbrev pub without_line : ℕ → List ℕ → List ℕ

@@ -3,11 +3,11 @@ use Rattle.std.specs.Prelude.{ℕ, ◌&&◌, List, [], ◌∷◌, ◌++◌, Opti
 use Rattle.kc_value.specs.declared.value.Kind.{Kind}
 use Rattle.kc_value.specs.declared.value.Kind.TheVariants.{Text}
 use Rattle.kc_value.specs.Quoted.{quoted}
-use Rattle.kc_expr.specs.Expr.{Seen}
-use Rattle.kc_tree_model.specs.Trees.{Whole, Symbol}
+use Rattle.kc_expr.specs.Expr.{SymbolValue}
+use Rattle.kc_tree_model.specs.Trees.{Tree, Symbol}
 use Rattle.kc_rules_model.specs.declared.values.UnitValue.{UnitValue}
 use Rattle.kc_rules_model.specs.Kinds.{is_n, is_tri_kind}
-use Rattle.kc_rules_model.specs.SymbolValues.{symbol_seen}
+use Rattle.kc_rules_model.specs.SymbolValues.{value_of_symbol}
 
 -- the text after `=`: a string stands in quotes
 abbrev pub spelled : Kind → List ℕ → List ℕ
@@ -22,20 +22,20 @@ abbrev pub unset_line : List ℕ → List ℕ → List ℕ
 unset_line prefix name = codes "# " ++ (prefix ++ (name ++ codes " is not set"))
 
 -- a bool or tristate of value `n` isn't set, and any other value stands after `=`; without the newline
-abbrev pub line_with : List ℕ → List ℕ → Seen → List ℕ
+abbrev pub line_with : List ℕ → List ℕ → SymbolValue → List ℕ
 line_with prefix name seen = if is_tri_kind seen.kind && is_n seen.tri
     then unset_line prefix name
     else value_line prefix name (spelled seen.kind seen.text)
 
 -- a symbol that isn't there has no line
-abbrev pub line_if_seen : List ℕ → Option Symbol → Option Seen → List ℕ
-line_if_seen prefix (Some symbol) (Some seen) = line_with prefix symbol.name seen
-line_if_seen prefix _ _ = []
+abbrev pub line_of_value : List ℕ → Option Symbol → Option SymbolValue → List ℕ
+line_of_value prefix (Some symbol) (Some seen) = line_with prefix symbol.name seen
+line_of_value prefix _ _ = []
 
 -- the line of a symbol, without its newline
-unfoldable pub symbol_line : List ℕ → Whole → List UnitValue → ℕ → List ℕ
-symbol_line prefix tree values s = line_if_seen prefix (slice_get tree.symbols s) (symbol_seen tree values s)
+unfoldable pub symbol_line : List ℕ → Tree → List UnitValue → ℕ → List ℕ
+symbol_line prefix tree values s = line_of_value prefix (slice_get tree.symbols s) (value_of_symbol tree values s)
 
 -- and with its newline
-abbrev pub ended_line : List ℕ → Whole → List UnitValue → ℕ → List ℕ
+abbrev pub ended_line : List ℕ → Tree → List UnitValue → ℕ → List ℕ
 ended_line prefix tree values s = symbol_line prefix tree values s ++ 10 ∷ []

@@ -2,11 +2,11 @@
 ghost use Rattle.kc_minimal_model.specs.FileLimits.{MinimalFileLines, MinimalFilesAreAccepted, ReadFilesAreAccepted};
 ghost use Rattle.kc_minimal_model.specs.FilesAssign.{FilesAssignTheLines};
 ghost use Rattle.kc_minimal_model.specs.FullFilesBack.{FullFilesLeadBack};
-ghost use Rattle.kc_minimal_model.specs.Headline.{DifferencesTellMinimalFiles, Headline, MinimalFilesAreCanonical};
-ghost use Rattle.kc_minimal_model.specs.Laws.{DifferencesTell, MinimalFilesAssignLeast, MinimalLinesAreRead, MinimalLinesDiffer};
+ghost use Rattle.kc_minimal_model.specs.Headline.{DifferencesDecideMinimalFiles, Headline, MinimalFilesAreCanonical};
+ghost use Rattle.kc_minimal_model.specs.MinimalFileLaws.{DifferencesAreExact, MinimalFilesAssignLeast, MinimalLinesAreRead, MinimalLinesDiffer};
 ghost use Rattle.kc_minimal_model.specs.MinimalText.{MinimalLinesAreNeeded, MinimalTextsAreMinimal};
 
-/// Each line of a minimal file is read as the assignment for which it stands.
+/// Each line of a minimal file is read as the assignment that it represents.
 pub fn minimal_lines_are_read()
     ensures { MinimalLinesAreRead }
 {}
@@ -77,12 +77,12 @@ pub fn headline()
 {}
 
 /// Nothing differs between two valuations exactly if they are the same.
-pub fn differences_tell()
-    ensures { DifferencesTell }
+pub fn differences_are_exact()
+    ensures { DifferencesAreExact }
 {}
 
 /// Nothing differs between what two fitting assignments give exactly if their minimal files are
 /// equal byte for byte.
-pub fn differences_tell_minimal_files()
-    ensures { DifferencesTellMinimalFiles }
+pub fn differences_decide_minimal_files()
+    ensures { DifferencesDecideMinimalFiles }
 {}

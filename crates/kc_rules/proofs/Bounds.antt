@@ -4,15 +4,15 @@ use Rattle.kc_value.specs.declared.value.Kind.{Kind}
 use Rattle.kc_value.specs.declared.value.Kind.TheVariants.{Bool as Boolean, Tristate, Text, Int, Hex}
 use Rattle.kc_value.specs.Number.{number_of_text, IsPrintable}
 use Rattle.kc_expr.specs.Expr.{Expr, alone, related, negated, both, either, shown, operand_text}
-use Rattle.kc_tree_model.specs.Trees.{Whole}
-use Rattle.kc_tree.specs.Told.{operand_in}
+use Rattle.kc_tree_model.specs.Trees.{Tree}
+use Rattle.kc_tree.specs.Views.{operand_or_empty}
 use Rattle.kc_rules_model.specs.declared.values.UnitValue.{UnitValue}
 use Rattle.kc_rules_model.specs.Rule.{expression_text}
-use Rattle.kc_rules_model.specs.SymbolValues.{names_under}
+use Rattle.kc_rules_model.specs.SymbolValues.{environment}
 use Rattle.kc_rules_model.proofs.PrintableBounds.{int_bound, hex_bound}
 use Rattle.kc_rules.specs.checker.Texts.{IsNumber}
 
-pub bound_is : (tree : Whole) (values : List UnitValue) (e : Expr) → expression_text tree values e ≡ operand_text (names_under tree values) (operand_in e)
+pub bound_is : (tree : Tree) (values : List UnitValue) (e : Expr) → expression_text tree values e ≡ operand_text (environment tree values) (operand_or_empty e)
 bound_is tree values (alone a) = refl
 bound_is tree values (related op a b) = refl
 bound_is tree values (negated e) = refl

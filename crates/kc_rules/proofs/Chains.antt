@@ -14,7 +14,7 @@ use Rattle.std.proofs.lemmas.Map.Keys.{IsStrictlyIncreasing-dedup}
 use Rattle.std.proofs.lemmas.Map.Views.{any-filter_same}
 use Rattle.std.proofs.Math.Seq.{drop-append_seam, take-length, get_or-append_seam}
 use Rattle.std.proofs.Math.ListN.{get_or-append}
-use Rattle.kc_tree_model.specs.Trees.{Whole}
+use Rattle.kc_tree_model.specs.Trees.{Tree}
 use Rattle.kc_rules_model.specs.Dependencies.{dependencies, needed_by}
 use Rattle.kc_rules_model.specs.checker.GraphLaw.{rules_graph}
 use Rattle.kc_rules.specs.checker.Links.{has, AreUnits, LinksBelow}
@@ -67,7 +67,7 @@ kept_units true r f = f refl
 kept_units false r f = refl
 
 -- what a unit needs, ascending and each once, are its dependencies
-pub sorted_needs : (tree : Whole) (u : ℕ) (found sorted last : List ℕ) → u < length tree.units
+pub sorted_needs : (tree : Tree) (u : ℕ) (found sorted last : List ℕ) → u < length tree.units
     → ((d : ℕ) → has found d ≡ has (needed_by tree (slice_get tree.units u)) d) → AreUnits tree found
     → IsPermutation found sorted → IsSorted nat_cmp sorted → last ≡ dedup eqb sorted → last ≡ dependencies tree u
 unfolding dependencies
@@ -87,7 +87,7 @@ earlier : (xs ys : List ℕ) (k : ℕ) → k < length xs → slice_index (xs ++ 
 earlier xs ys k h = get_or-append xs ys 0 k h
 
 -- the dependencies of one more unit
-pub linked : (tree : Whole) (u : ℕ) (starts links units nextStarts nextLinks : List ℕ) → LinksBelow tree u starts links → units ≡ dependencies tree u
+pub linked : (tree : Tree) (u : ℕ) (starts links units nextStarts nextLinks : List ℕ) → LinksBelow tree u starts links → units ≡ dependencies tree u
     → nextLinks ≡ links ++ units → nextStarts ≡ starts ++ length (links ++ units) ∷ [] → LinksBelow tree (u + 1) nextStarts nextLinks
 linked tree u starts links units nextStarts nextLinks l e eLinks eStarts =
     let all : ℕ = length (links ++ units) in

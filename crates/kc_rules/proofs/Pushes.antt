@@ -1,4 +1,4 @@
--- Tests over lists: what walks put behind a list so far.
+-- Tests over lists: what walks put after a list so far.
 use Rattle.std.proofs.Common.{◌≡◌, ℕ, ◌+◌, ◌<◌, Bool, true, false, ◌||◌, ◌==◌, List, [], ◌∷◌, ◌++◌, length, map, get_or, take, Option, Some, None, IsSome, subst, refl, sym, ap, ◌∙◌}
 use Rattle.std.specs.List.{flat_map, filter_map, list_any, cons_option}
 use Rattle.std.proofs.Math.Bool.{or_assoc}
@@ -6,11 +6,11 @@ use Rattle.std.proofs.lemmas.List.Elements.{All-append, All-cons, All-nil}
 use Rattle.std.proofs.lemmas.Bool.{false≢true}
 use Rattle.std.proofs.lemmas.List.Folds.{list_any-append, list_any_more}
 use Rattle.kc_expr.specs.Expr.{Expr, alone, related, negated, both, either, shown}
-use Rattle.kc_expr.specs.Mentioned.{operand_names}
+use Rattle.kc_expr.specs.NamesIn.{operand_names}
 use Rattle.kc_expr.specs.Operand.{operand_alone}
-use Rattle.kc_tree.specs.Told.{operand_in}
-use Rattle.kc_tree_model.specs.Trees.{Whole}
-use Rattle.kc_expr.specs.Walked.{mentions}
+use Rattle.kc_tree.specs.Views.{operand_or_empty}
+use Rattle.kc_tree_model.specs.Trees.{Tree}
+use Rattle.kc_expr.specs.Visits.{mentions}
 use Rattle.kc_rules.specs.checker.Links.{is_at, has, AreUnits}
 
 -- one more element
@@ -39,7 +39,7 @@ any_told h d [] = refl
 any_told h d (x ∷ xs) = any_cons d (h x) (filter_map h xs) ∙ ap (λ t. is_at d (h x) || t) (any_told h d xs)
 
 -- a bound is an operand
-pub operand_mention : (p : List ℕ → Bool) (e : Expr) → IsSome (operand_alone e) → list_any p (operand_names (operand_in e)) ≡ mentions p e
+pub operand_mention : (p : List ℕ → Bool) (e : Expr) → IsSome (operand_alone e) → list_any p (operand_names (operand_or_empty e)) ≡ mentions p e
 operand_mention p (alone a) h = refl
 operand_mention p (related op a b) h = absurd (false≢true h)
 operand_mention p (negated e) h = absurd (false≢true h)
@@ -59,5 +59,5 @@ two_pushed o a b m n e f = f ∙ ap (λ t. t || b) e ∙ or_assoc o a b
 pub has_pushed : (old new : List ℕ) (u d : ℕ) → new ≡ old ++ u ∷ [] → has new d ≡ (has old d || (u == d))
 has_pushed old new u d e = ap (λ us. has us d) e ∙ list_any-append (λ m. m == d) old (u ∷ []) ∙ ap (λ t. has old d || t) (sym (nothing_more (u == d)))
 
-pub units_pushed : (tree : Whole) (old new : List ℕ) (u : ℕ) → new ≡ old ++ u ∷ [] → u < length tree.units → AreUnits tree old → AreUnits tree new
+pub units_pushed : (tree : Tree) (old new : List ℕ) (u : ℕ) → new ≡ old ++ u ∷ [] → u < length tree.units → AreUnits tree old → AreUnits tree new
 units_pushed tree old new u e below all = subst (λ us. AreUnits tree us) (sym e) (All-append (λ w. w < length tree.units) old (u ∷ []) all (All-cons (λ w. w < length tree.units) u [] below (All-nil (λ w. w < length tree.units))))

@@ -3,7 +3,7 @@ use Rattle.std.proofs.Common.{◌≡◌, ℕ, Bool, true, false, not, ◌&&◌, 
 use Rattle.std.specs.Prelude.{slice_get}
 use Rattle.std.specs.Str.{is_utf8}
 use Rattle.std.proofs.lemmas.Str.{is_utf8-from_IsUtf8}
-use Rattle.kc_tree_model.specs.Trees.{Whole, Symbol, Choice, of_symbol, of_choice}
+use Rattle.kc_tree_model.specs.Trees.{Tree, Symbol, Choice, of_symbol, of_choice}
 use Rattle.kc_tree_model.specs.TreeLookup.{has_newline}
 use Rattle.kc_rules_model.specs.declared.values.UserValue.{UserValue}
 use Rattle.kc_rules_model.specs.declared.values.UserValue.TheVariants.{Tri as TriUser, Text as TextUser, Member as MemberUser}
@@ -23,7 +23,7 @@ of_kind symbol (TriUser t) = refl
 of_kind symbol (TextUser text) = refl
 of_kind symbol (MemberUser s) = refl
 
-pub fits_symbol : (tree : Whole) (u s : ℕ) (symbol : Symbol) (x : UserValue) → slice_get tree.units u ≡ Some (of_symbol s) → slice_get tree.symbols s ≡ Some symbol → kind_user_fits symbol.kind x ≡ user_fits tree u x
+pub fits_symbol : (tree : Tree) (u s : ℕ) (symbol : Symbol) (x : UserValue) → slice_get tree.units u ≡ Some (of_symbol s) → slice_get tree.symbols s ≡ Some symbol → kind_user_fits symbol.kind x ≡ user_fits tree u x
 unfolding user_fits
 fits_symbol tree u s symbol x e f = of_kind symbol x ∙ sym (ap (λ o. unit_user_fits tree o x) e ∙ ap (λ o. symbol_user_fits o x) f)
 
@@ -32,6 +32,6 @@ of_members choice (TriUser t) = refl
 of_members choice (TextUser text) = refl
 of_members choice (MemberUser s) = refl
 
-pub fits_choice : (tree : Whole) (u c : ℕ) (choice : Choice) (x : UserValue) → slice_get tree.units u ≡ Some (of_choice c) → slice_get tree.choices c ≡ Some choice → member_user_fits choice.members x ≡ user_fits tree u x
+pub fits_choice : (tree : Tree) (u c : ℕ) (choice : Choice) (x : UserValue) → slice_get tree.units u ≡ Some (of_choice c) → slice_get tree.choices c ≡ Some choice → member_user_fits choice.members x ≡ user_fits tree u x
 unfolding user_fits
 fits_choice tree u c choice x e f = of_members choice x ∙ sym (ap (λ o. unit_user_fits tree o x) e ∙ ap (λ o. choice_user_fits o x) f)

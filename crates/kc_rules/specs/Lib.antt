@@ -1,4 +1,4 @@
-pub mod Told
+pub mod SettledViews
 pub mod Metered
 pub mod SettleFaults
 pub mod checker

@@ -1,8 +1,8 @@
-pub mod Seen
+pub mod SymbolValueViews
 pub mod ModulesSymbol
 pub mod RuleParts
-pub mod Kept
+pub mod StoredRules
 pub mod Texts
-pub mod UnderView
+pub mod ValuationView
 pub mod Links
 pub mod Fits

@@ -1,24 +1,24 @@
 //! Kconfig as a system of units, each with a rule for its value.
 #![tactic(auto)]
 
-mod asked;
-mod choosing;
-mod evaluating;
+mod choices;
+mod dependencies;
+mod evaluation;
 mod fault;
-mod fitting;
 mod graphs;
-mod linking;
 mod modules;
 mod names;
-mod reading;
+mod queries;
 mod reports;
 mod rules;
 mod settling;
+mod shapes;
 mod steps;
+mod symbol_values;
 mod systems;
-mod texts;
-mod tristates;
-mod under;
+mod text_rules;
+mod tristate_rules;
+mod valuation;
 
 pub use fault::SettleFault;
 pub use kc_rules_model::{Profile, UnitValue, UserValue};

@@ -1,42 +1,42 @@
 //! The names that units mention. A condition that several attributes of a unit share is walked once.
 ghost use Rattle.std.specs.Prelude.{◌≡◌, ◌<◌, ◌||◌, ℕ, Bool, List, length, OnOk, Some};
 ghost use Rattle.std.specs.List.{list_any};
-ghost use Rattle.kc_expr.specs.Arena.{stands_for};
-ghost use Rattle.kc_expr.specs.Walked.{some_name, mentions, HasFound};
-ghost use Rattle.kc_tree.specs.Told.{SymbolFits, ChoiceFits};
-ghost use Rattle.kc_rules_model.specs.Dependencies.{prompts_at};
-ghost use Rattle.kc_rules.specs.checker.Kept.{AreNodes, AreDefaults, AreRanges, AreForces, AreMemberDefaults, AreMembers};
-ghost use Rattle.kc_rules.specs.checker.Links.{in_exprs, in_defaults, in_ranges, in_forces, in_symbol, in_member_defaults, in_members, in_prompt, in_choice};
+ghost use Rattle.kc_expr.specs.Arena.{node_expr};
+ghost use Rattle.kc_expr.specs.Visits.{passes_some_name, mentions, HasFound};
+ghost use Rattle.kc_tree.specs.Views.{SymbolFits, ChoiceFits};
+ghost use Rattle.kc_rules_model.specs.Dependencies.{names_in_member_prompts};
+ghost use Rattle.kc_rules.specs.checker.StoredRules.{AreNodes, AreDefaults, AreRanges, AreReverseDependencies, AreMemberDefaults, AreMembers};
+ghost use Rattle.kc_rules.specs.checker.Links.{in_exprs, in_defaults, in_ranges, in_reverse_dependencies, in_symbol, in_member_defaults, in_members, in_prompt, in_choice};
 
-use kc_expr::{ExprId, NameId, Walk};
-use kc_tree::{Choice, Default, Force, MemberDefault, Range, Sym, Symbol, Tree};
+use kc_expr::{ExprId, NameId, VisitedSet};
+use kc_tree::{Choice, Default, MemberDefault, Range, ReverseDependency, Sym, Symbol, Tree};
 use std::alloc::AllocError;
 
-/// Puts the names in an expression behind others, but for those that an earlier walk for this unit has put there.
+/// Appends the names in an expression, but for those in parts that were visited for this unit before.
 fn push_expr(
     tree: &Tree,
     id: ExprId,
-    walk: &mut Walk,
+    walk: &mut VisitedSet,
     names: &mut Vec<NameId>,
 ) -> Result<(), AllocError>
     requires fits { id < length tree.now.exprs.nodes }
     requires found { HasFound tree.now.exprs walk.old names.old.items }
-    ensures names { (p : List ℕ → Bool) → OnOk result (some_name tree.now.exprs p names.new.items ≡ (some_name tree.now.exprs p names.old.items || mentions p (stands_for tree.now.exprs id))) }
+    ensures names { (p : List ℕ → Bool) → OnOk result (passes_some_name tree.now.exprs p names.new.items ≡ (passes_some_name tree.now.exprs p names.old.items || mentions p (node_expr tree.now.exprs id))) }
     ensures found { OnOk result (HasFound tree.now.exprs walk.new names.new.items) }
 {
     tree.arena().push_new_names(id, walk, names)
 }
 
-/// Puts the names in some expressions behind others.
+/// Appends the names in some expressions.
 fn push_exprs(
     tree: &Tree,
     ids: &[ExprId],
-    walk: &mut Walk,
+    walk: &mut VisitedSet,
     names: &mut Vec<NameId>,
 ) -> Result<(), AllocError>
     requires fits { AreNodes tree.now.exprs ids.now }
     requires found { HasFound tree.now.exprs walk.old names.old.items }
-    ensures names { (p : List ℕ → Bool) → OnOk result (some_name tree.now.exprs p names.new.items ≡ (some_name tree.now.exprs p names.old.items || in_exprs tree.now.exprs p ids.now)) }
+    ensures names { (p : List ℕ → Bool) → OnOk result (passes_some_name tree.now.exprs p names.new.items ≡ (passes_some_name tree.now.exprs p names.old.items || in_exprs tree.now.exprs p ids.now)) }
     ensures found { OnOk result (HasFound tree.now.exprs walk.new names.new.items) }
 {
     for id in ids {
@@ -45,16 +45,16 @@ fn push_exprs(
     Ok(())
 }
 
-/// Puts the names in some defaults behind others.
+/// Appends the names in some defaults.
 fn push_defaults(
     tree: &Tree,
     defaults: &[Default],
-    walk: &mut Walk,
+    walk: &mut VisitedSet,
     names: &mut Vec<NameId>,
 ) -> Result<(), AllocError>
     requires fits { AreDefaults tree.now.exprs defaults.now }
     requires found { HasFound tree.now.exprs walk.old names.old.items }
-    ensures names { (p : List ℕ → Bool) → OnOk result (some_name tree.now.exprs p names.new.items ≡ (some_name tree.now.exprs p names.old.items || in_defaults tree.now.exprs p defaults.now)) }
+    ensures names { (p : List ℕ → Bool) → OnOk result (passes_some_name tree.now.exprs p names.new.items ≡ (passes_some_name tree.now.exprs p names.old.items || in_defaults tree.now.exprs p defaults.now)) }
     ensures found { OnOk result (HasFound tree.now.exprs walk.new names.new.items) }
 {
     for default in defaults {
@@ -64,16 +64,16 @@ fn push_defaults(
     Ok(())
 }
 
-/// Puts the names in some ranges behind others.
+/// Appends the names in some ranges.
 fn push_ranges(
     tree: &Tree,
     ranges: &[Range],
-    walk: &mut Walk,
+    walk: &mut VisitedSet,
     names: &mut Vec<NameId>,
 ) -> Result<(), AllocError>
     requires fits { AreRanges tree.now.exprs ranges.now }
     requires found { HasFound tree.now.exprs walk.old names.old.items }
-    ensures names { (p : List ℕ → Bool) → OnOk result (some_name tree.now.exprs p names.new.items ≡ (some_name tree.now.exprs p names.old.items || in_ranges tree.now.exprs p ranges.now)) }
+    ensures names { (p : List ℕ → Bool) → OnOk result (passes_some_name tree.now.exprs p names.new.items ≡ (passes_some_name tree.now.exprs p names.old.items || in_ranges tree.now.exprs p ranges.now)) }
     ensures found { OnOk result (HasFound tree.now.exprs walk.new names.new.items) }
 {
     for range in ranges {
@@ -84,16 +84,16 @@ fn push_ranges(
     Ok(())
 }
 
-/// Puts the names in the conditions of selects or implies behind others.
+/// Appends the names in the conditions of selects or implies.
 fn push_conditions(
     tree: &Tree,
-    all: &[Force],
-    walk: &mut Walk,
+    all: &[ReverseDependency],
+    walk: &mut VisitedSet,
     names: &mut Vec<NameId>,
 ) -> Result<(), AllocError>
-    requires fits { AreForces tree.now.exprs tree.now.whole all.now }
+    requires fits { AreReverseDependencies tree.now.exprs tree.now.whole all.now }
     requires found { HasFound tree.now.exprs walk.old names.old.items }
-    ensures names { (p : List ℕ → Bool) → OnOk result (some_name tree.now.exprs p names.new.items ≡ (some_name tree.now.exprs p names.old.items || in_forces tree.now.exprs p all.now)) }
+    ensures names { (p : List ℕ → Bool) → OnOk result (passes_some_name tree.now.exprs p names.new.items ≡ (passes_some_name tree.now.exprs p names.old.items || in_reverse_dependencies tree.now.exprs p all.now)) }
     ensures found { OnOk result (HasFound tree.now.exprs walk.new names.new.items) }
 {
     for force in all {
@@ -102,16 +102,16 @@ fn push_conditions(
     Ok(())
 }
 
-/// Puts the names that a symbol outside choices needs behind others.
+/// Appends the names that a symbol outside choices needs.
 pub(crate) fn push_symbol(
     tree: &Tree,
     symbol: &Symbol<'_>,
-    walk: &mut Walk,
+    walk: &mut VisitedSet,
     names: &mut Vec<NameId>,
 ) -> Result<(), AllocError>
     requires fits { SymbolFits tree.now.exprs (length tree.now.whole.symbols) symbol.now }
     requires found { HasFound tree.now.exprs walk.old names.old.items }
-    ensures names { (p : List ℕ → Bool) → OnOk result (some_name tree.now.exprs p names.new.items ≡ (some_name tree.now.exprs p names.old.items || in_symbol tree.now.exprs p symbol.now)) }
+    ensures names { (p : List ℕ → Bool) → OnOk result (passes_some_name tree.now.exprs p names.new.items ≡ (passes_some_name tree.now.exprs p names.old.items || in_symbol tree.now.exprs p symbol.now)) }
     ensures found { OnOk result (HasFound tree.now.exprs walk.new names.new.items) }
 {
     push_exprs(tree, symbol.prompts, walk, names)?;
@@ -122,31 +122,31 @@ pub(crate) fn push_symbol(
     push_conditions(tree, symbol.impliers, walk, names)
 }
 
-/// Puts the names in the conditions of a member's prompts behind others.
+/// Appends the names in the conditions of a member's prompts.
 fn push_prompts(
     tree: &Tree,
     member: Sym,
-    walk: &mut Walk,
+    walk: &mut VisitedSet,
     names: &mut Vec<NameId>,
 ) -> Result<(), AllocError>
     requires fits { member < length tree.now.whole.symbols }
     requires found { HasFound tree.now.exprs walk.old names.old.items }
-    ensures names { (p : List ℕ → Bool) → OnOk result (some_name tree.now.exprs p names.new.items ≡ (some_name tree.now.exprs p names.old.items || list_any p (prompts_at tree.now.whole member))) }
+    ensures names { (p : List ℕ → Bool) → OnOk result (passes_some_name tree.now.exprs p names.new.items ≡ (passes_some_name tree.now.exprs p names.old.items || list_any p (names_in_member_prompts tree.now.whole member))) }
     ensures found { OnOk result (HasFound tree.now.exprs walk.new names.new.items) }
 {
     push_exprs(tree, tree.symbol(member).prompts, walk, names)
 }
 
-/// Puts the names in the defaults of a choice behind others.
+/// Appends the names in the defaults of a choice.
 fn push_member_defaults(
     tree: &Tree,
     defaults: &[MemberDefault],
-    walk: &mut Walk,
+    walk: &mut VisitedSet,
     names: &mut Vec<NameId>,
 ) -> Result<(), AllocError>
     requires fits { AreMemberDefaults tree.now.exprs tree.now.whole defaults.now }
     requires found { HasFound tree.now.exprs walk.old names.old.items }
-    ensures names { (p : List ℕ → Bool) → OnOk result (some_name tree.now.exprs p names.new.items ≡ (some_name tree.now.exprs p names.old.items || in_member_defaults tree.now.whole tree.now.exprs p defaults.now)) }
+    ensures names { (p : List ℕ → Bool) → OnOk result (passes_some_name tree.now.exprs p names.new.items ≡ (passes_some_name tree.now.exprs p names.old.items || in_member_defaults tree.now.whole tree.now.exprs p defaults.now)) }
     ensures found { OnOk result (HasFound tree.now.exprs walk.new names.new.items) }
 {
     for default in defaults {
@@ -156,16 +156,16 @@ fn push_member_defaults(
     Ok(())
 }
 
-/// Puts the names in the members' prompts behind others.
+/// Appends the names in the members' prompts.
 fn push_members(
     tree: &Tree,
     members: &[Sym],
-    walk: &mut Walk,
+    walk: &mut VisitedSet,
     names: &mut Vec<NameId>,
 ) -> Result<(), AllocError>
     requires fits { AreMembers tree.now.whole members.now }
     requires found { HasFound tree.now.exprs walk.old names.old.items }
-    ensures names { (p : List ℕ → Bool) → OnOk result (some_name tree.now.exprs p names.new.items ≡ (some_name tree.now.exprs p names.old.items || in_members tree.now.whole p members.now)) }
+    ensures names { (p : List ℕ → Bool) → OnOk result (passes_some_name tree.now.exprs p names.new.items ≡ (passes_some_name tree.now.exprs p names.old.items || in_members tree.now.whole p members.now)) }
     ensures found { OnOk result (HasFound tree.now.exprs walk.new names.new.items) }
 {
     for member in members {
@@ -174,17 +174,17 @@ fn push_members(
     Ok(())
 }
 
-/// Puts the names in the condition of a choice's prompt behind others, if there is one.
+/// Appends the names in the condition of a choice's prompt, if there is one.
 #[tactic(auto, using(crate::proofs::Pushes::nothing_more))]
 fn push_prompt(
     tree: &Tree,
     prompt: Option<ExprId>,
-    walk: &mut Walk,
+    walk: &mut VisitedSet,
     names: &mut Vec<NameId>,
 ) -> Result<(), AllocError>
     requires fits { (i : ℕ) → prompt ≡ Some i → i < length tree.now.exprs.nodes }
     requires found { HasFound tree.now.exprs walk.old names.old.items }
-    ensures names { (p : List ℕ → Bool) → OnOk result (some_name tree.now.exprs p names.new.items ≡ (some_name tree.now.exprs p names.old.items || in_prompt tree.now.exprs p prompt)) }
+    ensures names { (p : List ℕ → Bool) → OnOk result (passes_some_name tree.now.exprs p names.new.items ≡ (passes_some_name tree.now.exprs p names.old.items || in_prompt tree.now.exprs p prompt)) }
     ensures found { OnOk result (HasFound tree.now.exprs walk.new names.new.items) }
 {
     match prompt {
@@ -193,16 +193,16 @@ fn push_prompt(
     }
 }
 
-/// Puts the names that a choice needs behind others.
+/// Appends the names that a choice needs.
 pub(crate) fn push_choice(
     tree: &Tree,
     choice: &Choice<'_>,
-    walk: &mut Walk,
+    walk: &mut VisitedSet,
     names: &mut Vec<NameId>,
 ) -> Result<(), AllocError>
     requires fits { ChoiceFits tree.now.exprs (length tree.now.whole.symbols) choice.now }
     requires found { HasFound tree.now.exprs walk.old names.old.items }
-    ensures names { (p : List ℕ → Bool) → OnOk result (some_name tree.now.exprs p names.new.items ≡ (some_name tree.now.exprs p names.old.items || in_choice tree.now.whole tree.now.exprs p choice.now)) }
+    ensures names { (p : List ℕ → Bool) → OnOk result (passes_some_name tree.now.exprs p names.new.items ≡ (passes_some_name tree.now.exprs p names.old.items || in_choice tree.now.whole tree.now.exprs p choice.now)) }
     ensures found { OnOk result (HasFound tree.now.exprs walk.new names.new.items) }
 {
     push_prompt(tree, choice.prompt, walk, names)?;

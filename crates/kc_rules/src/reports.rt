@@ -1,25 +1,25 @@
-//! What is told of the symbols under values of the units.
+//! Which symbols are written and which are unmet, given the values of the units.
 ghost use Rattle.std.specs.Prelude.{◌≡◌, ◌<◌, ◌++◌, ◌∷◌, [], length, nat_lt, IfOk, OnOk, if◌then◌else◌};
 ghost use Rattle.kc_value.specs.Tri.{rank};
-ghost use Rattle.kc_tree.specs.Told.{SymbolFits, symbol_of};
+ghost use Rattle.kc_tree.specs.Views.{SymbolFits, symbol_view};
 ghost use Rattle.kc_rules_model.specs.Reports.{has_default, is_written_symbol, is_written, is_unmet_symbol, is_unmet, unmet};
-ghost use Rattle.kc_rules.specs.Told.{whole_of};
-ghost use Rattle.kc_rules.specs.checker.UnderView.{tree_under, exprs_under, values_under};
+ghost use Rattle.kc_rules.specs.SettledViews.{tree_of_settled};
+ghost use Rattle.kc_rules.specs.checker.ValuationView.{valuation_tree, valuation_exprs, valuation_values};
 
-use super::reading::is_n;
 use super::rules::Settled;
-use super::texts::active_default;
-use super::tristates::{default_value, forced, is_visible, largest};
-use super::under::Under;
+use super::symbol_values::is_n;
+use super::text_rules::active_default;
+use super::tristate_rules::{default_value, is_visible, largest, reverse_limit};
+use super::valuation::Valuation;
 use kc_rules_model::UnitValue;
 use kc_tree::{Sym, Symbol};
 use kc_value::{Kind, Tri};
 use std::alloc::{AllocError, Global};
 
 /// Whether a bool or tristate has a default that isn't `n`, or another symbol a default that counts.
-fn has_default(under: &Under<'_>, symbol: &Symbol<'_>) -> bool
-    requires { SymbolFits (exprs_under under.now) (length (tree_under under.now).symbols) symbol.now }
-    ensures { result ≡ has_default (tree_under under.now) (values_under under.now) (symbol_of (exprs_under under.now) symbol.now) }
+fn has_default(under: &Valuation<'_>, symbol: &Symbol<'_>) -> bool
+    requires { SymbolFits (valuation_exprs under.now) (length (valuation_tree under.now).symbols) symbol.now }
+    ensures { result ≡ has_default (valuation_tree under.now) (valuation_values under.now) (symbol_view (valuation_exprs under.now) symbol.now) }
 {
     match symbol.kind {
         Kind::Bool => !is_n(default_value(under, symbol.defaults)),
@@ -31,9 +31,9 @@ fn has_default(under: &Under<'_>, symbol: &Symbol<'_>) -> bool
 }
 
 /// Whether a full file has the symbol.
-fn is_symbol_written(under: &Under<'_>, symbol: &Symbol<'_>) -> bool
-    requires { SymbolFits (exprs_under under.now) (length (tree_under under.now).symbols) symbol.now }
-    ensures { result ≡ is_written_symbol (tree_under under.now) (values_under under.now) (symbol_of (exprs_under under.now) symbol.now) }
+fn is_symbol_written(under: &Valuation<'_>, symbol: &Symbol<'_>) -> bool
+    requires { SymbolFits (valuation_exprs under.now) (length (valuation_tree under.now).symbols) symbol.now }
+    ensures { result ≡ is_written_symbol (valuation_tree under.now) (valuation_values under.now) (symbol_view (valuation_exprs under.now) symbol.now) }
 {
     if is_visible(under, symbol) {
         return true;
@@ -42,8 +42,8 @@ fn is_symbol_written(under: &Under<'_>, symbol: &Symbol<'_>) -> bool
         return false;
     }
     has_default(under, symbol)
-        || !is_n(forced(under, symbol.selectors))
-        || (!is_n(forced(under, symbol.impliers)) && !is_n(largest(under, symbol.direct)))
+        || !is_n(reverse_limit(under, symbol.selectors))
+        || (!is_n(reverse_limit(under, symbol.impliers)) && !is_n(largest(under, symbol.direct)))
 }
 
 /// Whether the first is below the second.
@@ -64,28 +64,28 @@ fn is_below(a: Tri, b: Tri) -> bool
 }
 
 /// Whether a symbol outside choices is selected above its direct dependency.
-fn is_symbol_unmet(under: &Under<'_>, symbol: &Symbol<'_>) -> bool
-    requires { SymbolFits (exprs_under under.now) (length (tree_under under.now).symbols) symbol.now }
-    ensures { result ≡ is_unmet_symbol (tree_under under.now) (values_under under.now) (symbol_of (exprs_under under.now) symbol.now) }
+fn is_symbol_unmet(under: &Valuation<'_>, symbol: &Symbol<'_>) -> bool
+    requires { SymbolFits (valuation_exprs under.now) (length (valuation_tree under.now).symbols) symbol.now }
+    ensures { result ≡ is_unmet_symbol (valuation_tree under.now) (valuation_values under.now) (symbol_view (valuation_exprs under.now) symbol.now) }
 {
     if symbol.choice.is_some() {
         return false;
     }
     is_below(
         largest(under, symbol.direct),
-        forced(under, symbol.selectors),
+        reverse_limit(under, symbol.selectors),
     )
 }
 
-/// The same of a symbol by its number.
-fn is_unmet(under: &Under<'_>, s: Sym) -> bool
-    requires { s < length (tree_under under.now).symbols }
-    ensures { result ≡ is_unmet (tree_under under.now) (values_under under.now) s }
+/// Whether a symbol is outside choices and selected above its direct dependency, by its number.
+fn is_unmet(under: &Valuation<'_>, s: Sym) -> bool
+    requires { s < length (valuation_tree under.now).symbols }
+    ensures { result ≡ is_unmet (valuation_tree under.now) (valuation_values under.now) s }
 {
     is_symbol_unmet(under, &under.rules.tree.symbol(s))
 }
 
-/// Puts a symbol behind others where it counts.
+/// Appends the symbol if `counts`.
 #[tactic(auto, using(crate::proofs::Filters::nothing_behind))]
 fn push_if(found: &mut Vec<Sym>, s: Sym, counts: bool) -> Result<(), AllocError>
     ensures { OnOk result (found.new.items ≡ found.old.items ++ (if counts then s ∷ [] else [])) }
@@ -102,10 +102,10 @@ impl Settled {
     /// Whether a full file has the symbol: each that is visible, and outside choices each that has a default, is
     /// selected, or is implied where its direct dependency isn't `n`. Takes no memory.
     pub fn written(&self, s: Sym, values: &[UnitValue]) -> bool
-        requires { s < length (whole_of self.now).symbols }
-        ensures { result ≡ is_written (whole_of self.now) values.now s }
+        requires { s < length (tree_of_settled self.now).symbols }
+        ensures { result ≡ is_written (tree_of_settled self.now) values.now s }
     {
-        let under = Under {
+        let under = Valuation {
             rules: &self.rules,
             values,
         };
@@ -113,11 +113,11 @@ impl Settled {
     }
 
     /// The symbols outside choices that are selected above their direct dependency ("reverse dependencies"), in order
-    /// of first definition. An `Err` is want of memory.
+    /// of first definition. An `Err` means out of memory.
     pub fn unmet(&self, alloc: Global, values: &[UnitValue]) -> Result<Vec<Sym>, AllocError>
-        ensures { IfOk result (λ found. found.items ≡ unmet (whole_of self.now) values.now) }
+        ensures { IfOk result (λ found. found.items ≡ unmet (tree_of_settled self.now) values.now) }
     {
-        let under = Under {
+        let under = Valuation {
             rules: &self.rules,
             values,
         };

@@ -1,14 +1,14 @@
 //! Settling a tree.
 ghost use Rattle.std.specs.Prelude.{◌≡◌, ℕ, List, length, IfOk, IfErr};
 ghost use Rattle.kc_system.specs.Dependencies.{HasNoCycle};
-ghost use Rattle.kc_system.specs.Faults.{TellsCycle};
+ghost use Rattle.kc_system.specs.Faults.{ReportsCycle};
 ghost use Rattle.kc_rules_model.specs.Dependencies.{dependencies};
 ghost use Rattle.kc_rules_model.specs.SettledTrees.{IsSettledTree};
-ghost use Rattle.kc_rules.specs.Told.{tree_of, profile_of};
-ghost use Rattle.kc_rules.specs.SettleFaults.{Tells};
+ghost use Rattle.kc_rules.specs.SettledViews.{tree_model_of, profile_of};
+ghost use Rattle.kc_rules.specs.SettleFaults.{ReportsTreeCycle};
 
+use super::dependencies::{Links, links_of};
 use super::fault::SettleFault;
-use super::linking::{Links, links_of};
 use super::modules::modules_of;
 use super::rules::{Rules, Settled};
 use kc_rules_model::Profile;
@@ -18,7 +18,7 @@ use std::alloc::{AllocError, Global};
 
 /// What a refused order says of a tree.
 fn fault_of(fault: OrderFault) -> SettleFault
-    ensures { (size : ℕ) (dependencies : ℕ → List ℕ) → TellsCycle size dependencies fault → Tells size dependencies result }
+    ensures { (size : ℕ) (dependencies : ℕ → List ℕ) → ReportsCycle size dependencies fault → ReportsTreeCycle size dependencies result }
 {
     match fault {
         OrderFault::Cycle(units) => SettleFault::Cycle(units),
@@ -28,11 +28,11 @@ fn fault_of(fault: OrderFault) -> SettleFault
 
 /// A tree and an order of its units, if they don't depend on each other in a cycle.
 fn ordered(alloc: Global, rules: Rules) -> Result<Settled, (Tree, SettleFault)>
-    ensures tree { IfOk result (λ s. tree_of s ≡ rules.tree) }
+    ensures tree { IfOk result (λ s. tree_model_of s ≡ rules.tree) }
     ensures profile { IfOk result (λ s. profile_of s ≡ rules.profile) }
     ensures acyclic { IfOk result (λ s. HasNoCycle (length rules.tree.whole.units) (dependencies rules.tree.whole)) }
     ensures back { IfErr result (λ e. e.0 ≡ rules.tree) }
-    ensures cycle { IfErr result (λ e. Tells (length rules.tree.whole.units) (dependencies rules.tree.whole) e.1) }
+    ensures cycle { IfErr result (λ e. ReportsTreeCycle (length rules.tree.whole.units) (dependencies rules.tree.whole) e.1) }
 {
     let found = order(alloc, &rules);
     match found {
@@ -45,13 +45,13 @@ fn ordered(alloc: Global, rules: Rules) -> Result<Settled, (Tree, SettleFault)>
 }
 
 /// Settles a tree: then its units don't depend on each other in a cycle. Refused, with the tree handed back, exactly if
-/// they do, with the named cycle, and for want of memory ("recursive dependency limitations").
+/// they do, with the named cycle, and for lack of memory ("recursive dependency limitations").
 pub fn settle(alloc: Global, tree: Tree, profile: Profile) -> Result<Settled, (Tree, SettleFault)>
-    ensures tree { IfOk result (λ s. tree_of s ≡ tree) }
+    ensures tree { IfOk result (λ s. tree_model_of s ≡ tree) }
     ensures profile { IfOk result (λ s. profile_of s ≡ profile) }
     ensures settled { IfOk result (λ s. IsSettledTree tree.whole) }
     ensures back { IfErr result (λ e. e.0 ≡ tree) }
-    ensures cycle { IfErr result (λ e. Tells (length tree.whole.units) (dependencies tree.whole) e.1) }
+    ensures cycle { IfErr result (λ e. ReportsTreeCycle (length tree.whole.units) (dependencies tree.whole) e.1) }
 {
     let made = links_of(alloc, &tree);
     match made {

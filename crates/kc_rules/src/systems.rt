@@ -9,7 +9,7 @@ ghost use Rattle.kc_rules_model.specs.checker.EqualityLaws.{values_decided, user
 ghost use Rattle.kc_rules_model.specs.checker.FrameLaw.{rules_frame};
 ghost use Rattle.kc_rules_model.specs.checker.RestoreLaw.{rules_restore};
 
-use super::evaluating::value_of;
+use super::evaluation::value_of;
 use super::rules::Settled;
 use super::steps::Steps;
 use kc_rules_model::{UnitValue, UserValue};

@@ -3,7 +3,7 @@ use Rattle.std.proofs.Common.{◌≡◌, ◌≢◌, ℕ, Bool, false, List, Opti
 use Rattle.std.proofs.lemmas.Bool.{true≢false}
 use Rattle.kc_value.specs.declared.value.Kind.{Kind}
 use Rattle.kc_value.specs.declared.value.Kind.TheVariants.{Bool as Boolean, Tristate, Text, Int, Hex}
-use Rattle.kc_tree_model.specs.Trees.{Whole, Symbol, Choice, TreeUnit, of_symbol, of_choice}
+use Rattle.kc_tree_model.specs.Trees.{Tree, Symbol, Choice, TreeUnit, of_symbol, of_choice}
 use Rattle.kc_rules_model.specs.declared.profile.Profile.{Profile}
 use Rattle.kc_rules_model.specs.declared.values.UnitValue.{UnitValue}
 use Rattle.kc_rules_model.specs.declared.values.UnitValue.TheVariants.{Text as TextValue, Member as MemberValue}
@@ -12,9 +12,9 @@ use Rattle.kc_rules_model.specs.declared.values.UserValue.TheVariants.{Tri as Tr
 use Rattle.kc_value.specs.Number.{number_of_text}
 use Rattle.kc_rules_model.specs.Rule.{rule, rule_of_unit, rule_of_symbol, rule_of_choice, symbol_rule, string_rule, number_rule, choice_rule, as_user, is_visible, default_text, number_default, is_within, active_range, is_shown, is_visible_member}
 use Rattle.kc_rules_model.specs.checker.RestoreLaw.{text_kept, number_kept, member_kept, no_text, no_number}
-use Rattle.kc_rules_model.specs.Laws.{is_tri_value, TextsAreAssigned}
+use Rattle.kc_rules_model.specs.RuleLaws.{is_tri_value, TextsAreAssigned}
 
-module _ (profile : Profile) (tree : Whole) (values : List UnitValue) where
+module _ (profile : Profile) (tree : Tree) (values : List UnitValue) where
   assigned_string : (symbol : Symbol) (x : Option UserValue) → TextValue (string_rule tree symbol x values) ≢ TextValue (string_rule tree symbol None values) → x ≡ as_user (TextValue (string_rule tree symbol x values))
   assigned_string symbol None differs = absurd (differs refl)
   assigned_string symbol (Some (TriUser t)) differs = absurd (differs refl)

@@ -14,8 +14,8 @@ use Rattle.kc_value.specs.declared.value.Kind.{Kind}
 use Rattle.kc_value.specs.declared.value.Kind.TheVariants.{Bool as Boolean, Tristate, Text, Int, Hex}
 use Rattle.kc_value.specs.Number.{number_of_text, number_spelling, IsPrintable}
 use Rattle.kc_value.proofs.NumberSpelling.{spelling_read_back}
-use Rattle.kc_expr.specs.Expr.{Expr, alone, related, negated, both, either, shown, constant, named, quoted, Seen, letter, text_seen, operand_text}
-use Rattle.kc_tree_model.specs.Trees.{Whole, Symbol, Choice, Default, Range, MemberDefault, TreeUnit, of_symbol, of_choice}
+use Rattle.kc_expr.specs.Expr.{Expr, alone, related, negated, both, either, shown, constant, named, quoted, SymbolValue, letter, symbol_text, operand_text}
+use Rattle.kc_tree_model.specs.Trees.{Tree, Symbol, Choice, Default, Range, MemberDefault, TreeUnit, of_symbol, of_choice}
 use Rattle.kc_tree_model.specs.TreeLookup.{IsConsistent, has_newline, own_text, unit_of, symbol_named}
 use Rattle.kc_system.specs.Solutions.{FitsValues}
 use Rattle.kc_rules_model.specs.declared.profile.Profile.{Profile}
@@ -24,11 +24,11 @@ use Rattle.kc_rules_model.specs.declared.values.UnitValue.TheVariants.{Tri as Tr
 use Rattle.kc_rules_model.specs.declared.values.UserValue.{UserValue}
 use Rattle.kc_rules_model.specs.declared.values.UserValue.TheVariants.{Tri as TriUser, Text as TextUser, Member as MemberUser}
 use Rattle.kc_rules_model.specs.Kinds.{is_n, is_tri_kind, is_tristate}
-use Rattle.kc_rules_model.specs.SymbolValues.{seen_in, seen_as_tri, symbol_seen, names_under, condition, tri_of, text_of}
-use Rattle.kc_rules_model.specs.Rule.{rule, rule_of_unit, rule_of_symbol, rule_of_choice, symbol_rule, string_rule, number_rule, choice_rule, expression_text, default_text, number_default, limited, bound, active_range, active_default, is_within, is_visible, is_visible_member, is_shown, assigned_text, assigned_member, or_else, modules_value, leaves_no_m}
+use Rattle.kc_rules_model.specs.SymbolValues.{value_in_unit, tri_symbol_value, value_of_symbol, environment, condition, tri_of, text_of}
+use Rattle.kc_rules_model.specs.Rule.{rule, rule_of_unit, rule_of_symbol, rule_of_choice, symbol_rule, string_rule, number_rule, choice_rule, expression_text, default_text, number_default, clamped, bound, active_range, active_default, is_within, is_visible, is_visible_member, is_shown, assigned_text, assigned_member, or_else, modules_value, leaves_no_m}
 use Rattle.kc_rules_model.specs.Shapes.{user_fits, value_fits, unit_user_fits, unit_value_fits, symbol_user_fits, symbol_value_fits, choice_user_fits, choice_value_fits, user_text_fits, text_fits, is_line}
 use Rattle.kc_rules_model.specs.checker.RestoreLaw.{fits_promoted}
-use Rattle.kc_rules_model.specs.Laws.{RulesFit}
+use Rattle.kc_rules_model.specs.RuleLaws.{RulesFit}
 use Rattle.kc_tree_model.proofs.Lookups.{inside, unit_is}
 use Rattle.kc_rules_model.proofs.Ink.{is_ink, isn't}
 use Rattle.kc_rules_model.proofs.Numbers.{number_ink}
@@ -85,7 +85,7 @@ bound_printable Text text o large other e = absurd (other refl)
 bound_printable Int text o large other e = int_bound text o e
 bound_printable Hex text o large other e = hex_bound text o e
 
-module _ (tree : Whole) (sound : IsConsistent tree) (values : List UnitValue) (fitting : FitsValues (length tree.units) (λ u v. IsTrue (value_fits tree u v)) values) where
+module _ (tree : Tree) (sound : IsConsistent tree) (values : List UnitValue) (fitting : FitsValues (length tree.units) (λ u v. IsTrue (value_fits tree u v)) values) where
   held_one_line : (s : ℕ) (symbol : Symbol) → slice_get tree.symbols s ≡ Some symbol → symbol.choice ≡ None → is_line (text_of (slice_get values (unit_of tree s))) ≡ true
   unfolding value_fits
   held_one_line s symbol at out =
@@ -98,17 +98,17 @@ module _ (tree : Whole) (sound : IsConsistent tree) (values : List UnitValue) (f
         go (Some (MemberValue m)) fits here = no_text
         go (Some (TextValue text)) fits here = text_one_line symbol.kind text (sym (ap (λ o. unit_value_fits tree o (TextValue text)) here ∙ ap (λ o. symbol_value_fits o (TextValue text)) at) ∙ fits)
 
-  seen_one_line : (s : ℕ) (symbol : Symbol) → slice_get tree.symbols s ≡ Some symbol → (c : Option ℕ) → symbol.choice ≡ c → is_line (seen_in tree values s symbol c).text ≡ true
+  seen_one_line : (s : ℕ) (symbol : Symbol) → slice_get tree.symbols s ≡ Some symbol → (c : Option ℕ) → symbol.choice ≡ c → is_line (value_in_unit tree values s symbol c).text ≡ true
   seen_one_line s symbol at (Some c) e = letter_one_line _
   seen_one_line s symbol at None e = go (is_tri_kind symbol.kind) where
-    go : (t : Bool) → is_line (cond {A = Seen} t (seen_as_tri symbol.kind (tri_of (slice_get values (unit_of tree s)))) (record { kind = symbol.kind; tri = N; text = text_of (slice_get values (unit_of tree s)) })).text ≡ true
+    go : (t : Bool) → is_line (cond {A = SymbolValue} t (tri_symbol_value symbol.kind (tri_of (slice_get values (unit_of tree s)))) (record { kind = symbol.kind; tri = N; text = text_of (slice_get values (unit_of tree s)) })).text ≡ true
     go true = letter_one_line _
     go false = held_one_line s symbol at e
 
-  name_one_line : (name : List ℕ) (o : Option ℕ) → is_line name ≡ true → is_line (text_seen name (option_and_then (λ s. symbol_seen tree values s) o)) ≡ true
+  name_one_line : (name : List ℕ) (o : Option ℕ) → is_line name ≡ true → is_line (symbol_text name (option_and_then (λ s. value_of_symbol tree values s) o)) ≡ true
   name_one_line name None e = e
   name_one_line name (Some s) e = go (slice_get tree.symbols s) refl where
-    go : (o : Option Symbol) → slice_get tree.symbols s ≡ o → is_line (text_seen name (option_map (λ (symbol : Symbol). seen_in tree values s symbol symbol.choice) o)) ≡ true
+    go : (o : Option Symbol) → slice_get tree.symbols s ≡ o → is_line (symbol_text name (option_map (λ (symbol : Symbol). value_in_unit tree values s symbol symbol.choice) o)) ≡ true
     go None at = e
     go (Some symbol) at = seen_one_line s symbol at symbol.choice refl
 
@@ -148,20 +148,20 @@ module _ (tree : Whole) (sound : IsConsistent tree) (values : List UnitValue) (f
   spelled_fits kind z printable = or_right (length (number_spelling kind z) == 0) (is_some (number_of_text kind (number_spelling kind z))) (ap is_some (spelling_read_back kind z printable))
 
   limited_fits : (kind : Kind) → is_tri_kind kind ≡ false → (kind ≡ Text → ⊥) → (o : Option Range) (n : ℤ) (text : List ℕ) → (length text == 0 || is_some (number_of_text kind text)) ≡ true
-      → (length (limited tree values kind o n text) == 0 || is_some (number_of_text kind (limited tree values kind o n text))) ≡ true
+      → (length (clamped tree values kind o n text) == 0 || is_some (number_of_text kind (clamped tree values kind o n text))) ≡ true
   limited_fits kind large other None n text fits = fits
   limited_fits kind large other (Some r) n text fits = go (int_lt n (bound tree values kind r.low)) (int_lt (bound tree values kind r.high) n) where
     go : (a b : Bool) → (length (cond a (number_spelling kind (bound tree values kind r.low)) (cond b (number_spelling kind (bound tree values kind r.high)) text)) == 0
         || is_some (number_of_text kind (cond a (number_spelling kind (bound tree values kind r.low)) (cond b (number_spelling kind (bound tree values kind r.high)) text)))) ≡ true
-    go true b = spelled_fits kind _ (bound_printable kind (operand_text (names_under tree values) r.low) (number_of_text kind (operand_text (names_under tree values) r.low)) large other refl)
-    go false true = spelled_fits kind _ (bound_printable kind (operand_text (names_under tree values) r.high) (number_of_text kind (operand_text (names_under tree values) r.high)) large other refl)
+    go true b = spelled_fits kind _ (bound_printable kind (operand_text (environment tree values) r.low) (number_of_text kind (operand_text (environment tree values) r.low)) large other refl)
+    go false true = spelled_fits kind _ (bound_printable kind (operand_text (environment tree values) r.high) (number_of_text kind (operand_text (environment tree values) r.high)) large other refl)
     go false false = fits
 
   default_fits : (symbol : Symbol) → is_tri_kind symbol.kind ≡ false → (symbol.kind ≡ Text → ⊥) → (length (number_default tree values symbol) == 0 || is_some (number_of_text symbol.kind (number_default tree values symbol))) ≡ true
   default_fits symbol large other = go (is_some (number_of_text symbol.kind (default_text tree values symbol))) refl where
     go : (t : Bool) → is_some (number_of_text symbol.kind (default_text tree values symbol)) ≡ t
-        → (length (cond t (limited tree values symbol.kind (active_range tree values symbol) (unwrap_or (number_of_text symbol.kind (default_text tree values symbol)) (pos 0)) (default_text tree values symbol)) (limited tree values symbol.kind (active_range tree values symbol) (pos 0) [])) == 0
-        || is_some (number_of_text symbol.kind (cond t (limited tree values symbol.kind (active_range tree values symbol) (unwrap_or (number_of_text symbol.kind (default_text tree values symbol)) (pos 0)) (default_text tree values symbol)) (limited tree values symbol.kind (active_range tree values symbol) (pos 0) [])))) ≡ true
+        → (length (cond t (clamped tree values symbol.kind (active_range tree values symbol) (unwrap_or (number_of_text symbol.kind (default_text tree values symbol)) (pos 0)) (default_text tree values symbol)) (clamped tree values symbol.kind (active_range tree values symbol) (pos 0) [])) == 0
+        || is_some (number_of_text symbol.kind (cond t (clamped tree values symbol.kind (active_range tree values symbol) (unwrap_or (number_of_text symbol.kind (default_text tree values symbol)) (pos 0)) (default_text tree values symbol)) (clamped tree values symbol.kind (active_range tree values symbol) (pos 0) [])))) ≡ true
     go true e = limited_fits symbol.kind large other (active_range tree values symbol) _ (default_text tree values symbol) (or_right (length (default_text tree values symbol) == 0) _ e)
     go false e = limited_fits symbol.kind large other (active_range tree values symbol) (pos 0) [] refl
 

@@ -1,6 +1,6 @@
 -- The units of a settled tree have an order.
 use Rattle.std.proofs.Common.{ℕ, List, length}
-use Rattle.kc_tree_model.specs.Trees.{Whole}
+use Rattle.kc_tree_model.specs.Trees.{Tree}
 use Rattle.kc_tree_model.specs.TreeLookup.{IsConsistent}
 use Rattle.kc_system.specs.Dependencies.{IsOrder}
 use Rattle.kc_system.proofs.AcyclicOrders.{order_of_acyclic}
@@ -9,12 +9,12 @@ use Rattle.kc_rules_model.specs.SettledTrees.{IsSettledTree}
 use Rattle.kc_rules_model.specs.checker.GraphLaw.{rules_graph}
 
 -- a consistent tree, and an order in which each unit comes after its dependencies
-pub record IsOrderedTree (tree : Whole) : Type 0 where
+pub record IsOrderedTree (tree : Tree) : Type 0 where
   pub consistent : IsConsistent tree
   pub order : List ℕ
   pub ordered : IsOrder (length tree.units) (dependencies tree) order
 
-pub ordered_tree : (tree : Whole) → IsSettledTree tree → IsOrderedTree tree
+pub ordered_tree : (tree : Tree) → IsSettledTree tree → IsOrderedTree tree
 ordered_tree tree settled =
     let found = order_of_acyclic (length tree.units) (dependencies tree) (rules_graph tree) settled.acyclic in
     record { consistent = settled.consistent; order = found.0; ordered = found.1 }

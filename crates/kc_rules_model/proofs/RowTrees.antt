@@ -8,7 +8,7 @@ use Rattle.kc_value.specs.declared.value.Kind.{Kind}
 use Rattle.kc_value.specs.declared.value.Kind.TheVariants.{Bool as Boolean, Tristate, Text, Int, Hex}
 use Rattle.kc_expr.specs.declared.token.Relop.TheVariants.{Equal}
 use Rattle.kc_expr.specs.Expr.{Expr, alone, related, negated, both, shown, constant, named, quoted}
-use Rattle.kc_tree_model.specs.Trees.{Whole, Symbol, Default, of_symbol, of_choice, definition, choice_begins, menu_begins, menu_ends, comment}
+use Rattle.kc_tree_model.specs.Trees.{Tree, Symbol, Default, of_symbol, of_choice, definition, choice_begins, menu_begins, menu_ends, comment}
 use Rattle.kc_system.specs.Solutions.{user_of}
 use Rattle.kc_rules_model.specs.declared.profile.Profile.{Profile}
 use Rattle.kc_rules_model.specs.declared.values.UnitValue.{UnitValue}
@@ -18,7 +18,7 @@ use Rattle.kc_rules_model.specs.declared.values.UserValue.TheVariants.{Tri as Tr
 use Rattle.kc_rules_model.specs.Rule.{rule}
 
 -- what the rules make of values: those that they leave as they are solve the assignment
-abbrev pub by_rules : Profile → Whole → List (Option UserValue) → List UnitValue → List UnitValue
+abbrev pub by_rules : Profile → Tree → List (Option UserValue) → List UnitValue → List UnitValue
 by_rules profile tree users values = map (λ u. rule profile tree u (user_of users u) values) (range_with_len 0 (length tree.units))
 
 abbrev pub n : UnitValue
@@ -52,41 +52,41 @@ otherwise e = record { value = e; condition = always }
 abbrev pub plain : List ℕ → Kind → List Expr → List Default → Symbol
 plain x kind prompts defaults = record { name = x; kind = kind; file = 0; line = 1; prompts = prompts; defaults = defaults; ranges = []; selectors = []; impliers = []; direct = always ∷ []; choice = None }
 
-abbrev pub one_symbol : Symbol → Whole
+abbrev pub one_symbol : Symbol → Tree
 one_symbol symbol = record { symbols = symbol ∷ []; choices = []; entries = definition 0 ∷ []; units = of_symbol 0 ∷ [] }
 
-abbrev pub two_symbols : Symbol → Symbol → Whole
+abbrev pub two_symbols : Symbol → Symbol → Tree
 two_symbols a b = record { symbols = a ∷ b ∷ []; choices = []; entries = definition 0 ∷ definition 1 ∷ []; units = of_symbol 0 ∷ of_symbol 1 ∷ [] }
 
-abbrev pub three_symbols : Symbol → Symbol → Symbol → Whole
+abbrev pub three_symbols : Symbol → Symbol → Symbol → Tree
 three_symbols a b c = record { symbols = a ∷ b ∷ c ∷ []; choices = []; entries = definition 0 ∷ definition 1 ∷ definition 2 ∷ []; units = of_symbol 0 ∷ of_symbol 1 ∷ of_symbol 2 ∷ [] }
 
 -- config A / bool "a"
-abbrev pub tree_a : Whole
+abbrev pub tree_a : Tree
 tree_a = one_symbol (plain (codes "A") Boolean (always ∷ []) [])
 
 -- config A / bool "a" / default y
-abbrev pub tree_default_y : Whole
+abbrev pub tree_default_y : Tree
 tree_default_y = one_symbol (plain (codes "A") Boolean (always ∷ []) (otherwise always ∷ []))
 
 -- config A / bool "a" / default n
-abbrev pub tree_default_n : Whole
+abbrev pub tree_default_n : Tree
 tree_default_n = one_symbol (plain (codes "A") Boolean (always ∷ []) (otherwise (alone (constant N)) ∷ []))
 
 -- config MODULES / bool "mods" / default y / config D / tristate "d" / default m / config A / tristate "a" if D / default y
-abbrev pub tree_lifted : Whole
+abbrev pub tree_lifted : Tree
 tree_lifted = three_symbols (plain (codes "MODULES") Boolean (always ∷ []) (otherwise always ∷ [])) (plain (codes "D") Tristate (always ∷ []) (otherwise (alone (constant M)) ∷ [])) (plain (codes "A") Tristate (name (codes "D") ∷ []) (otherwise always ∷ []))
 
 -- config N / int "n" / range 10 20 / default 5
-abbrev pub tree_int : Whole
+abbrev pub tree_int : Tree
 tree_int = one_symbol (record (plain (codes "N") Int (always ∷ []) (otherwise (name (codes "5")) ∷ [])) { ranges = record { low = named (codes "10"); high = named (codes "20"); condition = always } ∷ [] })
 
 -- config H / hex "h" / range 0x10 0x1F / default 0xFF
-abbrev pub tree_hex : Whole
+abbrev pub tree_hex : Tree
 tree_hex = one_symbol (record (plain (codes "H") Hex (always ∷ []) (otherwise (name (codes "0xFF")) ∷ [])) { ranges = record { low = named (codes "0x10"); high = named (codes "0x1F"); condition = always } ∷ [] })
 
 -- config S / string "s" / default "x"
-abbrev pub tree_string : Whole
+abbrev pub tree_string : Tree
 tree_string = one_symbol (plain (codes "S") Text (always ∷ []) (otherwise (alone (quoted (codes "x"))) ∷ []))
 
 -- a member of the first choice, which is always shown: its prompt's condition
@@ -94,7 +94,7 @@ abbrev pub member : List ℕ → Expr → Symbol
 member x prompt = record (plain x Boolean (prompt ∷ []) []) { direct = shown always ∷ []; choice = Some 0 }
 
 -- choice / prompt "pick" / default B / config A / bool "a" / config B / bool "b" / config C / bool "c" / depends on X / endchoice / config X / bool "x"
-abbrev pub tree_pick : Whole
+abbrev pub tree_pick : Tree
 tree_pick = record {
   symbols = member (codes "A") (shown always) ∷ member (codes "B") (shown always) ∷ member (codes "C") (both (name (codes "X")) (shown always)) ∷ plain (codes "X") Boolean (always ∷ []) [] ∷ [];
   choices = record { file = 0; line = 1; members = 0 ∷ 1 ∷ 2 ∷ []; prompt = Some always; defaults = record { member = 1; condition = always } ∷ [] } ∷ [];
@@ -103,7 +103,7 @@ tree_pick = record {
 }
 
 -- choice / prompt "p" if X / config A / bool "a" / endchoice / config B / bool / default A / config X / bool "x"
-abbrev pub tree_shown_if : Whole
+abbrev pub tree_shown_if : Tree
 tree_shown_if = record {
   symbols = record (plain (codes "A") Boolean (shown (name (codes "X")) ∷ []) []) { direct = shown (name (codes "X")) ∷ []; choice = Some 0 } ∷ plain (codes "B") Boolean [] (otherwise (name (codes "A")) ∷ []) ∷ plain (codes "X") Boolean (always ∷ []) [] ∷ [];
   choices = record { file = 0; line = 1; members = 0 ∷ []; prompt = Some (name (codes "X")); defaults = [] } ∷ [];
@@ -112,12 +112,12 @@ tree_shown_if = record {
 }
 
 -- config S / bool "s" / select T / config T / tristate / depends on NO
-abbrev pub tree_select : Whole
+abbrev pub tree_select : Tree
 tree_select = two_symbols (plain (codes "S") Boolean (always ∷ []) [])
     (record (plain (codes "T") Tristate [] []) { selectors = record { by = 0; condition = always } ∷ []; direct = name (codes "NO") ∷ [] })
 
 -- config MODULES / bool "mods" / default y / config FOO / tristate "foo" / imply BAZ / config BAR / tristate "bar" / config BAZ / tristate "baz" / depends on BAR
-abbrev pub tree_imply : Whole
+abbrev pub tree_imply : Tree
 tree_imply = record {
   symbols = plain (codes "MODULES") Boolean (always ∷ []) (otherwise always ∷ []) ∷ plain (codes "FOO") Tristate (always ∷ []) [] ∷ plain (codes "BAR") Tristate (always ∷ []) []
       ∷ record (plain (codes "BAZ") Tristate (name (codes "BAR") ∷ []) []) { impliers = record { by = 1; condition = always } ∷ []; direct = name (codes "BAR") ∷ [] } ∷ [];
@@ -127,16 +127,16 @@ tree_imply = record {
 }
 
 -- config MODULES / bool "mods" / config A / tristate "a"
-abbrev pub tree_no_modules : Whole
+abbrev pub tree_no_modules : Tree
 tree_no_modules = two_symbols (plain (codes "MODULES") Boolean (always ∷ []) []) (plain (codes "A") Tristate (always ∷ []) [])
 
 -- config A / bool "a" / config B / bool / default A / config C / bool "c" / depends on B
-abbrev pub tree_chain : Whole
+abbrev pub tree_chain : Tree
 tree_chain = three_symbols (plain (codes "A") Boolean (always ∷ []) []) (plain (codes "B") Boolean [] (otherwise (name (codes "A")) ∷ []))
     (record (plain (codes "C") Boolean (name (codes "B") ∷ []) []) { direct = name (codes "B") ∷ [] })
 
 -- menu "hid" / visible if NO / config A / bool "a" / default y / endmenu
-abbrev pub tree_hidden : Whole
+abbrev pub tree_hidden : Tree
 tree_hidden = record {
   symbols = plain (codes "A") Boolean (name (codes "NO") ∷ []) (otherwise always ∷ []) ∷ [];
   choices = [];
@@ -145,7 +145,7 @@ tree_hidden = record {
 }
 
 -- config A / bool "a" / menu "Net" / config B / bool "b" / endmenu / config C / bool "c" / comment "done"
-abbrev pub tree_menu : Whole
+abbrev pub tree_menu : Tree
 tree_menu = record {
   symbols = plain (codes "A") Boolean (always ∷ []) [] ∷ plain (codes "B") Boolean (always ∷ []) [] ∷ plain (codes "C") Boolean (always ∷ []) [] ∷ [];
   choices = [];
@@ -154,7 +154,7 @@ tree_menu = record {
 }
 
 -- menu TITLE / config A / bool "a" / default y / endmenu
-abbrev pub tree_titled : List ℕ → Whole
+abbrev pub tree_titled : List ℕ → Tree
 tree_titled title = record {
   symbols = plain (codes "A") Boolean (always ∷ []) (otherwise always ∷ []) ∷ [];
   choices = [];
@@ -163,10 +163,10 @@ tree_titled title = record {
 }
 
 -- config A / bool "a" / config B / bool "b" / config R / bool / default y if !A = B
-abbrev pub tree_relation : Whole
+abbrev pub tree_relation : Tree
 tree_relation = three_symbols (plain (codes "A") Boolean (always ∷ []) []) (plain (codes "B") Boolean (always ∷ []) [])
     (plain (codes "R") Boolean [] (record { value = always; condition = negated (related Equal (named (codes "A")) (named (codes "B"))) } ∷ []))
 
 -- config N / int "n" / config Q / bool / default y if N = 10
-abbrev pub tree_number_relation : Whole
+abbrev pub tree_number_relation : Tree
 tree_number_relation = two_symbols (plain (codes "N") Int (always ∷ []) []) (plain (codes "Q") Boolean [] (record { value = always; condition = related Equal (named (codes "N")) (named (codes "10")) } ∷ []))

@@ -7,7 +7,7 @@ use Rattle.std.specs.Option.{option_map}
 use Rattle.kc_value.specs.declared.tri.Tri.TheVariants.{N}
 use Rattle.kc_value.specs.declared.value.Kind.{Kind}
 use Rattle.kc_value.specs.declared.value.Kind.TheVariants.{Bool as Boolean, Tristate, Text, Int, Hex}
-use Rattle.kc_tree_model.specs.Trees.{Whole, Symbol, TreeUnit, of_symbol, of_choice}
+use Rattle.kc_tree_model.specs.Trees.{Tree, Symbol, TreeUnit, of_symbol, of_choice}
 use Rattle.kc_system.specs.Solutions.{user_of, Solves, FitsUsers, FitsValues}
 use Rattle.kc_system.proofs.Lists.{get-some, each_set}
 use Rattle.kc_system.proofs.OneSolution as solving
@@ -21,7 +21,7 @@ use Rattle.kc_rules_model.specs.Shapes.{user_fits, value_fits, unit_value_fits, 
 use Rattle.kc_rules_model.specs.checker.FrameLaw.{rules_frame}
 use Rattle.kc_rules_model.proofs.FittingValues.{rules_fit}
 use Rattle.kc_rules_model.proofs.OrderedTrees.{IsOrderedTree, ordered_tree}
-use Rattle.kc_rules_model.specs.Laws.{SolutionsFit as Law}
+use Rattle.kc_rules_model.specs.RuleLaws.{SolutionsFit as Law}
 
 -- a value that fits, for each kind of unit
 abbrev blank_of_kind : Kind → UnitValue
@@ -35,7 +35,7 @@ abbrev blank_of_symbol : Option Symbol → UnitValue
 blank_of_symbol None = TriValue N
 blank_of_symbol (Some symbol) = blank_of_kind symbol.kind
 
-abbrev blank_of : Whole → TreeUnit → UnitValue
+abbrev blank_of : Tree → TreeUnit → UnitValue
 blank_of tree (of_symbol s) = blank_of_symbol (slice_get tree.symbols s)
 blank_of tree (of_choice c) = MemberValue None
 
@@ -46,7 +46,7 @@ kind_blank symbol Text e = ap (λ k. text_fits k []) e ∙ is_utf8-from_IsUtf8 [
 kind_blank symbol Int e = ap (λ k. text_fits k []) e
 kind_blank symbol Hex e = ap (λ k. text_fits k []) e
 
-module _ (profile : Profile) (tree : Whole) (settled : IsOrderedTree tree) (users : List (Option UserValue)) (fitting : FitsUsers (length tree.units) (λ u x. IsTrue (user_fits tree u x)) users) where
+module _ (profile : Profile) (tree : Tree) (settled : IsOrderedTree tree) (users : List (Option UserValue)) (fitting : FitsUsers (length tree.units) (λ u x. IsTrue (user_fits tree u x)) users) where
   abbrev Fits : ℕ → UnitValue → Type 0
   Fits u v = IsTrue (value_fits tree u v)
 

@@ -5,7 +5,7 @@ use Rattle.std.specs.Fmt.{digits}
 use Rattle.kc_value.specs.declared.value.Kind.TheVariants.{Int}
 use Rattle.kc_value.specs.Number.{int_text, hex_text, loose_number}
 use Rattle.kc_expr.specs.Expr.{named}
-use Rattle.kc_tree_model.specs.Trees.{Whole}
+use Rattle.kc_tree_model.specs.Trees.{Tree}
 use Rattle.kc_rules_model.specs.declared.profile.Profile.TheVariants.{Present}
 use Rattle.kc_rules_model.specs.Rule.{rule}
 use Rattle.kc_rules_model.specs.Reports.{is_written}
@@ -41,7 +41,7 @@ unfolding rule
 string_values = (refl, refl, refl)
 
 -- config N / int / range 3 9: invisible and without a default, it isn't written
-abbrev tree_three_to_nine : Whole
+abbrev tree_three_to_nine : Tree
 tree_three_to_nine = one_symbol (record (plain (codes "N") Int [] []) { ranges = record { low = named (codes "3"); high = named (codes "9"); condition = always } ∷ [] })
 
 lower_bound_without_default : (by_rules Present tree_three_to_nine (None ∷ []) (text (codes "3") ∷ []) ≡ text (codes "3") ∷ [])
@@ -50,7 +50,7 @@ unfolding rule int_text digits
 lower_bound_without_default = (refl, refl)
 
 -- config N / int "n" / range LO 9 / default 1 / config LO / int: LO is empty, and the bound 0
-abbrev tree_empty_bound : Whole
+abbrev tree_empty_bound : Tree
 tree_empty_bound = two_symbols (record (plain (codes "N") Int (always ∷ []) (otherwise (name (codes "1")) ∷ [])) { ranges = record { low = named (codes "LO"); high = named (codes "9"); condition = always } ∷ [] }) (plain (codes "LO") Int [] [])
 
 empty_bound_is_0 : by_rules Present tree_empty_bound (None ∷ None ∷ []) (text (codes "1") ∷ text [] ∷ []) ≡ text (codes "1") ∷ text [] ∷ []

@@ -3,23 +3,23 @@ use Rattle.std.specs.Prelude.{ℕ, List, [], ◌∷◌, ◌++◌, Option, Some, 
 use Rattle.std.specs.List.{list_any, filter_map, flat_map, range_with_len}
 use Rattle.std.specs.Option.{option_map}
 use Rattle.kc_expr.specs.Expr.{Expr, modules}
-use Rattle.kc_expr.specs.Mentioned.{operand_names, names_in}
-use Rattle.kc_tree_model.specs.Trees.{Whole, Symbol, Choice, Default, Range, Force, MemberDefault, TreeUnit, of_symbol, of_choice}
+use Rattle.kc_expr.specs.NamesIn.{operand_names, names_in}
+use Rattle.kc_tree_model.specs.Trees.{Tree, Symbol, Choice, Default, Range, ReverseDependency, MemberDefault, TreeUnit, of_symbol, of_choice}
 use Rattle.kc_tree_model.specs.TreeLookup.{unit_of, symbol_named}
 use Rattle.kc_rules_model.specs.Kinds.{is_tristate}
 
 -- the units of those names that are defined
-abbrev pub units_named : Whole → List (List ℕ) → List ℕ
+abbrev pub units_named : Tree → List (List ℕ) → List ℕ
 units_named tree names = filter_map (λ name. option_map (unit_of tree) (symbol_named tree name)) names
 
 -- those of the symbols that select or imply, and of the conditions
-abbrev pub units_of_forces : Whole → List Force → List ℕ
-units_of_forces tree fs = map (λ (f : Force). unit_of tree f.by) fs
-    ++ units_named tree (flat_map (λ (f : Force). names_in f.condition) fs)
+abbrev pub units_of_reverse_dependencies : Tree → List ReverseDependency → List ℕ
+units_of_reverse_dependencies tree fs = map (λ (f : ReverseDependency). unit_of tree f.by) fs
+    ++ units_named tree (flat_map (λ (f : ReverseDependency). names_in f.condition) fs)
 
 -- a symbol depends on what its prompts, defaults, ranges, direct dependencies, selects and implies name, and a
 -- tristate on `MODULES`
-abbrev pub needed_by_symbol : Whole → Symbol → List ℕ
+abbrev pub needed_by_symbol : Tree → Symbol → List ℕ
 needed_by_symbol tree symbol =
     units_named tree
     (flat_map names_in symbol.prompts
@@ -27,43 +27,43 @@ needed_by_symbol tree symbol =
     ++ flat_map (λ (r : Range). operand_names r.low ++ operand_names r.high ++ names_in r.condition) symbol.ranges
     ++ flat_map names_in symbol.direct
     ++ (if is_tristate symbol.kind then modules ∷ [] else []))
-    ++ units_of_forces tree symbol.selectors ++ units_of_forces tree symbol.impliers
+    ++ units_of_reverse_dependencies tree symbol.selectors ++ units_of_reverse_dependencies tree symbol.impliers
 
 -- the names in a prompt's condition, if there is a prompt
-abbrev pub prompt_names : Option Expr → List (List ℕ)
-prompt_names None = []
-prompt_names (Some e) = names_in e
+abbrev pub names_in_prompt : Option Expr → List (List ℕ)
+names_in_prompt None = []
+names_in_prompt (Some e) = names_in e
 
 -- the names in the conditions of a symbol's prompts
-abbrev pub prompts_of : Option Symbol → List (List ℕ)
-prompts_of None = []
-prompts_of (Some symbol) = flat_map names_in symbol.prompts
+abbrev pub names_in_prompts : Option Symbol → List (List ℕ)
+names_in_prompts None = []
+names_in_prompts (Some symbol) = flat_map names_in symbol.prompts
 
 -- the names in the prompts' conditions of a member
-abbrev pub prompts_at : Whole → ℕ → List (List ℕ)
-prompts_at tree s = prompts_of (slice_get tree.symbols s)
+abbrev pub names_in_member_prompts : Tree → ℕ → List (List ℕ)
+names_in_member_prompts tree s = names_in_prompts (slice_get tree.symbols s)
 
 -- a choice depends on what its prompt, its defaults' conditions and its members' prompts name; the member of a
 -- default is one of them
-abbrev pub needed_by_choice : Whole → Choice → List ℕ
+abbrev pub needed_by_choice : Tree → Choice → List ℕ
 needed_by_choice tree choice =
-    units_named tree (prompt_names choice.prompt ++ flat_map (λ (d : MemberDefault). names_in d.condition ++ prompts_at tree d.member) choice.defaults ++ flat_map (prompts_at tree) choice.members)
+    units_named tree (names_in_prompt choice.prompt ++ flat_map (λ (d : MemberDefault). names_in d.condition ++ names_in_member_prompts tree d.member) choice.defaults ++ flat_map (names_in_member_prompts tree) choice.members)
 
 -- a unit that isn't there needs nothing
-abbrev pub needed_by_symbol_at : Whole → Option Symbol → List ℕ
+abbrev pub needed_by_symbol_at : Tree → Option Symbol → List ℕ
 needed_by_symbol_at tree None = []
 needed_by_symbol_at tree (Some symbol) = needed_by_symbol tree symbol
 
-abbrev pub needed_by_choice_at : Whole → Option Choice → List ℕ
+abbrev pub needed_by_choice_at : Tree → Option Choice → List ℕ
 needed_by_choice_at tree None = []
 needed_by_choice_at tree (Some choice) = needed_by_choice tree choice
 
-abbrev pub needed_by : Whole → Option TreeUnit → List ℕ
+abbrev pub needed_by : Tree → Option TreeUnit → List ℕ
 needed_by tree None = []
 needed_by tree (Some (of_symbol s)) = needed_by_symbol_at tree (slice_get tree.symbols s)
 needed_by tree (Some (of_choice c)) = needed_by_choice_at tree (slice_get tree.choices c)
 
 -- the dependencies of unit u, ascending, each once
-unfoldable pub dependencies : Whole → ℕ → List ℕ
+unfoldable pub dependencies : Tree → ℕ → List ℕ
 dependencies tree u =
     filter (λ d. list_any (λ e. e == d) (needed_by tree (slice_get tree.units u))) (range_with_len 0 (length tree.units))

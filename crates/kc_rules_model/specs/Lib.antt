@@ -6,5 +6,5 @@ pub mod Shapes
 pub mod SettledTrees
 pub mod Equality
 pub mod Reports
-pub mod Laws
+pub mod RuleLaws
 pub mod checker

@@ -3,18 +3,18 @@ use Rattle.std.specs.Prelude.{◌≡◌, ◌≢◌, ℕ, Bool, true, false, not,
 use Rattle.std.specs.List.{range_with_len}
 use Rattle.std.specs.Option.{option_map}
 use Rattle.kc_value.specs.Tri.{rank}
-use Rattle.kc_tree_model.specs.Trees.{Whole, Symbol, of_symbol}
+use Rattle.kc_tree_model.specs.Trees.{Tree, Symbol, of_symbol}
 use Rattle.kc_rules_model.specs.declared.profile.Profile.{Profile}
 use Rattle.kc_rules_model.specs.declared.values.UnitValue.{UnitValue}
 use Rattle.kc_rules_model.specs.Kinds.{is_n, is_tri_kind, is_tristate}
 use Rattle.kc_rules_model.specs.Rule.{rule, as_user, is_visible, selected, implied, direct_dependency, active_default, default_tri}
 
 -- the numbers of the symbols, in order of first definition
-abbrev pub symbol_numbers : Whole → List ℕ
+abbrev pub symbol_numbers : Tree → List ℕ
 symbol_numbers tree = range_with_len 0 (length tree.symbols)
 
 -- a bool or tristate with a default that isn't `n`, or another symbol with a default
-abbrev pub has_default : Whole → List UnitValue → Symbol → Bool
+abbrev pub has_default : Tree → List UnitValue → Symbol → Bool
 has_default tree values symbol =
     if is_tri_kind symbol.kind
     then not (is_n (default_tri tree values (active_default tree values symbol)))
@@ -22,7 +22,7 @@ has_default tree values symbol =
 
 -- a full file has each visible symbol, and outside choices each that has a default, is selected, or is implied where
 -- its direct dependency isn't `n`
-abbrev pub is_written_symbol : Whole → List UnitValue → Symbol → Bool
+abbrev pub is_written_symbol : Tree → List UnitValue → Symbol → Bool
 is_written_symbol tree values symbol =
     is_visible tree values symbol
     || (is_none symbol.choice
@@ -31,24 +31,24 @@ is_written_symbol tree values symbol =
     || (not (is_n (implied tree values symbol)) && not (is_n (direct_dependency tree values symbol)))))
 
 -- whether a symbol of this number is there and written
-abbrev pub is_written : Whole → List UnitValue → ℕ → Bool
+abbrev pub is_written : Tree → List UnitValue → ℕ → Bool
 is_written tree values s = unwrap_or (option_map (is_written_symbol tree values) (slice_get tree.symbols s)) false
 
 -- a symbol outside choices that is selected above its direct dependency
-abbrev pub is_unmet_symbol : Whole → List UnitValue → Symbol → Bool
+abbrev pub is_unmet_symbol : Tree → List UnitValue → Symbol → Bool
 is_unmet_symbol tree values symbol = is_none symbol.choice
     && nat_lt (rank (direct_dependency tree values symbol)) (rank (selected tree values symbol))
 
 -- whether a symbol of this number is there and unmet
-abbrev pub is_unmet : Whole → List UnitValue → ℕ → Bool
+abbrev pub is_unmet : Tree → List UnitValue → ℕ → Bool
 is_unmet tree values s = unwrap_or (option_map (is_unmet_symbol tree values) (slice_get tree.symbols s)) false
 
 -- the unmet symbols, in order of first definition
-abbrev pub unmet : Whole → List UnitValue → List ℕ
+abbrev pub unmet : Tree → List UnitValue → List ℕ
 unmet tree values = filter (is_unmet tree values) (symbol_numbers tree)
 
 -- a visible tristate whose value, as its user value, gives another value
-pub record IsLifted (profile : Profile) (tree : Whole) (values : List UnitValue) (u : ℕ) : Type 0 where
+pub record IsLifted (profile : Profile) (tree : Tree) (values : List UnitValue) (u : ℕ) : Type 0 where
   pub s : ℕ
   pub symbol : Symbol
   pub value : UnitValue

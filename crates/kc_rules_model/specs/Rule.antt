@@ -6,8 +6,8 @@ use Rattle.kc_value.specs.declared.tri.Tri.TheVariants.{N}
 use Rattle.kc_value.specs.declared.value.Kind.{Kind}
 use Rattle.kc_value.specs.declared.value.Kind.TheVariants.{Bool as Boolean, Tristate, Text}
 use Rattle.kc_value.specs.Tri.{tri_and, tri_or}
-use Rattle.kc_expr.specs.Expr.{Expr, alone, Operand, operand_text, tri_seen, modules}
-use Rattle.kc_tree_model.specs.Trees.{Whole, Symbol, Choice, Default, Range, Force, MemberDefault, TreeUnit, of_symbol, of_choice}
+use Rattle.kc_expr.specs.Expr.{Expr, alone, Operand, operand_text, symbol_tri, modules}
+use Rattle.kc_tree_model.specs.Trees.{Tree, Symbol, Choice, Default, Range, ReverseDependency, MemberDefault, TreeUnit, of_symbol, of_choice}
 use Rattle.kc_rules_model.specs.declared.profile.Profile.{Profile}
 use Rattle.kc_rules_model.specs.declared.profile.Profile.TheVariants.{Present, Classic}
 use Rattle.kc_rules_model.specs.declared.values.UnitValue.{UnitValue}
@@ -16,69 +16,69 @@ use Rattle.kc_rules_model.specs.declared.values.UserValue.{UserValue}
 use Rattle.kc_rules_model.specs.declared.values.UserValue.TheVariants.{Tri as TriUser, Text as TextUser, Member as MemberUser}
 use Rattle.kc_rules_model.specs.Kinds.{is_n, is_y, y_for_m, largest, is_bool, is_tristate}
 use Rattle.kc_value.specs.Number.{number_of_text, number_spelling}
-use Rattle.kc_rules_model.specs.SymbolValues.{names_under, symbol_seen, condition}
+use Rattle.kc_rules_model.specs.SymbolValues.{environment, value_of_symbol, condition}
 
 -- the value of the symbol `MODULES`, `n` undefined ("modules" of kconfig-language.rst, "Menu attributes")
-abbrev pub modules_value : Whole → List UnitValue → Tri
-modules_value tree values = tri_seen (names_under tree values modules)
+abbrev pub modules_value : Tree → List UnitValue → Tri
+modules_value tree values = symbol_tri (environment tree values modules)
 
 -- a bool has no `m`, nor has a tristate while `MODULES` is `n`: there `m` becomes `y`
-abbrev pub promoted : Whole → List UnitValue → Kind → Tri → Tri
+abbrev pub promoted : Tree → List UnitValue → Kind → Tri → Tri
 promoted tree values kind t = if is_bool kind || (is_tristate kind && is_n (modules_value tree values))
     then y_for_m t
     else t
 
 -- the values of some expressions
-abbrev pub conditions : Whole → List UnitValue → List Expr → List Tri
+abbrev pub conditions : Tree → List UnitValue → List Expr → List Tri
 conditions tree values [] = []
 conditions tree values (e ∷ es) = condition tree values e ∷ conditions tree values es
 
 -- the largest of the prompts' conditions, promoted ("input prompt")
-abbrev pub visibility : Whole → List UnitValue → Symbol → Tri
+abbrev pub visibility : Tree → List UnitValue → Symbol → Tri
 visibility tree values symbol = promoted tree values symbol.kind (largest (conditions tree values symbol.prompts))
 
 -- a symbol is visible where its visibility isn't `n`
-abbrev pub is_visible : Whole → List UnitValue → Symbol → Bool
+abbrev pub is_visible : Tree → List UnitValue → Symbol → Bool
 is_visible tree values symbol = not (is_n (visibility tree values symbol))
 
 -- the largest over the definitions ("dependencies")
-abbrev pub direct_dependency : Whole → List UnitValue → Symbol → Tri
+abbrev pub direct_dependency : Tree → List UnitValue → Symbol → Tri
 direct_dependency tree values symbol = largest (conditions tree values symbol.direct)
 
 -- what one select or imply forces: the other symbol's value, up to the condition
-abbrev pub force_of : Whole → List UnitValue → Force → Tri
-force_of tree values f = tri_and (tri_seen (symbol_seen tree values f.by)) (condition tree values f.condition)
+abbrev pub reverse_dependency_value : Tree → List UnitValue → ReverseDependency → Tri
+reverse_dependency_value tree values f = tri_and (symbol_tri (value_of_symbol tree values f.by)) (condition tree values f.condition)
 
 -- what some selects or implies force
-abbrev pub forces : Whole → List UnitValue → List Force → List Tri
-forces tree values [] = []
-forces tree values (f ∷ fs) = force_of tree values f ∷ forces tree values fs
+abbrev pub reverse_dependency_limit : Tree → List UnitValue → List ReverseDependency → List Tri
+reverse_dependency_limit tree values [] = []
+reverse_dependency_limit tree values (f ∷ fs) = reverse_dependency_value tree values f ∷ reverse_dependency_limit tree values fs
 
 -- the lower limit that selects set, without regard to dependencies ("reverse dependencies")
-abbrev pub selected : Whole → List UnitValue → Symbol → Tri
-selected tree values symbol = largest (forces tree values symbol.selectors)
+abbrev pub selected : Tree → List UnitValue → Symbol → Tri
+selected tree values symbol = largest (reverse_dependency_limit tree values symbol.selectors)
 
 -- the lower limit that implies suggest ("weak reverse dependencies")
-abbrev pub implied : Whole → List UnitValue → Symbol → Tri
-implied tree values symbol = largest (forces tree values symbol.impliers)
+abbrev pub implied : Tree → List UnitValue → Symbol → Tri
+implied tree values symbol = largest (reverse_dependency_limit tree values symbol.impliers)
 
 -- the first default whose condition isn't `n` ("default value")
-abbrev pub active_default : Whole → List UnitValue → Symbol → Option Default
+abbrev pub active_default : Tree → List UnitValue → Symbol → Option Default
 active_default tree values symbol =
     find (λ (d : Default). not (is_n (condition tree values d.condition))) symbol.defaults
 
 -- the value of a default, up to its condition
-abbrev pub default_tri : Whole → List UnitValue → Option Default → Tri
+abbrev pub default_tri : Tree → List UnitValue → Option Default → Tri
 default_tri tree values None = N
 default_tri tree values (Some d) = tri_and (condition tree values d.value) (condition tree values d.condition)
 
--- a default of a string, int or hex is one operand, and stands for its text
-abbrev pub expression_text : Whole → List UnitValue → Expr → List ℕ
-expression_text tree values (alone a) = operand_text (names_under tree values) a
+-- a default of a string, int or hex is one operand, and represents its text
+abbrev pub expression_text : Tree → List UnitValue → Expr → List ℕ
+expression_text tree values (alone a) = operand_text (environment tree values) a
 expression_text tree values _ = []
 
 -- the text of the active default, empty without one
-abbrev pub default_text : Whole → List UnitValue → Symbol → List ℕ
+abbrev pub default_text : Tree → List UnitValue → Symbol → List ℕ
 default_text tree values symbol =
     unwrap_or (option_map (λ (d : Default). expression_text tree values d.value) (active_default tree values symbol)) []
 
@@ -96,81 +96,81 @@ assigned_member (Some (MemberUser member)) = Some member
 assigned_member _ = None
 
 -- the implied value where the direct dependency isn't `n`
-abbrev pub implied_effect : Whole → List UnitValue → Symbol → Tri
+abbrev pub implied_effect : Tree → List UnitValue → Symbol → Tri
 implied_effect tree values symbol = if is_n (direct_dependency tree values symbol)
     then N
     else implied tree values symbol
 
 -- without a user value that counts: the active default and what is implied
-abbrev pub unassigned : Profile → Whole → List UnitValue → Symbol → Tri
-unassigned Present tree values symbol =
+abbrev pub unassigned_value : Profile → Tree → List UnitValue → Symbol → Tri
+unassigned_value Present tree values symbol =
     let d = default_tri tree values (active_default tree values symbol) in
     let i = implied tree values symbol in
     if is_n i then d else tri_and (tri_or d i) (direct_dependency tree values symbol)
-unassigned Classic tree values symbol =
+unassigned_value Classic tree values symbol =
     tri_or (default_tri tree values (active_default tree values symbol)) (implied_effect tree values symbol)
 
 -- a user value counts where the symbol is visible, up to its visibility
-abbrev pub base : Profile → Whole → List UnitValue → Symbol → Option Tri → Tri
-base profile tree values symbol None = unassigned profile tree values symbol
+abbrev pub base : Profile → Tree → List UnitValue → Symbol → Option Tri → Tri
+base profile tree values symbol None = unassigned_value profile tree values symbol
 base profile tree values symbol (Some a) = if is_visible tree values symbol
     then tri_and a (visibility tree values symbol)
-    else unassigned profile tree values symbol
+    else unassigned_value profile tree values symbol
 
 -- in the classic profile an implied `y` leaves no `m`
-abbrev pub leaves_no_m : Profile → Whole → List UnitValue → Symbol → Bool
+abbrev pub leaves_no_m : Profile → Tree → List UnitValue → Symbol → Bool
 leaves_no_m Present tree values symbol = false
 leaves_no_m Classic tree values symbol = is_y (implied_effect tree values symbol)
 
 -- the value of a bool or tristate outside choices
-abbrev pub tri_rule : Profile → Whole → Symbol → Option UserValue → List UnitValue → Tri
+abbrev pub tri_rule : Profile → Tree → Symbol → Option UserValue → List UnitValue → Tri
 tri_rule profile tree symbol user values =
     let b = base profile tree values symbol (assigned_tri user) in
     let t = promoted tree values symbol.kind (tri_or b (selected tree values symbol)) in
     if leaves_no_m profile tree values symbol then y_for_m t else t
 
 -- the assigned text where the symbol is visible
-abbrev pub visible_text : Whole → Symbol → Option UserValue → List UnitValue → Option (List ℕ)
+abbrev pub visible_text : Tree → Symbol → Option UserValue → List UnitValue → Option (List ℕ)
 visible_text tree symbol user values = if is_visible tree values symbol then assigned_text user else None
 
 -- the value of a string
-abbrev pub string_rule : Whole → Symbol → Option UserValue → List UnitValue → List ℕ
+abbrev pub string_rule : Tree → Symbol → Option UserValue → List UnitValue → List ℕ
 string_rule tree symbol user values =
     unwrap_or (visible_text tree symbol user values) (default_text tree values symbol)
 
 -- the first range whose condition isn't `n` ("numerical ranges")
-abbrev pub active_range : Whole → List UnitValue → Symbol → Option Range
+abbrev pub active_range : Tree → List UnitValue → Symbol → Option Range
 active_range tree values symbol = find (λ (r : Range). not (is_n (condition tree values r.condition))) symbol.ranges
 
 -- a bound that isn't a number of the type counts as 0
-abbrev pub bound : Whole → List UnitValue → Kind → Operand → ℤ
-bound tree values kind a = unwrap_or (number_of_text kind (operand_text (names_under tree values) a)) (pos 0)
+abbrev pub bound : Tree → List UnitValue → Kind → Operand → ℤ
+bound tree values kind a = unwrap_or (number_of_text kind (operand_text (environment tree values) a)) (pos 0)
 
 -- without a range every number is within it
-abbrev pub is_within : Whole → List UnitValue → Kind → Option Range → ℤ → Bool
+abbrev pub is_within : Tree → List UnitValue → Kind → Option Range → ℤ → Bool
 is_within tree values kind None n = true
 is_within tree values kind (Some r) n = not (int_lt n (bound tree values kind r.low))
     && not (int_lt (bound tree values kind r.high) n)
 
 -- the text, where its number is within the range; below it the lower bound, above it the upper one
-abbrev pub limited : Whole → List UnitValue → Kind → Option Range → ℤ → List ℕ → List ℕ
-limited tree values kind None n text = text
-limited tree values kind (Some r) n text =
+abbrev pub clamped : Tree → List UnitValue → Kind → Option Range → ℤ → List ℕ → List ℕ
+clamped tree values kind None n text = text
+clamped tree values kind (Some r) n text =
     let low = bound tree values kind r.low in
     let high = bound tree values kind r.high in
     if int_lt n low then number_spelling kind low else (if int_lt high n then number_spelling kind high else text)
 
 -- a default that isn't a number of the type counts as empty, and an empty text as the number 0
-abbrev pub number_default : Whole → List UnitValue → Symbol → List ℕ
+abbrev pub number_default : Tree → List UnitValue → Symbol → List ℕ
 number_default tree values symbol =
     let text = default_text tree values symbol in
     let range = active_range tree values symbol in
     if is_some (number_of_text symbol.kind text)
-    then limited tree values symbol.kind range (unwrap_or (number_of_text symbol.kind text) (pos 0)) text
-    else limited tree values symbol.kind range (pos 0) []
+    then clamped tree values symbol.kind range (unwrap_or (number_of_text symbol.kind text) (pos 0)) text
+    else clamped tree values symbol.kind range (pos 0) []
 
 -- the value of an int or hex: the assigned text where it is within the range, else the default's
-abbrev pub number_rule : Whole → Symbol → Option UserValue → List UnitValue → List ℕ
+abbrev pub number_rule : Tree → Symbol → Option UserValue → List UnitValue → List ℕ
 number_rule tree symbol user values =
     let range = active_range tree values symbol in
     let number : List ℕ → ℤ = λ text. unwrap_or (number_of_text symbol.kind text) (pos 0) in
@@ -179,18 +179,18 @@ number_rule tree symbol user values =
     unwrap_or by_user (number_default tree values symbol)
 
 -- the value of a symbol outside choices, by its type
-abbrev pub symbol_rule : Kind → Profile → Whole → Symbol → Option UserValue → List UnitValue → UnitValue
+abbrev pub symbol_rule : Kind → Profile → Tree → Symbol → Option UserValue → List UnitValue → UnitValue
 symbol_rule Boolean profile tree symbol user values = TriValue (tri_rule profile tree symbol user values)
 symbol_rule Tristate profile tree symbol user values = TriValue (tri_rule profile tree symbol user values)
 symbol_rule Text profile tree symbol user values = TextValue (string_rule tree symbol user values)
 symbol_rule _ profile tree symbol user values = TextValue (number_rule tree symbol user values)
 
 -- whether a symbol of this number is there and visible
-abbrev pub is_visible_member : Whole → List UnitValue → ℕ → Bool
+abbrev pub is_visible_member : Tree → List UnitValue → ℕ → Bool
 is_visible_member tree values s = unwrap_or (option_map (is_visible tree values) (slice_get tree.symbols s)) false
 
 -- shown exactly if the prompt's condition isn't `n`; without a prompt never ("choices")
-abbrev pub is_shown : Whole → List UnitValue → Choice → Bool
+abbrev pub is_shown : Tree → List UnitValue → Choice → Bool
 is_shown tree values choice = unwrap_or (option_map (λ e. not (is_n (condition tree values e))) choice.prompt) false
 
 -- the first of two that is there
@@ -199,7 +199,7 @@ or_else None b = b
 or_else (Some x) b = Some x
 
 -- the value of a choice: the user's member, the first default's or the first, each if it is visible
-abbrev pub choice_rule : Whole → Choice → Option UserValue → List UnitValue → Option ℕ
+abbrev pub choice_rule : Tree → Choice → Option UserValue → List UnitValue → Option ℕ
 choice_rule tree choice user values =
     let seen : ℕ → Bool = is_visible_member tree values in
     let by_user = option_and_then (λ s. if seen s then Some s else None) (assigned_member user) in
@@ -208,15 +208,15 @@ choice_rule tree choice user values =
     if is_shown tree values choice then or_else by_user (or_else by_default (find seen choice.members)) else None
 
 -- a symbol, a choice or a unit that isn't there has the value `n`
-abbrev pub rule_of_symbol : Profile → Whole → Option Symbol → Option UserValue → List UnitValue → UnitValue
+abbrev pub rule_of_symbol : Profile → Tree → Option Symbol → Option UserValue → List UnitValue → UnitValue
 rule_of_symbol profile tree None user values = TriValue N
 rule_of_symbol profile tree (Some symbol) user values = symbol_rule symbol.kind profile tree symbol user values
 
-abbrev pub rule_of_choice : Whole → Option Choice → Option UserValue → List UnitValue → UnitValue
+abbrev pub rule_of_choice : Tree → Option Choice → Option UserValue → List UnitValue → UnitValue
 rule_of_choice tree None user values = TriValue N
 rule_of_choice tree (Some choice) user values = MemberValue (choice_rule tree choice user values)
 
-abbrev pub rule_of_unit : Profile → Whole → Option TreeUnit → Option UserValue → List UnitValue → UnitValue
+abbrev pub rule_of_unit : Profile → Tree → Option TreeUnit → Option UserValue → List UnitValue → UnitValue
 rule_of_unit profile tree (Some (of_symbol s)) user values =
     rule_of_symbol profile tree (slice_get tree.symbols s) user values
 rule_of_unit profile tree (Some (of_choice c)) user values =
@@ -224,7 +224,7 @@ rule_of_unit profile tree (Some (of_choice c)) user values =
 rule_of_unit profile tree None user values = TriValue N
 
 -- the value that unit u has with this user value, or with none
-unfoldable pub rule : Profile → Whole → ℕ → Option UserValue → List UnitValue → UnitValue
+unfoldable pub rule : Profile → Tree → ℕ → Option UserValue → List UnitValue → UnitValue
 rule profile tree u user values = rule_of_unit profile tree (slice_get tree.units u) user values
 
 -- a value as a user value; a choice without a selection has none

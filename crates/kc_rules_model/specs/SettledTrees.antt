@@ -1,11 +1,11 @@
 -- The trees whose values are computed.
 use Rattle.std.specs.Prelude.{length}
 use Rattle.kc_system.specs.Dependencies.{HasNoCycle}
-use Rattle.kc_tree_model.specs.Trees.{Whole}
+use Rattle.kc_tree_model.specs.Trees.{Tree}
 use Rattle.kc_tree_model.specs.TreeLookup.{IsConsistent}
 use Rattle.kc_rules_model.specs.Dependencies.{dependencies}
 
 -- a consistent tree of which no unit depends on itself, be it over others ("recursive dependency limitations")
-pub record IsSettledTree (tree : Whole) : Type 0 where
+pub record IsSettledTree (tree : Tree) : Type 0 where
   pub consistent : IsConsistent tree
   pub acyclic : HasNoCycle (length tree.units) (dependencies tree)

@@ -5,7 +5,7 @@ use Rattle.std.specs.Str.{is_utf8}
 use Rattle.kc_value.specs.declared.tri.Tri.{Tri}
 use Rattle.kc_value.specs.declared.value.Kind.{Kind}
 use Rattle.kc_value.specs.declared.value.Kind.TheVariants.{Bool as Boolean, Tristate, Text}
-use Rattle.kc_tree_model.specs.Trees.{Whole, Symbol, Choice, TreeUnit, of_symbol, of_choice}
+use Rattle.kc_tree_model.specs.Trees.{Tree, Symbol, Choice, TreeUnit, of_symbol, of_choice}
 use Rattle.kc_tree_model.specs.TreeLookup.{has_newline}
 use Rattle.kc_rules_model.specs.Kinds.{is_m}
 use Rattle.kc_rules_model.specs.declared.values.UnitValue.{UnitValue}
@@ -46,13 +46,13 @@ choice_user_fits choice (MemberUser s) = is_member choice s
 choice_user_fits choice _ = false
 
 -- nothing fits a unit that isn't there
-abbrev pub unit_user_fits : Whole → Option TreeUnit → UserValue → Bool
+abbrev pub unit_user_fits : Tree → Option TreeUnit → UserValue → Bool
 unit_user_fits tree None x = false
 unit_user_fits tree (Some (of_symbol s)) x = symbol_user_fits (slice_get tree.symbols s) x
 unit_user_fits tree (Some (of_choice c)) x = choice_user_fits (slice_get tree.choices c) x
 
 -- whether a user value has the shape of unit u
-unfoldable pub user_fits : Whole → ℕ → UserValue → Bool
+unfoldable pub user_fits : Tree → ℕ → UserValue → Bool
 user_fits tree u x = unit_user_fits tree (slice_get tree.units u) x
 
 -- as for user values, but that the text of an int or hex may be empty
@@ -75,11 +75,11 @@ choice_value_fits choice (MemberValue (Some s)) = is_member choice s
 choice_value_fits choice _ = false
 
 -- nothing fits a unit that isn't there
-abbrev pub unit_value_fits : Whole → Option TreeUnit → UnitValue → Bool
+abbrev pub unit_value_fits : Tree → Option TreeUnit → UnitValue → Bool
 unit_value_fits tree None x = false
 unit_value_fits tree (Some (of_symbol s)) x = symbol_value_fits (slice_get tree.symbols s) x
 unit_value_fits tree (Some (of_choice c)) x = choice_value_fits (slice_get tree.choices c) x
 
 -- whether a value has the shape of unit u
-unfoldable pub value_fits : Whole → ℕ → UnitValue → Bool
+unfoldable pub value_fits : Tree → ℕ → UnitValue → Bool
 value_fits tree u x = unit_value_fits tree (slice_get tree.units u) x

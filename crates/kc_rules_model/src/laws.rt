@@ -2,7 +2,7 @@
 ghost use Rattle.std.specs.Prelude.{◌≡◌, ◌↔◌, IsTrue};
 ghost use Rattle.kc_rules_model.specs.declared.values.UnitValue.{UnitValue};
 ghost use Rattle.kc_rules_model.specs.declared.values.UserValue.{UserValue};
-ghost use Rattle.kc_rules_model.specs.Laws.{DependenciesAreGraph, RulesKeepFrame, RulesRestore, RulesFit, TextsAreAssigned, SolutionsFit};
+ghost use Rattle.kc_rules_model.specs.RuleLaws.{DependenciesAreGraph, RulesKeepFrame, RulesRestore, RulesFit, TextsAreAssigned, SolutionsFit};
 ghost use Rattle.kc_rules_model.specs.Equality.{same_value, same_user};
 
 /// The dependencies of each tree ascend without repeats and name units.

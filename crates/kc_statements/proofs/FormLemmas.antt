@@ -4,8 +4,8 @@ use Rattle.std.proofs.lemmas.List.{drop-map, drop_more}
 use Rattle.std.specs.Prelude.{codes, slice_index_or, take}
 use Rattle.std.proofs.lemmas.Bool.{false≢true}
 use Rattle.std.proofs.lemmas.Bool.Decides.{nat_tests}
-use Rattle.kc_expr.specs.Token.{Piece, piece_of, pieces_of}
-use Rattle.kc_expr.specs.Reading.{IsNotRead, expr_at, expr_end}
+use Rattle.kc_expr.specs.Token.{Lexeme, lexeme_of, lexemes_of}
+use Rattle.kc_expr.specs.ParseResults.{RefusesExpr, expr_tokens, expr_end}
 use Rattle.kc_expr.specs.declared.fault.ExprFault.{ExprFault}
 use Rattle.kc_expr.specs.declared.fault.ExprKind.TheVariants as expr_kinds
 use Rattle.kc_expr.specs.declared.token.Token.{Token as CodeToken}
@@ -15,56 +15,56 @@ use Rattle.kc_expr.specs.Grammar.{extent, read_expr, fault_of}
 use Rattle.kc_expr.specs.declared.fault.ExprKind.{ExprKind}
 use Rattle.kc_tree_model.specs.declared.fault.TreeKind.{TreeKind}
 use Rattle.kc_tree_model.specs.declared.fault.TreeKind.TheVariants.{Malformed, OutOfMemory}
-use Rattle.kc_tree_model.specs.Forms.{last_condition, optional_if, no_more, kind_of_fault, Taken, ◌>>=◌}
+use Rattle.kc_tree_model.specs.Forms.{last_condition, optional_if, no_more, kind_of_fault, ParsedExpr, ◌>>=◌}
 use Rattle.kc_tree_model.specs.Keywords.{is_the_word}
 use Rattle.kc_expr.specs.Arena.{Exprs}
 use Rattle.kc_tree_model.specs.Forms.{statement_of}
 use Rattle.kc_statements.specs.declared.keyword.Keyword.{Keyword as CodeKeyword}
 use Rattle.kc_statements.specs.declared.statement.Statement.{Statement as CodeStatement}
-use Rattle.kc_statements.specs.Meanings.{meant}
-use Rattle.kc_statements.specs.Said.{Gives, statement_in}
+use Rattle.kc_statements.specs.KeywordViews.{keyword_view}
+use Rattle.kc_statements.specs.StatementViews.{ReturnsOrFails, statement_in}
 
-more : {A : Type 0} (x : A) (ts : List Piece) → 0 < length ts → no_more x ts ≡ Err Malformed
+more : {A : Type 0} (x : A) (ts : List Lexeme) → 0 < length ts → no_more x ts ≡ Err Malformed
 more x [] h = absurd (omega arith)
 more x (t ∷ ts) h = refl
 
 -- what is left of a condition once its expression is read
-behind : List Piece → Result Expr (ExprKind × List Piece) → Result Expr TreeKind
+behind : List Lexeme → Result Expr (ExprKind × List Lexeme) → Result Expr TreeKind
 behind ts (Ok e) = no_more (conditional e) (drop (length (extent ts)) ts)
 behind ts (Err f) = Err (kind_of_fault f.0)
 
-by_reading : (ts : List Piece) (r : Result Expr (ExprKind × List Piece))
-    → (elim r [ Ok e ↦ Ok (record { expr = e; single = length (extent ts) == 1; rest = drop (length (extent ts)) ts }) | Err f ↦ Err (kind_of_fault f.0) ] >>= λ (t : Taken). no_more (conditional t.expr) t.rest) ≡ behind ts r
+by_reading : (ts : List Lexeme) (r : Result Expr (ExprKind × List Lexeme))
+    → (elim r [ Ok e ↦ Ok (record { expr = e; single = length (extent ts) == 1; rest = drop (length (extent ts)) ts }) | Err f ↦ Err (kind_of_fault f.0) ] >>= λ (t : ParsedExpr). no_more (conditional t.expr) t.rest) ≡ behind ts r
 unfolding behind
 by_reading ts (Ok e) = refl
 by_reading ts (Err f) = refl
 
--- tokens behind a condition
-pub condition_behind : (ts : List Piece) (e : Expr) → read_expr (extent ts) ≡ Ok e → length (extent ts) < length ts → last_condition ts ≡ Err Malformed
+-- tokens after a condition
+pub condition_behind : (ts : List Lexeme) (e : Expr) → read_expr (extent ts) ≡ Ok e → length (extent ts) < length ts → last_condition ts ≡ Err Malformed
 unfolding behind
 condition_behind ts e reads h = by_reading ts (read_expr (extent ts)) ∙ ap (behind ts) reads ∙ more (conditional e) (drop (length (extent ts)) ts) (omega (arith, length-drop (length (extent ts)) ts))
 
--- no tokens behind a condition
-bare : {A : Type 0} (x : A) (ts : List Piece) → length ts ≡ 0 → no_more x ts ≡ Ok x
+-- no tokens after a condition
+bare : {A : Type 0} (x : A) (ts : List Lexeme) → length ts ≡ 0 → no_more x ts ≡ Ok x
 bare x [] h = refl
 bare x (t ∷ ts) h = absurd (omega (arith, h))
 
-pub condition_last : (ts : List Piece) (e : Expr) → read_expr (extent ts) ≡ Ok e → length ts ≤ length (extent ts) → last_condition ts ≡ Ok (conditional e)
+pub condition_last : (ts : List Lexeme) (e : Expr) → read_expr (extent ts) ≡ Ok e → length ts ≤ length (extent ts) → last_condition ts ≡ Ok (conditional e)
 unfolding behind
 condition_last ts e reads h = by_reading ts (read_expr (extent ts)) ∙ ap (behind ts) reads ∙ bare (conditional e) (drop (length (extent ts)) ts) (omega (arith, h, length-drop (length (extent ts)) ts))
 
 -- tokens that are no expression
-pub condition_unread : (ts : List Piece) (x : ExprKind × List Piece) → read_expr (extent ts) ≡ Err x → last_condition ts ≡ Err (kind_of_fault x.0)
+pub condition_unread : (ts : List Lexeme) (x : ExprKind × List Lexeme) → read_expr (extent ts) ≡ Err x → last_condition ts ≡ Err (kind_of_fault x.0)
 unfolding behind
 condition_unread ts x reads = by_reading ts (read_expr (extent ts)) ∙ ap (behind ts) reads
 
-told_kind : (all : List Piece) (x : ExprKind × List Piece) → (fault_of all x).kind ≡ x.0
+told_kind : (all : List Lexeme) (x : ExprKind × List Lexeme) → (fault_of all x).kind ≡ x.0
 told_kind all (k, []) = refl
 told_kind all (k, t ∷ ts) = refl
 
 -- the parser's fault as that of a form
-pub unread : {A : Type 0} (ps : List Piece) (at : ℕ) (e : ExprFault) (k : TreeKind) (given : Result A TreeKind) → ((e.kind ≡ expr_kinds.OutOfMemory) ⊎ IsNotRead ps at e) → k ≡ kind_of_fault e.kind
-    → ((x : ExprKind × List Piece) → read_expr (expr_at ps at) ≡ Err x → given ≡ Err (kind_of_fault x.0)) → (k ≡ OutOfMemory) ⊎ (given ≡ Err k)
+pub unread : {A : Type 0} (ps : List Lexeme) (at : ℕ) (e : ExprFault) (k : TreeKind) (given : Result A TreeKind) → ((e.kind ≡ expr_kinds.OutOfMemory) ⊎ RefusesExpr ps at e) → k ≡ kind_of_fault e.kind
+    → ((x : ExprKind × List Lexeme) → read_expr (expr_tokens ps at) ≡ Err x → given ≡ Err (kind_of_fault x.0)) → (k ≡ OutOfMemory) ⊎ (given ≡ Err k)
 unread ps at e k given f q h = elim f [
   | inl m ↦ inl (q ∙ ap kind_of_fault m)
   | inr n ↦
@@ -72,17 +72,17 @@ unread ps at e k given f q h = elim f [
       inr (h n.fault n.reads ∙ ap Err (sym (q ∙ ap kind_of_fault told)))
 ]
 
--- the token at a place, and those behind it
-pub front_piece : (ts : List CodeToken) (at : ℕ) (d : CodeToken) → at < length ts → drop at (pieces_of ts) ≡ piece_of (slice_index_or ts at d) ∷ drop (at + 1) (pieces_of ts)
-front_piece ts at d h = drop-map piece_of at ts ∙ ap (map piece_of) (drop_more ts at d h) ∙ ap (λ r. piece_of (slice_index_or ts at d) ∷ r) (sym (drop-map piece_of (at + 1) ts))
+-- the token at a place, and those after it
+pub front_piece : (ts : List CodeToken) (at : ℕ) (d : CodeToken) → at < length ts → drop at (lexemes_of ts) ≡ lexeme_of (slice_index_or ts at d) ∷ drop (at + 1) (lexemes_of ts)
+front_piece ts at d h = drop-map lexeme_of at ts ∙ ap (map lexeme_of) (drop_more ts at d h) ∙ ap (λ r. lexeme_of (slice_index_or ts at d) ∷ r) (sym (drop-map lexeme_of (at + 1) ts))
 
-pub no_if : (t : Piece) (ts : List Piece) → is_the_word (codes "if") t ≡ false → optional_if (t ∷ ts) ≡ Err Malformed
+pub no_if : (t : Lexeme) (ts : List Lexeme) → is_the_word (codes "if") t ≡ false → optional_if (t ∷ ts) ≡ Err Malformed
 no_if t ts e = rw e refl
 
-pub if_given : (t : Piece) (ts : List Piece) (e : Expr) → is_the_word (codes "if") t ≡ true → last_condition ts ≡ Ok e → optional_if (t ∷ ts) ≡ Ok (Some e)
+pub if_given : (t : Lexeme) (ts : List Lexeme) (e : Expr) → is_the_word (codes "if") t ≡ true → last_condition ts ≡ Ok e → optional_if (t ∷ ts) ≡ Ok (Some e)
 if_given t ts e w c = rw w (rw c refl)
 
-pub if_refused : (t : Piece) (ts : List Piece) (k : TreeKind) → is_the_word (codes "if") t ≡ true → last_condition ts ≡ Err k → optional_if (t ∷ ts) ≡ Err k
+pub if_refused : (t : Lexeme) (ts : List Lexeme) (k : TreeKind) → is_the_word (codes "if") t ≡ true → last_condition ts ≡ Err k → optional_if (t ∷ ts) ≡ Err k
 if_refused t ts k w c = rw w (rw c refl)
 
 -- the token that stands past the end in a clause
@@ -90,11 +90,11 @@ abbrev pub some_token : CodeToken
 some_token = record { kind = Word; start = 0; end = 0; text = record { ref_ptr = (0, 0); now = [] } }
 
 -- the answer along an equation of what is given
-pub along : {A B : Type 0} (view : A → B) (r : Result A TreeKind) (x y : Result B TreeKind) → x ≡ y → Gives view r y → Gives view r x
+pub along : {A B : Type 0} (view : A → B) (r : Result A TreeKind) (x y : Result B TreeKind) → x ≡ y → ReturnsOrFails view r y → ReturnsOrFails view r x
 along view (Ok a) x y q g = q ∙ g
 along view (Err k) x y q g = elim g [ inl m ↦ inl m | inr e ↦ inr (q ∙ e) ]
 
--- one step behind what is given
+-- one step after what is given
 abbrev pub stepped : {B C : Type 0} → (B → C) → Result B TreeKind → Result C TreeKind
 stepped k r = r >>= λ b. Ok (k b)
 
@@ -108,8 +108,8 @@ there zero b e f = absurd (false≢true (sym f ∙ e))
 there (suc n) b e f = omega arith
 
 -- the statement of a line, by its keyword
-pub by_keyword : (e : Exprs) (r : Result CodeStatement TreeKind) (ps : List Piece) {k l : CodeKeyword} → k ≡ l → Gives (statement_in e) r (statement_of (meant l) ps) → Gives (statement_in e) r (statement_of (meant k) ps)
-by_keyword e r ps {k} {l} q g = along (statement_in e) r (statement_of (meant k) ps) (statement_of (meant l) ps) (ap (λ w. statement_of (meant w) ps) q) g
+pub by_keyword : (e : Exprs) (r : Result CodeStatement TreeKind) (ps : List Lexeme) {k l : CodeKeyword} → k ≡ l → ReturnsOrFails (statement_in e) r (statement_of (keyword_view l) ps) → ReturnsOrFails (statement_in e) r (statement_of (keyword_view k) ps)
+by_keyword e r ps {k} {l} q g = along (statement_in e) r (statement_of (keyword_view k) ps) (statement_of (keyword_view l) ps) (ap (λ w. statement_of (keyword_view w) ps) q) g
 
 -- no tokens where their number is 0
 equal : (m n : ℕ) → (m == n) ≡ true → m ≡ n
@@ -120,6 +120,6 @@ none_there [] b e f = refl
 none_there (t ∷ ts) b e f = absurd (omega (arith, equal (length (t ∷ ts)) 0 (sym e ∙ f)))
 
 -- what is given, one step further
-pub given_on : {A B C : Type 0} (view : A → B) (k : B → C) (r : Result A TreeKind) (x : Result B TreeKind) → Gives view r x → Gives (λ a. k (view a)) r (stepped k x)
+pub given_on : {A B C : Type 0} (view : A → B) (k : B → C) (r : Result A TreeKind) (x : Result B TreeKind) → ReturnsOrFails view r x → ReturnsOrFails (λ a. k (view a)) r (stepped k x)
 given_on view k (Ok a) x g = ap (stepped k) g
 given_on view k (Err f) x g = elim g [ inl m ↦ inl m | inr q ↦ inr (ap (stepped k) q) ]

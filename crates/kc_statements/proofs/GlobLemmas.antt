@@ -8,7 +8,7 @@ use Rattle.std.proofs.lemmas.Bool.Decides.{nat_tests}
 use Rattle.std.proofs.lemmas.List.Folds.{list_any_more}
 use Rattle.kc_value.specs.Quoted.{unescaped}
 use Rattle.kc_expr.specs.Grammar.{between_quotes, is_quote, is_operand_kind}
-use Rattle.kc_expr.specs.Token.{Piece}
+use Rattle.kc_expr.specs.Token.{Lexeme}
 use Rattle.kc_expr.specs.declared.token.TokenKind.{TokenKind}
 use Rattle.kc_expr.specs.declared.token.TokenKind.TheVariants.{Word, Quoted, Relation, Not, And, Or, Open, Close}
 use Rattle.kc_tree_model.specs.Placement.{is_glob_path}
@@ -78,5 +78,5 @@ glob_by Or s e text h = absurd (false≢true h)
 glob_by Open s e text h = absurd (false≢true h)
 glob_by Close s e text h = absurd (false≢true h)
 
-pub glob_told : (t : Piece) → is_operand_kind t.kind ≡ true → is_glob_path t ≡ list_any is_pattern_byte t.text
+pub glob_told : (t : Lexeme) → is_operand_kind t.kind ≡ true → is_glob_path t ≡ list_any is_pattern_byte t.text
 glob_told t h = glob_by t.kind t.start t.stop t.text h

@@ -2,17 +2,17 @@
 use Rattle.std.proofs.Common.{◌≡◌, ℕ, ◌<◌, ◌≤◌, List, [], ◌++◌, length, get_or, take, drop, refl, ap, sym, ◌∙◌, arith, Option, Some, None}
 use Rattle.std.proofs.lemmas.List.{take-append-drop, length-take, get_or_append_left}
 use Rattle.kc_value.specs.declared.tri.Tri.TheVariants.{N}
-use Rattle.kc_expr.specs.Arena.{Exprs, stands_for, Grows}
+use Rattle.kc_expr.specs.Arena.{Exprs, node_expr, Grows}
 use Rattle.kc_expr.specs.Expr.{Expr, alone, constant}
-use Rattle.kc_tree_model.specs.Statements.{Valued, Aimed, typed_prompt, typed_default, prompt, default, depends, select, imply, range, visible, condition}
+use Rattle.kc_tree_model.specs.Statements.{DefaultAttribute, TargetAttribute, typed_prompt, typed_default, prompt, default, depends, select, imply, range, visible, condition}
 use Rattle.kc_statements.specs.declared.statement.Head.{Head as CodeHead}
 use Rattle.kc_statements.specs.declared.statement.Head.TheVariants as heads
-use Rattle.kc_statements.specs.declared.statement.Valued.{Valued as CodeValued}
-use Rattle.kc_statements.specs.declared.statement.Aimed.{Aimed as CodeAimed}
-use Rattle.kc_statements.specs.declared.statement.Bounded.{Bounded as CodeBounded}
+use Rattle.kc_statements.specs.declared.statement.DefaultAttribute.{DefaultAttribute as CodeValued}
+use Rattle.kc_statements.specs.declared.statement.TargetAttribute.{TargetAttribute as CodeAimed}
+use Rattle.kc_statements.specs.declared.statement.RangeAttribute.{RangeAttribute as CodeBounded}
 use Rattle.kc_statements.specs.declared.statement.Attribute.{Attribute as CodeAttribute}
 use Rattle.kc_statements.specs.declared.statement.Attribute.TheVariants as attributes
-use Rattle.kc_statements.specs.Said.{if_in, operand_of_expr, operand_in, valued_in, aimed_in, bounded_in, attribute_in, head_in, NodeHeld, IfHeld, OperandHeld, ValuedHeld, AimedHeld, BoundedHeld, AttributeHeld, HeadHeld}
+use Rattle.kc_statements.specs.StatementViews.{if_in, operand_of_expr, operand_or_n, default_in, target_in, range_in, attribute_in, head_in, NodeExists, IfNodeExists, OperandNodeExists, DefaultNodesExist, TargetNodesExist, RangeNodesExist, AttributeNodesExist, HeadNodesExist}
 
 front_long : {X : Type 0} (xs ys : List X) → take (length xs) ys ≡ xs → length xs ≤ length ys
 front_long xs ys e = omega (arith, ap length e, length-take (length xs) ys)
@@ -25,62 +25,62 @@ front_get : {X : Type 0} (xs ys : List X) (i : ℕ) (d : X) → take (length xs)
 front_get xs ys i d e h = ap (λ zs. get_or zs i d) (front_parts xs ys e) ∙ get_or_append_left xs (drop (length xs) ys) d i h
 
 -- a node
-pub node_held : (old new : Exprs) (id : ℕ) → Grows old new → NodeHeld old id → NodeHeld new id
+pub node_held : (old new : Exprs) (id : ℕ) → Grows old new → NodeExists old id → NodeExists new id
 node_held old new id g h = let l = front_long old.nodes new.nodes g.nodes in omega arith
 
-pub node_same : (old new : Exprs) (id : ℕ) → Grows old new → NodeHeld old id → stands_for new id ≡ stands_for old id
+pub node_same : (old new : Exprs) (id : ℕ) → Grows old new → NodeExists old id → node_expr new id ≡ node_expr old id
 node_same old new id g h = front_get old.nodes new.nodes id (alone (constant N)) g.nodes h
 
 -- the node of an `if`
-pub if_held : (old new : Exprs) (c : Option ℕ) → Grows old new → IfHeld old c → IfHeld new c
+pub if_held : (old new : Exprs) (c : Option ℕ) → Grows old new → IfNodeExists old c → IfNodeExists new c
 if_held old new None g h = tt
 if_held old new (Some id) g h = node_held old new id g h
 
-pub if_same : (old new : Exprs) (c : Option ℕ) → Grows old new → IfHeld old c → if_in new c ≡ if_in old c
+pub if_same : (old new : Exprs) (c : Option ℕ) → Grows old new → IfNodeExists old c → if_in new c ≡ if_in old c
 if_same old new None g h = refl
 if_same old new (Some id) g h = ap Some (node_same old new id g h)
 
 -- an operand
-pub operand_same : (old new : Exprs) (id : ℕ) → Grows old new → OperandHeld old id → operand_in new id ≡ operand_in old id
+pub operand_same : (old new : Exprs) (id : ℕ) → Grows old new → OperandNodeExists old id → operand_or_n new id ≡ operand_or_n old id
 operand_same old new id g h = ap operand_of_expr (node_same old new id g h.within)
 
-pub operand_held : (old new : Exprs) (id : ℕ) → Grows old new → OperandHeld old id → OperandHeld new id
+pub operand_held : (old new : Exprs) (id : ℕ) → Grows old new → OperandNodeExists old id → OperandNodeExists new id
 operand_held old new id g h = record {
   within = node_held old new id g h.within;
   is = node_same old new id g h.within ∙ h.is ∙ ap alone (sym (operand_same old new id g h));
 }
 
 -- a default
-pub valued_same : (old new : Exprs) (d : CodeValued) → Grows old new → ValuedHeld old d → valued_in new d ≡ valued_in old d
+pub valued_same : (old new : Exprs) (d : CodeValued) → Grows old new → DefaultNodesExist old d → default_in new d ≡ default_in old d
 valued_same old new d g h =
-    ap (λ (v : Expr). let r : Valued = record { value = v; single = d.single; condition = if_in new d.condition } in r) (node_same old new d.value g h.0)
-    ∙ ap (λ (c : Option Expr). let r : Valued = record { value = stands_for old d.value; single = d.single; condition = c } in r) (if_same old new d.condition g h.1)
+    ap (λ (v : Expr). let r : DefaultAttribute = record { value = v; single = d.single; condition = if_in new d.condition } in r) (node_same old new d.value g h.0)
+    ∙ ap (λ (c : Option Expr). let r : DefaultAttribute = record { value = node_expr old d.value; single = d.single; condition = c } in r) (if_same old new d.condition g h.1)
 
-pub valued_held : (old new : Exprs) (d : CodeValued) → Grows old new → ValuedHeld old d → ValuedHeld new d
+pub valued_held : (old new : Exprs) (d : CodeValued) → Grows old new → DefaultNodesExist old d → DefaultNodesExist new d
 valued_held old new d g h = (node_held old new d.value g h.0, if_held old new d.condition g h.1)
 
 -- a `select` or an `imply`
-pub aimed_same : (old new : Exprs) (s : CodeAimed) → Grows old new → AimedHeld old s → aimed_in new s ≡ aimed_in old s
+pub aimed_same : (old new : Exprs) (s : CodeAimed) → Grows old new → TargetNodesExist old s → target_in new s ≡ target_in old s
 aimed_same old new s g h =
-    ap (λ (x : List ℕ). let r : Aimed = record { name = x; condition = if_in new s.condition } in r) (front_get old.names new.names s.name [] g.names h.0)
-    ∙ ap (λ (c : Option Expr). let r : Aimed = record { name = get_or old.names s.name []; condition = c } in r) (if_same old new s.condition g h.1)
+    ap (λ (x : List ℕ). let r : TargetAttribute = record { name = x; condition = if_in new s.condition } in r) (front_get old.names new.names s.name [] g.names h.0)
+    ∙ ap (λ (c : Option Expr). let r : TargetAttribute = record { name = get_or old.names s.name []; condition = c } in r) (if_same old new s.condition g h.1)
 
-pub aimed_held : (old new : Exprs) (s : CodeAimed) → Grows old new → AimedHeld old s → AimedHeld new s
+pub aimed_held : (old new : Exprs) (s : CodeAimed) → Grows old new → TargetNodesExist old s → TargetNodesExist new s
 aimed_held old new s g h = let l = front_long old.names new.names g.names in (omega (arith, h.0), if_held old new s.condition g h.1)
 
 -- a range
-pub bounded_same : (old new : Exprs) (r : CodeBounded) → Grows old new → BoundedHeld old r → bounded_in new r ≡ bounded_in old r
+pub bounded_same : (old new : Exprs) (r : CodeBounded) → Grows old new → RangeNodesExist old r → range_in new r ≡ range_in old r
 bounded_same old new r g h =
     let low = operand_same old new r.low g h.0 in
     let high = operand_same old new r.high g h.1 in
     let c = if_same old new r.condition g h.2 in
     cc
 
-pub bounded_held : (old new : Exprs) (r : CodeBounded) → Grows old new → BoundedHeld old r → BoundedHeld new r
+pub bounded_held : (old new : Exprs) (r : CodeBounded) → Grows old new → RangeNodesExist old r → RangeNodesExist new r
 bounded_held old new r g h = (operand_held old new r.low g h.0, operand_held old new r.high g h.1, if_held old new r.condition g h.2)
 
 -- an attribute
-pub attribute_same : (old new : Exprs) (a : CodeAttribute) → Grows old new → AttributeHeld old a → attribute_in new a ≡ attribute_in old a
+pub attribute_same : (old new : Exprs) (a : CodeAttribute) → Grows old new → AttributeNodesExist old a → attribute_in new a ≡ attribute_in old a
 attribute_same old new (attributes.Typed k) g h = refl
 attribute_same old new (attributes.TypedPrompt k c) g h = ap (typed_prompt k) (if_same old new c g h)
 attribute_same old new (attributes.TypedDefault k d) g h = ap (typed_default k) (valued_same old new d g h)
@@ -94,7 +94,7 @@ attribute_same old new (attributes.Visible id) g h = ap visible (node_same old n
 attribute_same old new attributes.Help g h = refl
 attribute_same old new attributes.Modules g h = refl
 
-pub attribute_held : (old new : Exprs) (a : CodeAttribute) → Grows old new → AttributeHeld old a → AttributeHeld new a
+pub attribute_held : (old new : Exprs) (a : CodeAttribute) → Grows old new → AttributeNodesExist old a → AttributeNodesExist new a
 attribute_held old new (attributes.Typed k) g h = tt
 attribute_held old new (attributes.TypedPrompt k c) g h = if_held old new c g h
 attribute_held old new (attributes.TypedDefault k d) g h = valued_held old new d g h
@@ -109,7 +109,7 @@ attribute_held old new attributes.Help g h = tt
 attribute_held old new attributes.Modules g h = tt
 
 -- a statement that closes the open entry
-pub head_same : (old new : Exprs) (h : CodeHead) → Grows old new → HeadHeld old h → head_in new h ≡ head_in old h
+pub head_same : (old new : Exprs) (h : CodeHead) → Grows old new → HeadNodesExist old h → head_in new h ≡ head_in old h
 head_same old new (heads.Config name) g h = refl
 head_same old new heads.Choice g h = refl
 head_same old new (heads.Menu title) g h = refl

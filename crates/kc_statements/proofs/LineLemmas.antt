@@ -4,61 +4,61 @@ use Rattle.std.specs.Prelude.{codes, slice_index_or}
 use Rattle.std.specs.Bool.{if◌then◌else◌}
 use Rattle.kc_expr.specs.Arena.{Exprs, Grows}
 use Rattle.kc_expr.specs.Expr.{Expr}
-use Rattle.kc_expr.specs.Token.{Piece, piece_of, pieces_of}
+use Rattle.kc_expr.specs.Token.{Lexeme, lexeme_of, lexemes_of}
 use Rattle.kc_expr.specs.declared.token.Token.{Token as CodeToken}
 use Rattle.kc_tree_model.specs.declared.fault.TreeKind.{TreeKind}
 use Rattle.kc_tree_model.specs.declared.fault.TreeKind.TheVariants.{Malformed}
-use Rattle.kc_tree_model.specs.Forms.{worded_line, prompt_line, aimed_line, option_line, config_line, source_line, last_condition, optional_if, no_more, path_of}
+use Rattle.kc_tree_model.specs.Forms.{condition_line, prompt_line, target_line, option_line, config_line, source_line, last_condition, optional_if, no_more, path_of}
 use Rattle.kc_tree_model.specs.Keywords.{is_the_word, is_name, is_quoted_kind}
 use Rattle.kc_tree_model.specs.Placement.{first_is}
-use Rattle.kc_tree_model.specs.Statements.{Attribute, Aimed, Statement, attribute, head, config, source, modules}
-use Rattle.kc_statements.specs.Said.{if_in, aimed_in, IfHeld}
+use Rattle.kc_tree_model.specs.Statements.{Attribute, TargetAttribute, Statement, attribute, head, config, source, modules}
+use Rattle.kc_statements.specs.StatementViews.{if_in, target_in, IfNodeExists}
 use Rattle.kc_statements.proofs.FormLemmas.{first_of, none_there, stepped}
 use Rattle.kc_statements.proofs.Later.{if_same}
 
--- a condition behind a word
-pub worded_is : (w : List ℕ) (f : Expr → Attribute) (ts : List CodeToken) → 0 < length ts → is_the_word w (piece_of (first_of ts)) ≡ true
-    → worded_line w f (pieces_of ts) ≡ stepped (λ x. attribute (f x)) (last_condition (drop 1 (pieces_of ts)))
+-- a condition after a word
+pub worded_is : (w : List ℕ) (f : Expr → Attribute) (ts : List CodeToken) → 0 < length ts → is_the_word w (lexeme_of (first_of ts)) ≡ true
+    → condition_line w f (lexemes_of ts) ≡ stepped (λ x. attribute (f x)) (last_condition (drop 1 (lexemes_of ts)))
 worded_is w f [] l h = absurd (omega (arith, l))
 worded_is w f (t ∷ ts) l h = rw h refl
 
-pub worded_other : (w : List ℕ) (f : Expr → Attribute) (ts : List CodeToken) → 0 < length ts → is_the_word w (piece_of (first_of ts)) ≡ false → worded_line w f (pieces_of ts) ≡ Err Malformed
+pub worded_other : (w : List ℕ) (f : Expr → Attribute) (ts : List CodeToken) → 0 < length ts → is_the_word w (lexeme_of (first_of ts)) ≡ false → condition_line w f (lexemes_of ts) ≡ Err Malformed
 worded_other w f [] l h = absurd (omega (arith, l))
 worded_other w f (t ∷ ts) l h = rw h refl
 
--- an `if` behind a quoted text
+-- an `if` after a quoted text
 pub prompt_is : (f : Option Expr → Attribute) (ts : List CodeToken) → 0 < length ts → is_quoted_kind (first_of ts).kind ≡ true
-    → prompt_line f (pieces_of ts) ≡ stepped (λ x. attribute (f x)) (optional_if (drop 1 (pieces_of ts)))
+    → prompt_line f (lexemes_of ts) ≡ stepped (λ x. attribute (f x)) (optional_if (drop 1 (lexemes_of ts)))
 prompt_is f [] l h = absurd (omega (arith, l))
 prompt_is f (t ∷ ts) l h = rw h refl
 
-pub prompt_other : (f : Option Expr → Attribute) (ts : List CodeToken) → 0 < length ts → is_quoted_kind (first_of ts).kind ≡ false → prompt_line f (pieces_of ts) ≡ Err Malformed
+pub prompt_other : (f : Option Expr → Attribute) (ts : List CodeToken) → 0 < length ts → is_quoted_kind (first_of ts).kind ≡ false → prompt_line f (lexemes_of ts) ≡ Err Malformed
 prompt_other f [] l h = absurd (omega (arith, l))
 prompt_other f (t ∷ ts) l h = rw h refl
 
--- an `if` behind a name
-aimed_as : (Aimed → Attribute) → List ℕ → Option Expr → Statement
+-- an `if` after a name
+aimed_as : (TargetAttribute → Attribute) → List ℕ → Option Expr → Statement
 aimed_as f x c = attribute (f (record { name = x; condition = c }))
 
-aimed_is : (f : Aimed → Attribute) (ts : List CodeToken) → 0 < length ts → is_name (piece_of (first_of ts)) ≡ true
-    → aimed_line f (pieces_of ts) ≡ stepped (aimed_as f (first_of ts).text.now) (optional_if (drop 1 (pieces_of ts)))
+aimed_is : (f : TargetAttribute → Attribute) (ts : List CodeToken) → 0 < length ts → is_name (lexeme_of (first_of ts)) ≡ true
+    → target_line f (lexemes_of ts) ≡ stepped (aimed_as f (first_of ts).text.now) (optional_if (drop 1 (lexemes_of ts)))
 unfolding aimed_as
 aimed_is f [] l h = absurd (omega (arith, l))
 aimed_is f (t ∷ ts) l h = rw h refl
 
-pub aimed_other : (f : Aimed → Attribute) (ts : List CodeToken) → 0 < length ts → is_name (piece_of (first_of ts)) ≡ false → aimed_line f (pieces_of ts) ≡ Err Malformed
+pub aimed_other : (f : TargetAttribute → Attribute) (ts : List CodeToken) → 0 < length ts → is_name (lexeme_of (first_of ts)) ≡ false → target_line f (lexemes_of ts) ≡ Err Malformed
 aimed_other f [] l h = absurd (omega (arith, l))
 aimed_other f (t ∷ ts) l h = rw h refl
 
-pub aimed_told : (mid new : Exprs) (f : Aimed → Attribute) (ts : List CodeToken) (id : ℕ) (c : Option ℕ) → 0 < length ts → is_name (piece_of (first_of ts)) ≡ true → Grows mid new
-    → optional_if (drop 1 (pieces_of ts)) ≡ Ok (if_in mid c) → IfHeld mid c → slice_index_or new.names id [] ≡ (first_of ts).text.now
-    → aimed_line f (pieces_of ts) ≡ Ok (attribute (f (aimed_in new (record { name = id; condition = c }))))
+pub aimed_told : (mid new : Exprs) (f : TargetAttribute → Attribute) (ts : List CodeToken) (id : ℕ) (c : Option ℕ) → 0 < length ts → is_name (lexeme_of (first_of ts)) ≡ true → Grows mid new
+    → optional_if (drop 1 (lexemes_of ts)) ≡ Ok (if_in mid c) → IfNodeExists mid c → slice_index_or new.names id [] ≡ (first_of ts).text.now
+    → target_line f (lexemes_of ts) ≡ Ok (attribute (f (target_in new (record { name = id; condition = c }))))
 unfolding aimed_as
 aimed_told mid new f ts id c l n g o h x =
     let k : Option Expr → Statement = aimed_as f (first_of ts).text.now in
     aimed_is f ts l n ∙ ap (stepped k) o ∙ ap (λ d. Ok (k d)) (sym (if_same mid new c g h)) ∙ ap (λ y. Ok (aimed_as f y (if_in new c))) (sym x)
 
-pub aimed_refused : (f : Aimed → Attribute) (ts : List CodeToken) (k : TreeKind) → 0 < length ts → is_name (piece_of (first_of ts)) ≡ true → optional_if (drop 1 (pieces_of ts)) ≡ Err k → aimed_line f (pieces_of ts) ≡ Err k
+pub aimed_refused : (f : TargetAttribute → Attribute) (ts : List CodeToken) (k : TreeKind) → 0 < length ts → is_name (lexeme_of (first_of ts)) ≡ true → optional_if (drop 1 (lexemes_of ts)) ≡ Err k → target_line f (lexemes_of ts) ≡ Err k
 aimed_refused f ts k l n o = aimed_is f ts l n ∙ ap (stepped (aimed_as f (first_of ts).text.now)) o
 
 -- one token
@@ -66,64 +66,64 @@ either_way : (b : Bool) (x : Result Statement TreeKind) → (if b then x else x)
 either_way true x = refl
 either_way false x = refl
 
-pub option_long : (ts : List CodeToken) → (length ts ≡ 1 → ⊥) → option_line (pieces_of ts) ≡ Err Malformed
+pub option_long : (ts : List CodeToken) → (length ts ≡ 1 → ⊥) → option_line (lexemes_of ts) ≡ Err Malformed
 option_long [] n = refl
 option_long (t ∷ []) n = absurd (n refl)
-option_long (t ∷ u ∷ ts) n = either_way (is_the_word (codes "modules") (piece_of t)) (Err Malformed)
+option_long (t ∷ u ∷ ts) n = either_way (is_the_word (codes "modules") (lexeme_of t)) (Err Malformed)
 
-pub option_other : (ts : List CodeToken) → length ts ≡ 1 → is_the_word (codes "modules") (piece_of (first_of ts)) ≡ false → option_line (pieces_of ts) ≡ Err Malformed
+pub option_other : (ts : List CodeToken) → length ts ≡ 1 → is_the_word (codes "modules") (lexeme_of (first_of ts)) ≡ false → option_line (lexemes_of ts) ≡ Err Malformed
 option_other [] l h = refl
 option_other (t ∷ ts) l h = rw h refl
 
-pub option_is : (ts : List CodeToken) → length ts ≡ 1 → is_the_word (codes "modules") (piece_of (first_of ts)) ≡ true → option_line (pieces_of ts) ≡ Ok (attribute modules)
+pub option_is : (ts : List CodeToken) → length ts ≡ 1 → is_the_word (codes "modules") (lexeme_of (first_of ts)) ≡ true → option_line (lexemes_of ts) ≡ Ok (attribute modules)
 option_is [] l h = absurd (omega (arith, l))
 option_is (t ∷ []) l h = rw h refl
 option_is (t ∷ u ∷ ts) l h = absurd (omega (arith, l))
 
-pub config_long : (ts : List CodeToken) → (length ts ≡ 1 → ⊥) → config_line (pieces_of ts) ≡ Err Malformed
+pub config_long : (ts : List CodeToken) → (length ts ≡ 1 → ⊥) → config_line (lexemes_of ts) ≡ Err Malformed
 config_long [] n = refl
 config_long (t ∷ []) n = absurd (n refl)
-config_long (t ∷ u ∷ ts) n = either_way (is_name (piece_of t)) (Err Malformed)
+config_long (t ∷ u ∷ ts) n = either_way (is_name (lexeme_of t)) (Err Malformed)
 
-pub config_other : (ts : List CodeToken) → length ts ≡ 1 → is_name (piece_of (first_of ts)) ≡ false → config_line (pieces_of ts) ≡ Err Malformed
+pub config_other : (ts : List CodeToken) → length ts ≡ 1 → is_name (lexeme_of (first_of ts)) ≡ false → config_line (lexemes_of ts) ≡ Err Malformed
 config_other [] l h = refl
 config_other (t ∷ ts) l h = rw h refl
 
-pub config_is : (ts : List CodeToken) → length ts ≡ 1 → is_name (piece_of (first_of ts)) ≡ true → config_line (pieces_of ts) ≡ Ok (head (config (first_of ts).text.now))
+pub config_is : (ts : List CodeToken) → length ts ≡ 1 → is_name (lexeme_of (first_of ts)) ≡ true → config_line (lexemes_of ts) ≡ Ok (head (config (first_of ts).text.now))
 config_is [] l h = absurd (omega (arith, l))
 config_is (t ∷ []) l h = rw h refl
 config_is (t ∷ u ∷ ts) l h = absurd (omega (arith, l))
 
 -- the line of a path
-source_by : List Piece → Option (List ℕ) → Result Statement TreeKind
+source_by : List Lexeme → Option (List ℕ) → Result Statement TreeKind
 source_by ts None = Err Malformed
 source_by ts (Some x) = no_more (head (source x)) ts
 
-source_reading : (ts : List Piece) (p : Option (List ℕ)) → ◌≡◌ {A = Result Statement TreeKind} (elim p [ None ↦ Err Malformed | Some x ↦ no_more (head (source x)) ts ]) (source_by ts p)
+source_reading : (ts : List Lexeme) (p : Option (List ℕ)) → ◌≡◌ {A = Result Statement TreeKind} (elim p [ None ↦ Err Malformed | Some x ↦ no_more (head (source x)) ts ]) (source_by ts p)
 unfolding source_by
 source_reading ts None = refl
 source_reading ts (Some x) = refl
 
-path_behind : (u : Piece) (ts : List Piece) (p : Option (List ℕ)) → source_by (u ∷ ts) p ≡ Err Malformed
+path_behind : (u : Lexeme) (ts : List Lexeme) (p : Option (List ℕ)) → source_by (u ∷ ts) p ≡ Err Malformed
 unfolding source_by
 path_behind u ts None = refl
 path_behind u ts (Some x) = refl
 
-pub source_long : (ts : List CodeToken) → (length ts ≡ 1 → ⊥) → source_line (pieces_of ts) ≡ Err Malformed
+pub source_long : (ts : List CodeToken) → (length ts ≡ 1 → ⊥) → source_line (lexemes_of ts) ≡ Err Malformed
 source_long [] n = refl
 source_long (t ∷ []) n = absurd (n refl)
-source_long (t ∷ u ∷ ts) n = source_reading (pieces_of (u ∷ ts)) (path_of (piece_of t)) ∙ path_behind (piece_of u) (pieces_of ts) (path_of (piece_of t))
+source_long (t ∷ u ∷ ts) n = source_reading (lexemes_of (u ∷ ts)) (path_of (lexeme_of t)) ∙ path_behind (lexeme_of u) (lexemes_of ts) (path_of (lexeme_of t))
 
-pub source_is : (ts : List CodeToken) (x : List ℕ) → length ts ≡ 1 → path_of (piece_of (first_of ts)) ≡ Some x → source_line (pieces_of ts) ≡ Ok (head (source x))
+pub source_is : (ts : List CodeToken) (x : List ℕ) → length ts ≡ 1 → path_of (lexeme_of (first_of ts)) ≡ Some x → source_line (lexemes_of ts) ≡ Ok (head (source x))
 unfolding source_by
 source_is [] x l h = absurd (omega (arith, l))
-source_is (t ∷ []) x l h = source_reading [] (path_of (piece_of t)) ∙ ap (source_by []) h
+source_is (t ∷ []) x l h = source_reading [] (path_of (lexeme_of t)) ∙ ap (source_by []) h
 source_is (t ∷ u ∷ ts) x l h = absurd (omega (arith, l))
 
 -- a test of the first token
-pub first_told : (test : Piece → Bool) (ts : List CodeToken) → 0 < length ts → test (piece_of (first_of ts)) ≡ first_is test (pieces_of ts)
+pub first_told : (test : Lexeme → Bool) (ts : List CodeToken) → 0 < length ts → test (lexeme_of (first_of ts)) ≡ first_is test (lexemes_of ts)
 first_told test [] l = absurd (omega (arith, l))
 first_told test (t ∷ ts) l = refl
 
-pub first_none : (test : Piece → Bool) (ts : List CodeToken) (b : Bool) → b ≡ (length ts == 0) → b ≡ true → not b ≡ first_is test (pieces_of ts)
+pub first_none : (test : Lexeme → Bool) (ts : List CodeToken) (b : Bool) → b ≡ (length ts == 0) → b ≡ true → not b ≡ first_is test (lexemes_of ts)
 first_none test ts b e f = rw (none_there ts b e f) (ap not f)

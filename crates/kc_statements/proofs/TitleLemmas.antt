@@ -2,28 +2,28 @@
 use Rattle.std.proofs.Common.{◌≡◌, ℕ, ◌<◌, arith, length, true, List, [], ◌∷◌, refl, ap, sym, ◌∙◌, inl, Result, Ok, Err}
 use Rattle.std.specs.Prelude.{IfOk, IfErr}
 use Rattle.std.proofs.lemmas.Bool.{false≢true}
-use Rattle.kc_expr.specs.Token.{pieces_of}
+use Rattle.kc_expr.specs.Token.{lexemes_of}
 use Rattle.kc_expr.specs.declared.token.Token.{Token as CodeToken}
 use Rattle.kc_expr.specs.Grammar.{quoted_text}
 use Rattle.kc_tree_model.specs.declared.fault.TreeKind.{TreeKind}
 use Rattle.kc_tree_model.specs.declared.fault.TreeKind.TheVariants.{OutOfMemory}
 use Rattle.kc_tree_model.specs.Forms.{titled_line}
 use Rattle.kc_tree_model.specs.Statements.{Head, Statement, head}
-use Rattle.kc_statements.specs.Said.{Gives}
+use Rattle.kc_statements.specs.StatementViews.{ReturnsOrFails}
 use Rattle.kc_statements.specs.checker.Titles.{is_one_quoted}
 use Rattle.kc_statements.proofs.FormLemmas.{first_of}
 
-pub title_given : (f : List ℕ → Head) (ts : List CodeToken) → is_one_quoted (pieces_of ts) ≡ true → titled_line f (pieces_of ts) ≡ Ok (head (f (quoted_text (first_of ts).text.now)))
+pub title_given : (f : List ℕ → Head) (ts : List CodeToken) → is_one_quoted (lexemes_of ts) ≡ true → titled_line f (lexemes_of ts) ≡ Ok (head (f (quoted_text (first_of ts).text.now)))
 title_given f [] n = absurd (false≢true n)
 title_given f (t ∷ []) n = rw n refl
 title_given f (t ∷ u ∷ us) n = absurd (false≢true n)
 
-pub title_there : (ts : List CodeToken) → is_one_quoted (pieces_of ts) ≡ true → 0 < length ts
+pub title_there : (ts : List CodeToken) → is_one_quoted (lexemes_of ts) ≡ true → 0 < length ts
 title_there [] n = absurd (false≢true n)
 title_there (t ∷ ts) n = omega arith
 
--- the title's text, or want of memory
+-- the title's text, or out of memory
 pub title_by : (f : List ℕ → Head) (x : List ℕ) (r : Result (List ℕ) TreeKind) (given : Result Statement TreeKind) → given ≡ Ok (head (f x)) → IfOk r (λ t. t ≡ x) → IfErr r (λ k. k ≡ OutOfMemory)
-    → Gives (λ t. head (f t)) r given
+    → ReturnsOrFails (λ t. head (f t)) r given
 title_by f x (Ok t) given g ok err = g ∙ ap (λ y. Ok (head (f y))) (sym ok)
 title_by f x (Err k) given g ok err = inl err

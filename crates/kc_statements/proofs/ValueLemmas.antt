@@ -1,17 +1,17 @@
 -- Values of defaults, and operands.
 use Rattle.std.proofs.Common.{◌≡◌, ℕ, ◌+◌, true, ◌==◌, List, [], ◌∷◌, length, drop, refl, ap, sym, ◌∙◌, arith, Option, Some, Result, Ok, Err}
 use Rattle.std.proofs.lemmas.Bool.{false≢true}
-use Rattle.kc_expr.specs.Arena.{Exprs, Stands, stands_for, Grows}
+use Rattle.kc_expr.specs.Arena.{Exprs, Represents, node_expr, Grows}
 use Rattle.kc_expr.specs.Expr.{Expr, Operand, alone, named, quoted}
-use Rattle.kc_expr.specs.Grammar.{extent, read_expr, operand_of_piece, operand_of_kind, is_operand_kind, constant_or, quoted_text}
-use Rattle.kc_expr.specs.Token.{Piece}
+use Rattle.kc_expr.specs.Grammar.{extent, read_expr, operand_of_lexeme, operand_of_kind, is_operand_kind, constant_or, quoted_text}
+use Rattle.kc_expr.specs.Token.{Lexeme}
 use Rattle.kc_expr.specs.declared.fault.ExprKind.{ExprKind}
 use Rattle.kc_expr.specs.declared.token.TokenKind.{TokenKind}
 use Rattle.kc_expr.specs.declared.token.TokenKind.TheVariants.{Word, Quoted, Relation, Not, And, Or, Open, Close}
 use Rattle.kc_tree_model.specs.declared.fault.TreeKind.{TreeKind}
 use Rattle.kc_tree_model.specs.Forms.{default_line, optional_if}
-use Rattle.kc_tree_model.specs.Statements.{Statement, Attribute, Valued, attribute}
-use Rattle.kc_statements.specs.Said.{if_in, operand_in, operand_of_expr, valued_in, OperandHeld}
+use Rattle.kc_tree_model.specs.Statements.{Statement, Attribute, DefaultAttribute, attribute}
+use Rattle.kc_statements.specs.StatementViews.{if_in, operand_or_n, operand_of_expr, default_in, OperandNodeExists}
 use Rattle.kc_statements.proofs.AttributeLemmas.{default_is}
 use Rattle.kc_statements.proofs.FormLemmas.{stepped}
 use Rattle.kc_statements.proofs.Later.{node_same}
@@ -30,27 +30,27 @@ operand_by Open s e text h = absurd (false≢true h)
 operand_by Close s e text h = absurd (false≢true h)
 
 -- what is read
-abbrev read_as : Expr → Result Expr (ExprKind × List Piece)
+abbrev read_as : Expr → Result Expr (ExprKind × List Lexeme)
 read_as e = Ok e
 
 read_same : (x y : Expr) → read_as x ≡ read_as y → x ≡ y
 read_same x y q = cc
 
-pub operand_told : (e : Exprs) (id : ℕ) (p : Piece) (x : Expr) → is_operand_kind p.kind ≡ true → read_expr (p ∷ []) ≡ Ok x → Stands e id x
-    → (operand_of_piece p ≡ Some (operand_in e id)) × OperandHeld e id
+pub operand_told : (e : Exprs) (id : ℕ) (p : Lexeme) (x : Expr) → is_operand_kind p.kind ≡ true → read_expr (p ∷ []) ≡ Ok x → Represents e id x
+    → (operand_of_lexeme p ≡ Some (operand_or_n e id)) × OperandNodeExists e id
 operand_told e id p x h r s =
     let o = operand_by p.kind p.start p.stop p.text h in
-    let is : stands_for e id ≡ alone o.0 = s.is ∙ read_same x (alone o.0) (sym r ∙ o.2) in
-    let found : operand_in e id ≡ o.0 = ap operand_of_expr is in
+    let is : node_expr e id ≡ alone o.0 = s.is ∙ read_same x (alone o.0) (sym r ∙ o.2) in
+    let found : operand_or_n e id ≡ o.0 = ap operand_of_expr is in
     (o.1 ∙ ap Some (sym found), record { within = s.within; is = is ∙ ap alone (sym found) })
 
 -- a default by its parts
-valued_by : (Valued → Attribute) → Expr → ℕ → Option Expr → Result Statement TreeKind
+valued_by : (DefaultAttribute → Attribute) → Expr → ℕ → Option Expr → Result Statement TreeKind
 valued_by f v n c = Ok (attribute (f (record { value = v; single = n == 1; condition = c })))
 
-pub valued_told : (mid new : Exprs) (f : Valued → Attribute) (ps : List Piece) (id next : ℕ) (c : Option ℕ) (x : Expr) → Grows mid new → read_expr (extent ps) ≡ Ok x → Stands mid id x
+pub valued_told : (mid new : Exprs) (f : DefaultAttribute → Attribute) (ps : List Lexeme) (id next : ℕ) (c : Option ℕ) (x : Expr) → Grows mid new → read_expr (extent ps) ≡ Ok x → Represents mid id x
     → next ≡ 0 + length (extent ps) → optional_if (drop next ps) ≡ Ok (if_in new c)
-    → default_line f ps ≡ Ok (attribute (f (valued_in new (record { value = id; single = next == 1; condition = c }))))
+    → default_line f ps ≡ Ok (attribute (f (default_in new (record { value = id; single = next == 1; condition = c }))))
 unfolding valued_by
 valued_told mid new f ps id next c x g reads s end given =
     let n : next ≡ length (extent ps) = omega (arith, end) in
@@ -60,7 +60,7 @@ valued_told mid new f ps id next c x g reads s end given =
     ∙ ap (λ m. valued_by f x m (if_in new c)) (sym n)
     ∙ ap (λ v. valued_by f v next (if_in new c)) (sym (node_same mid new id g s.within ∙ s.is))
 
-pub valued_refused : (f : Valued → Attribute) (ps : List Piece) (next : ℕ) (x : Expr) (k : TreeKind) → read_expr (extent ps) ≡ Ok x → next ≡ 0 + length (extent ps) → optional_if (drop next ps) ≡ Err k
+pub valued_refused : (f : DefaultAttribute → Attribute) (ps : List Lexeme) (next : ℕ) (x : Expr) (k : TreeKind) → read_expr (extent ps) ≡ Ok x → next ≡ 0 + length (extent ps) → optional_if (drop next ps) ≡ Err k
     → default_line f ps ≡ Err k
 valued_refused f ps next x k reads end given =
     let n : next ≡ length (extent ps) = omega (arith, end) in

@@ -1,3 +1,3 @@
-pub mod Meanings
-pub mod Said
+pub mod KeywordViews
+pub mod StatementViews
 pub mod checker

@@ -1,15 +1,15 @@
-//! The forms of attributes, by the tokens behind their first words ("Menu attributes").
+//! The forms of attributes, by the tokens after their first words ("Menu attributes").
 ghost use Rattle.std.specs.Prelude.{Option, IfOk, codes};
-ghost use Rattle.kc_expr.specs.Arena.{Exprs, Grows, stands_for};
+ghost use Rattle.kc_expr.specs.Arena.{Exprs, Grows, node_expr};
 ghost use Rattle.kc_expr.specs.Expr.{Expr};
-ghost use Rattle.kc_expr.specs.Token.{pieces_of};
-ghost use Rattle.kc_tree_model.specs.Forms.{type_line, prompt_line, default_line, aimed_line, worded_line, option_line, no_more};
-ghost use Rattle.kc_tree_model.specs.Statements.{Attribute as DefinedAttribute, Valued as DefinedValued, Aimed as DefinedAimed, attribute, prompt, default, typed_default, depends, visible, select, imply, help, modules};
-ghost use Rattle.kc_statements.specs.Said.{Gives, StatementHeld, NodeHeld, IfHeld, ValuedHeld, AimedHeld, statement_in, if_in, valued_in, aimed_in};
+ghost use Rattle.kc_expr.specs.Token.{lexemes_of};
+ghost use Rattle.kc_tree_model.specs.Forms.{type_line, prompt_line, default_line, target_line, condition_line, option_line, no_more};
+ghost use Rattle.kc_tree_model.specs.Statements.{Attribute as DefinedAttribute, DefaultAttribute as DefinedValued, TargetAttribute as DefinedAimed, attribute, prompt, default, typed_default, depends, visible, select, imply, help, modules};
+ghost use Rattle.kc_statements.specs.StatementViews.{ReturnsOrFails, StatementNodesExist, NodeExists, IfNodeExists, DefaultNodesExist, TargetNodesExist, statement_in, if_in, default_in, target_in};
 
 use super::condition::{last_condition, optional_if};
-use super::fault::kind_of;
-use super::statement::{Aimed, Attribute, Statement, Valued};
+use super::fault::tree_kind_of;
+use super::statement::{Attribute, DefaultAttribute, Statement, TargetAttribute};
 use super::token::{is_name, is_quoted, is_the_word};
 use kc_expr::{Arena, ExprId, Token};
 use kc_tree_model::TreeKind;
@@ -18,8 +18,8 @@ use kc_value::Kind;
 /// `Q [if E]`: the `if`.
 fn prompt(arena: &mut Arena, tokens: &[Token<'_>]) -> Result<Option<ExprId>, TreeKind>
     ensures grows { Grows arena.old arena.new }
-    ensures gives { (f : Option Expr → DefinedAttribute) → Gives (λ c. attribute (f (if_in arena.new c))) result (prompt_line f (pieces_of tokens.now)) }
-    ensures held { IfOk result (IfHeld arena.new) }
+    ensures gives { (f : Option Expr → DefinedAttribute) → ReturnsOrFails (λ c. attribute (f (if_in arena.new c))) result (prompt_line f (lexemes_of tokens.now)) }
+    ensures held { IfOk result (IfNodeExists arena.new) }
 {
     if tokens.is_empty() {
         return Err(TreeKind::Malformed);
@@ -36,8 +36,8 @@ pub(crate) fn prompt_line<'a>(
     tokens: &[Token<'_>],
 ) -> Result<Statement<'a>, TreeKind>
     ensures grows { Grows arena.old arena.new }
-    ensures gives { Gives (statement_in arena.new) result (prompt_line prompt (pieces_of tokens.now)) }
-    ensures held { IfOk result (StatementHeld arena.new) }
+    ensures gives { ReturnsOrFails (statement_in arena.new) result (prompt_line prompt (lexemes_of tokens.now)) }
+    ensures held { IfOk result (StatementNodesExist arena.new) }
 {
     match prompt(arena, tokens) {
         Ok(condition) => Ok(Statement::Attribute(Attribute::Prompt(condition))),
@@ -52,8 +52,8 @@ pub(crate) fn type_line<'a>(
     tokens: &[Token<'_>],
 ) -> Result<Statement<'a>, TreeKind>
     ensures grows { Grows arena.old arena.new }
-    ensures gives { Gives (statement_in arena.new) result (type_line kind (pieces_of tokens.now)) }
-    ensures held { IfOk result (StatementHeld arena.new) }
+    ensures gives { ReturnsOrFails (statement_in arena.new) result (type_line kind (lexemes_of tokens.now)) }
+    ensures held { IfOk result (StatementNodesExist arena.new) }
 {
     if tokens.is_empty() {
         return Ok(Statement::Attribute(Attribute::Typed(kind)));
@@ -66,17 +66,17 @@ pub(crate) fn type_line<'a>(
 
 /// `E [if E]`, where `m` in the first stays `m`.
 #[inline(always)]
-fn valued(arena: &mut Arena, tokens: &[Token<'_>]) -> Result<Valued, TreeKind>
+fn default_attribute(arena: &mut Arena, tokens: &[Token<'_>]) -> Result<DefaultAttribute, TreeKind>
     ensures grows { Grows arena.old arena.new }
-    ensures gives { (f : DefinedValued → DefinedAttribute) → Gives (λ d. attribute (f (valued_in arena.new d))) result (default_line f (pieces_of tokens.now)) }
-    ensures held { IfOk result (ValuedHeld arena.new) }
+    ensures gives { (f : DefinedValued → DefinedAttribute) → ReturnsOrFails (λ d. attribute (f (default_in arena.new d))) result (default_line f (lexemes_of tokens.now)) }
+    ensures held { IfOk result (DefaultNodesExist arena.new) }
 {
     let (value, next) = match arena.parse_expr(tokens, 0, false) {
         Ok(read) => read,
-        Err(fault) => return Err(kind_of(fault.kind)),
+        Err(fault) => return Err(tree_kind_of(fault.kind)),
     };
     match optional_if(arena, tokens, next) {
-        Ok(condition) => Ok(Valued {
+        Ok(condition) => Ok(DefaultAttribute {
             value,
             single: next == 1,
             condition,
@@ -91,36 +91,43 @@ pub(crate) fn default_line<'a>(
     tokens: &[Token<'_>],
 ) -> Result<Statement<'a>, TreeKind>
     ensures grows { Grows arena.old arena.new }
-    ensures gives { Gives (statement_in arena.new) result (default_line default (pieces_of tokens.now)) }
-    ensures held { IfOk result (StatementHeld arena.new) }
+    ensures gives { ReturnsOrFails (statement_in arena.new) result (default_line default (lexemes_of tokens.now)) }
+    ensures held { IfOk result (StatementNodesExist arena.new) }
 {
-    match valued(arena, tokens) {
-        Ok(valued) => Ok(Statement::Attribute(Attribute::Default(valued))),
+    match default_attribute(arena, tokens) {
+        Ok(default_attribute) => Ok(Statement::Attribute(Attribute::Default(default_attribute))),
         Err(kind) => Err(kind),
     }
 }
 
-/// `E [if E]`, behind a word that gives the type too.
+/// `E [if E]`, after a word that gives the type too.
 pub(crate) fn typed_default_line<'a>(
     arena: &mut Arena,
     kind: Kind,
     tokens: &[Token<'_>],
 ) -> Result<Statement<'a>, TreeKind>
     ensures grows { Grows arena.old arena.new }
-    ensures gives { Gives (statement_in arena.new) result (default_line (typed_default kind) (pieces_of tokens.now)) }
-    ensures held { IfOk result (StatementHeld arena.new) }
+    ensures gives { ReturnsOrFails (statement_in arena.new) result (default_line (typed_default kind) (lexemes_of tokens.now)) }
+    ensures held { IfOk result (StatementNodesExist arena.new) }
 {
-    match valued(arena, tokens) {
-        Ok(valued) => Ok(Statement::Attribute(Attribute::TypedDefault(kind, valued))),
+    match default_attribute(arena, tokens) {
+        Ok(default_attribute) => Ok(Statement::Attribute(Attribute::TypedDefault(
+            kind,
+            default_attribute,
+        ))),
         Err(kind) => Err(kind),
     }
 }
 
-/// A condition behind a word.
-fn worded(arena: &mut Arena, word: &str, tokens: &[Token<'_>]) -> Result<ExprId, TreeKind>
+/// A condition after a word.
+fn condition_after_word(
+    arena: &mut Arena,
+    word: &str,
+    tokens: &[Token<'_>],
+) -> Result<ExprId, TreeKind>
     ensures grows { Grows arena.old arena.new }
-    ensures gives { (f : Expr → DefinedAttribute) → Gives (λ id. attribute (f (stands_for arena.new id))) result (worded_line word.now f (pieces_of tokens.now)) }
-    ensures held { IfOk result (NodeHeld arena.new) }
+    ensures gives { (f : Expr → DefinedAttribute) → ReturnsOrFails (λ id. attribute (f (node_expr arena.new id))) result (condition_line word.now f (lexemes_of tokens.now)) }
+    ensures held { IfOk result (NodeExists arena.new) }
 {
     if tokens.is_empty() {
         return Err(TreeKind::Malformed);
@@ -131,41 +138,41 @@ fn worded(arena: &mut Arena, word: &str, tokens: &[Token<'_>]) -> Result<ExprId,
     last_condition(arena, tokens, 1)
 }
 
-/// `on E`, behind `depends`.
+/// `on E`, after `depends`.
 pub(crate) fn depends_line<'a>(
     arena: &mut Arena,
     tokens: &[Token<'_>],
 ) -> Result<Statement<'a>, TreeKind>
     ensures grows { Grows arena.old arena.new }
-    ensures gives { Gives (statement_in arena.new) result (worded_line (codes "on") depends (pieces_of tokens.now)) }
-    ensures held { IfOk result (StatementHeld arena.new) }
+    ensures gives { ReturnsOrFails (statement_in arena.new) result (condition_line (codes "on") depends (lexemes_of tokens.now)) }
+    ensures held { IfOk result (StatementNodesExist arena.new) }
 {
-    match worded(arena, "on", tokens) {
+    match condition_after_word(arena, "on", tokens) {
         Ok(id) => Ok(Statement::Attribute(Attribute::Depends(id))),
         Err(kind) => Err(kind),
     }
 }
 
-/// `if E`, behind `visible`.
+/// `if E`, after `visible`.
 pub(crate) fn visible_line<'a>(
     arena: &mut Arena,
     tokens: &[Token<'_>],
 ) -> Result<Statement<'a>, TreeKind>
     ensures grows { Grows arena.old arena.new }
-    ensures gives { Gives (statement_in arena.new) result (worded_line (codes "if") visible (pieces_of tokens.now)) }
-    ensures held { IfOk result (StatementHeld arena.new) }
+    ensures gives { ReturnsOrFails (statement_in arena.new) result (condition_line (codes "if") visible (lexemes_of tokens.now)) }
+    ensures held { IfOk result (StatementNodesExist arena.new) }
 {
-    match worded(arena, "if", tokens) {
+    match condition_after_word(arena, "if", tokens) {
         Ok(id) => Ok(Statement::Attribute(Attribute::Visible(id))),
         Err(kind) => Err(kind),
     }
 }
 
 /// `NAME [if E]`.
-fn aimed(arena: &mut Arena, tokens: &[Token<'_>]) -> Result<Aimed, TreeKind>
+fn target_attribute(arena: &mut Arena, tokens: &[Token<'_>]) -> Result<TargetAttribute, TreeKind>
     ensures grows { Grows arena.old arena.new }
-    ensures gives { (f : DefinedAimed → DefinedAttribute) → Gives (λ s. attribute (f (aimed_in arena.new s))) result (aimed_line f (pieces_of tokens.now)) }
-    ensures held { IfOk result (AimedHeld arena.new) }
+    ensures gives { (f : DefinedAimed → DefinedAttribute) → ReturnsOrFails (λ s. attribute (f (target_in arena.new s))) result (target_line f (lexemes_of tokens.now)) }
+    ensures held { IfOk result (TargetNodesExist arena.new) }
 {
     if tokens.is_empty() {
         return Err(TreeKind::Malformed);
@@ -178,45 +185,45 @@ fn aimed(arena: &mut Arena, tokens: &[Token<'_>]) -> Result<Aimed, TreeKind>
         Err(kind) => return Err(kind),
     };
     match arena.intern(tokens[0].text) {
-        Ok(name) => Ok(Aimed { name, condition }),
+        Ok(name) => Ok(TargetAttribute { name, condition }),
         Err(_) => Err(TreeKind::OutOfMemory),
     }
 }
 
-/// `NAME [if E]`, behind `select`.
+/// `NAME [if E]`, after `select`.
 pub(crate) fn select_line<'a>(
     arena: &mut Arena,
     tokens: &[Token<'_>],
 ) -> Result<Statement<'a>, TreeKind>
     ensures grows { Grows arena.old arena.new }
-    ensures gives { Gives (statement_in arena.new) result (aimed_line select (pieces_of tokens.now)) }
-    ensures held { IfOk result (StatementHeld arena.new) }
+    ensures gives { ReturnsOrFails (statement_in arena.new) result (target_line select (lexemes_of tokens.now)) }
+    ensures held { IfOk result (StatementNodesExist arena.new) }
 {
-    match aimed(arena, tokens) {
-        Ok(aimed) => Ok(Statement::Attribute(Attribute::Select(aimed))),
+    match target_attribute(arena, tokens) {
+        Ok(target_attribute) => Ok(Statement::Attribute(Attribute::Select(target_attribute))),
         Err(kind) => Err(kind),
     }
 }
 
-/// `NAME [if E]`, behind `imply`.
+/// `NAME [if E]`, after `imply`.
 pub(crate) fn imply_line<'a>(
     arena: &mut Arena,
     tokens: &[Token<'_>],
 ) -> Result<Statement<'a>, TreeKind>
     ensures grows { Grows arena.old arena.new }
-    ensures gives { Gives (statement_in arena.new) result (aimed_line imply (pieces_of tokens.now)) }
-    ensures held { IfOk result (StatementHeld arena.new) }
+    ensures gives { ReturnsOrFails (statement_in arena.new) result (target_line imply (lexemes_of tokens.now)) }
+    ensures held { IfOk result (StatementNodesExist arena.new) }
 {
-    match aimed(arena, tokens) {
-        Ok(aimed) => Ok(Statement::Attribute(Attribute::Imply(aimed))),
+    match target_attribute(arena, tokens) {
+        Ok(target_attribute) => Ok(Statement::Attribute(Attribute::Imply(target_attribute))),
         Err(kind) => Err(kind),
     }
 }
 
 /// Nothing may follow `help`.
 pub(crate) fn help_line<'a>(tokens: &[Token<'_>]) -> Result<Statement<'a>, TreeKind>
-    ensures gives { (e : Exprs) → Gives (statement_in e) result (no_more (attribute help) (pieces_of tokens.now)) }
-    ensures held { (e : Exprs) → IfOk result (StatementHeld e) }
+    ensures gives { (e : Exprs) → ReturnsOrFails (statement_in e) result (no_more (attribute help) (lexemes_of tokens.now)) }
+    ensures held { (e : Exprs) → IfOk result (StatementNodesExist e) }
 {
     if tokens.is_empty() {
         Ok(Statement::Attribute(Attribute::Help))
@@ -227,8 +234,8 @@ pub(crate) fn help_line<'a>(tokens: &[Token<'_>]) -> Result<Statement<'a>, TreeK
 
 /// Nothing may follow `modules`.
 pub(crate) fn modules_line<'a>(tokens: &[Token<'_>]) -> Result<Statement<'a>, TreeKind>
-    ensures gives { (e : Exprs) → Gives (statement_in e) result (no_more (attribute modules) (pieces_of tokens.now)) }
-    ensures held { (e : Exprs) → IfOk result (StatementHeld e) }
+    ensures gives { (e : Exprs) → ReturnsOrFails (statement_in e) result (no_more (attribute modules) (lexemes_of tokens.now)) }
+    ensures held { (e : Exprs) → IfOk result (StatementNodesExist e) }
 {
     if tokens.is_empty() {
         Ok(Statement::Attribute(Attribute::Modules))
@@ -237,10 +244,10 @@ pub(crate) fn modules_line<'a>(tokens: &[Token<'_>]) -> Result<Statement<'a>, Tr
     }
 }
 
-/// `modules`, behind `option`.
+/// `modules`, after `option`.
 pub(crate) fn option_line<'a>(tokens: &[Token<'_>]) -> Result<Statement<'a>, TreeKind>
-    ensures gives { (e : Exprs) → Gives (statement_in e) result (option_line (pieces_of tokens.now)) }
-    ensures held { (e : Exprs) → IfOk result (StatementHeld e) }
+    ensures gives { (e : Exprs) → ReturnsOrFails (statement_in e) result (option_line (lexemes_of tokens.now)) }
+    ensures held { (e : Exprs) → IfOk result (StatementNodesExist e) }
 {
     if tokens.len() != 1 {
         return Err(TreeKind::Malformed);

@@ -1,11 +1,11 @@
 //! Conditions at the ends of lines.
 ghost use Rattle.std.specs.Prelude.{◌≤◌, length, drop, IfOk};
-ghost use Rattle.kc_expr.specs.Arena.{Grows, stands_for};
-ghost use Rattle.kc_expr.specs.Token.{pieces_of};
+ghost use Rattle.kc_expr.specs.Arena.{Grows, node_expr};
+ghost use Rattle.kc_expr.specs.Token.{lexemes_of};
 ghost use Rattle.kc_tree_model.specs.Forms.{last_condition, optional_if};
-ghost use Rattle.kc_statements.specs.Said.{Gives, NodeHeld, IfHeld, if_in};
+ghost use Rattle.kc_statements.specs.StatementViews.{ReturnsOrFails, NodeExists, IfNodeExists, if_in};
 
-use super::fault::kind_of;
+use super::fault::tree_kind_of;
 use super::token::is_the_word;
 use kc_expr::{Arena, ExprId, Token};
 use kc_tree_model::TreeKind;
@@ -18,12 +18,12 @@ pub(crate) fn last_condition(
 ) -> Result<ExprId, TreeKind>
     requires { at ≤ length tokens.now }
     ensures grows { Grows arena.old arena.new }
-    ensures gives { Gives (stands_for arena.new) result (last_condition (drop at (pieces_of tokens.now))) }
-    ensures held { IfOk result (NodeHeld arena.new) }
+    ensures gives { ReturnsOrFails (node_expr arena.new) result (last_condition (drop at (lexemes_of tokens.now))) }
+    ensures held { IfOk result (NodeExists arena.new) }
 {
     let (id, next) = match arena.parse_expr(tokens, at, true) {
         Ok(read) => read,
-        Err(fault) => return Err(kind_of(fault.kind)),
+        Err(fault) => return Err(tree_kind_of(fault.kind)),
     };
     if next < tokens.len() {
         return Err(TreeKind::Malformed);
@@ -39,8 +39,8 @@ pub(crate) fn optional_if(
 ) -> Result<Option<ExprId>, TreeKind>
     requires { at ≤ length tokens.now }
     ensures grows { Grows arena.old arena.new }
-    ensures gives { Gives (if_in arena.new) result (optional_if (drop at (pieces_of tokens.now))) }
-    ensures held { IfOk result (IfHeld arena.new) }
+    ensures gives { ReturnsOrFails (if_in arena.new) result (optional_if (drop at (lexemes_of tokens.now))) }
+    ensures held { IfOk result (IfNodeExists arena.new) }
 {
     if at == tokens.len() {
         return Ok(None);

@@ -6,7 +6,7 @@ use kc_expr::ExprKind;
 use kc_tree_model::TreeKind;
 
 /// A fault of an expression as one of the tree.
-pub fn kind_of(kind: ExprKind) -> TreeKind
+pub fn tree_kind_of(kind: ExprKind) -> TreeKind
     ensures { result ≡ kind_of_fault kind }
 {
     match kind {

@@ -1,10 +1,10 @@
-//! What lines say, by their keywords and the tokens behind them.
+//! What lines say, by their keywords and the tokens after them.
 ghost use Rattle.std.specs.Prelude.{IfOk};
 ghost use Rattle.kc_expr.specs.Arena.{Grows};
-ghost use Rattle.kc_expr.specs.Token.{pieces_of};
+ghost use Rattle.kc_expr.specs.Token.{lexemes_of};
 ghost use Rattle.kc_tree_model.specs.Forms.{statement_of as defined_statement};
-ghost use Rattle.kc_statements.specs.Meanings.{meant};
-ghost use Rattle.kc_statements.specs.Said.{Gives, StatementHeld, statement_in};
+ghost use Rattle.kc_statements.specs.KeywordViews.{keyword_view};
+ghost use Rattle.kc_statements.specs.StatementViews.{ReturnsOrFails, StatementNodesExist, statement_in};
 
 use super::attributes::{
     default_line, depends_line, help_line, imply_line, modules_line, option_line, prompt_line,
@@ -21,10 +21,10 @@ use kc_expr::{Arena, Token};
 use kc_tree_model::TreeKind;
 use std::alloc::Global;
 
-/// What a line with this keyword says, by the tokens behind its first ("Kconfig syntax", "Menu attributes").
+/// What a line with this keyword says, by the tokens after its first ("Kconfig syntax", "Menu attributes").
 ///
 /// `Malformed` where they haven't the form of the keyword (a word that is left out has none: that is told before);
-/// `TooDeep` where an expression has a symbol under more than 64 `!` and parentheses; `OutOfMemory` is want of memory.
+/// `TooDeep` where an expression has a symbol under more than 64 `!` and parentheses; `OutOfMemory` is out of memory.
 /// Expressions that were read stay in the arena also where an `Err` is told.
 pub fn statement_of<'a>(
     alloc: Global,
@@ -33,8 +33,8 @@ pub fn statement_of<'a>(
     tokens: &[Token<'a>],
 ) -> Result<Statement<'a>, TreeKind>
     ensures grows { Grows arena.old arena.new }
-    ensures gives { Gives (statement_in arena.new) result (defined_statement (meant keyword) (pieces_of tokens.now)) }
-    ensures held { IfOk result (StatementHeld arena.new) }
+    ensures gives { ReturnsOrFails (statement_in arena.new) result (defined_statement (keyword_view keyword) (lexemes_of tokens.now)) }
+    ensures held { IfOk result (StatementNodesExist arena.new) }
 {
     match keyword {
         Keyword::Config => config_line(tokens),

@@ -1,15 +1,15 @@
-//! The forms of statements that close the open entry, by the tokens behind their first words ("Kconfig syntax").
+//! The forms of statements that close the open entry, by the tokens after their first words ("Kconfig syntax").
 ghost use Rattle.std.specs.Prelude.{◌≡◌, ℕ, List, IfOk, IfErr};
 ghost use Rattle.kc_expr.specs.Arena.{Exprs, Grows};
 ghost use Rattle.kc_expr.specs.Grammar.{quoted_text as text_meant};
-ghost use Rattle.kc_expr.specs.Token.{pieces_of, piece_of};
+ghost use Rattle.kc_expr.specs.Token.{lexemes_of, lexeme_of};
 ghost use Rattle.kc_tree_model.specs.declared.fault.TreeKind.TheVariants.{OutOfMemory};
 ghost use Rattle.kc_tree_model.specs.Forms.{config_line, choice_line, titled_line, source_line, statement_of, no_more, path_of};
 ghost use Rattle.kc_tree_model.specs.Keywords.{if_word};
 ghost use Rattle.kc_tree_model.specs.Statements.{Head as DefinedHead, head, menu, comment, mainmenu, ends};
-ghost use Rattle.kc_statements.specs.Meanings.{block_meant};
+ghost use Rattle.kc_statements.specs.KeywordViews.{block_view};
 ghost use Rattle.kc_statements.specs.checker.Titles.{is_one_quoted};
-ghost use Rattle.kc_statements.specs.Said.{Gives, StatementHeld, statement_in};
+ghost use Rattle.kc_statements.specs.StatementViews.{ReturnsOrFails, StatementNodesExist, statement_in};
 
 use super::condition::last_condition;
 use super::statement::{Block, Head, Statement};
@@ -21,8 +21,8 @@ use std::alloc::{AllocError, Global};
 
 /// `NAME`.
 pub(crate) fn config_line<'a>(tokens: &[Token<'a>]) -> Result<Statement<'a>, TreeKind>
-    ensures gives { (e : Exprs) → Gives (statement_in e) result (config_line (pieces_of tokens.now)) }
-    ensures held { (e : Exprs) → IfOk result (StatementHeld e) }
+    ensures gives { (e : Exprs) → ReturnsOrFails (statement_in e) result (config_line (lexemes_of tokens.now)) }
+    ensures held { (e : Exprs) → IfOk result (StatementNodesExist e) }
 {
     if tokens.len() != 1 {
         return Err(TreeKind::Malformed);
@@ -35,8 +35,8 @@ pub(crate) fn config_line<'a>(tokens: &[Token<'a>]) -> Result<Statement<'a>, Tre
 
 /// Nothing may follow `choice`.
 pub(crate) fn choice_line<'a>(tokens: &[Token<'_>]) -> Result<Statement<'a>, TreeKind>
-    ensures gives { (e : Exprs) → Gives (statement_in e) result (choice_line (pieces_of tokens.now)) }
-    ensures held { (e : Exprs) → IfOk result (StatementHeld e) }
+    ensures gives { (e : Exprs) → ReturnsOrFails (statement_in e) result (choice_line (lexemes_of tokens.now)) }
+    ensures held { (e : Exprs) → IfOk result (StatementNodesExist e) }
 {
     if tokens.is_empty() {
         Ok(Statement::Head(Head::Choice))
@@ -47,7 +47,7 @@ pub(crate) fn choice_line<'a>(tokens: &[Token<'_>]) -> Result<Statement<'a>, Tre
 
 /// Whether the tokens are one quoted text.
 fn is_title(tokens: &[Token<'_>]) -> bool
-    ensures { result ≡ is_one_quoted (pieces_of tokens.now) }
+    ensures { result ≡ is_one_quoted (lexemes_of tokens.now) }
 {
     tokens.len() == 1 && is_quoted(&tokens[0])
 }
@@ -65,7 +65,7 @@ fn unquoted(alloc: Global, text: &str) -> Result<Text, TreeKind>
 
 /// `Q`.
 fn title(alloc: Global, tokens: &[Token<'_>]) -> Result<Text, TreeKind>
-    ensures { (f : List ℕ → DefinedHead) → Gives (λ t. head (f t)) result (titled_line f (pieces_of tokens.now)) }
+    ensures { (f : List ℕ → DefinedHead) → ReturnsOrFails (λ t. head (f t)) result (titled_line f (lexemes_of tokens.now)) }
 {
     if !is_title(tokens) {
         return Err(TreeKind::Malformed);
@@ -75,8 +75,8 @@ fn title(alloc: Global, tokens: &[Token<'_>]) -> Result<Text, TreeKind>
 
 /// `Q`, a menu's title.
 pub(crate) fn menu_line<'a>(alloc: Global, tokens: &[Token<'_>]) -> Result<Statement<'a>, TreeKind>
-    ensures gives { (e : Exprs) → Gives (statement_in e) result (titled_line menu (pieces_of tokens.now)) }
-    ensures held { (e : Exprs) → IfOk result (StatementHeld e) }
+    ensures gives { (e : Exprs) → ReturnsOrFails (statement_in e) result (titled_line menu (lexemes_of tokens.now)) }
+    ensures held { (e : Exprs) → IfOk result (StatementNodesExist e) }
 {
     match title(alloc, tokens) {
         Ok(title) => Ok(Statement::Head(Head::Menu(title))),
@@ -89,8 +89,8 @@ pub(crate) fn comment_line<'a>(
     alloc: Global,
     tokens: &[Token<'_>],
 ) -> Result<Statement<'a>, TreeKind>
-    ensures gives { (e : Exprs) → Gives (statement_in e) result (titled_line comment (pieces_of tokens.now)) }
-    ensures held { (e : Exprs) → IfOk result (StatementHeld e) }
+    ensures gives { (e : Exprs) → ReturnsOrFails (statement_in e) result (titled_line comment (lexemes_of tokens.now)) }
+    ensures held { (e : Exprs) → IfOk result (StatementNodesExist e) }
 {
     match title(alloc, tokens) {
         Ok(title) => Ok(Statement::Head(Head::Comment(title))),
@@ -100,8 +100,8 @@ pub(crate) fn comment_line<'a>(
 
 /// `Q`, which isn't kept.
 pub(crate) fn mainmenu_line<'a>(tokens: &[Token<'_>]) -> Result<Statement<'a>, TreeKind>
-    ensures gives { (e : Exprs) → Gives (statement_in e) result (titled_line (λ _. mainmenu) (pieces_of tokens.now)) }
-    ensures held { (e : Exprs) → IfOk result (StatementHeld e) }
+    ensures gives { (e : Exprs) → ReturnsOrFails (statement_in e) result (titled_line (λ _. mainmenu) (lexemes_of tokens.now)) }
+    ensures held { (e : Exprs) → IfOk result (StatementNodesExist e) }
 {
     if is_title(tokens) {
         Ok(Statement::Head(Head::Mainmenu))
@@ -110,9 +110,9 @@ pub(crate) fn mainmenu_line<'a>(tokens: &[Token<'_>]) -> Result<Statement<'a>, T
     }
 }
 
-/// The path that a word or a quoted text is. An `Err` is want of memory.
+/// The path that a word or a quoted text is. An `Err` means out of memory.
 fn path_of(alloc: Global, token: &Token<'_>) -> Result<Option<Text>, AllocError>
-    ensures { IfOk result (λ path. path ≡ path_of (piece_of token.now)) }
+    ensures { IfOk result (λ path. path ≡ path_of (lexeme_of token.now)) }
 {
     if is_quoted(token) {
         let text = quoted_text(alloc, token.text)?;
@@ -130,8 +130,8 @@ pub(crate) fn source_line<'a>(
     alloc: Global,
     tokens: &[Token<'_>],
 ) -> Result<Statement<'a>, TreeKind>
-    ensures gives { (e : Exprs) → Gives (statement_in e) result (source_line (pieces_of tokens.now)) }
-    ensures held { (e : Exprs) → IfOk result (StatementHeld e) }
+    ensures gives { (e : Exprs) → ReturnsOrFails (statement_in e) result (source_line (lexemes_of tokens.now)) }
+    ensures held { (e : Exprs) → IfOk result (StatementNodesExist e) }
 {
     if tokens.len() != 1 {
         return Err(TreeKind::Malformed);
@@ -149,8 +149,8 @@ pub(crate) fn if_line<'a>(
     tokens: &[Token<'_>],
 ) -> Result<Statement<'a>, TreeKind>
     ensures grows { Grows arena.old arena.new }
-    ensures gives { Gives (statement_in arena.new) result (statement_of if_word (pieces_of tokens.now)) }
-    ensures held { IfOk result (StatementHeld arena.new) }
+    ensures gives { ReturnsOrFails (statement_in arena.new) result (statement_of if_word (lexemes_of tokens.now)) }
+    ensures held { IfOk result (StatementNodesExist arena.new) }
 {
     match last_condition(arena, tokens, 0) {
         Ok(id) => Ok(Statement::Head(Head::Condition(id))),
@@ -160,8 +160,8 @@ pub(crate) fn if_line<'a>(
 
 /// Nothing may follow `endmenu`, `endif` and `endchoice`.
 pub(crate) fn end_line<'a>(block: Block, tokens: &[Token<'_>]) -> Result<Statement<'a>, TreeKind>
-    ensures gives { (e : Exprs) → Gives (statement_in e) result (no_more (head (ends (block_meant block))) (pieces_of tokens.now)) }
-    ensures held { (e : Exprs) → IfOk result (StatementHeld e) }
+    ensures gives { (e : Exprs) → ReturnsOrFails (statement_in e) result (no_more (head (ends (block_view block))) (lexemes_of tokens.now)) }
+    ensures held { (e : Exprs) → IfOk result (StatementNodesExist e) }
 {
     if tokens.is_empty() {
         Ok(Statement::Head(Head::Ends(block)))

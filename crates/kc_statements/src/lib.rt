@@ -12,8 +12,10 @@ mod range;
 mod statement;
 mod token;
 
-pub use fault::kind_of;
+pub use fault::tree_kind_of;
 pub use forms::statement_of;
 pub use keyword::{Keyword, keyword_of};
-pub use placement::{Open, is_left_out, takes};
-pub use statement::{Aimed, Attribute, Block, Bounded, Head, Statement, Valued};
+pub use placement::{OpenEntry, allows_attribute, is_left_out};
+pub use statement::{
+    Attribute, Block, DefaultAttribute, Head, RangeAttribute, Statement, TargetAttribute,
+};

@@ -1,10 +1,10 @@
 //! What is looked at before a line's form: forms that are left out, and the attributes of each entry.
 ghost use Rattle.std.specs.Prelude.{◌≡◌, ◌||◌, ◌==◌, List};
 ghost use Rattle.std.specs.List.{list_any};
-ghost use Rattle.kc_expr.specs.Token.{pieces_of, piece_of};
+ghost use Rattle.kc_expr.specs.Token.{lexemes_of, lexeme_of};
 ghost use Rattle.kc_tree_model.specs.Blocks.{Group};
-ghost use Rattle.kc_tree_model.specs.Placement.{is_left_out, is_choice_open, open_entry, is_glob_path, takes, config_open, choice_open};
-ghost use Rattle.kc_statements.specs.Meanings.{meant, open_meant};
+ghost use Rattle.kc_tree_model.specs.Placement.{is_left_out, is_choice_open, open_entry, is_glob_path, allows_attribute, config_open, choice_open};
+ghost use Rattle.kc_statements.specs.KeywordViews.{keyword_view, open_entry_view};
 
 use super::keyword::Keyword;
 use super::token::{is_left_out_option, is_operand, is_word};
@@ -13,7 +13,7 @@ use kc_value::Kind;
 
 /// The entry that is open.
 #[derive(Clone, Copy, Debug, PartialEq, Eq)]
-pub enum Open {
+pub enum OpenEntry {
     Config,
     Choice,
     Menu,
@@ -21,20 +21,20 @@ pub enum Open {
 }
 
 /// Whether an entry takes an attribute ("Kconfig syntax": config, choice, menu, comment).
-pub fn takes(entry: Open, keyword: Keyword) -> bool
-    ensures { result ≡ takes (open_meant entry) (meant keyword) }
+pub fn allows_attribute(entry: OpenEntry, keyword: Keyword) -> bool
+    ensures { result ≡ allows_attribute (open_entry_view entry) (keyword_view keyword) }
 {
     match entry {
-        Open::Config => config_takes(keyword),
-        Open::Choice => choice_takes(keyword),
-        Open::Menu => matches!(keyword, Keyword::Depends | Keyword::Visible),
-        Open::Comment => matches!(keyword, Keyword::Depends),
+        OpenEntry::Config => config_allows(keyword),
+        OpenEntry::Choice => choice_allows(keyword),
+        OpenEntry::Menu => matches!(keyword, Keyword::Depends | Keyword::Visible),
+        OpenEntry::Comment => matches!(keyword, Keyword::Depends),
     }
 }
 
 /// Whether a `config` takes an attribute.
-fn config_takes(keyword: Keyword) -> bool
-    ensures { result ≡ takes config_open (meant keyword) }
+fn config_allows(keyword: Keyword) -> bool
+    ensures { result ≡ allows_attribute config_open (keyword_view keyword) }
 {
     matches!(
         keyword,
@@ -53,8 +53,8 @@ fn config_takes(keyword: Keyword) -> bool
 }
 
 /// Whether a `choice` takes an attribute.
-fn choice_takes(keyword: Keyword) -> bool
-    ensures { result ≡ takes choice_open (meant keyword) }
+fn choice_allows(keyword: Keyword) -> bool
+    ensures { result ≡ allows_attribute choice_open (keyword_view keyword) }
 {
     matches!(
         keyword,
@@ -83,16 +83,16 @@ fn has_glob_byte(text: &[u8]) -> bool
 /// Whether a token is a path that is a pattern. Quotes and backslashes make none, so its text is looked at as it
 /// stands.
 fn is_glob_path(token: &Token<'_>) -> bool
-    ensures { result ≡ is_glob_path (piece_of token.now) }
+    ensures { result ≡ is_glob_path (lexeme_of token.now) }
 {
     is_operand(token) && has_glob_byte(token.text.as_bytes())
 }
 
-/// Whether a line with this keyword is left out, by the tokens behind its first and whether the open entry is a
+/// Whether a line with this keyword is left out, by the tokens after its first and whether the open entry is a
 /// choice: its first word, options, named and tristate choices, and paths that are patterns ("Kconfig syntax").
 pub fn is_left_out(keyword: Keyword, tokens: &[Token<'_>], choice_is_open: bool) -> bool
     ensures { (read : List Group) → is_choice_open (open_entry read) ≡ choice_is_open
-        → result ≡ is_left_out read (meant keyword) (pieces_of tokens.now) }
+        → result ≡ is_left_out read (keyword_view keyword) (lexemes_of tokens.now) }
 {
     match keyword {
         Keyword::LeftOut => true,

@@ -1,14 +1,14 @@
-//! The form of ranges, by the tokens behind `range` ("Menu attributes").
+//! The form of ranges, by the tokens after `range` ("Menu attributes").
 ghost use Rattle.std.specs.Prelude.{◌≡◌, true, Some, IfOk, IfErr};
 ghost use Rattle.kc_expr.specs.Arena.{Grows};
-ghost use Rattle.kc_expr.specs.Grammar.{is_operand_kind, operand_of_piece};
-ghost use Rattle.kc_expr.specs.Token.{pieces_of, piece_of};
+ghost use Rattle.kc_expr.specs.Grammar.{is_operand_kind, operand_of_lexeme};
+ghost use Rattle.kc_expr.specs.Token.{lexemes_of, lexeme_of};
 ghost use Rattle.kc_tree_model.specs.declared.fault.TreeKind.TheVariants.{OutOfMemory};
 ghost use Rattle.kc_tree_model.specs.Forms.{range_line};
-ghost use Rattle.kc_statements.specs.Said.{Gives, StatementHeld, OperandHeld, statement_in, operand_in};
+ghost use Rattle.kc_statements.specs.StatementViews.{ReturnsOrFails, StatementNodesExist, OperandNodeExists, statement_in, operand_or_n};
 
 use super::condition::optional_if;
-use super::statement::{Attribute, Bounded, Statement};
+use super::statement::{Attribute, RangeAttribute, Statement};
 use super::token::is_operand;
 use kc_expr::{Arena, ExprId, Token};
 use kc_tree_model::TreeKind;
@@ -17,8 +17,8 @@ use kc_tree_model::TreeKind;
 fn operand(arena: &mut Arena, token: &Token<'_>) -> Result<ExprId, TreeKind>
     requires { is_operand_kind token.now.kind ≡ true }
     ensures grows { Grows arena.old arena.new }
-    ensures operand { IfOk result (λ id. operand_of_piece (piece_of token.now) ≡ Some (operand_in arena.new id)) }
-    ensures held { IfOk result (OperandHeld arena.new) }
+    ensures operand { IfOk result (λ id. operand_of_lexeme (lexeme_of token.now) ≡ Some (operand_or_n arena.new id)) }
+    ensures held { IfOk result (OperandNodeExists arena.new) }
     ensures memory { IfErr result (λ k. k ≡ OutOfMemory) }
 {
     let alone = [*token];
@@ -34,8 +34,8 @@ pub(crate) fn range_line<'a>(
     tokens: &[Token<'_>],
 ) -> Result<Statement<'a>, TreeKind>
     ensures grows { Grows arena.old arena.new }
-    ensures gives { Gives (statement_in arena.new) result (range_line (pieces_of tokens.now)) }
-    ensures held { IfOk result (StatementHeld arena.new) }
+    ensures gives { ReturnsOrFails (statement_in arena.new) result (range_line (lexemes_of tokens.now)) }
+    ensures held { IfOk result (StatementNodesExist arena.new) }
 {
     if tokens.len() < 2 {
         return Err(TreeKind::Malformed);
@@ -55,7 +55,7 @@ pub(crate) fn range_line<'a>(
         Err(kind) => return Err(kind),
     };
     match optional_if(arena, tokens, 2) {
-        Ok(condition) => Ok(Statement::Attribute(Attribute::Range(Bounded {
+        Ok(condition) => Ok(Statement::Attribute(Attribute::Range(RangeAttribute {
             low,
             high,
             condition,

@@ -29,7 +29,7 @@ pub enum Head<'a> {
 
 /// The value of a default, whether it is one operand (in parentheses it isn't), and its `if`.
 #[derive(Clone, Copy)]
-pub struct Valued {
+pub struct DefaultAttribute {
     pub value: ExprId,
     pub single: bool,
     pub condition: Option<ExprId>,
@@ -37,14 +37,14 @@ pub struct Valued {
 
 /// The name in a `select` or an `imply`, and its `if`.
 #[derive(Clone, Copy)]
-pub struct Aimed {
+pub struct TargetAttribute {
     pub name: NameId,
     pub condition: Option<ExprId>,
 }
 
 /// The bounds of a `range`, which are operands, and its `if`.
 #[derive(Clone, Copy)]
-pub struct Bounded {
+pub struct RangeAttribute {
     pub low: ExprId,
     pub high: ExprId,
     pub condition: Option<ExprId>,
@@ -55,13 +55,13 @@ pub struct Bounded {
 pub enum Attribute {
     Typed(Kind),
     TypedPrompt(Kind, Option<ExprId>),
-    TypedDefault(Kind, Valued),
+    TypedDefault(Kind, DefaultAttribute),
     Prompt(Option<ExprId>),
-    Default(Valued),
+    Default(DefaultAttribute),
     Depends(ExprId),
-    Select(Aimed),
-    Imply(Aimed),
-    Range(Bounded),
+    Select(TargetAttribute),
+    Imply(TargetAttribute),
+    Range(RangeAttribute),
     Visible(ExprId),
     Help,
     Modules,

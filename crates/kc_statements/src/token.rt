@@ -2,7 +2,7 @@
 ghost use Rattle.std.specs.Prelude.{◌≡◌, ◌||◌, ◌&&◌, codes, bytes_eq, nat_lt, length};
 ghost use Rattle.std.specs.List.{list_all};
 ghost use Rattle.kc_expr.specs.Grammar.{is_operand_kind};
-ghost use Rattle.kc_expr.specs.Token.{piece_of};
+ghost use Rattle.kc_expr.specs.Token.{lexeme_of};
 ghost use Rattle.kc_tree_model.specs.Forms.{is_left_out_option};
 ghost use Rattle.kc_tree_model.specs.Keywords.{is_word_kind, is_quoted_kind, is_the_word, is_name};
 ghost use Rattle.kc_tree_model.specs.TreeLookup.{is_name_byte};
@@ -25,7 +25,7 @@ pub(crate) fn is_quoted(token: &Token<'_>) -> bool
 
 /// Whether a token is a bare word of these letters.
 pub(crate) fn is_the_word(word: &str, token: &Token<'_>) -> bool
-    ensures { result ≡ is_the_word word.now (piece_of token.now) }
+    ensures { result ≡ is_the_word word.now (lexeme_of token.now) }
 {
     is_word(token) && token.text == word
 }
@@ -39,7 +39,7 @@ fn is_name_byte(byte: u8) -> bool
 
 /// Whether a token is the name of a symbol: letters, digits and `_`, and none of the three constants.
 pub(crate) fn is_name(token: &Token<'_>) -> bool
-    ensures { result ≡ is_name (piece_of token.now) }
+    ensures { result ≡ is_name (lexeme_of token.now) }
 {
     is_word(token) && has_name_bytes(token.text) && !is_constant(token.text)
 }
@@ -67,7 +67,7 @@ fn is_constant(word: &str) -> bool
 
 /// Whether a token is an option that is left out.
 pub(crate) fn is_left_out_option(token: &Token<'_>) -> bool
-    ensures { result ≡ is_left_out_option (piece_of token.now) }
+    ensures { result ≡ is_left_out_option (lexeme_of token.now) }
 {
     is_the_word("env", token)
         || is_the_word("defconfig_list", token)

@@ -5,10 +5,10 @@ use Rattle.std.proofs.lemmas.Option.{none-some, slice_get-get_or}
 use Rattle.std.proofs.lemmas.List.{length-replicate, get_or-replicate}
 use Rattle.std.specs.List.{Contains}
 use Rattle.kc_system.specs.Dependencies.{IsGraph, IsOrder, HasNoCycle, IsLeft, IsLeast, IsNamedCycle}
-use Rattle.kc_system.specs.checker.Taking.{Taking, TellsLeft}
+use Rattle.kc_system.specs.checker.Elimination.{Eliminating, FlagsLeft}
 use Rattle.kc_system.proofs.Lists.{get_from_Contains, Contains_from_get}
 use Rattle.kc_system.proofs.Cycles.{named_is_cycle}
-use Rattle.kc_system.proofs.Takings.{takes_more, all_taken, length-once, nothing_taken, left_told}
+use Rattle.kc_system.proofs.Eliminations.{takes_more, all_taken, length-once, nothing_taken, left_told}
 use Rattle.kc_system.proofs.Walks.{Walking, least_left, walked, closed, short}
 
 -- the first unit of a list whose flag is unset
@@ -83,7 +83,7 @@ module _ (size : ℕ) (dependencies : ℕ → List ℕ) (graph : IsGraph size de
   ]
 
   -- the walk from the least unit left closes
-  walk_closes : (flags : List Bool) → TellsLeft size dependencies flags → (first : ℕ) → IsLeast (IsLeft size dependencies) first → (n : ℕ) (walk places : List ℕ) (u : ℕ)
+  walk_closes : (flags : List Bool) → FlagsLeft size dependencies flags → (first : ℕ) → IsLeast (IsLeft size dependencies) first → (n : ℕ) (walk places : List ℕ) (u : ℕ)
       → Walking size dependencies first walk places u → size < length walk + n → (cycle : List ℕ) × IsNamedCycle size dependencies cycle
   walk_closes flags left first least zero walk places u w h = absurd (omega (arith, h, short size dependencies first walk places u w))
   walk_closes flags left first least (suc n) walk places u w h = elim (cases_eq (get_or places u 0) size) [
@@ -111,7 +111,7 @@ module _ (size : ℕ) (dependencies : ℕ → List ℕ) (graph : IsGraph size de
   }
 
   -- where a unit is left there is a cycle
-  left_closes : (flags : List Bool) → TellsLeft size dependencies flags → (u : ℕ) → u < size → get_or flags u false ≡ false → ((w : ℕ) → w < u → get_or flags w false ≡ true) → (cycle : List ℕ) × IsNamedCycle size dependencies cycle
+  left_closes : (flags : List Bool) → FlagsLeft size dependencies flags → (u : ℕ) → u < size → get_or flags u false ≡ false → ((w : ℕ) → w < u → get_or flags w false ≡ true) → (cycle : List ℕ) × IsNamedCycle size dependencies cycle
   left_closes flags left u h unset before =
       let here = (left u h).0 unset in
       walk_closes flags left u (record {
@@ -123,7 +123,7 @@ module _ (size : ℕ) (dependencies : ℕ → List ℕ) (graph : IsGraph size de
       }) (suc size) [] (replicate size size) u (at_first u here) (omega arith)
 
   -- with n units and more still to be taken, at most, an order is found
-  take_more : (n : ℕ) (taken : List ℕ) (flags : List Bool) → Taking size dependencies taken flags → size < length taken + n → HasNoCycle size dependencies → (order : List ℕ) × IsOrder size dependencies order
+  take_more : (n : ℕ) (taken : List ℕ) (flags : List Bool) → Eliminating size dependencies taken flags → size < length taken + n → HasNoCycle size dependencies → (order : List ℕ) × IsOrder size dependencies order
   take_more zero taken flags t h acyclic = absurd (omega (arith, h, length-once size taken t.units t.once))
   take_more (suc n) taken flags t h acyclic = elim (next_ready flags size (omega arith)) [
     | inl some ↦

@@ -3,7 +3,7 @@ use Rattle.std.proofs.Common.{◌≡◌, inl, inr, ℕ, ◌+◌, ◌<◌, ◌≤
 use Rattle.std.proofs.lemmas.Bool.{cases_eq}
 use Rattle.kc_system.specs.Dependencies.{IsOrder}
 use Rattle.kc_system.proofs.Lists.{get-set_same, get-set_other}
-use Rattle.kc_system.proofs.Takings.{length-once}
+use Rattle.kc_system.proofs.Eliminations.{length-once}
 
 -- one more unit has its place
 pub places_more : (size : ℕ) (dependencies : ℕ → List ℕ) (order places : List ℕ) (i u : ℕ) → IsOrder size dependencies order → length places ≡ size → slice_get order i ≡ Some u

@@ -4,4 +4,4 @@ pub mod PlaceSets
 pub mod Plans
 pub mod Revising
 pub mod Rows
-pub mod Taking
+pub mod Elimination

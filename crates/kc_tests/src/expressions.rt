@@ -1,8 +1,8 @@
 //! Names of expressions, and the names of faults.
 ghost use Rattle.std.specs.Prelude.{◌<◌, ◌≤◌, ◌^◌, length, IfOk, OnOk, []};
-ghost use Rattle.kc_expr.specs.Walked.{HasFound};
+ghost use Rattle.kc_expr.specs.Visits.{HasFound};
 
-use kc_expr::{Arena, ExprFault, ExprId, ExprKind, NameId, Operand, Token, Walk, tokens};
+use kc_expr::{Arena, ExprFault, ExprId, ExprKind, NameId, Operand, Token, VisitedSet, tokens};
 use kc_value::Tri;
 use std::alloc::{AllocError, Global};
 
@@ -13,7 +13,7 @@ fn sizes(arena: &Arena) -> (usize, usize)
     (arena.name_count(), arena.node_count())
 }
 
-/// The expression that begins a line, and the place behind it.
+/// The expression that begins a line, and the place after it.
 fn parsed(arena: &mut Arena, line: &[Token<'_>]) -> Result<(ExprId, usize), ExprFault>
     ensures { IfOk result (λ r. r.0 < length arena.new.nodes) }
 {
@@ -41,7 +41,7 @@ fn interned(arena: &mut Arena, name: &str) -> Result<usize, ExprFault> {
     Ok(twice_on!(sizes(arena), arena.intern(name)).index())
 }
 
-/// The expression that begins a text, the place behind it, and how many tokens the text has.
+/// The expression that begins a text, the place after it, and how many tokens the text has.
 fn read(alloc: Global, arena: &mut Arena, text: &str) -> Result<(ExprId, usize, usize), ExprFault>
     ensures { IfOk result (λ r. r.0 < length arena.new.nodes) }
 {
@@ -76,7 +76,7 @@ fn count_of_names(arena: &mut Arena, id: ExprId) -> Result<usize, ExprFault>
     Ok(twice!(arena.names(shown)).len())
 }
 
-/// Whether a new name is put behind the three of an arena once, and then a constant behind the expressions.
+/// Whether a new name is put after the three of an arena once, and then a constant after the expressions.
 fn are_put_behind(arena: &mut Arena) -> Result<bool, ExprFault> {
     let nodes = arena.node_count();
     let new = interned(arena, "NEW")?;
@@ -93,12 +93,12 @@ fn tells_names(rt: HostRuntime) -> Result<(), std::test::Fail> {
     Ok(())
 }
 
-/// Puts the names in an expression that weren't met behind others. A refusal leaves the others alone; then a new walk has
+/// Appends the names in an expression that weren't met. A refusal leaves the others alone; then a new walk has
 /// met none.
 fn push_met(
     arena: &Arena,
     id: ExprId,
-    walk: &mut Walk,
+    walk: &mut VisitedSet,
     found: &mut Vec<NameId>,
 ) -> Result<(), AllocError>
     requires there { id < length arena.now.nodes }
@@ -138,7 +138,7 @@ fn is_met_once_by(
     alloc: Global,
     arena: &Arena,
     id: ExprId,
-    walk: &mut Walk,
+    walk: &mut VisitedSet,
 ) -> Result<bool, AllocError>
     requires there { id < length arena.now.nodes }
     requires found { HasFound arena.now walk.old [] }
@@ -159,7 +159,7 @@ fn meets_once(rt: HostRuntime) -> Result<(), std::test::Fail> {
     Ok(())
 }
 
-/// Puts the names in an expression behind others.
+/// Appends the names in an expression.
 fn push_all(arena: &Arena, id: ExprId, found: &mut Vec<NameId>) -> Result<(), AllocError>
     requires { id < length arena.now.nodes }
 {
@@ -167,7 +167,7 @@ fn push_all(arena: &Arena, id: ExprId, found: &mut Vec<NameId>) -> Result<(), Al
     Ok(())
 }
 
-/// Whether the names of an expression are put behind those of a list, each as often as it stands there.
+/// Whether the names of an expression are put after those of a list, each as often as it stands there.
 fn are_put(alloc: Global) -> Result<bool, ExprFault> {
     let mut arena = Arena::new(alloc);
     let are_put = are_put_from(alloc, &mut arena);

@@ -2,7 +2,7 @@
 ghost use Rattle.std.specs.Prelude.{IfOk};
 ghost use Rattle.kc_dotconfig.specs.Configured.{tree_in};
 ghost use Rattle.kc_dotconfig.specs.Fragments.{FitsTree};
-ghost use Rattle.kc_rules.specs.Told.{whole_of};
+ghost use Rattle.kc_rules.specs.SettledViews.{tree_of_settled};
 
 use kc_dotconfig::{Config, Fragment, Prefix, read_config};
 use kc_rules::{Profile, Settled, UnitValue, UserValue, settle};
@@ -76,7 +76,7 @@ pub(crate) fn merged_twice(
 
 /// The assignments of a file, read at the second try where the first is refused.
 fn fragment_twice(alloc: Global, settled: &Settled, file: &str) -> Result<Fragment, AllocError>
-    ensures { IfOk result (λ fragment. FitsTree (whole_of settled.now) fragment.assigns.items) }
+    ensures { IfOk result (λ fragment. FitsTree (tree_of_settled settled.now) fragment.assigns.items) }
 {
     Ok(twice!(fragment_of(alloc, settled, file)))
 }
@@ -141,7 +141,7 @@ pub(crate) fn replaced(
 }
 
 fn fragment_of(alloc: Global, settled: &Settled, file: &str) -> Result<Fragment, AllocError>
-    ensures { IfOk result (λ fragment. FitsTree (whole_of settled.now) fragment.assigns.items) }
+    ensures { IfOk result (λ fragment. FitsTree (tree_of_settled settled.now) fragment.assigns.items) }
 {
     let mut source = FromRead::new(file.as_bytes());
     match read_config(alloc, settled, &Prefix::plain(), &mut source) {

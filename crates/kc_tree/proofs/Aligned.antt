@@ -6,22 +6,22 @@ use Rattle.std.proofs.lemmas.Bool.{lt-ltb}
 use Rattle.std.proofs.lemmas.List.{get_or-reverse, length-reverse}
 use Rattle.kc_expr.specs.Arena.{Exprs}
 use Rattle.kc_tree_model.specs.Blocks.{Group, open_blocks}
-use Rattle.kc_tree_model.specs.Conditions.{Placed, place, placed}
+use Rattle.kc_tree_model.specs.Conditions.{GroupInContext, group_in_context, groups_in_context}
 use Rattle.kc_listing.specs.declared.listing.Group.{Group as CodeGroup}
 use Rattle.kc_listing.specs.declared.listing.Line.{Line as CodeLine}
-use Rattle.kc_listing.specs.Shown.{GroupShown, GroupsShown}
+use Rattle.kc_listing.specs.ListingView.{RepresentsGroup, RepresentsGroups}
 use Rattle.kc_tree.specs.checker.Summaries.{read_before, group_at, attributes_end, no_group}
 
 -- a group among what was read, and how it is kept
 pub record IsShownAt (e : Exprs) (names texts : List (List ℕ)) (lines : List CodeLine) (groups : List CodeGroup) (read : List Group) (i : ℕ) : Type 0 where
   pub group : Group
   pub now : read_before (i + 1) read ≡ group ∷ read_before i read
-  pub shown : GroupShown e names texts (slice_range lines (group_at groups i).attributes (attributes_end groups lines i)) i (group_at groups i) group
+  pub shown : RepresentsGroup e names texts (slice_range lines (group_at groups i).attributes (attributes_end groups lines i)) i (group_at groups i) group
   pub rising : (group_at groups i).attributes ≤ attributes_end groups lines i
   pub within : attributes_end groups lines i ≤ length lines
 
 -- as many groups as were read
-pub as_many : (e : Exprs) (names texts : List (List ℕ)) (lines : List CodeLine) (end : ℕ) (gs : List CodeGroup) (ms : List Group) → GroupsShown e names texts lines end gs ms → length gs ≡ length ms
+pub as_many : (e : Exprs) (names texts : List (List ℕ)) (lines : List CodeLine) (end : ℕ) (gs : List CodeGroup) (ms : List Group) → RepresentsGroups e names texts lines end gs ms → length gs ≡ length ms
 as_many e names texts lines end [] [] h = refl
 as_many e names texts lines end [] (m ∷ ms) h = absurd h
 as_many e names texts lines end (g ∷ gs) [] h = absurd h
@@ -42,30 +42,30 @@ end_is end (g ∷ gs) (suc k) h = end_is g.attributes gs k (omega arith)
 record IsNewestAt (e : Exprs) (names texts : List (List ℕ)) (lines : List CodeLine) (end : ℕ) (gs : List CodeGroup) (ms : List Group) (k : ℕ) : Type 0 where
   pub group : Group
   pub now : drop k ms ≡ group ∷ drop (suc k) ms
-  pub shown : GroupShown e names texts (slice_range lines (get_or gs k no_group).attributes (end_at end gs k)) (length ms - suc k) (get_or gs k no_group) group
+  pub shown : RepresentsGroup e names texts (slice_range lines (get_or gs k no_group).attributes (end_at end gs k)) (length ms - suc k) (get_or gs k no_group) group
   pub rising : (get_or gs k no_group).attributes ≤ end_at end gs k
   pub within : end_at end gs k ≤ end
 
-newest_at : (e : Exprs) (names texts : List (List ℕ)) (lines : List CodeLine) (end : ℕ) (gs : List CodeGroup) (ms : List Group) (k : ℕ) → k < length gs → GroupsShown e names texts lines end gs ms → IsNewestAt e names texts lines end gs ms k
+newest_at : (e : Exprs) (names texts : List (List ℕ)) (lines : List CodeLine) (end : ℕ) (gs : List CodeGroup) (ms : List Group) (k : ℕ) → k < length gs → RepresentsGroups e names texts lines end gs ms → IsNewestAt e names texts lines end gs ms k
 unfolding end_at
 newest_at e names texts lines end [] ms k l h = absurd (omega arith)
 newest_at e names texts lines end (g ∷ gs) [] k l h = absurd h
 newest_at e names texts lines end (g ∷ gs) (m ∷ ms) zero l h =
     let n : length ms ≡ suc (length ms) - 1 = omega arith in
-    record { group = m; now = refl; shown = subst (λ k. GroupShown e names texts (slice_range lines g.attributes end) k g m) n h.0; rising = h.1; within = (let r : end ≤ end = omega arith in r) }
+    record { group = m; now = refl; shown = subst (λ k. RepresentsGroup e names texts (slice_range lines g.attributes end) k g m) n h.0; rising = h.1; within = (let r : end ≤ end = omega arith in r) }
 newest_at e names texts lines end (g ∷ gs) (m ∷ ms) (suc k) l h =
     let r = newest_at e names texts lines g.attributes gs ms k (omega arith) h.2 in
     let n : length ms - suc k ≡ suc (length ms) - suc (suc k) = omega arith in
     record {
       group = r.group;
       now = r.now;
-      shown = subst (λ j. GroupShown e names texts (slice_range lines (get_or gs k no_group).attributes (end_at g.attributes gs k)) j (get_or gs k no_group) r.group) n r.shown;
+      shown = subst (λ j. RepresentsGroup e names texts (slice_range lines (get_or gs k no_group).attributes (end_at g.attributes gs k)) j (get_or gs k no_group) r.group) n r.shown;
       rising = r.rising;
       within = (let a = r.within in let b = h.1 in omega arith);
     }
 
 -- the same in reading order
-module _ (e : Exprs) (names texts : List (List ℕ)) (lines : List CodeLine) (groups : List CodeGroup) (read : List Group) (h : GroupsShown e names texts lines (length lines) (reverse groups) read) where
+module _ (e : Exprs) (names texts : List (List ℕ)) (lines : List CodeLine) (groups : List CodeGroup) (read : List Group) (h : RepresentsGroups e names texts lines (length lines) (reverse groups) read) where
   pub count_is : length groups ≡ length read
   count_is = sym (length-reverse groups) ∙ as_many e names texts lines (length lines) (reverse groups) read h
 
@@ -104,23 +104,23 @@ pub all_before : (read : List Group) → read_before (length read) read ≡ read
 all_before read = ap (λ n. drop n read) (let n : length read - length read ≡ 0 = omega arith in n)
 
 -- one place more
-pub placed_more : (read : List Group) (i : ℕ) (m : Group) → read_before (i + 1) read ≡ m ∷ read_before i read → placed (read_before (i + 1) read) ≡ placed (read_before i read) ++ place (open_blocks 0 (read_before i read)) m ∷ []
-placed_more read i m e = ap placed e
+pub placed_more : (read : List Group) (i : ℕ) (m : Group) → read_before (i + 1) read ≡ m ∷ read_before i read → groups_in_context (read_before (i + 1) read) ≡ groups_in_context (read_before i read) ++ group_in_context (open_blocks 0 (read_before i read)) m ∷ []
+placed_more read i m e = ap groups_in_context e
 
 -- places before others
-pub placed_before : (k : ℕ) (read : List Group) → (rest : List Placed) × (placed read ≡ placed (drop k read) ++ rest)
-placed_before zero read = ([], sym (append-nil (placed read)))
+pub placed_before : (k : ℕ) (read : List Group) → (rest : List GroupInContext) × (groups_in_context read ≡ groups_in_context (drop k read) ++ rest)
+placed_before zero read = ([], sym (append-nil (groups_in_context read)))
 placed_before (suc k) [] = ([], refl)
 placed_before (suc k) (g ∷ read) =
     let r = placed_before k read in
-    (r.0 ++ place (open_blocks 0 read) g ∷ [], ap (λ ps. ps ++ place (open_blocks 0 read) g ∷ []) r.1 ∙ append_assoc (placed (drop k read)) r.0 (place (open_blocks 0 read) g ∷ []))
+    (r.0 ++ group_in_context (open_blocks 0 read) g ∷ [], ap (λ ps. ps ++ group_in_context (open_blocks 0 read) g ∷ []) r.1 ∙ append_assoc (groups_in_context (drop k read)) r.0 (group_in_context (open_blocks 0 read) g ∷ []))
 
 -- each group has its number
 abbrev pub AreNumbers : List Group → Type 0
 AreNumbers [] = Unit {0}
 AreNumbers (g ∷ before) = (g.number ≡ length before) × AreNumbers before
 
-pub are_numbers : (e : Exprs) (names texts : List (List ℕ)) (lines : List CodeLine) (end : ℕ) (gs : List CodeGroup) (ms : List Group) → GroupsShown e names texts lines end gs ms → AreNumbers ms
+pub are_numbers : (e : Exprs) (names texts : List (List ℕ)) (lines : List CodeLine) (end : ℕ) (gs : List CodeGroup) (ms : List Group) → RepresentsGroups e names texts lines end gs ms → AreNumbers ms
 are_numbers e names texts lines end [] [] h = tt
 are_numbers e names texts lines end [] (m ∷ ms) h = absurd h
 are_numbers e names texts lines end (g ∷ gs) [] h = absurd h
@@ -132,9 +132,9 @@ numbers_before (suc k) [] h = tt
 numbers_before (suc k) (g ∷ read) h = numbers_before k read h.1
 
 -- a place by its number
-pub placed_count : (read : List Group) → length (placed read) ≡ length read
+pub placed_count : (read : List Group) → length (groups_in_context read) ≡ length read
 placed_count [] = refl
-placed_count (g ∷ read) = length-append (placed read) (place (open_blocks 0 read) g ∷ []) ∙ ap (λ n. n + 1) (placed_count read) ∙ (let e : length read + 1 ≡ suc (length read) = omega arith in e)
+placed_count (g ∷ read) = length-append (groups_in_context read) (group_in_context (open_blocks 0 read) g ∷ []) ∙ ap (λ n. n + 1) (placed_count read) ∙ (let e : length read + 1 ≡ suc (length read) = omega arith in e)
 
 pub count_before : (read : List Group) (i : ℕ) → i ≤ length read → length (read_before i read) ≡ i
 count_before read i h = length-drop (length read - i) read ∙ (let e : length read - (length read - i) ≡ i = omega arith in e)
@@ -143,12 +143,12 @@ last_then : {A : Type 0} (xs : List A) (y : A) (zs : List A) → slice_get ((xs 
 last_then [] y zs = refl
 last_then (x ∷ xs) y zs = last_then xs y zs
 
-pub place_numbered : (read : List Group) (i : ℕ) (m : Group) → i < length read → read_before (i + 1) read ≡ m ∷ read_before i read → slice_get (placed read) i ≡ Some (place (open_blocks 0 (read_before i read)) m)
+pub place_numbered : (read : List Group) (i : ℕ) (m : Group) → i < length read → read_before (i + 1) read ≡ m ∷ read_before i read → slice_get (groups_in_context read) i ≡ Some (group_in_context (open_blocks 0 (read_before i read)) m)
 place_numbered read i m h now =
     let prior : List Group = read_before i read in
-    let p : Placed = place (open_blocks 0 prior) m in
+    let p : GroupInContext = group_in_context (open_blocks 0 prior) m in
     let r = placed_before (length read - (i + 1)) read in
-    let n : length (placed prior) ≡ i = placed_count prior ∙ count_before read i (omega arith) in
-    ap (λ k. slice_get (placed read) k) (sym n)
-    ∙ ap (λ ps. slice_get ps (length (placed prior))) (r.1 ∙ ap (λ ps. ps ++ r.0) (placed_more read i m now))
-    ∙ last_then (placed prior) p r.0
+    let n : length (groups_in_context prior) ≡ i = placed_count prior ∙ count_before read i (omega arith) in
+    ap (λ k. slice_get (groups_in_context read) k) (sym n)
+    ∙ ap (λ ps. slice_get ps (length (groups_in_context prior))) (r.1 ∙ ap (λ ps. ps ++ r.0) (placed_more read i m now))
+    ∙ last_then (groups_in_context prior) p r.0

@@ -5,12 +5,12 @@ use Rattle.std.specs.List.{cons_option}
 use Rattle.std.proofs.lemmas.List.{length-map}
 use Rattle.std.proofs.lemmas.List.Elements.{All-append, All-cons, All-nil}
 use Rattle.kc_expr.specs.Arena.{Exprs}
-use Rattle.kc_expr.specs.Lookup.{place_of}
+use Rattle.kc_expr.specs.Lookup.{index_of_name}
 use Rattle.kc_tree_model.specs.Trees as tree
-use Rattle.kc_tree_model.specs.Files.{Files}
-use Rattle.kc_tree_model.specs.Blocks.{Group, name_of}
-use Rattle.kc_tree_model.specs.Conditions.{Placed}
-use Rattle.kc_tree_model.specs.Contents.{Contents, contents_of, symbol_of, choice_of, choice_number, whole_of, tree_of_files}
+use Rattle.kc_tree_model.specs.TreeFiles.{Files}
+use Rattle.kc_tree_model.specs.Blocks.{Group, defined_name}
+use Rattle.kc_tree_model.specs.Conditions.{GroupInContext}
+use Rattle.kc_tree_model.specs.Contents.{Contents, contents_of, symbol_of, choice_of, choice_number, tree_of_groups, tree_of_files}
 use Rattle.kc_tree_model.specs.Limits.{names_defined}
 use Rattle.kc_tree_model.proofs.Consistency.Definitions.{IsSound, sound_contents, no_first}
 use Rattle.kc_tree_model.proofs.Consistency.Consistent.{tree_is_consistent}
@@ -19,25 +19,25 @@ use Rattle.kc_tree_model.proofs.Consistency.NameLimits.{few_symbols as few_defin
 use Rattle.kc_tree_model.proofs.Consistency.Places.{is_read}
 use Rattle.kc_tree_model.specs.declared.fault.TreeFault.{TreeFault}
 use Rattle.kc_tree_model.specs.Reading.{reading}
-use Rattle.kc_tree_model.specs.TreeFaults.{fault_told, tree_faults}
+use Rattle.kc_tree_model.specs.TreeFaults.{first_tree_fault, tree_faults}
 use Rattle.kc_tree_model.proofs.Consistency.Lists.{get_below, place-get, number-get, map-get}
 use Rattle.kc_tree_model.proofs.Consistency.Units.{number_is}
 use Rattle.kc_listing.specs.declared.listing.Listing.{Listing}
-use Rattle.kc_listing.specs.Names.{word_in}
-use Rattle.kc_listing.specs.Shown.{Shows}
-use Rattle.kc_tree.specs.Held.{Held}
-use Rattle.kc_tree.specs.Told.{unit_told, member_default_of}
+use Rattle.kc_listing.specs.SymbolTable.{text_of_name}
+use Rattle.kc_listing.specs.ListingView.{RepresentsListing}
+use Rattle.kc_tree.specs.TreeModel.{TreeModel}
+use Rattle.kc_tree.specs.Views.{unit_view, member_default_view}
 use Rattle.kc_tree.specs.checker.Assembly.{AreSymbolParts, AreChoiceParts, IsGathering}
-use Rattle.kc_tree.specs.checker.ChoiceDefaults.{defaults_said}
+use Rattle.kc_tree.specs.checker.ChoiceDefaults.{choice_defaults_of}
 use Rattle.kc_tree.specs.checker.ChoiceRows.{opens, IsChoiceRow, AreChoiceRows}
 use Rattle.kc_tree.specs.checker.Definitions.{AreAttributes}
 use Rattle.kc_tree.specs.checker.GatheredAttributes.{AreKeys}
 use Rattle.kc_tree.specs.checker.GatheredFits.{GatheredFit}
-use Rattle.kc_tree.specs.checker.GatheredView.{symbol_gathered, choice_gathered, whole_gathered}
+use Rattle.kc_tree.specs.checker.GatheredView.{symbol_gathered, choice_gathered, gathered_tree}
 use Rattle.kc_tree.specs.checker.GroupedItems.{items_of}
-use Rattle.kc_tree.specs.checker.PartsView.{seen_from, entry_seen}
+use Rattle.kc_tree.specs.checker.PartsView.{from_rows, entry_from_row}
 use Rattle.kc_tree.specs.checker.Rows.{IsRowOf, AreRowsOf}
-use Rattle.kc_tree.specs.checker.Summaries.{IsSummary, choice_round, member_in, members_at, member_keys_at}
+use Rattle.kc_tree.specs.checker.Summaries.{IsSummary, enclosing_choice, member_in, members_at, member_keys_at}
 use Rattle.kc_tree.specs.checker.UnitList.{unit_read, units_read}
 use Rattle.kc_tree.specs.declared.builder.ChoiceParts.{ChoiceParts}
 use Rattle.kc_tree.specs.declared.builder.SymbolParts.{SymbolParts}
@@ -55,16 +55,16 @@ module _ (g : Gathered) (c : Contents) (a : AreAttributes g.arena c g.attributes
       rw (h.name_is, h.kind_is, h.file_is, h.line_is, h.choice_is, a.prompts_are s name e, a.defaults_are s name e, a.ranges_are s name e, a.selectors_are s name e, a.impliers_are s name e, a.direct_are s name e) refl
 
   symbols_from : (n : ℕ) (names : List (List ℕ)) (rows : List SymbolRow) → ((i : ℕ) (x : List ℕ) → slice_get names i ≡ Some x → slice_get c.names (n + i) ≡ Some x) → AreRowsOf g.arena c names rows
-      → seen_from (symbol_gathered g) n rows ≡ map (symbol_of c) names
+      → from_rows (symbol_gathered g) n rows ≡ map (symbol_of c) names
   symbols_from n [] [] at h = refl
   symbols_from n [] (r ∷ rows) at h = absurd h
   symbols_from n (x ∷ names) [] at h = absurd h
   symbols_from n (x ∷ names) (r ∷ rows) at h =
       let here : slice_get c.names n ≡ Some x = ap (slice_get c.names) (let e : n ≡ n + 0 = omega arith in e) ∙ at 0 x refl in
       let rest = symbols_from (suc n) names rows (λ i y e. ap (slice_get c.names) (let m : suc n + i ≡ n + suc i = omega arith in m) ∙ at (suc i) y e) h.1 in
-      ap (λ k. k ∷ seen_from (symbol_gathered g) (suc n) rows) (symbol_same n x r here h.0) ∙ ap (λ ks. symbol_of c x ∷ ks) rest
+      ap (λ k. k ∷ from_rows (symbol_gathered g) (suc n) rows) (symbol_same n x r here h.0) ∙ ap (λ ks. symbol_of c x ∷ ks) rest
 
-  pub symbols_are : (rows : List SymbolRow) → AreRowsOf g.arena c c.names rows → seen_from (symbol_gathered g) 0 rows ≡ map (symbol_of c) c.names
+  pub symbols_are : (rows : List SymbolRow) → AreRowsOf g.arena c c.names rows → from_rows (symbol_gathered g) 0 rows ≡ map (symbol_of c) c.names
   symbols_are rows h = symbols_from 0 c.names rows (λ i x e. ap (slice_get c.names) (let m : 0 + i ≡ i = omega arith in m) ∙ e) h
 
 as_many_rows : (e : Exprs) (c : Contents) (names : List (List ℕ)) (rows : List SymbolRow) → AreRowsOf e c names rows → length rows ≡ length names
@@ -81,39 +81,39 @@ rows_held e c (x ∷ names) (r ∷ rows) h = All-cons (λ (r : SymbolRow). r.nam
 
 -- choices
 module _ (g : Gathered) (c : Contents) (sound : IsSound c) (keys : g.members.keys.items ≡ flat_map (member_keys_at c) c.places) (items : g.members.items.items ≡ flat_map (members_at c) c.places)
-    (d : (k : ℕ) → map (member_default_of g.arena) (items_of k g.member_defaults.keys.items g.member_defaults.items.items) ≡ elim (slice_get (filter opens c.places) k) as (λ _. List tree.MemberDefault) [ None ↦ [] | Some p ↦ (choice_of c p).defaults ]) where
-  members_same : (k : ℕ) (p : Placed) → slice_get (filter opens c.places) k ≡ Some p → items_of k g.members.keys.items g.members.items.items ≡ (choice_of c p).members
+    (d : (k : ℕ) → map (member_default_view g.arena) (items_of k g.member_defaults.keys.items g.member_defaults.items.items) ≡ elim (slice_get (filter opens c.places) k) as (λ _. List tree.MemberDefault) [ None ↦ [] | Some p ↦ (choice_of c p).defaults ]) where
+  members_same : (k : ℕ) (p : GroupInContext) → slice_get (filter opens c.places) k ≡ Some p → items_of k g.members.keys.items g.members.items.items ≡ (choice_of c p).members
   members_same k p e =
-      let number : choice_number c p.group.number ≡ Some k = number_is c sound p.group.number k (ap (λ ns. slice_get ns k) sound.choices ∙ map-get (λ (q : Placed). q.group.number) (filter opens c.places) k p e) in
+      let number : choice_number c p.group.number ≡ Some k = number_is c sound p.group.number k (ap (λ ns. slice_get ns k) sound.choices ∙ map-get (λ (q : GroupInContext). q.group.number) (filter opens c.places) k p e) in
       ap (λ ks. items_of k ks g.members.items.items) keys
       ∙ ap (items_of k (flat_map (member_keys_at c) c.places)) items
       ∙ members_are c k p.group.number number
 
-  choice_same : (k : ℕ) (p : Placed) (r : ChoiceRow) → slice_get (filter opens c.places) k ≡ Some p → IsChoiceRow g.arena p r → choice_gathered g k r ≡ choice_of c p
+  choice_same : (k : ℕ) (p : GroupInContext) (r : ChoiceRow) → slice_get (filter opens c.places) k ≡ Some p → IsChoiceRow g.arena p r → choice_gathered g k r ≡ choice_of c p
   choice_same k p r e h =
-      let defaults : map (member_default_of g.arena) (items_of k g.member_defaults.keys.items g.member_defaults.items.items) ≡ (choice_of c p).defaults = d k ∙ ap (λ o. elim o as (λ _. List tree.MemberDefault) [ None ↦ [] | Some q ↦ (choice_of c q).defaults ]) e in
+      let defaults : map (member_default_view g.arena) (items_of k g.member_defaults.keys.items g.member_defaults.items.items) ≡ (choice_of c p).defaults = d k ∙ ap (λ o. elim o as (λ _. List tree.MemberDefault) [ None ↦ [] | Some q ↦ (choice_of c q).defaults ]) e in
       rw (h.file_is, h.line_is, h.prompt_is, members_same k p e, defaults) refl
 
-  choices_from : (n : ℕ) (ps : List Placed) (rows : List ChoiceRow) → ((i : ℕ) (p : Placed) → slice_get ps i ≡ Some p → slice_get (filter opens c.places) (n + i) ≡ Some p) → AreChoiceRows g.arena ps rows
-      → seen_from (choice_gathered g) n rows ≡ map (choice_of c) ps
+  choices_from : (n : ℕ) (ps : List GroupInContext) (rows : List ChoiceRow) → ((i : ℕ) (p : GroupInContext) → slice_get ps i ≡ Some p → slice_get (filter opens c.places) (n + i) ≡ Some p) → AreChoiceRows g.arena ps rows
+      → from_rows (choice_gathered g) n rows ≡ map (choice_of c) ps
   choices_from n [] [] at h = refl
   choices_from n [] (r ∷ rows) at h = absurd h
   choices_from n (p ∷ ps) [] at h = absurd h
   choices_from n (p ∷ ps) (r ∷ rows) at h =
       let here : slice_get (filter opens c.places) n ≡ Some p = ap (slice_get (filter opens c.places)) (let e : n ≡ n + 0 = omega arith in e) ∙ at 0 p refl in
       let rest = choices_from (suc n) ps rows (λ i y e. ap (slice_get (filter opens c.places)) (let m : suc n + i ≡ n + suc i = omega arith in m) ∙ at (suc i) y e) h.1 in
-      ap (λ k. k ∷ seen_from (choice_gathered g) (suc n) rows) (choice_same n p r here h.0) ∙ ap (λ ks. choice_of c p ∷ ks) rest
+      ap (λ k. k ∷ from_rows (choice_gathered g) (suc n) rows) (choice_same n p r here h.0) ∙ ap (λ ks. choice_of c p ∷ ks) rest
 
-  pub choices_are : (rows : List ChoiceRow) → AreChoiceRows g.arena (filter opens c.places) rows → seen_from (choice_gathered g) 0 rows ≡ map (choice_of c) (filter opens c.places)
+  pub choices_are : (rows : List ChoiceRow) → AreChoiceRows g.arena (filter opens c.places) rows → from_rows (choice_gathered g) 0 rows ≡ map (choice_of c) (filter opens c.places)
   choices_are rows h = choices_from 0 (filter opens c.places) rows (λ i p e. ap (slice_get (filter opens c.places)) (let m : 0 + i ≡ i = omega arith in m) ∙ e) h
 
-as_many_choices : (e : Exprs) (ps : List Placed) (rows : List ChoiceRow) → AreChoiceRows e ps rows → length rows ≡ length ps
+as_many_choices : (e : Exprs) (ps : List GroupInContext) (rows : List ChoiceRow) → AreChoiceRows e ps rows → length rows ≡ length ps
 as_many_choices e [] [] h = refl
 as_many_choices e [] (r ∷ rows) h = absurd h
 as_many_choices e (p ∷ ps) [] h = absurd h
 as_many_choices e (p ∷ ps) (r ∷ rows) h = ap suc (as_many_choices e ps rows h.1)
 
-prompts_held : (e : Exprs) (ps : List Placed) (rows : List ChoiceRow) → AreChoiceRows e ps rows → (k i : ℕ) (r : ChoiceRow) → slice_get rows k ≡ Some r → r.prompt ≡ Some i → i < length e.nodes
+prompts_held : (e : Exprs) (ps : List GroupInContext) (rows : List ChoiceRow) → AreChoiceRows e ps rows → (k i : ℕ) (r : ChoiceRow) → slice_get rows k ≡ Some r → r.prompt ≡ Some i → i < length e.nodes
 prompts_held e [] [] h k i r at is = cc
 prompts_held e [] (x ∷ rows) h k i r at is = absurd h
 prompts_held e (p ∷ ps) [] h k i r at is = absurd h
@@ -129,17 +129,17 @@ module _ (c : Contents) where
   place_fits None h = All-nil (λ s. s < length c.names)
   place_fits (Some n) h = below_one (length c.names) n (h n refl)
 
-  named_fits : (x : Option (List ℕ)) (n : ℕ) → option_and_then (λ y. place_of y c.names) x ≡ Some n → n < length c.names
+  named_fits : (x : Option (List ℕ)) (n : ℕ) → option_and_then (λ y. index_of_name y c.names) x ≡ Some n → n < length c.names
   named_fits None n e = cc
   named_fits (Some y) n e = get_below c.names n y (place-get y c.names n e)
 
   members_fit_at : (o : Option ℕ) (x : Option (List ℕ)) → All (λ s. s < length c.names) (member_in c o x)
   members_fit_at None x = All-nil (λ s. s < length c.names)
-  members_fit_at (Some k) x = place_fits (option_and_then (λ y. place_of y c.names) x) (named_fits x)
+  members_fit_at (Some k) x = place_fits (option_and_then (λ y. index_of_name y c.names) x) (named_fits x)
 
-  pub members_fit : (ps : List Placed) → All (λ s. s < length c.names) (flat_map (members_at c) ps)
+  pub members_fit : (ps : List GroupInContext) → All (λ s. s < length c.names) (flat_map (members_at c) ps)
   members_fit [] = All-nil (λ s. s < length c.names)
-  members_fit (p ∷ ps) = All-append (λ s. s < length c.names) (members_at c p) (flat_map (members_at c) ps) (members_fit_at (choice_round c p) (name_of p.group)) (members_fit ps)
+  members_fit (p ∷ ps) = All-append (λ s. s < length c.names) (members_at c p) (flat_map (members_at c) ps) (members_fit_at (enclosing_choice c p) (defined_name p.group)) (members_fit ps)
 
   mapped_keys : (k : ℕ) (xs : List ℕ) → k < length c.choices → All (λ n. n < length c.choices) (map (λ _. k) xs)
   mapped_keys k [] h = All-nil (λ n. n < length c.choices)
@@ -147,15 +147,15 @@ module _ (c : Contents) where
 
   keys_fit_at : (o : Option ℕ) (x : Option (List ℕ)) → ((k : ℕ) → o ≡ Some k → k < length c.choices) → All (λ n. n < length c.choices) (map (λ _. elim o as (λ _. ℕ) [ None ↦ 0 | Some k ↦ k ]) (member_in c o x))
   keys_fit_at None x h = All-nil (λ n. n < length c.choices)
-  keys_fit_at (Some k) x h = mapped_keys k (option_to_list (option_and_then (λ y. place_of y c.names) x)) (h k refl)
+  keys_fit_at (Some k) x h = mapped_keys k (option_to_list (option_and_then (λ y. index_of_name y c.names) x)) (h k refl)
 
   round_fits : (o : Option ℕ) (k : ℕ) → option_and_then (choice_number c) o ≡ Some k → k < length c.choices
   round_fits None k e = cc
   round_fits (Some n) k e = get_below c.choices k n (number-get n c.choices k e)
 
-  pub keys_fit : (ps : List Placed) → All (λ n. n < length c.choices) (flat_map (member_keys_at c) ps)
+  pub keys_fit : (ps : List GroupInContext) → All (λ n. n < length c.choices) (flat_map (member_keys_at c) ps)
   keys_fit [] = All-nil (λ n. n < length c.choices)
-  keys_fit (p ∷ ps) = All-append (λ n. n < length c.choices) (member_keys_at c p) (flat_map (member_keys_at c) ps) (keys_fit_at (choice_round c p) (name_of p.group) (round_fits p.around.choice)) (keys_fit ps)
+  keys_fit (p ∷ ps) = All-append (λ n. n < length c.choices) (member_keys_at c p) (flat_map (member_keys_at c) ps) (keys_fit_at (enclosing_choice c p) (defined_name p.group) (round_fits p.enclosing.choice)) (keys_fit ps)
 
 keys_of_all : (n : ℕ) (ks : List ℕ) → All (λ k. k < n) ks → AreKeys n ks
 keys_of_all n ks h i l = h i 0 l
@@ -182,15 +182,15 @@ after_by : (f : Option TreeFault) (x : Option TreeFault) → elim f as (λ _. Op
 after_by None x e = e
 after_by (Some g) x e = cc
 
-pub faultless_of : (files : Files) (root : List ℕ) → fault_told files root ≡ None → tree_faults (reading files root).read ≡ []
-unfolding fault_told
+pub faultless_of : (files : Files) (root : List ℕ) → first_tree_fault files root ≡ None → tree_faults (reading files root).read ≡ []
+unfolding first_tree_fault
 faultless_of files root h = no_first (tree_faults (reading files root).read) (after_by (reading files root).fault (slice_get (tree_faults (reading files root).read) 0) h)
 
 -- the whole, part by part
 module _ (files : Files) (root : List ℕ) (l : Listing) (symbols : SymbolParts) (choices : ChoiceParts) (summary : Summary) (g : Gathered)
     (arena_is : g.arena ≡ l.names.arena) (symbols_is : g.symbols ≡ symbols.rows) (attributes_is : g.attributes ≡ symbols.attributes) (choices_is : g.choices ≡ choices.rows) (members_is : g.members ≡ summary.members)
     (defaults_is : g.member_defaults ≡ choices.defaults) (entries_is : g.entries ≡ choices.entries) (titles_is : g.titles ≡ l.texts) (units_is : g.units ≡ symbols.units)
-    (shows : Shows l (reading files root).read) (s : AreSymbolParts l.names.arena (reading files root).read symbols) (k : AreChoiceParts l (reading files root).read choices)
+    (shows : RepresentsListing l (reading files root).read) (s : AreSymbolParts l.names.arena (reading files root).read symbols) (k : AreChoiceParts l (reading files root).read choices)
     (m : IsSummary (reading files root).read summary) (few : length l.groups.items < 2 ^ 32) where
   abbrev read : List Group
   read = (reading files root).read
@@ -218,35 +218,35 @@ module _ (files : Files) (root : List ℕ) (l : Listing) (symbols : SymbolParts)
   unfolding IsSummary
   items = ap (λ v. v.items.items) members_is ∙ m.members
 
-  defaults_by : (o : Option Placed) → defaults_said c o ≡ elim o as (λ _. List tree.MemberDefault) [ None ↦ [] | Some p ↦ (choice_of c p).defaults ]
+  defaults_by : (o : Option GroupInContext) → choice_defaults_of c o ≡ elim o as (λ _. List tree.MemberDefault) [ None ↦ [] | Some p ↦ (choice_of c p).defaults ]
   defaults_by None = refl
   defaults_by (Some p) = refl
 
-  defaults : (j : ℕ) → map (member_default_of g.arena) (items_of j g.member_defaults.keys.items g.member_defaults.items.items) ≡ elim (slice_get (filter opens c.places) j) as (λ _. List tree.MemberDefault) [ None ↦ [] | Some p ↦ (choice_of c p).defaults ]
+  defaults : (j : ℕ) → map (member_default_view g.arena) (items_of j g.member_defaults.keys.items g.member_defaults.items.items) ≡ elim (slice_get (filter opens c.places) j) as (λ _. List tree.MemberDefault) [ None ↦ [] | Some p ↦ (choice_of c p).defaults ]
   defaults j = rw (arena_is, defaults_is) (k.defaults.are j ∙ defaults_by (slice_get (filter opens c.places) j))
 
-  entries : map (entry_seen g.arena g.titles.items) g.entries.items ≡ (whole_of read).entries
+  entries : map (entry_from_row g.arena g.titles.items) g.entries.items ≡ (tree_of_groups read).entries
   entries = rw (arena_is, titles_is, entries_is) k.entries
 
-  units : map unit_told g.units.items ≡ units_read c
+  units : map unit_view g.units.items ≡ units_read c
   units = rw units_is s.units
 
-  pub whole : whole_gathered g ≡ whole_of read
-  unfolding whole_of
+  pub whole : gathered_tree g ≡ tree_of_groups read
+  unfolding tree_of_groups
   whole = rw (symbols_are g c attributes g.symbols.items rows, choices_are g c sound keys items defaults g.choices.items choice_rows, entries, units) refl
 
   many_symbols : length g.symbols.items ≡ length c.names
   many_symbols = as_many_rows g.arena c c.names g.symbols.items rows
 
   many_choices : length g.choices.items ≡ length c.choices
-  many_choices = as_many_choices g.arena (filter opens c.places) g.choices.items choice_rows ∙ sym (length-map (filter opens c.places) (λ (p : Placed). p.group.number))
+  many_choices = as_many_choices g.arena (filter opens c.places) g.choices.items choice_rows ∙ sym (length-map (filter opens c.places) (λ (p : GroupInContext). p.group.number))
 
   many_names : length l.names.symbols.items ≡ length c.names
-  unfolding Shows
-  many_names = sym (length-map l.names.symbols.items (word_in l.names.arena)) ∙ ap length shows.names.words
+  unfolding RepresentsListing
+  many_names = sym (length-map l.names.symbols.items (text_of_name l.names.arena)) ∙ ap length shows.names.words
 
   many_places : length c.places ≡ length l.groups.items
-  unfolding Shows
+  unfolding RepresentsListing
   many_places = placed_count read ∙ sym (count_is l.names.arena (names_defined read) l.texts.items l.lines.items l.groups.items read shows.groups_are)
 
   few_choices : length g.choices.items < 2 ^ 32
@@ -257,11 +257,11 @@ module _ (files : Files) (root : List ℕ) (l : Listing) (symbols : SymbolParts)
   few_units : length g.units.items < 2 ^ 32
   few_units =
       let a = few_mapped (unit_read c) c.places in
-      let n : length g.units.items ≡ length (units_read c) = sym (length-map g.units.items unit_told) ∙ ap length units in
+      let n : length g.units.items ≡ length (units_read c) = sym (length-map g.units.items unit_view) ∙ ap length units in
       omega (arith, a, many_places, few, n)
 
   few_names : length c.names < 2 ^ 32
-  unfolding tree_of_files whole_of
+  unfolding tree_of_files tree_of_groups
   few_names = let n = few_defined files root in omega (arith, n, length-map c.names (symbol_of c))
 
   pub fits : GatheredFit g
@@ -290,11 +290,11 @@ module _ (files : Files) (root : List ℕ) (l : Listing) (symbols : SymbolParts)
   is_gathering = record { whole = whole; fits = fits }
 
 -- the tree is consistent
-pub consistent_of : (files : Files) (root : List ℕ) (g : Gathered) → fault_told files root ≡ None → IsGathering (reading files root).read g → IsConsistent (whole_gathered g)
+pub consistent_of : (files : Files) (root : List ℕ) (g : Gathered) → first_tree_fault files root ≡ None → IsGathering (reading files root).read g → IsConsistent (gathered_tree g)
 unfolding tree_of_files
 consistent_of files root g h k = subst IsConsistent (sym k.whole) (tree_is_consistent files root h)
 
 -- what a tree of it shows
-pub whole_is : (files : Files) (root : List ℕ) (g : Gathered) (t : Held) → IsGathering (reading files root).read g → t ≡ record { exprs = g.arena; whole = whole_gathered g } → t.whole ≡ tree_of_files files root
+pub whole_is : (files : Files) (root : List ℕ) (g : Gathered) (t : TreeModel) → IsGathering (reading files root).read g → t ≡ record { exprs = g.arena; whole = gathered_tree g } → t.whole ≡ tree_of_files files root
 unfolding tree_of_files
-whole_is files root g t k e = ap (λ (h : Held). h.whole) e ∙ k.whole
+whole_is files root g t k e = ap (λ (h : TreeModel). h.whole) e ∙ k.whole

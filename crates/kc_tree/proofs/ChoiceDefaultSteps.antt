@@ -7,50 +7,50 @@ use Rattle.std.proofs.lemmas.List.{map-append, length-map}
 use Rattle.std.proofs.lemmas.Option.{slice_get_within, slice_get_past}
 use Rattle.std.proofs.lemmas.List.Concat.{flat_map-cons}
 use Rattle.std.proofs.lemmas.List.Elements.{All-append, All-cons, All-nil}
-use Rattle.kc_expr.specs.Arena.{Exprs, stands_for}
+use Rattle.kc_expr.specs.Arena.{Exprs, node_expr}
 use Rattle.kc_expr.specs.Expr.{Expr}
-use Rattle.kc_expr.specs.Lookup.{place_of}
+use Rattle.kc_expr.specs.Lookup.{index_of_name}
 use Rattle.kc_expr.specs.Names.{name_alone}
-use Rattle.kc_statements.specs.Said.{attribute_in, valued_in, AttributeHeld}
+use Rattle.kc_statements.specs.StatementViews.{attribute_in, default_in, AttributeNodesExist}
 use Rattle.kc_statements.specs.declared.statement.Attribute.{Attribute as CodeAttribute}
 use Rattle.kc_statements.specs.declared.statement.Attribute.TheVariants as attributes
 use Rattle.kc_listing.specs.declared.listing.Line.{Line as CodeLine}
-use Rattle.kc_listing.specs.declared.listing.Names.{Names}
-use Rattle.kc_listing.specs.Names.{number_in, HasNames}
-use Rattle.kc_listing.specs.Shown.{line_in, Shows, WhatShown}
+use Rattle.kc_listing.specs.declared.listing.SymbolTable.{SymbolTable}
+use Rattle.kc_listing.specs.SymbolTable.{number_in, HasNames}
+use Rattle.kc_listing.specs.ListingView.{line_in, RepresentsListing, RepresentsHead}
 use Rattle.kc_listing.specs.declared.listing.Listing.{Listing}
-use Rattle.kc_listing.specs.declared.listing.What.{What as CodeWhat}
-use Rattle.kc_listing.specs.declared.listing.What.TheVariants as codes
+use Rattle.kc_listing.specs.declared.listing.GroupHead.{GroupHead as CodeWhat}
+use Rattle.kc_listing.specs.declared.listing.GroupHead.TheVariants as codes
 use Rattle.kc_listing.proofs.NameLemmas.{as_many_names}
 use Rattle.kc_tree_model.specs.Limits.{names_defined}
 use Rattle.kc_tree_model.specs.Trees as tree
 use Rattle.kc_tree_model.specs.declared.fault.TreeKind.{TreeKind}
 use Rattle.kc_tree_model.specs.declared.fault.TreeKind.TheVariants.{ChoiceDefault}
-use Rattle.kc_tree_model.specs.Statements.{Valued, default_of, choice}
-use Rattle.kc_tree_model.specs.Blocks.{Group, Line, said, open_blocks}
-use Rattle.kc_tree_model.specs.Conditions.{Placed, place, placed, attribute_condition}
+use Rattle.kc_tree_model.specs.Statements.{DefaultAttribute, default_of, choice}
+use Rattle.kc_tree_model.specs.Blocks.{Group, Line, of_head, open_blocks}
+use Rattle.kc_tree_model.specs.Conditions.{GroupInContext, group_in_context, groups_in_context, attribute_condition}
 use Rattle.kc_tree_model.specs.Contents.{Contents, contents_of, bare_name, member_named, member_names, member_default, name_among}
 use Rattle.kc_tree_model.proofs.Consistency.Lists.{place-get}
 use Rattle.kc_tree_model.specs.TreeFaults.{when, second_prompt, choice_faults, is_no_member, faults_at, faults_of_lines, faults_of_group, tree_faults}
-use Rattle.kc_tree.specs.Told.{member_default_of, MemberDefaultFits}
-use Rattle.kc_tree.specs.checker.ChoiceDefaults.{value_told, symbol_bare, member_kept, members_kept, group_kept, defaults_said, AreDefaultsOf, IsWalkOf}
+use Rattle.kc_tree.specs.Views.{member_default_view, MemberDefaultFits}
+use Rattle.kc_tree.specs.checker.ChoiceDefaults.{default_value_view, symbol_bare, member_default_row, member_default_rows, group_default_rows, choice_defaults_of, AreDefaultsOf, IsWalkOf}
 use Rattle.kc_tree.specs.checker.ChoiceRows.{opens}
 use Rattle.kc_tree.specs.checker.Conditioned.{own_conditions}
-use Rattle.kc_tree.specs.checker.Entries.{choices_behind}
+use Rattle.kc_tree.specs.checker.Entries.{choices_after}
 use Rattle.kc_tree.specs.checker.Summaries.{read_before, group_at, own_lines, is_choice_code}
 use Rattle.kc_tree.specs.declared.keyed.Keyed.{Keyed}
-use Rattle.kc_tree.specs.declared.walk.GroupConditions.{GroupConditions}
+use Rattle.kc_tree.specs.declared.group_walk.GroupConditions.{GroupConditions}
 use Rattle.kc_tree.proofs.Aligned.{none_before, all_before, count_is, place_numbered}
 use Rattle.kc_tree.proofs.ChoiceRowSteps.{as_many_conditions, as_long, both_at, places_more}
 use Rattle.kc_tree.proofs.Rounds.{numbers_of_choices, all_counted}
 use Rattle.kc_tree.specs.checker.GatheredAttributes.{AreKeys}
 use Rattle.kc_tree.specs.checker.GroupedItems.{items_of}
-use Rattle.kc_tree.specs.checker.Walked.{condition_at}
+use Rattle.kc_tree.specs.checker.Walks.{condition_at}
 use Rattle.kc_tree.specs.declared.symbol.MemberDefault.{MemberDefault}
 use Rattle.kc_tree.proofs.Symbols.{bare_is}
 
 -- a default's value is there
-pub value_there : (exprs : Exprs) (a : CodeAttribute) (v : ℕ) → AttributeHeld exprs a → value_told a ≡ Some v → v < length exprs.nodes
+pub value_there : (exprs : Exprs) (a : CodeAttribute) (v : ℕ) → AttributeNodesExist exprs a → default_value_view a ≡ Some v → v < length exprs.nodes
 value_there exprs (attributes.Typed k) v h e = cc
 value_there exprs (attributes.TypedPrompt k c) v h e = cc
 value_there exprs (attributes.TypedDefault k d) v h e = let s : d.value ≡ v = cc in let l = h.0 in omega arith
@@ -73,31 +73,31 @@ cons_one : {X : Type 0} (o : Option X) → cons_option o [] ≡ option_to_list o
 cons_one None = refl
 cons_one (Some x) = refl
 
-kept_more : (n : Names) (ls : List CodeLine) (cs : List ℕ) (i : ℕ) (d : CodeLine) (c : ℕ) → i < length ls → i < length cs
-    → members_kept n (take (suc i) ls) (take (suc i) cs) ≡ members_kept n (take i ls) (take i cs) ++ option_to_list (member_kept n (get_or ls i d) (get_or cs i c))
+kept_more : (n : SymbolTable) (ls : List CodeLine) (cs : List ℕ) (i : ℕ) (d : CodeLine) (c : ℕ) → i < length ls → i < length cs
+    → member_default_rows n (take (suc i) ls) (take (suc i) cs) ≡ member_default_rows n (take i ls) (take i cs) ++ option_to_list (member_default_row n (get_or ls i d) (get_or cs i c))
 kept_more n [] cs i d c h k = absurd (omega arith)
 kept_more n (l ∷ ls) [] i d c h k = absurd (omega arith)
-kept_more n (l ∷ ls) (x ∷ cs) zero d c h k = cons_one (member_kept n l x)
+kept_more n (l ∷ ls) (x ∷ cs) zero d c h k = cons_one (member_default_row n l x)
 kept_more n (l ∷ ls) (x ∷ cs) (suc i) d c h k =
-    ap (cons_option (member_kept n l x)) (kept_more n ls cs i d c (omega arith) (omega arith))
-    ∙ sym (cons_front (member_kept n l x) (members_kept n (take i ls) (take i cs)) (option_to_list (member_kept n (get_or ls i d) (get_or cs i c))))
+    ap (cons_option (member_default_row n l x)) (kept_more n ls cs i d c (omega arith) (omega arith))
+    ∙ sym (cons_front (member_default_row n l x) (member_default_rows n (take i ls) (take i cs)) (option_to_list (member_default_row n (get_or ls i d) (get_or cs i c))))
 
-pub items_more : (n : Names) (ls : List CodeLine) (cs : List ℕ) (i : ℕ) (d : CodeLine) (c : ℕ) (old mid new : List MemberDefault) (o : Option MemberDefault) → i < length ls → length cs ≡ length ls → o ≡ member_kept n (get_or ls i d) (get_or cs i c)
-    → mid ≡ old ++ members_kept n (take i ls) (take i cs) → new ≡ mid ++ option_to_list o → new ≡ old ++ members_kept n (take (i + 1) ls) (take (i + 1) cs)
+pub items_more : (n : SymbolTable) (ls : List CodeLine) (cs : List ℕ) (i : ℕ) (d : CodeLine) (c : ℕ) (old mid new : List MemberDefault) (o : Option MemberDefault) → i < length ls → length cs ≡ length ls → o ≡ member_default_row n (get_or ls i d) (get_or cs i c)
+    → mid ≡ old ++ member_default_rows n (take i ls) (take i cs) → new ≡ mid ++ option_to_list o → new ≡ old ++ member_default_rows n (take (i + 1) ls) (take (i + 1) cs)
 items_more n ls cs i d c old mid new o h k e m f =
     let s : i + 1 ≡ suc i = omega arith in
-    f ∙ ap (λ xs. xs ++ option_to_list o) m ∙ append_assoc old (members_kept n (take i ls) (take i cs)) (option_to_list o)
-    ∙ ap (λ xs. old ++ xs) (ap (λ x. members_kept n (take i ls) (take i cs) ++ option_to_list x) e ∙ sym (kept_more n ls cs i d c h (omega arith)) ∙ ap (λ j. members_kept n (take j ls) (take j cs)) (sym s))
+    f ∙ ap (λ xs. xs ++ option_to_list o) m ∙ append_assoc old (member_default_rows n (take i ls) (take i cs)) (option_to_list o)
+    ∙ ap (λ xs. old ++ xs) (ap (λ x. member_default_rows n (take i ls) (take i cs) ++ option_to_list x) e ∙ sym (kept_more n ls cs i d c h (omega arith)) ∙ ap (λ j. member_default_rows n (take j ls) (take j cs)) (sym s))
 
-pub keys_more : (n : Names) (choice : ℕ) (ls : List CodeLine) (cs : List ℕ) (i : ℕ) (d : CodeLine) (c : ℕ) (old mid new : List ℕ) (o : Option MemberDefault) → i < length ls → length cs ≡ length ls → o ≡ member_kept n (get_or ls i d) (get_or cs i c)
-    → mid ≡ old ++ map (λ (_ : MemberDefault). choice) (members_kept n (take i ls) (take i cs)) → new ≡ mid ++ map (λ (_ : MemberDefault). choice) (option_to_list o)
-    → new ≡ old ++ map (λ (_ : MemberDefault). choice) (members_kept n (take (i + 1) ls) (take (i + 1) cs))
+pub keys_more : (n : SymbolTable) (choice : ℕ) (ls : List CodeLine) (cs : List ℕ) (i : ℕ) (d : CodeLine) (c : ℕ) (old mid new : List ℕ) (o : Option MemberDefault) → i < length ls → length cs ≡ length ls → o ≡ member_default_row n (get_or ls i d) (get_or cs i c)
+    → mid ≡ old ++ map (λ (_ : MemberDefault). choice) (member_default_rows n (take i ls) (take i cs)) → new ≡ mid ++ map (λ (_ : MemberDefault). choice) (option_to_list o)
+    → new ≡ old ++ map (λ (_ : MemberDefault). choice) (member_default_rows n (take (i + 1) ls) (take (i + 1) cs))
 keys_more n number ls cs i d c old mid new o h k e m f =
     let s : i + 1 ≡ suc i = omega arith in
     let key : MemberDefault → ℕ = λ _. number in
-    f ∙ ap (λ xs. xs ++ map key (option_to_list o)) m ∙ append_assoc old (map key (members_kept n (take i ls) (take i cs))) (map key (option_to_list o))
-    ∙ ap (λ xs. old ++ xs) (sym (map-append key (members_kept n (take i ls) (take i cs)) (option_to_list o))
-    ∙ ap (map key) (ap (λ x. members_kept n (take i ls) (take i cs) ++ option_to_list x) e ∙ sym (kept_more n ls cs i d c h (omega arith)) ∙ ap (λ j. members_kept n (take j ls) (take j cs)) (sym s)))
+    f ∙ ap (λ xs. xs ++ map key (option_to_list o)) m ∙ append_assoc old (map key (member_default_rows n (take i ls) (take i cs))) (map key (option_to_list o))
+    ∙ ap (λ xs. old ++ xs) (sym (map-append key (member_default_rows n (take i ls) (take i cs)) (option_to_list o))
+    ∙ ap (map key) (ap (λ x. member_default_rows n (take i ls) (take i cs) ++ option_to_list x) e ∙ sym (kept_more n ls cs i d c h (omega arith)) ∙ ap (λ j. member_default_rows n (take j ls) (take j cs)) (sym s)))
 
 -- nothing is told of a choice's attributes
 append_none : {X : Type 0} (xs ys : List X) → xs ++ ys ≡ [] → (xs ≡ []) × (ys ≡ [])
@@ -118,18 +118,18 @@ flat_none f (y ∷ ys) zero x e h = let p = append_none (f y) (flat_map f ys) (s
 flat_none f (y ∷ ys) (suc i) x e h = let p = append_none (f y) (flat_map f ys) (sym (flat_map-cons f y ys) ∙ e) in flat_none f ys i x p.1 h
 
 -- each default of a choice without faults names a member
-abbrev NamesMember : List (List ℕ) → Option Valued → Type 0
+abbrev NamesMember : List (List ℕ) → Option DefaultAttribute → Type 0
 NamesMember members None = Unit {0}
 NamesMember members (Some d) = (x : List ℕ) × (member_named members d ≡ Some x) × (bare_name d.value ≡ Some x)
 
 among_same : (names : List (List ℕ)) (x y : List ℕ) → name_among names x ≡ Some y → x ≡ y
-among_same names x y e = by (place_of x names) e
+among_same names x y e = by (index_of_name x names) e
   where
     by : (o : Option ℕ) → option_map (λ _. x) o ≡ Some y → x ≡ y
     by None f = cc
     by (Some i) f = cc
 
-member_by : (members : List (List ℕ)) (d : Valued) (b : Bool) (o : Option (List ℕ)) → bare_name d.value ≡ o → is_none (cond b (option_and_then (name_among members) o) None) ≡ false
+member_by : (members : List (List ℕ)) (d : DefaultAttribute) (b : Bool) (o : Option (List ℕ)) → bare_name d.value ≡ o → is_none (cond b (option_and_then (name_among members) o) None) ≡ false
     → (x : List ℕ) × (cond b (option_and_then (name_among members) o) None ≡ Some x) × (o ≡ Some x)
 member_by members d false o e f = cc
 member_by members d true None e f = cc
@@ -139,7 +139,7 @@ member_by members d true (Some y) e f = by (name_among members y) refl f
     by None g h = cc
     by (Some x) g h = (x, refl, ap Some (among_same members y x g))
 
-names_by : (members : List (List ℕ)) (o : Option Valued) → is_no_member members o ≡ false → NamesMember members o
+names_by : (members : List (List ℕ)) (o : Option DefaultAttribute) → is_no_member members o ≡ false → NamesMember members o
 names_by members None e = tt
 names_by members (Some d) e =
     let r = member_by members d d.single (bare_name d.value) refl e in
@@ -153,27 +153,27 @@ no_line_faults g members prompted l ls e =
     (names_by members (default_of l.attribute) (when_none (is_no_member members (default_of l.attribute)) ChoiceDefault q.1), (_, p.1))
 
 -- the default of an attribute, by the code and by the definition
-view_option : (e : Exprs) (o : Option ℕ) (x : ℕ) (y : Expr) → stands_for e x ≡ y
-    → option_map (member_default_of e) (option_map (λ s. (let d : MemberDefault = record { member = s; condition = x } in d)) o) ≡ option_map (λ s. (let d : tree.MemberDefault = record { member = s; condition = y } in d)) o
+view_option : (e : Exprs) (o : Option ℕ) (x : ℕ) (y : Expr) → node_expr e x ≡ y
+    → option_map (member_default_view e) (option_map (λ s. (let d : MemberDefault = record { member = s; condition = x } in d)) o) ≡ option_map (λ s. (let d : tree.MemberDefault = record { member = s; condition = y } in d)) o
 view_option e None x y h = refl
 view_option e (Some s) x y h = ap (λ z. (let d : Option tree.MemberDefault = Some (record { member = s; condition = z }) in d)) h
 
-module _ (n : Names) (symbols : List ℕ) (c : Contents) (has : HasNames n.arena symbols n.numbers.items c.names) where
-  default_value : (p : Placed) (v : ℕ) (d : Valued) (x : ℕ) → stands_for n.arena v ≡ d.value → stands_for n.arena x ≡ attribute_condition p.around p.group d.condition → NamesMember (member_names c p.group.number) (Some d)
-      → option_map (member_default_of n.arena) (option_map (λ s. (let m : MemberDefault = record { member = s; condition = x } in m)) (symbol_bare n v)) ≡ member_default c p d
+module _ (n : SymbolTable) (symbols : List ℕ) (c : Contents) (has : HasNames n.arena symbols n.numbers.items c.names) where
+  default_value : (p : GroupInContext) (v : ℕ) (d : DefaultAttribute) (x : ℕ) → node_expr n.arena v ≡ d.value → node_expr n.arena x ≡ attribute_condition p.enclosing p.group d.condition → NamesMember (member_names c p.group.number) (Some d)
+      → option_map (member_default_view n.arena) (option_map (λ s. (let m : MemberDefault = record { member = s; condition = x } in m)) (symbol_bare n v)) ≡ member_default c p d
   default_value p v d x e f m =
-      let alone : name_alone (stands_for n.arena v) ≡ Some m.0 = ap name_alone e ∙ bare_is d.value ∙ m.2 in
-      let symbol : symbol_bare n v ≡ place_of m.0 c.names = ap (option_and_then (number_in n.arena.names n.numbers.items)) alone ∙ has.numbered m.0 in
-      view_option n.arena (symbol_bare n v) x (attribute_condition p.around p.group d.condition) f
-      ∙ ap (option_map (λ s. (let m : tree.MemberDefault = record { member = s; condition = attribute_condition p.around p.group d.condition } in m))) (symbol ∙ sym (ap (option_and_then (λ y. place_of y c.names)) m.1))
+      let alone : name_alone (node_expr n.arena v) ≡ Some m.0 = ap name_alone e ∙ bare_is d.value ∙ m.2 in
+      let symbol : symbol_bare n v ≡ index_of_name m.0 c.names = ap (option_and_then (number_in n.arena.names n.numbers.items)) alone ∙ has.numbered m.0 in
+      view_option n.arena (symbol_bare n v) x (attribute_condition p.enclosing p.group d.condition) f
+      ∙ ap (option_map (λ s. (let m : tree.MemberDefault = record { member = s; condition = attribute_condition p.enclosing p.group d.condition } in m))) (symbol ∙ sym (ap (option_and_then (λ y. index_of_name y c.names)) m.1))
 
-  one_default : (p : Placed) (k : ℕ) (a : CodeAttribute) (x : ℕ) → stands_for n.arena x ≡ condition_at p (record { number = k; attribute = attribute_in n.arena a }) → NamesMember (member_names c p.group.number) (default_of (attribute_in n.arena a))
-      → option_map (member_default_of n.arena) (option_map (λ s. (let m : MemberDefault = record { member = s; condition = x } in m)) (option_and_then (symbol_bare n) (value_told a))) ≡ option_and_then (member_default c p) (default_of (attribute_in n.arena a))
+  one_default : (p : GroupInContext) (k : ℕ) (a : CodeAttribute) (x : ℕ) → node_expr n.arena x ≡ condition_at p (record { number = k; attribute = attribute_in n.arena a }) → NamesMember (member_names c p.group.number) (default_of (attribute_in n.arena a))
+      → option_map (member_default_view n.arena) (option_map (λ s. (let m : MemberDefault = record { member = s; condition = x } in m)) (option_and_then (symbol_bare n) (default_value_view a))) ≡ option_and_then (member_default c p) (default_of (attribute_in n.arena a))
   one_default p k (attributes.Typed t) x f m = refl
   one_default p k (attributes.TypedPrompt t q) x f m = refl
-  one_default p k (attributes.TypedDefault t d) x f m = default_value p d.value (valued_in n.arena d) x refl f m
+  one_default p k (attributes.TypedDefault t d) x f m = default_value p d.value (default_in n.arena d) x refl f m
   one_default p k (attributes.Prompt q) x f m = refl
-  one_default p k (attributes.Default d) x f m = default_value p d.value (valued_in n.arena d) x refl f m
+  one_default p k (attributes.Default d) x f m = default_value p d.value (default_in n.arena d) x refl f m
   one_default p k (attributes.Depends id) x f m = refl
   one_default p k (attributes.Select s) x f m = refl
   one_default p k (attributes.Imply s) x f m = refl
@@ -182,34 +182,34 @@ module _ (n : Names) (symbols : List ℕ) (c : Contents) (has : HasNames n.arena
   one_default p k attributes.Help x f m = refl
   one_default p k attributes.Modules x f m = refl
 
-  view_cons : (o : Option MemberDefault) (xs : List MemberDefault) → map (member_default_of n.arena) (cons_option o xs) ≡ cons_option (option_map (member_default_of n.arena) o) (map (member_default_of n.arena) xs)
+  view_cons : (o : Option MemberDefault) (xs : List MemberDefault) → map (member_default_view n.arena) (cons_option o xs) ≡ cons_option (option_map (member_default_view n.arena) o) (map (member_default_view n.arena) xs)
   view_cons None xs = refl
   view_cons (Some x) xs = refl
 
-  said_cons : (p : Placed) (o : Option Valued) (l : Line) (ls : List Line) → default_of l.attribute ≡ o
+  said_cons : (p : GroupInContext) (o : Option DefaultAttribute) (l : Line) (ls : List Line) → default_of l.attribute ≡ o
       → filter_map (member_default c p) (filter_map (λ (l : Line). default_of l.attribute) (l ∷ ls)) ≡ cons_option (option_and_then (member_default c p) o) (filter_map (member_default c p) (filter_map (λ (l : Line). default_of l.attribute) ls))
   said_cons p None l ls e = rw e refl
   said_cons p (Some d) l ls e = rw e refl
 
-  pub all_defaults : (p : Placed) (ls : List CodeLine) (xs : List ℕ) (prompted : Bool) → map (stands_for n.arena) xs ≡ map (condition_at p) (map (line_in n.arena) ls)
+  pub all_defaults : (p : GroupInContext) (ls : List CodeLine) (xs : List ℕ) (prompted : Bool) → map (node_expr n.arena) xs ≡ map (condition_at p) (map (line_in n.arena) ls)
       → faults_of_lines p.group (choice_faults (member_names c p.group.number)) prompted (map (line_in n.arena) ls) ≡ []
-      → map (member_default_of n.arena) (members_kept n ls xs) ≡ filter_map (member_default c p) (filter_map (λ (l : Line). default_of l.attribute) (map (line_in n.arena) ls))
+      → map (member_default_view n.arena) (member_default_rows n ls xs) ≡ filter_map (member_default c p) (filter_map (λ (l : Line). default_of l.attribute) (map (line_in n.arena) ls))
   all_defaults p [] xs prompted e f = refl
   all_defaults p (l ∷ ls) [] prompted e f = absurd (let k : 0 ≡ suc (length (map (condition_at p) (map (line_in n.arena) ls))) = ap length e in cc)
   all_defaults p (l ∷ ls) (x ∷ xs) prompted e f =
-      let rest : map (stands_for n.arena) xs ≡ map (condition_at p) (map (line_in n.arena) ls) = cc in
-      let here : stands_for n.arena x ≡ condition_at p (line_in n.arena l) = cc in
+      let rest : map (node_expr n.arena) xs ≡ map (condition_at p) (map (line_in n.arena) ls) = cc in
+      let here : node_expr n.arena x ≡ condition_at p (line_in n.arena l) = cc in
       let q = no_line_faults p.group (member_names c p.group.number) prompted (line_in n.arena l) (map (line_in n.arena) ls) f in
-      view_cons (member_kept n l x) (members_kept n ls xs)
-      ∙ ap (λ o. cons_option o (map (member_default_of n.arena) (members_kept n ls xs))) (one_default p l.number l.attribute x here q.0)
+      view_cons (member_default_row n l x) (member_default_rows n ls xs)
+      ∙ ap (λ o. cons_option o (map (member_default_view n.arena) (member_default_rows n ls xs))) (one_default p l.number l.attribute x here q.0)
       ∙ ap (cons_option (option_and_then (member_default c p) (default_of (attribute_in n.arena l.attribute)))) (all_defaults p ls xs q.1.0 rest q.1.1)
       ∙ sym (said_cons p (default_of (attribute_in n.arena l.attribute)) (line_in n.arena l) (map (line_in n.arena) ls) refl)
 
   -- their numbers are there
-  kept_fits : (l : CodeLine) (x : ℕ) (o : Option ℕ) → option_and_then (symbol_bare n) (value_told l.attribute) ≡ o → x < length n.arena.nodes → (xs : List MemberDefault) → All (MemberDefaultFits (length n.arena.nodes) (length c.names)) xs
+  kept_fits : (l : CodeLine) (x : ℕ) (o : Option ℕ) → option_and_then (symbol_bare n) (default_value_view l.attribute) ≡ o → x < length n.arena.nodes → (xs : List MemberDefault) → All (MemberDefaultFits (length n.arena.nodes) (length c.names)) xs
       → All (MemberDefaultFits (length n.arena.nodes) (length c.names)) (cons_option (option_map (λ s. (let m : MemberDefault = record { member = s; condition = x } in m)) o) xs)
   kept_fits l x None e h xs a = a
-  kept_fits l x (Some s) e h xs a = All-cons (MemberDefaultFits (length n.arena.nodes) (length c.names)) (record { member = s; condition = x }) xs (symbol_small (value_told l.attribute) s e, h) a
+  kept_fits l x (Some s) e h xs a = All-cons (MemberDefaultFits (length n.arena.nodes) (length c.names)) (record { member = s; condition = x }) xs (symbol_small (default_value_view l.attribute) s e, h) a
     where
       by_name : (o : Option (List ℕ)) (s : ℕ) → option_and_then (number_in n.arena.names n.numbers.items) o ≡ Some s → s < length c.names
       by_name None s f = cc
@@ -217,12 +217,12 @@ module _ (n : Names) (symbols : List ℕ) (c : Contents) (has : HasNames n.arena
 
       symbol_small : (v : Option ℕ) (s : ℕ) → option_and_then (symbol_bare n) v ≡ Some s → s < length c.names
       symbol_small None s f = cc
-      symbol_small (Some v) s f = by_name (name_alone (stands_for n.arena v)) s f
+      symbol_small (Some v) s f = by_name (name_alone (node_expr n.arena v)) s f
 
-  pub all_fit : (ls : List CodeLine) (xs : List ℕ) → All (λ i. i < length n.arena.nodes) xs → All (MemberDefaultFits (length n.arena.nodes) (length c.names)) (members_kept n ls xs)
+  pub all_fit : (ls : List CodeLine) (xs : List ℕ) → All (λ i. i < length n.arena.nodes) xs → All (MemberDefaultFits (length n.arena.nodes) (length c.names)) (member_default_rows n ls xs)
   all_fit [] xs h = All-nil (MemberDefaultFits (length n.arena.nodes) (length c.names))
   all_fit (l ∷ ls) [] h = All-nil (MemberDefaultFits (length n.arena.nodes) (length c.names))
-  all_fit (l ∷ ls) (x ∷ xs) h = kept_fits l x (option_and_then (symbol_bare n) (value_told l.attribute)) refl (h 0 x (omega arith)) (members_kept n ls xs) (all_fit ls xs (λ k d i. h (suc k) d (omega arith)))
+  all_fit (l ∷ ls) (x ∷ xs) h = kept_fits l x (option_and_then (symbol_bare n) (default_value_view l.attribute)) refl (h 0 x (omega arith)) (member_default_rows n ls xs) (all_fit ls xs (λ k d i. h (suc k) d (omega arith)))
 
 -- items under a new key
 pub items_behind : {T : Type 0} (k m : ℕ) (keys : List ℕ) (items xs : List T) → length items ≡ length keys → items_of k (keys ++ map (λ (_ : T). m) xs) (items ++ xs) ≡ items_of k keys items ++ cond (m == k) xs []
@@ -268,7 +268,7 @@ pub get_last : {X : Type 0} (xs : List X) (y : X) → slice_get (xs ++ y ∷ [])
 get_last [] y = refl
 get_last (x ∷ xs) y = get_last xs y
 
-pub choices_by : (x : CodeWhat) (n : ℕ) → choices_behind x n ≡ cond (is_choice_code x) (n + 1) n
+pub choices_by : (x : CodeWhat) (n : ℕ) → choices_after x n ≡ cond (is_choice_code x) (n + 1) n
 choices_by (codes.Config s) n = refl
 choices_by codes.Choice n = refl
 choices_by (codes.Menu t) n = refl
@@ -279,14 +279,14 @@ choices_by codes.Mainmenu n = refl
 choices_by (codes.Ends b) n = refl
 choices_by codes.FileEnd n = refl
 
-pub choices_few : (x : CodeWhat) (n : ℕ) → choices_behind x n ≤ n + 1
+pub choices_few : (x : CodeWhat) (n : ℕ) → choices_after x n ≤ n + 1
 choices_few x n = by (is_choice_code x) (choices_by x n)
   where
-    by : (b : Bool) → choices_behind x n ≡ cond b (n + 1) n → choices_behind x n ≤ n + 1
+    by : (b : Bool) → choices_after x n ≡ cond b (n + 1) n → choices_after x n ≤ n + 1
     by true e = omega (arith, e)
     by false e = omega (arith, e)
 
-choice_said : (exprs : Exprs) (names texts : List (List ℕ)) (c : CodeWhat) (m : Group) → WhatShown exprs names texts c m.what → is_choice_code c ≡ true → m.what ≡ said choice
+choice_said : (exprs : Exprs) (names texts : List (List ℕ)) (c : CodeWhat) (m : Group) → RepresentsHead exprs names texts c m.what → is_choice_code c ≡ true → m.what ≡ of_head choice
 choice_said exprs names texts (codes.Config s) m h e = cc
 choice_said exprs names texts codes.Choice m h e = h
 choice_said exprs names texts (codes.Menu t) m h e = cc
@@ -297,13 +297,13 @@ choice_said exprs names texts codes.Mainmenu m h e = cc
 choice_said exprs names texts (codes.Ends b) m h e = cc
 choice_said exprs names texts codes.FileEnd m h e = cc
 
-choice_group_faults : (c : Contents) (p : Placed) → p.group.what ≡ said choice → faults_of_group c p ≡ faults_of_lines p.group (choice_faults (member_names c p.group.number)) false p.group.attributes
+choice_group_faults : (c : Contents) (p : GroupInContext) → p.group.what ≡ of_head choice → faults_of_group c p ≡ faults_of_lines p.group (choice_faults (member_names c p.group.number)) false p.group.attributes
 choice_group_faults c p e = rw e refl
 
 -- the defaults of the choices among the groups that were gone through
 module _ (l : Listing) (groups : List GroupConditions) (conditions : List ℕ) (read : List Group) (w : IsWalkOf l groups conditions read) where
   abbrev pub AreTo : ℕ → ℕ → Keyed MemberDefault → Type 0
-  AreTo i n found = AreDefaultsOf l (contents_of read) (placed (read_before i read)) n found
+  AreTo i n found = AreDefaultsOf l (contents_of read) (groups_in_context (read_before i read)) n found
 
   pub as_many : length groups ≡ length l.groups.items
   as_many = as_many_conditions l l.names.arena groups conditions read w.shows w.shown
@@ -315,93 +315,93 @@ module _ (l : Listing) (groups : List GroupConditions) (conditions : List ℕ) (
   no_defaults found e f = record {
     keys = rw e (λ i h. absurd (omega arith));
     fits = rw f (All-nil (MemberDefaultFits (length l.names.arena.nodes) (length l.names.symbols.items)));
-    are = λ k. rw e (ap (λ r. defaults_said (contents_of read) (slice_get (filter opens (placed r)) k)) (sym (none_before read)));
+    are = λ k. rw e (ap (λ r. choice_defaults_of (contents_of read) (slice_get (filter opens (groups_in_context r)) k)) (sym (none_before read)));
   }
 
   same_defaults : (i n : ℕ) (old new : Keyed MemberDefault) → i < length l.groups.items → is_choice_code (group_at l.groups.items i).what ≡ false → new.keys.items ≡ old.keys.items → new.items.items ≡ old.items.items → AreTo i n old → AreTo (i + 1) n new
   same_defaults i n old new h b e f d =
-      let same = places_more l l.names.arena groups conditions read w.shows w.shown i h false b ∙ append-nil (filter opens (placed (read_before i read))) in
+      let same = places_more l l.names.arena groups conditions read w.shows w.shown i h false b ∙ append-nil (filter opens (groups_in_context (read_before i read))) in
       record {
         keys = rw e d.keys;
         fits = rw f d.fits;
-        are = λ k. rw (e, f) (d.are k) ∙ ap (λ ps. defaults_said (contents_of read) (slice_get ps k)) (sym same);
+        are = λ k. rw (e, f) (d.are k) ∙ ap (λ ps. choice_defaults_of (contents_of read) (slice_get ps k)) (sym same);
       }
 
   own_defaults : (i : ℕ) (h : i < length l.groups.items) → is_choice_code (group_at l.groups.items i).what ≡ true → tree_faults read ≡ []
-      → map (member_default_of l.names.arena) (members_kept l.names (own_lines l i) (own_conditions groups conditions i))
-      ≡ defaults_said (contents_of read) (Some (place (open_blocks 0 (read_before i read)) (both_at l l.names.arena groups conditions read w.shows w.shown i h).group))
-  unfolding Shows tree_faults
+      → map (member_default_view l.names.arena) (member_default_rows l.names (own_lines l i) (own_conditions groups conditions i))
+      ≡ choice_defaults_of (contents_of read) (Some (group_in_context (open_blocks 0 (read_before i read)) (both_at l l.names.arena groups conditions read w.shows w.shown i h).group))
+  unfolding RepresentsListing tree_faults
   own_defaults i h b none =
       let x = both_at l l.names.arena groups conditions read w.shows w.shown i h in
-      let p : Placed = place (open_blocks 0 (read_before i read)) x.group in
+      let p : GroupInContext = group_in_context (open_blocks 0 (read_before i read)) x.group in
       let n = count_is l.names.arena (names_defined read) l.texts.items l.lines.items l.groups.items read w.shows.groups_are in
-      let faults = flat_none (faults_of_group (contents_of read)) (placed read) i p none (place_numbered read i x.group (omega (arith, n, h)) x.now) in
+      let faults = flat_none (faults_of_group (contents_of read)) (groups_in_context read) i p none (place_numbered read i x.group (omega (arith, n, h)) x.now) in
       let what = choice_said l.names.arena (names_defined read) l.texts.items (group_at l.groups.items i).what x.group x.shown.what b in
       let lines : faults_of_lines p.group (choice_faults (member_names (contents_of read) p.group.number)) false p.group.attributes ≡ [] = sym (choice_group_faults (contents_of read) p what) ∙ faults in
-      let own : map (stands_for l.names.arena) (own_conditions groups conditions i) ≡ map (condition_at p) (map (line_in l.names.arena) (own_lines l i)) = x.conditioned.own_are ∙ ap (map (condition_at p)) x.shown.attributes in
+      let own : map (node_expr l.names.arena) (own_conditions groups conditions i) ≡ map (condition_at p) (map (line_in l.names.arena) (own_lines l i)) = x.conditioned.own_are ∙ ap (map (condition_at p)) x.shown.attributes in
       all_defaults l.names l.names.symbols.items (contents_of read) w.shows.names p (own_lines l i) (own_conditions groups conditions i) false own (ap (λ ls. faults_of_lines p.group (choice_faults (member_names (contents_of read) p.group.number)) false ls) (sym x.shown.attributes) ∙ lines)
       ∙ ap (λ ls. filter_map (member_default (contents_of read) p) (filter_map (λ (l : Line). default_of l.attribute) ls)) (sym x.shown.attributes)
 
-  own_fit : (i : ℕ) → i < length l.groups.items → All (MemberDefaultFits (length l.names.arena.nodes) (length l.names.symbols.items)) (members_kept l.names (own_lines l i) (own_conditions groups conditions i))
-  unfolding Shows
+  own_fit : (i : ℕ) → i < length l.groups.items → All (MemberDefaultFits (length l.names.arena.nodes) (length l.names.symbols.items)) (member_default_rows l.names (own_lines l i) (own_conditions groups conditions i))
+  unfolding RepresentsListing
   own_fit i h =
       let x = both_at l l.names.arena groups conditions read w.shows w.shown i h in
       let many = as_many_names l.names.arena l.names.symbols.items l.names.numbers.items (names_defined read) w.shows.names in
-      subst (λ m. All (MemberDefaultFits (length l.names.arena.nodes) m) (members_kept l.names (own_lines l i) (own_conditions groups conditions i))) (sym many)
+      subst (λ m. All (MemberDefaultFits (length l.names.arena.nodes) m) (member_default_rows l.names (own_lines l i) (own_conditions groups conditions i))) (sym many)
       (all_fit l.names l.names.symbols.items (contents_of read) w.shows.names (own_lines l i) (own_conditions groups conditions i) x.conditioned.held)
 
-  by_key : (m k : ℕ) (b : Bool) (F : List Placed) (p : Placed) (old : List tree.MemberDefault) (xs : List MemberDefault) → (m == k) ≡ b → m ≡ length F
-      → old ≡ defaults_said (contents_of read) (slice_get F k) → map (member_default_of l.names.arena) xs ≡ defaults_said (contents_of read) (Some p)
-      → old ++ map (member_default_of l.names.arena) (cond b xs []) ≡ defaults_said (contents_of read) (slice_get (F ++ p ∷ []) k)
+  by_key : (m k : ℕ) (b : Bool) (F : List GroupInContext) (p : GroupInContext) (old : List tree.MemberDefault) (xs : List MemberDefault) → (m == k) ≡ b → m ≡ length F
+      → old ≡ choice_defaults_of (contents_of read) (slice_get F k) → map (member_default_view l.names.arena) xs ≡ choice_defaults_of (contents_of read) (Some p)
+      → old ++ map (member_default_view l.names.arena) (cond b xs []) ≡ choice_defaults_of (contents_of read) (slice_get (F ++ p ∷ []) k)
   by_key m k true F p old xs e n o x =
       let same : k ≡ length F = sym (eqb-true m k e) ∙ n in
       let none : slice_get F k ≡ None = slice_get_past F k (omega arith) in
-      let empty : old ≡ [] = o ∙ ap (defaults_said (contents_of read)) none in
-      ap (λ ys. ys ++ map (member_default_of l.names.arena) xs) empty ∙ x ∙ ap (defaults_said (contents_of read)) (sym (ap (slice_get (F ++ p ∷ [])) same ∙ get_last F p))
+      let empty : old ≡ [] = o ∙ ap (choice_defaults_of (contents_of read)) none in
+      ap (λ ys. ys ++ map (member_default_view l.names.arena) xs) empty ∙ x ∙ ap (choice_defaults_of (contents_of read)) (sym (ap (slice_get (F ++ p ∷ [])) same ∙ get_last F p))
   by_key m k false F p old xs e n o x =
-      append-nil old ∙ o ∙ ap (defaults_said (contents_of read)) (sym (get_other F p k (λ same. false≢true (sym e ∙ eq-eqb m k (n ∙ sym same)))))
+      append-nil old ∙ o ∙ ap (choice_defaults_of (contents_of read)) (sym (get_other F p k (λ same. false≢true (sym e ∙ eq-eqb m k (n ∙ sym same)))))
 
-  more_defaults : (i n : ℕ) (old new : Keyed MemberDefault) → i < length l.groups.items → is_choice_code (group_at l.groups.items i).what ≡ true → n ≡ length (filter opens (placed (read_before i read))) → tree_faults read ≡ []
-      → new.keys.items ≡ old.keys.items ++ map (λ (_ : MemberDefault). n) (members_kept l.names (own_lines l i) (own_conditions groups conditions i))
-      → new.items.items ≡ old.items.items ++ members_kept l.names (own_lines l i) (own_conditions groups conditions i) → AreTo i n old → AreTo (i + 1) (n + 1) new
+  more_defaults : (i n : ℕ) (old new : Keyed MemberDefault) → i < length l.groups.items → is_choice_code (group_at l.groups.items i).what ≡ true → n ≡ length (filter opens (groups_in_context (read_before i read))) → tree_faults read ≡ []
+      → new.keys.items ≡ old.keys.items ++ map (λ (_ : MemberDefault). n) (member_default_rows l.names (own_lines l i) (own_conditions groups conditions i))
+      → new.items.items ≡ old.items.items ++ member_default_rows l.names (own_lines l i) (own_conditions groups conditions i) → AreTo i n old → AreTo (i + 1) (n + 1) new
   more_defaults i n old new h b c none e f d =
-      let xs = members_kept l.names (own_lines l i) (own_conditions groups conditions i) in
-      let p : Placed = place (open_blocks 0 (read_before i read)) (both_at l l.names.arena groups conditions read w.shows w.shown i h).group in
-      let F : List Placed = filter opens (placed (read_before i read)) in
+      let xs = member_default_rows l.names (own_lines l i) (own_conditions groups conditions i) in
+      let p : GroupInContext = group_in_context (open_blocks 0 (read_before i read)) (both_at l l.names.arena groups conditions read w.shows w.shown i h).group in
+      let F : List GroupInContext = filter opens (groups_in_context (read_before i read)) in
       let places = places_more l l.names.arena groups conditions read w.shows w.shown i h true b in
       record {
         keys = rw e (keys_behind n old.keys.items xs d.keys);
         fits = rw f (All-append (MemberDefaultFits (length l.names.arena.nodes) (length l.names.symbols.items)) old.items.items xs d.fits (own_fit i h));
         are = λ k. (let cut : items_of k new.keys.items new.items.items ≡ items_of k old.keys.items old.items.items ++ cond (n == k) xs [] = rw (e, f) (items_behind k n old.keys.items old.items.items xs old.even) in
-            ap (map (member_default_of l.names.arena)) cut ∙ map-append (member_default_of l.names.arena) (items_of k old.keys.items old.items.items) (cond (n == k) xs [])
-            ∙ by_key n k (n == k) F p (map (member_default_of l.names.arena) (items_of k old.keys.items old.items.items)) xs refl c (d.are k) (own_defaults i h b none)
-            ∙ ap (λ ps. defaults_said (contents_of read) (slice_get ps k)) (sym places));
+            ap (map (member_default_view l.names.arena)) cut ∙ map-append (member_default_view l.names.arena) (items_of k old.keys.items old.items.items) (cond (n == k) xs [])
+            ∙ by_key n k (n == k) F p (map (member_default_view l.names.arena) (items_of k old.keys.items old.items.items)) xs refl c (d.are k) (own_defaults i h b none)
+            ∙ ap (λ ps. choice_defaults_of (contents_of read) (slice_get ps k)) (sym places));
       }
 
   -- one group more
-  pub one_more : (i n n2 : ℕ) (what : CodeWhat) (old new : Keyed MemberDefault) → i < length l.groups.items → what ≡ (group_at l.groups.items i).what → n ≡ length (numbers_of_choices (read_before i read)) → n2 ≡ choices_behind what n → tree_faults read ≡ []
-      → new.keys.items ≡ old.keys.items ++ map (λ (_ : MemberDefault). n) (group_kept what l.names (own_lines l i) (own_conditions groups conditions i))
-      → new.items.items ≡ old.items.items ++ group_kept what l.names (own_lines l i) (own_conditions groups conditions i) → AreTo i n old → AreTo (i + 1) n2 new
+  pub one_more : (i n n2 : ℕ) (what : CodeWhat) (old new : Keyed MemberDefault) → i < length l.groups.items → what ≡ (group_at l.groups.items i).what → n ≡ length (numbers_of_choices (read_before i read)) → n2 ≡ choices_after what n → tree_faults read ≡ []
+      → new.keys.items ≡ old.keys.items ++ map (λ (_ : MemberDefault). n) (group_default_rows what l.names (own_lines l i) (own_conditions groups conditions i))
+      → new.items.items ≡ old.items.items ++ group_default_rows what l.names (own_lines l i) (own_conditions groups conditions i) → AreTo i n old → AreTo (i + 1) n2 new
   one_more i n n2 what old new h v c m none e f d =
       by (is_choice_code what) refl e f
     where
-      behind : (x : CodeWhat) (b : Bool) → is_choice_code x ≡ b → choices_behind x n ≡ cond b (n + 1) n
+      behind : (x : CodeWhat) (b : Bool) → is_choice_code x ≡ b → choices_after x n ≡ cond b (n + 1) n
       behind x b e = choices_by x n ∙ ap (λ t. cond t (n + 1) n) e
 
-      by : (b : Bool) → is_choice_code what ≡ b → new.keys.items ≡ old.keys.items ++ map (λ (_ : MemberDefault). n) (cond (is_choice_code what) (members_kept l.names (own_lines l i) (own_conditions groups conditions i)) [])
-          → new.items.items ≡ old.items.items ++ cond (is_choice_code what) (members_kept l.names (own_lines l i) (own_conditions groups conditions i)) [] → AreTo (i + 1) n2 new
+      by : (b : Bool) → is_choice_code what ≡ b → new.keys.items ≡ old.keys.items ++ map (λ (_ : MemberDefault). n) (cond (is_choice_code what) (member_default_rows l.names (own_lines l i) (own_conditions groups conditions i)) [])
+          → new.items.items ≡ old.items.items ++ cond (is_choice_code what) (member_default_rows l.names (own_lines l i) (own_conditions groups conditions i)) [] → AreTo (i + 1) n2 new
       by true t e f =
-          let count : n ≡ length (filter opens (placed (read_before i read))) = c ∙ length-map (filter opens (placed (read_before i read))) (λ (p : Placed). p.group.number) in
+          let count : n ≡ length (filter opens (groups_in_context (read_before i read))) = c ∙ length-map (filter opens (groups_in_context (read_before i read))) (λ (p : GroupInContext). p.group.number) in
           subst (λ k. AreTo (i + 1) k new) (sym (m ∙ behind what true t)) (more_defaults i n old new h (ap is_choice_code (sym v) ∙ t) count none (rw t at e) (rw t at f) d)
       by false t e f =
           subst (λ k. AreTo (i + 1) k new) (sym (m ∙ behind what false t))
           (same_defaults i n old new h (ap is_choice_code (sym v) ∙ t) ((rw t at e) ∙ append-nil old.keys.items) ((rw t at f) ∙ append-nil old.items.items) d)
 
-  pub all_gathered : (i n : ℕ) (found : Keyed MemberDefault) → i ≡ length l.groups.items → n ≡ length (numbers_of_choices (read_before i read)) → AreTo i n found → AreDefaultsOf l (contents_of read) (placed read) (length (contents_of read).choices) found
-  unfolding Shows
+  pub all_gathered : (i n : ℕ) (found : Keyed MemberDefault) → i ≡ length l.groups.items → n ≡ length (numbers_of_choices (read_before i read)) → AreTo i n found → AreDefaultsOf l (contents_of read) (groups_in_context read) (length (contents_of read).choices) found
+  unfolding RepresentsListing
   all_gathered i n found e c d =
       let k = count_is l.names.arena (names_defined read) l.texts.items l.lines.items l.groups.items read w.shows.groups_are in
       let j : i ≡ length read = e ∙ k in
       let all : read_before i read ≡ read = ap (λ m. read_before m read) j ∙ all_before read in
-      subst (λ r. AreDefaultsOf l (contents_of read) (placed r) (length (contents_of read).choices) found) all
+      subst (λ r. AreDefaultsOf l (contents_of read) (groups_in_context r) (length (contents_of read).choices) found) all
       (subst (λ m. AreTo i m found) (c ∙ all_counted read i j) d)

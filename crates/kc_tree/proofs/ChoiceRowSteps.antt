@@ -3,31 +3,31 @@ use Rattle.std.proofs.Common.{◌≡◌, ℕ, suc, ◌+◌, ◌<◌, Bool, true,
 use Rattle.std.specs.Prelude.{All, filter, filter_map, slice_get, option_map}
 use Rattle.std.proofs.lemmas.List.{length-map}
 use Rattle.std.proofs.lemmas.List.Elements.{filter-append}
-use Rattle.kc_expr.specs.Arena.{Exprs, stands_for}
+use Rattle.kc_expr.specs.Arena.{Exprs, node_expr}
 use Rattle.kc_expr.specs.Expr.{Expr}
-use Rattle.kc_statements.specs.Said.{attribute_in}
+use Rattle.kc_statements.specs.StatementViews.{attribute_in}
 use Rattle.kc_statements.specs.declared.statement.Attribute.{Attribute as CodeAttribute}
 use Rattle.kc_statements.specs.declared.statement.Attribute.TheVariants as attributes
 use Rattle.kc_tree_model.specs.Statements.{prompt_of}
 use Rattle.kc_tree_model.specs.Blocks.{Group, Line, open_blocks}
-use Rattle.kc_tree_model.specs.Conditions.{Placed, place, placed, prompt_condition, prompts_of}
+use Rattle.kc_tree_model.specs.Conditions.{GroupInContext, group_in_context, groups_in_context, prompt_condition, prompts_of}
 use Rattle.kc_listing.specs.declared.listing.Line.{Line as CodeLine}
 use Rattle.kc_listing.specs.declared.listing.Listing.{Listing}
-use Rattle.kc_listing.specs.Shown.{Shows, line_in, GroupShown}
+use Rattle.kc_listing.specs.ListingView.{RepresentsListing, line_in, RepresentsGroup}
 use Rattle.kc_tree_model.specs.Limits.{names_defined}
-use Rattle.kc_tree.specs.checker.ChoiceRows.{IsGoneThrough, choice_kept, opens, IsChoiceRow, AreChoiceRows}
+use Rattle.kc_tree.specs.checker.ChoiceRows.{IsGoneThrough, choice_row, opens, IsChoiceRow, AreChoiceRows}
 use Rattle.kc_tree.specs.checker.Conditioned.{conditions_at, own_conditions, IsConditioned}
 use Rattle.kc_tree.specs.checker.Conjuncts.{is_prompt}
 use Rattle.kc_tree.specs.checker.Firsts.{first_prompt}
-use Rattle.kc_tree.specs.checker.Summaries.{read_before, group_at, own_lines, is_choice_code, IsShown}
-use Rattle.kc_tree.specs.checker.Walked.{condition_at, ConditionsShown, AllConditionsShown}
+use Rattle.kc_tree.specs.checker.Summaries.{read_before, group_at, own_lines, is_choice_code, IsRepresented}
+use Rattle.kc_tree.specs.checker.Walks.{condition_at, RepresentsConditions, RepresentsAllConditions}
 use Rattle.kc_tree.specs.declared.parts.ChoiceRow.{ChoiceRow}
-use Rattle.kc_tree.specs.declared.walk.GroupConditions.{GroupConditions}
+use Rattle.kc_tree.specs.declared.group_walk.GroupConditions.{GroupConditions}
 use Rattle.kc_tree.proofs.Aligned.{shown_at, placed_more, none_before, all_before, count_is}
 use Rattle.kc_tree.proofs.Conditioned.{conditioned_at, conditions_count}
 use Rattle.kc_tree.proofs.Rounds.{begins_is}
 
-pub shown_of : (l : Listing) (groups : List GroupConditions) (conditions : List ℕ) → IsGoneThrough l groups conditions → IsShown l
+pub shown_of : (l : Listing) (groups : List GroupConditions) (conditions : List ℕ) → IsGoneThrough l groups conditions → IsRepresented l
 shown_of l groups conditions g = record { read = g.read; shows = g.shows }
 
 pub conditioned_of : (l : Listing) (groups : List GroupConditions) (conditions : List ℕ) → IsGoneThrough l groups conditions → IsConditioned groups conditions
@@ -37,13 +37,13 @@ same_group : (m n : Group) (a b : List Group) → m ∷ a ≡ n ∷ b → m ≡ 
 same_group m n a b e = cc
 
 -- the first prompt
-module _ (old far : Exprs) (p : Placed) where
+module _ (old far : Exprs) (p : GroupInContext) where
   abbrev prompts_among : List Line → List Expr
-  prompts_among lines = map (prompt_condition p.around p.group) (filter_map (λ (l : Line). prompt_of l.attribute) lines)
+  prompts_among lines = map (prompt_condition p.enclosing p.group) (filter_map (λ (l : Line). prompt_of l.attribute) lines)
 
-  prompt_one : (n : ℕ) (a : CodeAttribute) (o : ℕ) (os : List ℕ) (ls : List CodeLine) (rest : List Line) → stands_for far o ≡ condition_at p (record { number = n; attribute = attribute_in old a })
-      → option_map (stands_for far) (first_prompt ls os) ≡ slice_get (prompts_among rest) 0
-      → option_map (stands_for far) (first_prompt (record { number = n; attribute = a } ∷ ls) (o ∷ os)) ≡ slice_get (prompts_among (record { number = n; attribute = attribute_in old a } ∷ rest)) 0
+  prompt_one : (n : ℕ) (a : CodeAttribute) (o : ℕ) (os : List ℕ) (ls : List CodeLine) (rest : List Line) → node_expr far o ≡ condition_at p (record { number = n; attribute = attribute_in old a })
+      → option_map (node_expr far) (first_prompt ls os) ≡ slice_get (prompts_among rest) 0
+      → option_map (node_expr far) (first_prompt (record { number = n; attribute = a } ∷ ls) (o ∷ os)) ≡ slice_get (prompts_among (record { number = n; attribute = attribute_in old a } ∷ rest)) 0
   prompt_one n (attributes.Typed k) o os ls rest e h = h
   prompt_one n (attributes.TypedPrompt k c) o os ls rest e h = ap Some e
   prompt_one n (attributes.TypedDefault k d) o os ls rest e h = h
@@ -57,17 +57,17 @@ module _ (old far : Exprs) (p : Placed) where
   prompt_one n attributes.Help o os ls rest e h = h
   prompt_one n attributes.Modules o os ls rest e h = h
 
-  prompt_first : (ls : List CodeLine) (os : List ℕ) → map (stands_for far) os ≡ map (condition_at p) (map (line_in old) ls)
-      → option_map (stands_for far) (first_prompt ls os) ≡ slice_get (prompts_among (map (line_in old) ls)) 0
+  prompt_first : (ls : List CodeLine) (os : List ℕ) → map (node_expr far) os ≡ map (condition_at p) (map (line_in old) ls)
+      → option_map (node_expr far) (first_prompt ls os) ≡ slice_get (prompts_among (map (line_in old) ls)) 0
   prompt_first [] os e = refl
   prompt_first (l ∷ ls) [] e = absurd (let k : 0 ≡ suc (length (map (condition_at p) (map (line_in old) ls))) = ap length e in cc)
   prompt_first (l ∷ ls) (o ∷ os) e =
-      let rest : map (stands_for far) os ≡ map (condition_at p) (map (line_in old) ls) = cc in
-      let here : stands_for far o ≡ condition_at p (line_in old l) = cc in
+      let rest : map (node_expr far) os ≡ map (condition_at p) (map (line_in old) ls) = cc in
+      let here : node_expr far o ≡ condition_at p (line_in old l) = cc in
       prompt_one l.number l.attribute o os ls (map (line_in old) ls) here (prompt_first ls os rest)
 
-  pub prompt_shown : (ls : List CodeLine) (os : List ℕ) → p.group.attributes ≡ map (line_in old) ls → map (stands_for far) os ≡ map (condition_at p) p.group.attributes
-      → option_map (stands_for far) (first_prompt ls os) ≡ slice_get (prompts_of p.around p.group) 0
+  pub prompt_shown : (ls : List CodeLine) (os : List ℕ) → p.group.attributes ≡ map (line_in old) ls → map (node_expr far) os ≡ map (condition_at p) p.group.attributes
+      → option_map (node_expr far) (first_prompt ls os) ≡ slice_get (prompts_of p.enclosing p.group) 0
   prompt_shown ls os a e = prompt_first ls os (e ∙ ap (map (condition_at p)) a) ∙ sym (ap (λ xs. slice_get (prompts_among xs) 0) a)
 
 prompt_held : (n : ℕ) (ls : List CodeLine) (os : List ℕ) → All (λ i. i < n) os → (i : ℕ) → first_prompt ls os ≡ Some i → i < n
@@ -80,27 +80,27 @@ prompt_held n (l ∷ ls) (o ∷ os) h i e = by (is_prompt l.attribute) (λ j f. 
     by false k e = k i e
 
 -- one row more
-rows_put : (exprs : Exprs) (ps : List Placed) (rows : List ChoiceRow) (p : Placed) (r : ChoiceRow) → AreChoiceRows exprs ps rows → IsChoiceRow exprs p r → AreChoiceRows exprs (ps ++ p ∷ []) (rows ++ r ∷ [])
+rows_put : (exprs : Exprs) (ps : List GroupInContext) (rows : List ChoiceRow) (p : GroupInContext) (r : ChoiceRow) → AreChoiceRows exprs ps rows → IsChoiceRow exprs p r → AreChoiceRows exprs (ps ++ p ∷ []) (rows ++ r ∷ [])
 rows_put exprs [] [] p r h k = (k, tt)
 rows_put exprs [] (s ∷ rows) p r h k = absurd h
 rows_put exprs (q ∷ ps) [] p r h k = absurd h
 rows_put exprs (q ∷ ps) (s ∷ rows) p r h k = (h.0, rows_put exprs ps rows p r h.1 k)
 
 -- a group and its conditions
-module _ (l : Listing) (exprs : Exprs) (groups : List GroupConditions) (conditions : List ℕ) (read : List Group) (s : Shows l read) (k : AllConditionsShown exprs l.texts.items conditions (length conditions) (reverse groups) read) where
+module _ (l : Listing) (exprs : Exprs) (groups : List GroupConditions) (conditions : List ℕ) (read : List Group) (s : RepresentsListing l read) (k : RepresentsAllConditions exprs l.texts.items conditions (length conditions) (reverse groups) read) where
   pub as_many_conditions : length groups ≡ length l.groups.items
-  unfolding Shows
+  unfolding RepresentsListing
   as_many_conditions = conditions_count exprs l.texts.items conditions groups read k ∙ sym (count_is l.names.arena (names_defined read) l.texts.items l.lines.items l.groups.items read s.groups_are)
 
   -- the place of a group, with how it is kept and its conditions
   pub record IsBoth (i : ℕ) : Type 0 where
     pub group : Group
     pub now : read_before (i + 1) read ≡ group ∷ read_before i read
-    pub shown : GroupShown l.names.arena (names_defined read) l.texts.items (own_lines l i) i (group_at l.groups.items i) group
-    pub conditioned : ConditionsShown exprs l.texts.items (own_conditions groups conditions i) (conditions_at groups i) (place (open_blocks 0 (read_before i read)) group)
+    pub shown : RepresentsGroup l.names.arena (names_defined read) l.texts.items (own_lines l i) i (group_at l.groups.items i) group
+    pub conditioned : RepresentsConditions exprs l.texts.items (own_conditions groups conditions i) (conditions_at groups i) (group_in_context (open_blocks 0 (read_before i read)) group)
 
   pub both_at : (i : ℕ) → i < length l.groups.items → IsBoth i
-  unfolding Shows
+  unfolding RepresentsListing
   both_at i h =
       let a = shown_at l.names.arena (names_defined read) l.texts.items l.lines.items l.groups.items read s.groups_are i h in
       let b = conditioned_at exprs l.texts.items conditions groups read k i (omega (arith, as_many_conditions, h)) in
@@ -109,23 +109,23 @@ module _ (l : Listing) (exprs : Exprs) (groups : List GroupConditions) (conditio
         group = a.group;
         now = a.now;
         shown = a.shown;
-        conditioned = subst (λ m. ConditionsShown exprs l.texts.items (own_conditions groups conditions i) (conditions_at groups i) (place (open_blocks 0 (read_before i read)) m)) e b.shown;
+        conditioned = subst (λ m. RepresentsConditions exprs l.texts.items (own_conditions groups conditions i) (conditions_at groups i) (group_in_context (open_blocks 0 (read_before i read)) m)) e b.shown;
       }
 
   pub as_long : (i : ℕ) → i < length l.groups.items → length (own_conditions groups conditions i) ≡ length (own_lines l i)
   as_long i h =
       let b = both_at i h in
-      let p : Placed = place (open_blocks 0 (read_before i read)) b.group in
-      sym (length-map (own_conditions groups conditions i) (stands_for exprs))
+      let p : GroupInContext = group_in_context (open_blocks 0 (read_before i read)) b.group in
+      sym (length-map (own_conditions groups conditions i) (node_expr exprs))
       ∙ ap length b.conditioned.own_are
       ∙ length-map b.group.attributes (condition_at p)
       ∙ ap length b.shown.attributes
       ∙ length-map (own_lines l i) (line_in l.names.arena)
 
-  pub row_shown : (i : ℕ) (h : i < length l.groups.items) → IsChoiceRow exprs (place (open_blocks 0 (read_before i read)) (both_at i h).group) (choice_kept (group_at l.groups.items i) (own_lines l i) (own_conditions groups conditions i))
+  pub row_shown : (i : ℕ) (h : i < length l.groups.items) → IsChoiceRow exprs (group_in_context (open_blocks 0 (read_before i read)) (both_at i h).group) (choice_row (group_at l.groups.items i) (own_lines l i) (own_conditions groups conditions i))
   row_shown i h =
       let b = both_at i h in
-      let p : Placed = place (open_blocks 0 (read_before i read)) b.group in
+      let p : GroupInContext = group_in_context (open_blocks 0 (read_before i read)) b.group in
       record {
         file_is = sym b.shown.file_is;
         line_is = sym b.shown.line_is;
@@ -134,32 +134,32 @@ module _ (l : Listing) (exprs : Exprs) (groups : List GroupConditions) (conditio
       }
 
   abbrev pub AreRowsTo : ℕ → List ChoiceRow → Type 0
-  AreRowsTo i rows = AreChoiceRows exprs (filter opens (placed (read_before i read))) rows
+  AreRowsTo i rows = AreChoiceRows exprs (filter opens (groups_in_context (read_before i read))) rows
 
   pub places_more : (i : ℕ) (h : i < length l.groups.items) (b : Bool) → is_choice_code (group_at l.groups.items i).what ≡ b
-      → filter opens (placed (read_before (i + 1) read)) ≡ filter opens (placed (read_before i read)) ++ cond b (place (open_blocks 0 (read_before i read)) (both_at i h).group ∷ []) []
+      → filter opens (groups_in_context (read_before (i + 1) read)) ≡ filter opens (groups_in_context (read_before i read)) ++ cond b (group_in_context (open_blocks 0 (read_before i read)) (both_at i h).group ∷ []) []
   places_more i h b e =
       let x = both_at i h in
-      let p : Placed = place (open_blocks 0 (read_before i read)) x.group in
+      let p : GroupInContext = group_in_context (open_blocks 0 (read_before i read)) x.group in
       ap (filter opens) (placed_more read i x.group x.now)
-      ∙ filter-append opens (placed (read_before i read)) (p ∷ [])
-      ∙ ap (λ t. filter opens (placed (read_before i read)) ++ cond t (p ∷ []) []) (begins_is l.names.arena (names_defined read) l.texts.items (group_at l.groups.items i).what x.group x.shown.what ∙ e)
+      ∙ filter-append opens (groups_in_context (read_before i read)) (p ∷ [])
+      ∙ ap (λ t. filter opens (groups_in_context (read_before i read)) ++ cond t (p ∷ []) []) (begins_is l.names.arena (names_defined read) l.texts.items (group_at l.groups.items i).what x.group x.shown.what ∙ e)
 
   pub rows_more : (i : ℕ) (rows : List ChoiceRow) → i < length l.groups.items → is_choice_code (group_at l.groups.items i).what ≡ true → AreRowsTo i rows
-      → AreRowsTo (i + 1) (rows ++ choice_kept (group_at l.groups.items i) (own_lines l i) (own_conditions groups conditions i) ∷ [])
+      → AreRowsTo (i + 1) (rows ++ choice_row (group_at l.groups.items i) (own_lines l i) (own_conditions groups conditions i) ∷ [])
   rows_more i rows h e r =
-      let p : Placed = place (open_blocks 0 (read_before i read)) (both_at i h).group in
-      let row = choice_kept (group_at l.groups.items i) (own_lines l i) (own_conditions groups conditions i) in
-      subst (λ ps. AreChoiceRows exprs ps (rows ++ row ∷ [])) (sym (places_more i h true e)) (rows_put exprs (filter opens (placed (read_before i read))) rows p row r (row_shown i h))
+      let p : GroupInContext = group_in_context (open_blocks 0 (read_before i read)) (both_at i h).group in
+      let row = choice_row (group_at l.groups.items i) (own_lines l i) (own_conditions groups conditions i) in
+      subst (λ ps. AreChoiceRows exprs ps (rows ++ row ∷ [])) (sym (places_more i h true e)) (rows_put exprs (filter opens (groups_in_context (read_before i read))) rows p row r (row_shown i h))
 
   pub rows_same : (i : ℕ) (rows : List ChoiceRow) → i < length l.groups.items → is_choice_code (group_at l.groups.items i).what ≡ false → AreRowsTo i rows → AreRowsTo (i + 1) rows
-  rows_same i rows h e r = subst (λ ps. AreChoiceRows exprs ps rows) (sym (places_more i h false e ∙ append-nil (filter opens (placed (read_before i read))))) r
+  rows_same i rows h e r = subst (λ ps. AreChoiceRows exprs ps rows) (sym (places_more i h false e ∙ append-nil (filter opens (groups_in_context (read_before i read))))) r
 
   pub no_rows : AreRowsTo 0 []
-  no_rows = subst (λ ms. AreChoiceRows exprs (filter opens (placed ms)) []) (sym (none_before read)) tt
+  no_rows = subst (λ ms. AreChoiceRows exprs (filter opens (groups_in_context ms)) []) (sym (none_before read)) tt
 
-  pub all_rows : (i : ℕ) (rows : List ChoiceRow) → i ≡ length l.groups.items → AreRowsTo i rows → AreChoiceRows exprs (filter opens (placed read)) rows
-  unfolding Shows
+  pub all_rows : (i : ℕ) (rows : List ChoiceRow) → i ≡ length l.groups.items → AreRowsTo i rows → AreChoiceRows exprs (filter opens (groups_in_context read)) rows
+  unfolding RepresentsListing
   all_rows i rows e r =
       let n : i ≡ length read = e ∙ count_is l.names.arena (names_defined read) l.texts.items l.lines.items l.groups.items read s.groups_are in
-      subst (λ ms. AreChoiceRows exprs (filter opens (placed ms)) rows) (ap (λ j. read_before j read) n ∙ all_before read) r
+      subst (λ ms. AreChoiceRows exprs (filter opens (groups_in_context ms)) rows) (ap (λ j. read_before j read) n ∙ all_before read) r

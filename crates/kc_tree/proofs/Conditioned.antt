@@ -5,21 +5,21 @@ use Rattle.std.proofs.lemmas.Bool.{lt-ltb}
 use Rattle.std.proofs.lemmas.List.{get_or-reverse, length-reverse}
 use Rattle.kc_expr.specs.Arena.{Exprs}
 use Rattle.kc_tree_model.specs.Blocks.{Group, open_blocks}
-use Rattle.kc_tree_model.specs.Conditions.{place}
+use Rattle.kc_tree_model.specs.Conditions.{group_in_context}
 use Rattle.kc_tree.specs.checker.Conditioned.{no_conditions, conditions_at, conditions_end, own_conditions}
 use Rattle.kc_tree.specs.checker.Summaries.{read_before}
-use Rattle.kc_tree.specs.checker.Walked.{ConditionsShown, AllConditionsShown}
-use Rattle.kc_tree.specs.declared.walk.GroupConditions.{GroupConditions}
+use Rattle.kc_tree.specs.checker.Walks.{RepresentsConditions, RepresentsAllConditions}
+use Rattle.kc_tree.specs.declared.group_walk.GroupConditions.{GroupConditions}
 
 -- the conditions of a group among what was read
 pub record IsConditionedAt (e : Exprs) (texts : List (List ℕ)) (conditions : List ℕ) (groups : List GroupConditions) (read : List Group) (i : ℕ) : Type 0 where
   pub group : Group
   pub now : read_before (i + 1) read ≡ group ∷ read_before i read
-  pub shown : ConditionsShown e texts (own_conditions groups conditions i) (conditions_at groups i) (place (open_blocks 0 (read_before i read)) group)
+  pub shown : RepresentsConditions e texts (own_conditions groups conditions i) (conditions_at groups i) (group_in_context (open_blocks 0 (read_before i read)) group)
   pub rising : (conditions_at groups i).first ≤ conditions_end groups conditions i
   pub within : conditions_end groups conditions i ≤ length conditions
 
-as_many : (e : Exprs) (texts : List (List ℕ)) (conditions : List ℕ) (end : ℕ) (cs : List GroupConditions) (ms : List Group) → AllConditionsShown e texts conditions end cs ms → length cs ≡ length ms
+as_many : (e : Exprs) (texts : List (List ℕ)) (conditions : List ℕ) (end : ℕ) (cs : List GroupConditions) (ms : List Group) → RepresentsAllConditions e texts conditions end cs ms → length cs ≡ length ms
 as_many e texts conditions end [] [] h = refl
 as_many e texts conditions end [] (m ∷ ms) h = absurd h
 as_many e texts conditions end (c ∷ cs) [] h = absurd h
@@ -40,11 +40,11 @@ end_is end (c ∷ cs) (suc k) h = end_is c.first cs k (omega arith)
 record IsNewestAt (e : Exprs) (texts : List (List ℕ)) (conditions : List ℕ) (end : ℕ) (cs : List GroupConditions) (ms : List Group) (k : ℕ) : Type 0 where
   pub group : Group
   pub now : drop k ms ≡ group ∷ drop (suc k) ms
-  pub shown : ConditionsShown e texts (slice_range conditions (get_or cs k no_conditions).first (end_at end cs k)) (get_or cs k no_conditions) (place (open_blocks 0 (drop (suc k) ms)) group)
+  pub shown : RepresentsConditions e texts (slice_range conditions (get_or cs k no_conditions).first (end_at end cs k)) (get_or cs k no_conditions) (group_in_context (open_blocks 0 (drop (suc k) ms)) group)
   pub rising : (get_or cs k no_conditions).first ≤ end_at end cs k
   pub within : end_at end cs k ≤ end
 
-newest_at : (e : Exprs) (texts : List (List ℕ)) (conditions : List ℕ) (end : ℕ) (cs : List GroupConditions) (ms : List Group) (k : ℕ) → k < length cs → AllConditionsShown e texts conditions end cs ms → IsNewestAt e texts conditions end cs ms k
+newest_at : (e : Exprs) (texts : List (List ℕ)) (conditions : List ℕ) (end : ℕ) (cs : List GroupConditions) (ms : List Group) (k : ℕ) → k < length cs → RepresentsAllConditions e texts conditions end cs ms → IsNewestAt e texts conditions end cs ms k
 unfolding end_at
 newest_at e texts conditions end [] ms k l h = absurd (omega arith)
 newest_at e texts conditions end (c ∷ cs) [] k l h = absurd h
@@ -54,7 +54,7 @@ newest_at e texts conditions end (c ∷ cs) (m ∷ ms) (suc k) l h =
     record { group = r.group; now = r.now; shown = r.shown; rising = r.rising; within = (let a = r.within in let b = h.1 in omega arith) }
 
 -- the same in reading order
-module _ (e : Exprs) (texts : List (List ℕ)) (conditions : List ℕ) (groups : List GroupConditions) (read : List Group) (h : AllConditionsShown e texts conditions (length conditions) (reverse groups) read) where
+module _ (e : Exprs) (texts : List (List ℕ)) (conditions : List ℕ) (groups : List GroupConditions) (read : List Group) (h : RepresentsAllConditions e texts conditions (length conditions) (reverse groups) read) where
   pub conditions_count : length groups ≡ length read
   conditions_count = sym (length-reverse groups) ∙ as_many e texts conditions (length conditions) (reverse groups) read h
 

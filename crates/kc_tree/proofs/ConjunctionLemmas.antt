@@ -1,29 +1,29 @@
 -- Conjunctions with one more.
 use Rattle.std.proofs.Common.{◌≡◌, ℕ, ◌<◌, List, [], ◌∷◌, ◌++◌, length, length-append, Option, Some, None, refl, ap, sym, subst, ◌∙◌, arith}
 use Rattle.std.proofs.lemmas.List.{append-nil}
-use Rattle.kc_expr.specs.Arena.{Exprs, Stands, stands_for}
+use Rattle.kc_expr.specs.Arena.{Exprs, Represents, node_expr}
 use Rattle.kc_expr.specs.Expr.{Expr, both}
-use Rattle.kc_tree_model.specs.Conditions.{all_from, all_of}
+use Rattle.kc_tree_model.specs.Conditions.{conjunction_from, conjunction_of}
 use Rattle.kc_tree.specs.checker.Conjunctions.{Conjoins, conjunct}
 
-all_from_more : (e : Expr) (es : List Expr) (f : Expr) → all_from e (es ++ f ∷ []) ≡ both (all_from e es) f
+all_from_more : (e : Expr) (es : List Expr) (f : Expr) → conjunction_from e (es ++ f ∷ []) ≡ both (conjunction_from e es) f
 all_from_more e [] f = refl
 all_from_more e (x ∷ xs) f = all_from_more (both e x) xs f
 
-all_more : (es : List Expr) (f : Expr) → 0 < length es → all_of (es ++ f ∷ []) ≡ both (all_of es) f
+all_more : (es : List Expr) (f : Expr) → 0 < length es → conjunction_of (es ++ f ∷ []) ≡ both (conjunction_of es) f
 all_more [] f h = absurd (omega arith)
 all_more (e ∷ es) f h = all_from_more e es f
 
 -- both of a conjunction and one more
-pub joined : (old new : Exprs) (a b id : ℕ) (es : List Expr) → Stands new id (both (stands_for old a) (stands_for old b)) → Conjoins old (Some a) es → Conjoins new (Some id) (es ++ conjunct old (Some b))
+pub joined : (old new : Exprs) (a b id : ℕ) (es : List Expr) → Represents new id (both (node_expr old a) (node_expr old b)) → Conjoins old (Some a) es → Conjoins new (Some id) (es ++ conjunct old (Some b))
 joined old new a b id es s c = (
-  omega (arith, length-append es (stands_for old b ∷ [])),
-  record { within = s.within; is = s.is ∙ ap (λ e. both e (stands_for old b)) c.1.is ∙ sym (all_more es (stands_for old b) c.0) },
+  omega (arith, length-append es (node_expr old b ∷ [])),
+  record { within = s.within; is = s.is ∙ ap (λ e. both e (node_expr old b)) c.1.is ∙ sym (all_more es (node_expr old b) c.0) },
 )
 
 -- one alone
 pub alone_conjunct : (exprs : Exprs) (b : ℕ) (es : List Expr) → b < length exprs.nodes → Conjoins exprs None es → Conjoins exprs (Some b) (es ++ conjunct exprs (Some b))
-alone_conjunct exprs b es h e = subst (λ xs. Conjoins exprs (Some b) (xs ++ stands_for exprs b ∷ [])) (sym e) (omega arith, record { within = h; is = refl })
+alone_conjunct exprs b es h e = subst (λ xs. Conjoins exprs (Some b) (xs ++ node_expr exprs b ∷ [])) (sym e) (omega arith, record { within = h; is = refl })
 
 -- nothing more
 pub nothing_more : (exprs : Exprs) (o : Option ℕ) (es : List Expr) → Conjoins exprs o es → Conjoins exprs o (es ++ [])

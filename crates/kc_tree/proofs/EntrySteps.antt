@@ -6,63 +6,63 @@ use Rattle.std.proofs.lemmas.List.{length-map, map-append, reverse-append, rever
 use Rattle.std.proofs.lemmas.List.Elements.{All-append, All-cons, All-nil}
 use Rattle.std.proofs.lemmas.Option.{get_or_from_slice_get}
 use Rattle.std.proofs.Math.Seq.{drop-length}
-use Rattle.kc_expr.specs.Arena.{Exprs, Stands, stands_for}
+use Rattle.kc_expr.specs.Arena.{Exprs, Represents, node_expr}
 use Rattle.kc_expr.specs.Expr.{Expr}
-use Rattle.kc_expr.specs.Lookup.{place_of}
+use Rattle.kc_expr.specs.Lookup.{index_of_name}
 use Rattle.kc_statements.specs.declared.statement.Block.TheVariants as blocks
 use Rattle.kc_tree_model.specs.Trees as tree
 use Rattle.kc_tree_model.specs.Statements.{choice_block, block_of_head, title_of_head, visible_of}
-use Rattle.kc_tree_model.specs.Blocks.{Group, What, opening, closing, side_of, head_gives, is_some_block, open_blocks, opens_choice}
-use Rattle.kc_tree_model.specs.Conditions.{Placed, place, placed, dependency_of, all_of, said_in}
-use Rattle.kc_tree_model.specs.Contents.{Contents, contents_of, choice_number, place_of_number, entry_of_head, menu_end_of, whole_of}
+use Rattle.kc_tree_model.specs.Blocks.{Group, GroupHead, opening, closing, side_of, from_head, is_some_block, open_blocks, opens_choice}
+use Rattle.kc_tree_model.specs.Conditions.{GroupInContext, group_in_context, groups_in_context, dependency_of, conjunction_of, attribute_values}
+use Rattle.kc_tree_model.specs.Contents.{Contents, contents_of, choice_number, index_of_number, entry_of_head, menu_end_of, tree_of_groups}
 use Rattle.kc_tree_model.specs.Limits.{names_defined}
 use Rattle.kc_tree_model.proofs.Consistency.Lists.{Differ, Differ-once, at_most_once, get_below, has-at, has-place, place-get}
-use Rattle.kc_tree_model.specs.Blocks.{name_of}
+use Rattle.kc_tree_model.specs.Blocks.{defined_name}
 use Rattle.kc_listing.specs.declared.listing.Group.{Group as CodeGroup}
 use Rattle.kc_listing.specs.declared.listing.Line.{Line as CodeLine}
 use Rattle.kc_listing.specs.declared.listing.Listing.{Listing}
-use Rattle.kc_listing.specs.declared.listing.What.{What as CodeWhat}
-use Rattle.kc_listing.specs.declared.listing.What.TheVariants as codes
-use Rattle.kc_listing.specs.Names.{word_in}
-use Rattle.kc_listing.specs.Shown.{Shows, WhatShown, GroupsShown}
-use Rattle.kc_tree.specs.checker.Entries.{entry_kept, choices_behind, entries_from}
-use Rattle.kc_tree.specs.checker.Kept.{EntryRowFits}
-use Rattle.kc_tree.specs.checker.PartsView.{entry_seen}
-use Rattle.kc_tree.specs.checker.Walked.{ConditionsShown, AllConditionsShown, EndShown}
+use Rattle.kc_listing.specs.declared.listing.GroupHead.{GroupHead as CodeWhat}
+use Rattle.kc_listing.specs.declared.listing.GroupHead.TheVariants as codes
+use Rattle.kc_listing.specs.SymbolTable.{text_of_name}
+use Rattle.kc_listing.specs.ListingView.{RepresentsListing, RepresentsHead, RepresentsGroups}
+use Rattle.kc_tree.specs.checker.Entries.{entry_row, choices_after, entries_from}
+use Rattle.kc_tree.specs.checker.StoredParts.{EntryRowFits}
+use Rattle.kc_tree.specs.checker.PartsView.{entry_from_row}
+use Rattle.kc_tree.specs.checker.Walks.{RepresentsConditions, RepresentsAllConditions, RepresentsEnd}
 use Rattle.kc_tree.specs.declared.parts.EntryRow.{EntryRow}
 use Rattle.kc_tree.specs.declared.parts.EntryRow.TheVariants.{Definition, ChoiceBegins, MenuBegins, MenuEnds, Comment}
-use Rattle.kc_tree.specs.declared.walk.GroupConditions.{GroupConditions}
+use Rattle.kc_tree.specs.declared.group_walk.GroupConditions.{GroupConditions}
 
 -- the entries of groups, the newest first
 abbrev count_back : List CodeGroup → ℕ
 count_back [] = 0
-count_back (g ∷ gs) = choices_behind g.what (count_back gs)
+count_back (g ∷ gs) = choices_after g.what (count_back gs)
 
 abbrev entries_back : List CodeGroup → List GroupConditions → List EntryRow
 entries_back [] cs = []
 entries_back (g ∷ gs) [] = []
-entries_back (g ∷ gs) (c ∷ cs) = entries_back gs cs ++ option_to_list (entry_kept g.what c (count_back gs))
+entries_back (g ∷ gs) (c ∷ cs) = entries_back gs cs ++ option_to_list (entry_row g.what c (count_back gs))
 
 abbrev count_from : ℕ → List CodeGroup → ℕ
 count_from n [] = n
-count_from n (g ∷ gs) = count_from (choices_behind g.what n) gs
+count_from n (g ∷ gs) = count_from (choices_after g.what n) gs
 
-count-append : (n : ℕ) (gs : List CodeGroup) (g : CodeGroup) → count_from n (gs ++ g ∷ []) ≡ choices_behind g.what (count_from n gs)
+count-append : (n : ℕ) (gs : List CodeGroup) (g : CodeGroup) → count_from n (gs ++ g ∷ []) ≡ choices_after g.what (count_from n gs)
 count-append n [] g = refl
-count-append n (h ∷ gs) g = count-append (choices_behind h.what n) gs g
+count-append n (h ∷ gs) g = count-append (choices_after h.what n) gs g
 
 count_reverse : (gs : List CodeGroup) → count_from 0 (reverse gs) ≡ count_back gs
 count_reverse [] = refl
-count_reverse (g ∷ gs) = ap (count_from 0) (reverse-append (g ∷ []) gs) ∙ count-append 0 (reverse gs) g ∙ ap (choices_behind g.what) (count_reverse gs)
+count_reverse (g ∷ gs) = ap (count_from 0) (reverse-append (g ∷ []) gs) ∙ count-append 0 (reverse gs) g ∙ ap (choices_after g.what) (count_reverse gs)
 
 from-append : (n : ℕ) (gs : List CodeGroup) (cs : List GroupConditions) (g : CodeGroup) (c : GroupConditions) → length gs ≡ length cs
-    → entries_from n (gs ++ g ∷ []) (cs ++ c ∷ []) ≡ entries_from n gs cs ++ option_to_list (entry_kept g.what c (count_from n gs))
-from-append n [] [] g c e = append-nil (option_to_list (entry_kept g.what c n))
+    → entries_from n (gs ++ g ∷ []) (cs ++ c ∷ []) ≡ entries_from n gs cs ++ option_to_list (entry_row g.what c (count_from n gs))
+from-append n [] [] g c e = append-nil (option_to_list (entry_row g.what c n))
 from-append n [] (d ∷ cs) g c e = absurd (omega (arith, e))
 from-append n (h ∷ gs) [] g c e = absurd (omega (arith, e))
 from-append n (h ∷ gs) (d ∷ cs) g c e =
-    ap (λ t. option_to_list (entry_kept h.what d n) ++ t) (from-append (choices_behind h.what n) gs cs g c (omega (arith, e)))
-    ∙ sym (append_assoc (option_to_list (entry_kept h.what d n)) (entries_from (choices_behind h.what n) gs cs) (option_to_list (entry_kept g.what c (count_from (choices_behind h.what n) gs))))
+    ap (λ t. option_to_list (entry_row h.what d n) ++ t) (from-append (choices_after h.what n) gs cs g c (omega (arith, e)))
+    ∙ sym (append_assoc (option_to_list (entry_row h.what d n)) (entries_from (choices_after h.what n) gs cs) (option_to_list (entry_row g.what c (count_from (choices_after h.what n) gs))))
 
 from_reverse : (gs : List CodeGroup) (cs : List GroupConditions) → length gs ≡ length cs → entries_from 0 (reverse gs) (reverse cs) ≡ entries_back gs cs
 from_reverse [] cs e = refl
@@ -72,18 +72,18 @@ from_reverse (g ∷ gs) (c ∷ cs) e =
     ap (λ xs. entries_from 0 xs (reverse (c ∷ cs))) (reverse-append (g ∷ []) gs)
     ∙ ap (λ xs. entries_from 0 (reverse gs ++ g ∷ []) xs) (reverse-append (c ∷ []) cs)
     ∙ from-append 0 (reverse gs) (reverse cs) g c (length-reverse gs ∙ f ∙ sym (length-reverse cs))
-    ∙ ap (λ t. t ++ option_to_list (entry_kept g.what c (count_from 0 (reverse gs)))) (from_reverse gs cs f)
-    ∙ ap (λ n. entries_back gs cs ++ option_to_list (entry_kept g.what c n)) (count_reverse gs)
+    ∙ ap (λ t. t ++ option_to_list (entry_row g.what c (count_from 0 (reverse gs)))) (from_reverse gs cs f)
+    ∙ ap (λ n. entries_back gs cs ++ option_to_list (entry_row g.what c n)) (count_reverse gs)
 
 -- the numbers of the choices
-abbrev opens : Placed → Bool
+abbrev opens : GroupInContext → Bool
 opens p = opens_choice p.group
 
-abbrev number : Placed → ℕ
+abbrev number : GroupInContext → ℕ
 number p = p.group.number
 
 abbrev numbers : List Group → List ℕ
-numbers ms = map number (filter opens (placed ms))
+numbers ms = map number (filter opens (groups_in_context ms))
 
 snoc_by : {A : Type 0} (t : Bool) (a b z : List A) (y : A) → a ≡ b ++ z → cond t (y ∷ a) a ≡ cond t (y ∷ b) b ++ z
 snoc_by true a b z y e = ap (λ l. y ∷ l) e
@@ -93,12 +93,12 @@ filter_snoc : {A : Type 0} (f : A → Bool) (xs : List A) (x : A) → filter f (
 filter_snoc f [] x = refl
 filter_snoc f (y ∷ xs) x = snoc_by (f y) (filter f (xs ++ x ∷ [])) (filter f xs) (cond (f x) (x ∷ []) []) y (filter_snoc f xs x)
 
-numbers_by : (b : Bool) (xs : List Placed) (p : Placed) → map number (xs ++ cond b (p ∷ []) []) ≡ map number xs ++ cond b (p.group.number ∷ []) []
+numbers_by : (b : Bool) (xs : List GroupInContext) (p : GroupInContext) → map number (xs ++ cond b (p ∷ []) []) ≡ map number xs ++ cond b (p.group.number ∷ []) []
 numbers_by true xs p = map-append number xs (p ∷ [])
 numbers_by false xs p = map-append number xs []
 
 numbers_more : (m : Group) (ms : List Group) → numbers (m ∷ ms) ≡ numbers ms ++ cond (opens_choice m) (m.number ∷ []) []
-numbers_more m ms = ap (map number) (filter_snoc opens (placed ms) (place (open_blocks 0 ms) m)) ∙ numbers_by (opens_choice m) (filter opens (placed ms)) (place (open_blocks 0 ms) m)
+numbers_more m ms = ap (map number) (filter_snoc opens (groups_in_context ms) (group_in_context (open_blocks 0 ms) m)) ∙ numbers_by (opens_choice m) (filter opens (groups_in_context ms)) (group_in_context (open_blocks 0 ms) m)
 
 abbrev AreBelow : ℕ → List ℕ → Type 0
 AreBelow k [] = Unit {0}
@@ -124,12 +124,12 @@ place_first : (n : ℕ) (rest : List ℕ) (b : Bool) (o : Option ℕ) → b ≡ 
 place_first n rest true o e = refl
 place_first n rest false o e = cc
 
-place_there : (k : ℕ) (ks rest : List ℕ) → AreBelow k ks → place_of_number k ((ks ++ k ∷ []) ++ rest) ≡ Some (length ks)
-place_there k [] rest h = place_first k rest (k == k) (place_of_number k rest) (eq-eqb k k refl)
-place_there k (j ∷ ks) rest h = place_by j k (length ks) (j == k) (place_of_number k ((ks ++ k ∷ []) ++ rest)) refl h.0 (place_there k ks rest h.1)
+place_there : (k : ℕ) (ks rest : List ℕ) → AreBelow k ks → index_of_number k ((ks ++ k ∷ []) ++ rest) ≡ Some (length ks)
+place_there k [] rest h = place_first k rest (k == k) (index_of_number k rest) (eq-eqb k k refl)
+place_there k (j ∷ ks) rest h = place_by j k (length ks) (j == k) (index_of_number k ((ks ++ k ∷ []) ++ rest)) refl h.0 (place_there k ks rest h.1)
 
 -- the place of a name that is defined
-place_is : (names : List (List ℕ)) (name : List ℕ) (s : ℕ) → Differ names → slice_get names s ≡ Some name → place_of name names ≡ Some s
+place_is : (names : List (List ℕ)) (name : List ℕ) (s : ℕ) → Differ names → slice_get names s ≡ Some name → index_of_name name names ≡ Some s
 place_is names name s d e =
     let p = has-place name names (has-at name names s e) in
     p.1 ∙ ap Some (at_most_once name names p.0 s d (place-get name names p.0 p.1) e)
@@ -152,10 +152,10 @@ map_option f (Some x) = refl
 
 -- what a group counts
 module _ (e : Exprs) (names texts : List (List ℕ)) (m : Group) (n : ℕ) where
-  abbrev counted : What → ℕ
-  counted v = cond (is_some_block choice_block (head_gives block_of_head v)) (n + 1) n
+  abbrev counted : GroupHead → ℕ
+  counted v = cond (is_some_block choice_block (from_head block_of_head v)) (n + 1) n
 
-  pub counts : (w : CodeWhat) → WhatShown e names texts w m.what → choices_behind w n ≡ cond (opens_choice m) (n + 1) n
+  pub counts : (w : CodeWhat) → RepresentsHead e names texts w m.what → choices_after w n ≡ cond (opens_choice m) (n + 1) n
   counts (codes.Config s) h = sym (ap counted h.2)
   counts codes.Choice h = sym (ap counted h)
   counts (codes.Menu t) h = sym (ap counted h.2)
@@ -174,17 +174,17 @@ long_by false ns k = ap length (append-nil ns)
 
 module _ (e : Exprs) (names texts : List (List ℕ)) (lines : List CodeLine) where
   -- the count is that of the choices
-  count_is : (end : ℕ) (gs : List CodeGroup) (ms : List Group) → GroupsShown e names texts lines end gs ms → count_back gs ≡ length (numbers ms)
+  count_is : (end : ℕ) (gs : List CodeGroup) (ms : List Group) → RepresentsGroups e names texts lines end gs ms → count_back gs ≡ length (numbers ms)
   count_is end [] [] h = refl
   count_is end (g ∷ gs) (m ∷ ms) h =
-      ap (choices_behind g.what) (count_is g.attributes gs ms h.2)
+      ap (choices_after g.what) (count_is g.attributes gs ms h.2)
       ∙ counts e names texts m (length (numbers ms)) g.what h.0.what
       ∙ sym (ap length (numbers_more m ms) ∙ long_by (opens_choice m) (numbers ms) m.number)
   count_is end [] (m ∷ ms) h = absurd h
   count_is end (g ∷ gs) [] h = absurd h
 
   -- the numbers count the groups
-  numbers_below : (end : ℕ) (gs : List CodeGroup) (ms : List Group) → GroupsShown e names texts lines end gs ms → AreBelow (length ms) (numbers ms)
+  numbers_below : (end : ℕ) (gs : List CodeGroup) (ms : List Group) → RepresentsGroups e names texts lines end gs ms → AreBelow (length ms) (numbers ms)
   numbers_below end [] [] h = tt
   numbers_below end (g ∷ gs) (m ∷ ms) h =
       let n = h.0.number_is in
@@ -199,7 +199,7 @@ module _ (C : Contents) (m : Group) (ms : List Group) (rest : List ℕ) (c : C.c
   listed o = c ∙ ap (λ ns. ns ++ rest) (numbers_more m ms ∙ ap (λ b. numbers ms ++ cond b (m.number ∷ []) []) o)
 
   numbered : m.number ≡ length ms → AreBelow (length ms) (numbers ms) → opens_choice m ≡ true → choice_number C m.number ≡ Some (length (numbers ms))
-  numbered n b o = ap (place_of_number m.number) (listed o) ∙ place_there m.number (numbers ms) rest (subst (λ k. AreBelow k (numbers ms)) (sym n) b)
+  numbered n b o = ap (index_of_number m.number) (listed o) ∙ place_there m.number (numbers ms) rest (subst (λ k. AreBelow k (numbers ms)) (sym n) b)
 
   there : opens_choice m ≡ true → length (numbers ms) < length C.choices
   there o = omega (arith, ap length (listed o), length-append (numbers ms ++ m.number ∷ []) rest, length-append (numbers ms) (m.number ∷ []))
@@ -207,44 +207,44 @@ module _ (C : Contents) (m : Group) (ms : List Group) (rest : List ℕ) (c : C.c
   before : C.choices ≡ numbers ms ++ (cond (opens_choice m) (m.number ∷ []) [] ++ rest)
   before = c ∙ ap (λ ns. ns ++ rest) (numbers_more m ms) ∙ append_assoc (numbers ms) (cond (opens_choice m) (m.number ∷ []) []) rest
 
-abbrev entry_at : Contents → Placed → Option tree.Entry
-entry_at C p = head_gives (entry_of_head C p) p.group.what
+abbrev entry_at : Contents → GroupInContext → Option tree.Entry
+entry_at C p = from_head (entry_of_head C p) p.group.what
 
 -- an entry stands for what the definition has
-module _ (e e2 : Exprs) (texts : List (List ℕ)) (C : Contents) (d : Differ C.names) (p : Placed) (n : ℕ) where
-  abbrev at_place : What → Option tree.Entry
-  at_place = head_gives (entry_of_head C p)
+module _ (e e2 : Exprs) (texts : List (List ℕ)) (C : Contents) (d : Differ C.names) (p : GroupInContext) (n : ℕ) where
+  abbrev at_place : GroupHead → Option tree.Entry
+  at_place = from_head (entry_of_head C p)
 
   text_is : (t : ℕ) (title : List ℕ) → slice_get texts t ≡ Some title → slice_index_or texts t [] ≡ title
   text_is t title h = get_or_from_slice_get texts t title [] h
 
-  stands : (id : ℕ) (x : Expr) → side_of p.group.what ≡ closing ⊎ Stands e2 id x → (side_of p.group.what ≡ closing → ⊥) → Stands e2 id x
+  stands : (id : ℕ) (x : Expr) → side_of p.group.what ≡ closing ⊎ Represents e2 id x → (side_of p.group.what ≡ closing → ⊥) → Represents e2 id x
   stands id x (inl a) away = absurd (away a)
   stands id x (inr s) away = s
 
-  end_shown : (o : Option ℕ) (a v : ℕ) (x : Option tree.Entry) → EndShown e2 texts o a v x → option_map (entry_seen e2 texts) (option_map (λ t. MenuEnds t a v) o) ≡ x
+  end_shown : (o : Option ℕ) (a v : ℕ) (x : Option tree.Entry) → RepresentsEnd e2 texts o a v x → option_map (entry_from_row e2 texts) (option_map (λ t. MenuEnds t a v) o) ≡ x
   end_shown None a v x h = sym h
-  end_shown (Some t) a v x h = ap (λ title. Some (tree.menu_ends title (stands_for e2 a) (stands_for e2 v))) (text_is t h.0 h.1) ∙ sym h.4
+  end_shown (Some t) a v x h = ap (λ title. Some (tree.menu_ends title (node_expr e2 a) (node_expr e2 v))) (text_is t h.0 h.1) ∙ sym h.4
 
-  pub entry_shown : (w : CodeWhat) (c : GroupConditions) (own : List ℕ) → WhatShown e C.names texts w p.group.what → ConditionsShown e2 texts own c p
-      → (opens_choice p.group ≡ true → choice_number C p.group.number ≡ Some n) → option_map (entry_seen e2 texts) (entry_kept w c n) ≡ entry_at C p
+  pub entry_shown : (w : CodeWhat) (c : GroupConditions) (own : List ℕ) → RepresentsHead e C.names texts w p.group.what → RepresentsConditions e2 texts own c p
+      → (opens_choice p.group ≡ true → choice_number C p.group.number ≡ Some n) → option_map (entry_from_row e2 texts) (entry_row w c n) ≡ entry_at C p
   entry_shown (codes.Config s) c own h k o = sym (ap at_place h.2 ∙ ap (option_map tree.definition) (place_is C.names h.0 s d h.1))
   entry_shown codes.Choice c own h k o =
-      let opened : opens_choice p.group ≡ true = ap (λ v. is_some_block choice_block (head_gives block_of_head v)) h in
+      let opened : opens_choice p.group ≡ true = ap (λ v. is_some_block choice_block (from_head block_of_head v)) h in
       sym (ap at_place h ∙ ap (option_map tree.choice_begins) (o opened))
   entry_shown (codes.Menu t) c own h k o =
       let away : side_of p.group.what ≡ closing → ⊥ = λ q. let z : opening ≡ closing = sym (ap side_of h.2) ∙ q in cc in
-      let a = stands c.dependency (dependency_of p.around p.group) k.dependency_is away in
-      let v = stands c.visible (all_of (p.around.visibles ++ said_in visible_of p.group)) k.visible_is away in
-      ap (λ title. Some (tree.menu_begins title (stands_for e2 c.dependency) (stands_for e2 c.visible))) (text_is t h.0 h.1)
-      ∙ ap (λ x. Some (tree.menu_begins h.0 x (stands_for e2 c.visible))) a.is
-      ∙ ap (λ x. Some (tree.menu_begins h.0 (dependency_of p.around p.group) x)) v.is
-      ∙ sym (ap at_place h.2 ∙ ap (λ w. option_map (λ title. tree.menu_begins title (dependency_of p.around p.group) (all_of (p.around.visibles ++ said_in visible_of p.group))) (head_gives title_of_head w)) h.2)
+      let a = stands c.dependency (dependency_of p.enclosing p.group) k.dependency_is away in
+      let v = stands c.visible (conjunction_of (p.enclosing.visibles ++ attribute_values visible_of p.group)) k.visible_is away in
+      ap (λ title. Some (tree.menu_begins title (node_expr e2 c.dependency) (node_expr e2 c.visible))) (text_is t h.0 h.1)
+      ∙ ap (λ x. Some (tree.menu_begins h.0 x (node_expr e2 c.visible))) a.is
+      ∙ ap (λ x. Some (tree.menu_begins h.0 (dependency_of p.enclosing p.group) x)) v.is
+      ∙ sym (ap at_place h.2 ∙ ap (λ w. option_map (λ title. tree.menu_begins title (dependency_of p.enclosing p.group) (conjunction_of (p.enclosing.visibles ++ attribute_values visible_of p.group))) (from_head title_of_head w)) h.2)
   entry_shown (codes.Condition id) c own h k o = sym (ap at_place h.1)
   entry_shown (codes.Comment t) c own h k o =
       let away : side_of p.group.what ≡ closing → ⊥ = λ q. let z = sym (ap side_of h.2) ∙ q in cc in
-      let a = stands c.dependency (dependency_of p.around p.group) k.dependency_is away in
-      ap (λ title. Some (tree.comment title (stands_for e2 c.dependency))) (text_is t h.0 h.1)
+      let a = stands c.dependency (dependency_of p.enclosing p.group) k.dependency_is away in
+      ap (λ title. Some (tree.comment title (node_expr e2 c.dependency))) (text_is t h.0 h.1)
       ∙ ap (λ x. Some (tree.comment h.0 x)) a.is
       ∙ sym (ap at_place h.2)
   entry_shown (codes.Source t) c own h k o = sym (ap at_place h.2)
@@ -261,24 +261,24 @@ module _ (e e2 : Exprs) (texts : List (List ℕ)) (C : Contents) (d : Differ C.n
   one_fits : (r : EntryRow) → Fits r → All Fits (option_to_list (Some r))
   one_fits r h = All-cons Fits r [] h (All-nil Fits)
 
-  end_fits : (o : Option ℕ) (a v : ℕ) (x : Option tree.Entry) → EndShown e2 texts o a v x → All Fits (option_to_list (option_map (λ t. MenuEnds t a v) o))
+  end_fits : (o : Option ℕ) (a v : ℕ) (x : Option tree.Entry) → RepresentsEnd e2 texts o a v x → All Fits (option_to_list (option_map (λ t. MenuEnds t a v) o))
   end_fits None a v x h = All-nil Fits
   end_fits (Some t) a v x h = one_fits (MenuEnds t a v) (get_below texts t h.0 h.1, h.2, h.3)
 
-  pub entry_fits : (w : CodeWhat) (c : GroupConditions) (own : List ℕ) → WhatShown e C.names texts w p.group.what → ConditionsShown e2 texts own c p
-      → (opens_choice p.group ≡ true → n < length C.choices) → All Fits (option_to_list (entry_kept w c n))
+  pub entry_fits : (w : CodeWhat) (c : GroupConditions) (own : List ℕ) → RepresentsHead e C.names texts w p.group.what → RepresentsConditions e2 texts own c p
+      → (opens_choice p.group ≡ true → n < length C.choices) → All Fits (option_to_list (entry_row w c n))
   entry_fits (codes.Config s) c own h k o = one_fits (Definition s) (get_below C.names s h.0 h.1)
   entry_fits codes.Choice c own h k o =
-      let opened : opens_choice p.group ≡ true = ap (λ v. is_some_block choice_block (head_gives block_of_head v)) h in
+      let opened : opens_choice p.group ≡ true = ap (λ v. is_some_block choice_block (from_head block_of_head v)) h in
       one_fits (ChoiceBegins n) (o opened)
   entry_fits (codes.Menu t) c own h k o =
       let away : side_of p.group.what ≡ closing → ⊥ = λ q. let z : opening ≡ closing = sym (ap side_of h.2) ∙ q in cc in
       one_fits (MenuBegins t c.dependency c.visible)
-      (get_below texts t h.0 h.1, (stands c.dependency (dependency_of p.around p.group) k.dependency_is away).within, (stands c.visible (all_of (p.around.visibles ++ said_in visible_of p.group)) k.visible_is away).within)
+      (get_below texts t h.0 h.1, (stands c.dependency (dependency_of p.enclosing p.group) k.dependency_is away).within, (stands c.visible (conjunction_of (p.enclosing.visibles ++ attribute_values visible_of p.group)) k.visible_is away).within)
   entry_fits (codes.Condition id) c own h k o = All-nil Fits
   entry_fits (codes.Comment t) c own h k o =
       let away : side_of p.group.what ≡ closing → ⊥ = λ q. let z = sym (ap side_of h.2) ∙ q in cc in
-      one_fits (Comment t c.dependency) (get_below texts t h.0 h.1, (stands c.dependency (dependency_of p.around p.group) k.dependency_is away).within)
+      one_fits (Comment t c.dependency) (get_below texts t h.0 h.1, (stands c.dependency (dependency_of p.enclosing p.group) k.dependency_is away).within)
   entry_fits (codes.Source t) c own h k o = All-nil Fits
   entry_fits codes.Mainmenu c own h k o = All-nil Fits
   entry_fits (codes.Ends blocks.Menu) c own h k o = end_fits c.ended c.dependency c.visible (menu_end_of p.opened) (k.ended_is (ap side_of h))
@@ -288,33 +288,33 @@ module _ (e e2 : Exprs) (texts : List (List ℕ)) (C : Contents) (d : Differ C.n
 
 -- all entries
 module _ (e e2 : Exprs) (texts : List (List ℕ)) (lines : List CodeLine) (conditions : List ℕ) (C : Contents) (d : Differ C.names) where
-  all_entries : (end end2 : ℕ) (gs : List CodeGroup) (cs : List GroupConditions) (ms : List Group) (rest : List ℕ) → GroupsShown e C.names texts lines end gs ms
-      → AllConditionsShown e2 texts conditions end2 cs ms → C.choices ≡ numbers ms ++ rest
-      → map (entry_seen e2 texts) (entries_back gs cs) ≡ filter_map (entry_at C) (placed ms)
+  all_entries : (end end2 : ℕ) (gs : List CodeGroup) (cs : List GroupConditions) (ms : List Group) (rest : List ℕ) → RepresentsGroups e C.names texts lines end gs ms
+      → RepresentsAllConditions e2 texts conditions end2 cs ms → C.choices ≡ numbers ms ++ rest
+      → map (entry_from_row e2 texts) (entries_back gs cs) ≡ filter_map (entry_at C) (groups_in_context ms)
   all_entries end end2 [] [] [] rest h k c = refl
   all_entries end end2 (g ∷ gs) (x ∷ xs) (m ∷ ms) rest h k c =
-      let f = entry_seen e2 texts in
-      let p : Placed = place (open_blocks 0 ms) m in
+      let f = entry_from_row e2 texts in
+      let p : GroupInContext = group_in_context (open_blocks 0 ms) m in
       let n = count_is e C.names texts lines g.attributes gs ms h.2 in
       let b = numbers_below e C.names texts lines g.attributes gs ms h.2 in
-      map-append f (entries_back gs xs) (option_to_list (entry_kept g.what x (count_back gs)))
-      ∙ ap (λ t. t ++ map f (option_to_list (entry_kept g.what x (count_back gs)))) (all_entries g.attributes x.first gs xs ms (cond (opens_choice m) (m.number ∷ []) [] ++ rest) h.2 k.2 (before C m ms rest c))
-      ∙ ap (λ t. filter_map (entry_at C) (placed ms) ++ t) (map_option f (entry_kept g.what x (count_back gs)))
-      ∙ ap (λ o. filter_map (entry_at C) (placed ms) ++ option_to_list o) (entry_shown e e2 texts C d p (count_back gs) g.what x _ h.0.what k.0 (λ o. numbered C m ms rest c h.0.number_is b o ∙ ap Some (sym n)))
-      ∙ sym (filter_map-snoc (entry_at C) (placed ms) p)
+      map-append f (entries_back gs xs) (option_to_list (entry_row g.what x (count_back gs)))
+      ∙ ap (λ t. t ++ map f (option_to_list (entry_row g.what x (count_back gs)))) (all_entries g.attributes x.first gs xs ms (cond (opens_choice m) (m.number ∷ []) [] ++ rest) h.2 k.2 (before C m ms rest c))
+      ∙ ap (λ t. filter_map (entry_at C) (groups_in_context ms) ++ t) (map_option f (entry_row g.what x (count_back gs)))
+      ∙ ap (λ o. filter_map (entry_at C) (groups_in_context ms) ++ option_to_list o) (entry_shown e e2 texts C d p (count_back gs) g.what x _ h.0.what k.0 (λ o. numbered C m ms rest c h.0.number_is b o ∙ ap Some (sym n)))
+      ∙ sym (filter_map-snoc (entry_at C) (groups_in_context ms) p)
   all_entries end end2 [] cs (m ∷ ms) rest h k c = absurd h
   all_entries end end2 (g ∷ gs) cs [] rest h k c = absurd h
   all_entries end end2 [] (x ∷ xs) [] rest h k c = absurd k
   all_entries end end2 (g ∷ gs) [] (m ∷ ms) rest h k c = absurd k
 
-  all_fit : (end end2 : ℕ) (gs : List CodeGroup) (cs : List GroupConditions) (ms : List Group) (rest : List ℕ) → GroupsShown e C.names texts lines end gs ms
-      → AllConditionsShown e2 texts conditions end2 cs ms → C.choices ≡ numbers ms ++ rest
+  all_fit : (end end2 : ℕ) (gs : List CodeGroup) (cs : List GroupConditions) (ms : List Group) (rest : List ℕ) → RepresentsGroups e C.names texts lines end gs ms
+      → RepresentsAllConditions e2 texts conditions end2 cs ms → C.choices ≡ numbers ms ++ rest
       → All (EntryRowFits (length e2.nodes) (length C.names) (length C.choices) (length texts)) (entries_back gs cs)
   all_fit end end2 [] [] [] rest h k c = All-nil (EntryRowFits (length e2.nodes) (length C.names) (length C.choices) (length texts))
   all_fit end end2 (g ∷ gs) (x ∷ xs) (m ∷ ms) rest h k c =
-      let p : Placed = place (open_blocks 0 ms) m in
+      let p : GroupInContext = group_in_context (open_blocks 0 ms) m in
       let n = count_is e C.names texts lines g.attributes gs ms h.2 in
-      All-append (EntryRowFits (length e2.nodes) (length C.names) (length C.choices) (length texts)) (entries_back gs xs) (option_to_list (entry_kept g.what x (count_back gs)))
+      All-append (EntryRowFits (length e2.nodes) (length C.names) (length C.choices) (length texts)) (entries_back gs xs) (option_to_list (entry_row g.what x (count_back gs)))
       (all_fit g.attributes x.first gs xs ms (cond (opens_choice m) (m.number ∷ []) [] ++ rest) h.2 k.2 (before C m ms rest c))
       (entry_fits e e2 texts C d p (count_back gs) g.what x _ h.0.what k.0 (λ o. let t = there C m ms rest c o in omega (arith, t, n)))
   all_fit end end2 [] cs (m ∷ ms) rest h k c = absurd h
@@ -334,18 +334,18 @@ rows_are gs cs rows n i m a e b =
     ∙ ap (λ xs. entries_from 0 (reverse (reverse gs)) xs) (sym (reverse-reverse cs))
     ∙ from_reverse (reverse gs) (reverse cs) (length-reverse gs ∙ sym m ∙ sym (length-reverse cs))
 
-module _ (l : Listing) (e2 : Exprs) (conditions : List ℕ) (end : ℕ) (cs : List GroupConditions) (read : List Group) (s : Shows l read) (k : AllConditionsShown e2 l.texts.items conditions end (reverse cs) read) (rows : List EntryRow)
+module _ (l : Listing) (e2 : Exprs) (conditions : List ℕ) (end : ℕ) (cs : List GroupConditions) (read : List Group) (s : RepresentsListing l read) (k : RepresentsAllConditions e2 l.texts.items conditions end (reverse cs) read) (rows : List EntryRow)
     (r : rows ≡ entries_back (reverse l.groups.items) (reverse cs)) where
-  pub entries_are : map (entry_seen e2 l.texts.items) rows ≡ (whole_of read).entries
-  unfolding Shows whole_of
+  pub entries_are : map (entry_from_row e2 l.texts.items) rows ≡ (tree_of_groups read).entries
+  unfolding RepresentsListing tree_of_groups
   entries_are =
-      ap (map (entry_seen e2 l.texts.items)) r
-      ∙ all_entries l.names.arena e2 l.texts.items l.lines.items conditions (contents_of read) (Differ-once (filter_map name_of read)) (length l.lines.items) end (reverse l.groups.items) (reverse cs) read [] s.groups_are k (sym (append-nil (numbers read)))
+      ap (map (entry_from_row e2 l.texts.items)) r
+      ∙ all_entries l.names.arena e2 l.texts.items l.lines.items conditions (contents_of read) (Differ-once (filter_map defined_name read)) (length l.lines.items) end (reverse l.groups.items) (reverse cs) read [] s.groups_are k (sym (append-nil (numbers read)))
 
   pub entries_fit : All (EntryRowFits (length e2.nodes) (length l.names.symbols.items) (length (contents_of read).choices) (length l.texts.items)) rows
-  unfolding Shows
+  unfolding RepresentsListing
   entries_fit =
-      let f = all_fit l.names.arena e2 l.texts.items l.lines.items conditions (contents_of read) (Differ-once (filter_map name_of read)) (length l.lines.items) end (reverse l.groups.items) (reverse cs) read [] s.groups_are k (sym (append-nil (numbers read))) in
-      let n : length (names_defined read) ≡ length l.names.symbols.items = sym (ap length s.names.words) ∙ length-map l.names.symbols.items (word_in l.names.arena) in
+      let f = all_fit l.names.arena e2 l.texts.items l.lines.items conditions (contents_of read) (Differ-once (filter_map defined_name read)) (length l.lines.items) end (reverse l.groups.items) (reverse cs) read [] s.groups_are k (sym (append-nil (numbers read))) in
+      let n : length (names_defined read) ≡ length l.names.symbols.items = sym (ap length s.names.words) ∙ length-map l.names.symbols.items (text_of_name l.names.arena) in
       subst (λ (k : ℕ). All (EntryRowFits (length e2.nodes) k (length (contents_of read).choices) (length l.texts.items)) rows) n
       (subst (All (EntryRowFits (length e2.nodes) (length (names_defined read)) (length (contents_of read).choices) (length l.texts.items))) (sym r) f)

@@ -12,15 +12,15 @@ use Rattle.kc_tree_model.specs.declared.fault.TreeKind.TheVariants.{SecondPrompt
 use Rattle.kc_tree_model.specs.declared.fault.TreeFault.{TreeFault}
 use Rattle.kc_tree_model.specs.Statements.{Attribute, default_of, prompt_of}
 use Rattle.kc_tree_model.specs.Blocks.{Group, Line}
-use Rattle.kc_tree_model.specs.Conditions.{Placed}
+use Rattle.kc_tree_model.specs.Conditions.{GroupInContext}
 use Rattle.kc_tree_model.specs.Contents.{Contents, choice_of_symbol, is_first_definition, type_given}
-use Rattle.kc_tree_model.specs.TreeFaults.{when, definition_faults, attribute_faults, choice_faults, faults_at, faults_of_lines, is_no_member, is_wrong_force}
-use Rattle.kc_statements.specs.Said.{attribute_in}
+use Rattle.kc_tree_model.specs.TreeFaults.{when, definition_faults, attribute_faults, choice_faults, faults_at, faults_of_lines, is_no_member, is_wrong_reverse_dependency}
+use Rattle.kc_statements.specs.StatementViews.{attribute_in}
 use Rattle.kc_listing.specs.declared.listing.Line.{Line as CodeLine}
-use Rattle.kc_listing.specs.Shown.{line_in}
+use Rattle.kc_listing.specs.ListingView.{line_in}
 use Rattle.kc_tree.specs.checker.Kinds.{definition_kind, typed_kind, choice_kind}
-use Rattle.kc_tree.specs.declared.summary.About.{About}
-use Rattle.kc_tree.proofs.Abouts.{first_of_both}
+use Rattle.kc_tree.specs.declared.summary.SymbolSummary.{SymbolSummary}
+use Rattle.kc_tree.proofs.SymbolSummaries.{first_of_both}
 
 -- the first of kinds whose tests hold
 pub first_of_one : (a : Bool) (j : TreeKind) → slice_get (when a j) 0 ≡ cond a (Some j) None
@@ -48,13 +48,13 @@ six true b c d e f j k l m n o = refl
 six false b c d e f j k l m n o = five b c d e f k l m n o
 
 -- a definition
-pub definition_is : (c : Contents) (p : Placed) (name : List ℕ) (about : About) (is_member is_first is_modules : Bool)
-    → about.given ≡ type_given c name → is_some about.choice ≡ is_some (choice_of_symbol c name) → is_member ≡ is_some p.around.choice → is_first ≡ is_first_definition c name p → is_modules ≡ bytes_eq name modules_name
+pub definition_is : (c : Contents) (p : GroupInContext) (name : List ℕ) (about : SymbolSummary) (is_member is_first is_modules : Bool)
+    → about.given ≡ type_given c name → is_some about.choice ≡ is_some (choice_of_symbol c name) → is_member ≡ is_some p.enclosing.choice → is_first ≡ is_first_definition c name p → is_modules ≡ bytes_eq name modules_name
     → definition_kind about is_member is_first is_modules ≡ slice_get (definition_faults c p name) 0
 definition_is c p name about is_member is_first is_modules given choice member first modules = rw (given, choice, member, first, modules) (sym (three _ _ _ _ _ _))
 
 -- an attribute of a symbol
-pub typed_is : (c : Contents) (name : List ℕ) (k : Kind) (prompted is_modules is_wrong : Bool) (a : Attribute) → is_modules ≡ bytes_eq name modules_name → is_wrong ≡ is_wrong_force c k a
+pub typed_is : (c : Contents) (name : List ℕ) (k : Kind) (prompted is_modules is_wrong : Bool) (a : Attribute) → is_modules ≡ bytes_eq name modules_name → is_wrong ≡ is_wrong_reverse_dependency c k a
     → typed_kind k prompted is_modules is_wrong a ≡ slice_get (attribute_faults c name (Some k) prompted a) 0
 typed_is c name k prompted is_modules is_wrong a m w = rw (m, w) (sym (six _ _ _ _ _ _ _ _ _ _ _ _))
 

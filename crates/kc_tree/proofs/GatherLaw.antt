@@ -6,12 +6,12 @@ use Rattle.std.proofs.lemmas.Bool.{eqb-true, eq-eqb}
 use Rattle.std.proofs.lemmas.List.{map-append}
 use Rattle.std.proofs.lemmas.List.Elements.{All-nil, All-append}
 use Rattle.std.proofs.lemmas.Grind.{flat_map-append}
-use Rattle.kc_expr.specs.Lookup.{place_of}
-use Rattle.kc_tree_model.specs.Trees.{Force}
-use Rattle.kc_tree_model.specs.Statements.{Attribute, Aimed}
-use Rattle.kc_tree_model.specs.Blocks.{Group, Line, name_of}
-use Rattle.kc_tree_model.specs.Conditions.{Placed, placed, said_in, attribute_condition}
-use Rattle.kc_tree_model.specs.Contents.{Contents, contents_of, defines, definitions_of, forces_at, forces_by}
+use Rattle.kc_expr.specs.Lookup.{index_of_name}
+use Rattle.kc_tree_model.specs.Trees.{ReverseDependency}
+use Rattle.kc_tree_model.specs.Statements.{Attribute, TargetAttribute}
+use Rattle.kc_tree_model.specs.Blocks.{Group, Line, defined_name}
+use Rattle.kc_tree_model.specs.Conditions.{GroupInContext, groups_in_context, attribute_values, attribute_condition}
+use Rattle.kc_tree_model.specs.Contents.{Contents, contents_of, defines, definitions_of, reverse_dependencies_of, reverse_dependencies_by}
 use Rattle.kc_tree_model.specs.Limits.{names_defined}
 use Rattle.kc_tree_model.proofs.Consistency.Lists.{Has, has-at, has-place, place-get, same_text, text_same, Differ, Differ-once, at_most_once}
 use Rattle.kc_tree.specs.checker.GroupedItems.{items_of}
@@ -23,19 +23,19 @@ by_name f None = []
 by_name f (Some x) = f x
 
 -- items and their keys are those of places
-pub record AreListed {T M : Type 0} (view : T → M) (ks : Placed → List ℕ) (xs : Placed → List M) (P : T → Type 0) (count : ℕ) (places : List Placed) (keys : List ℕ) (items : List T) : Type 0 where
+pub record AreListed {T M : Type 0} (view : T → M) (ks : GroupInContext → List ℕ) (xs : GroupInContext → List M) (P : T → Type 0) (count : ℕ) (places : List GroupInContext) (keys : List ℕ) (items : List T) : Type 0 where
   pub keys_are : keys ≡ flat_map ks places
   pub items_are : map view items ≡ flat_map xs places
   pub fit : All P items
   pub below : All (λ k. k < count) keys
 
-pub none_listed : {T M : Type 0} (view : T → M) (ks : Placed → List ℕ) (xs : Placed → List M) (P : T → Type 0) (count : ℕ) → AreListed view ks xs P count [] [] []
+pub none_listed : {T M : Type 0} (view : T → M) (ks : GroupInContext → List ℕ) (xs : GroupInContext → List M) (P : T → Type 0) (count : ℕ) → AreListed view ks xs P count [] [] []
 none_listed view ks xs P count = record { keys_are = refl; items_are = refl; fit = All-nil P; below = All-nil (λ k. k < count) }
 
 flat_map-one : {A B : Type 0} (f : A → List B) (us : List A) (a : A) → flat_map f (us ++ a ∷ []) ≡ flat_map f us ++ f a
 flat_map-one f us a = flat_map-append f us (a ∷ []) ∙ ap (λ bs. flat_map f us ++ bs) (append-nil (f a))
 
-pub listed_more : {T M : Type 0} (view : T → M) (ks : Placed → List ℕ) (xs : Placed → List M) (P : T → Type 0) (count : ℕ) (places : List Placed) (keys keys2 own : List ℕ) (items items2 mine : List T) (p : Placed)
+pub listed_more : {T M : Type 0} (view : T → M) (ks : GroupInContext → List ℕ) (xs : GroupInContext → List M) (P : T → Type 0) (count : ℕ) (places : List GroupInContext) (keys keys2 own : List ℕ) (items items2 mine : List T) (p : GroupInContext)
     → AreListed view ks xs P count places keys items → keys2 ≡ keys ++ own → items2 ≡ items ++ mine → own ≡ ks p → map view mine ≡ xs p → All P mine → All (λ k. k < count) own
     → AreListed view ks xs P count (places ++ p ∷ []) keys2 items2
 listed_more view ks xs P count places keys keys2 own items items2 mine p l k i ko io pm po = record {
@@ -45,7 +45,7 @@ listed_more view ks xs P count places keys keys2 own items items2 mine p l k i k
   below = subst (All (λ n. n < count)) (sym k) (All-append (λ n. n < count) keys own l.below po);
 }
 
-pub listed_same : {T M : Type 0} (view : T → M) (ks : Placed → List ℕ) (xs : Placed → List M) (P : T → Type 0) (count : ℕ) (places : List Placed) (keys : List ℕ) (items : List T) (p : Placed)
+pub listed_same : {T M : Type 0} (view : T → M) (ks : GroupInContext → List ℕ) (xs : GroupInContext → List M) (P : T → Type 0) (count : ℕ) (places : List GroupInContext) (keys : List ℕ) (items : List T) (p : GroupInContext)
     → AreListed view ks xs P count places keys items → ks p ≡ [] → xs p ≡ [] → AreListed view ks xs P count (places ++ p ∷ []) keys items
 listed_same view ks xs P count places keys items p l k i = record {
   keys_are = l.keys_are ∙ sym (flat_map-one ks places p ∙ ap (λ z. flat_map ks places ++ z) k ∙ append-nil (flat_map ks places));
@@ -76,17 +76,17 @@ items_mapped view t [] xs = refl
 items_mapped view t (k ∷ ks) [] = refl
 items_mapped view t (k ∷ ks) (x ∷ xs) = mapped_or view (k == t) x (items_of t ks xs) ∙ ap (λ r. cond (k == t) (view x ∷ r) r) (items_mapped view t ks xs)
 
-places_apart : {M : Type 0} (t : ℕ) (ks : Placed → List ℕ) (xs : Placed → List M) (ps : List Placed) → ((p : Placed) → length (ks p) ≡ length (xs p)) → items_of t (flat_map ks ps) (flat_map xs ps) ≡ flat_map (λ p. items_of t (ks p) (xs p)) ps
+places_apart : {M : Type 0} (t : ℕ) (ks : GroupInContext → List ℕ) (xs : GroupInContext → List M) (ps : List GroupInContext) → ((p : GroupInContext) → length (ks p) ≡ length (xs p)) → items_of t (flat_map ks ps) (flat_map xs ps) ≡ flat_map (λ p. items_of t (ks p) (xs p)) ps
 places_apart t ks xs [] e = refl
 places_apart t ks xs (p ∷ ps) e = items_append t (ks p) (flat_map ks ps) (xs p) (flat_map xs ps) (e p) ∙ ap (λ r. items_of t (ks p) (xs p) ++ r) (places_apart t ks xs ps e)
 
-pointwise : {M : Type 0} (f h : Placed → List M) (ps : List Placed) → ((p : Placed) → Has p ps → f p ≡ h p) → flat_map f ps ≡ flat_map h ps
+pointwise : {M : Type 0} (f h : GroupInContext → List M) (ps : List GroupInContext) → ((p : GroupInContext) → Has p ps → f p ≡ h p) → flat_map f ps ≡ flat_map h ps
 pointwise f h [] e = refl
 pointwise f h (p ∷ ps) e = ap (λ r. r ++ flat_map f ps) (e p (inl refl)) ∙ ap (λ r. h p ++ r) (pointwise f h ps (λ q k. e q (inr k)))
 
 -- what is listed under a number, place by place
-pub listed_law : {T M : Type 0} (view : T → M) (ks : Placed → List ℕ) (xs h : Placed → List M) (P : T → Type 0) (count : ℕ) (places : List Placed) (keys : List ℕ) (items : List T) (t : ℕ)
-    → AreListed view ks xs P count places keys items → ((p : Placed) → length (ks p) ≡ length (xs p)) → ((p : Placed) → Has p places → items_of t (ks p) (xs p) ≡ h p)
+pub listed_law : {T M : Type 0} (view : T → M) (ks : GroupInContext → List ℕ) (xs h : GroupInContext → List M) (P : T → Type 0) (count : ℕ) (places : List GroupInContext) (keys : List ℕ) (items : List T) (t : ℕ)
+    → AreListed view ks xs P count places keys items → ((p : GroupInContext) → length (ks p) ≡ length (xs p)) → ((p : GroupInContext) → Has p places → items_of t (ks p) (xs p) ≡ h p)
     → map view (items_of t keys items) ≡ flat_map h places
 listed_law view ks xs h P count places keys items t l e k =
     items_mapped view t keys items
@@ -96,7 +96,7 @@ listed_law view ks xs h P count places keys items t l e k =
     ∙ pointwise (λ p. items_of t (ks p) (xs p)) h places k
 
 -- of some places only
-pub among_some : {M : Type 0} (test : Placed → Bool) (f : Placed → List M) (ps : List Placed) → flat_map (λ p. cond (test p) (f p) []) ps ≡ flat_map f (filter test ps)
+pub among_some : {M : Type 0} (test : GroupInContext → Bool) (f : GroupInContext → List M) (ps : List GroupInContext) → flat_map (λ p. cond (test p) (f p) []) ps ≡ flat_map f (filter test ps)
 among_some test f [] = refl
 among_some test f (p ∷ ps) = ap (λ r. cond (test p) (f p) [] ++ r) (among_some test f ps) ∙ by_test (test p)
   where
@@ -106,14 +106,14 @@ among_some test f (p ∷ ps) = ap (λ r. cond (test p) (f p) [] ++ r) (among_som
 
 -- the number of a name
 abbrev pub number_of : List (List ℕ) → List ℕ → ℕ
-number_of names x = unwrap_or (place_of x names) 0
+number_of names x = unwrap_or (index_of_name x names) 0
 
-pub number_is : (names : List (List ℕ)) (x : List ℕ) (s : ℕ) → Differ names → slice_get names s ≡ Some x → place_of x names ≡ Some s
+pub number_is : (names : List (List ℕ)) (x : List ℕ) (s : ℕ) → Differ names → slice_get names s ≡ Some x → index_of_name x names ≡ Some s
 number_is names x s d e =
     let p = has-place x names (has-at x names s e) in
     p.1 ∙ ap Some (at_most_once x names p.0 s d (place-get x names p.0 p.1) e)
 
-same_number : (names : List (List ℕ)) (x name : List ℕ) (j t : ℕ) → Differ names → place_of x names ≡ Some j → slice_get names t ≡ Some name → (j == t) ≡ bytes_eq x name
+same_number : (names : List (List ℕ)) (x name : List ℕ) (j t : ℕ) → Differ names → index_of_name x names ≡ Some j → slice_get names t ≡ Some name → (j == t) ≡ bytes_eq x name
 same_number names x name j t d e at = by_both (j == t) (bytes_eq x name) refl refl
   where
     by_both : (a b : Bool) → (j == t) ≡ a → bytes_eq x name ≡ b → a ≡ b
@@ -135,47 +135,47 @@ same_number names x name j t d e at = by_both (j == t) (bytes_eq x name) refl re
 abbrev pub own_key_of : {B : Type 0} → (Attribute → Option B) → List (List ℕ) → List ℕ → Line → Option ℕ
 own_key_of G names x l = option_map (λ _. number_of names x) (G l.attribute)
 
-abbrev pub own_item_of : {B M : Type 0} → (Attribute → Option B) → (Placed → B → M) → Placed → Line → Option M
+abbrev pub own_item_of : {B M : Type 0} → (Attribute → Option B) → (GroupInContext → B → M) → GroupInContext → Line → Option M
 own_item_of G h p l = option_map (h p) (G l.attribute)
 
-abbrev pub own_keys : {B : Type 0} → (Attribute → Option B) → List (List ℕ) → Placed → List ℕ
-own_keys G names p = by_name (λ x. filter_map (own_key_of G names x) p.group.attributes) (name_of p.group)
+abbrev pub own_keys : {B : Type 0} → (Attribute → Option B) → List (List ℕ) → GroupInContext → List ℕ
+own_keys G names p = by_name (λ x. filter_map (own_key_of G names x) p.group.attributes) (defined_name p.group)
 
-abbrev pub own_items : {B M : Type 0} → (Attribute → Option B) → (Placed → B → M) → Placed → List M
-own_items G h p = by_name (λ x. filter_map (own_item_of G h p) p.group.attributes) (name_of p.group)
+abbrev pub own_items : {B M : Type 0} → (Attribute → Option B) → (GroupInContext → B → M) → GroupInContext → List M
+own_items G h p = by_name (λ x. filter_map (own_item_of G h p) p.group.attributes) (defined_name p.group)
 
-module _ {B M : Type 0} (G : Attribute → Option B) (h : Placed → B → M) (names : List (List ℕ)) where
-  as_many_by : (o : Option B) (p : Placed) (n : ℕ) (ks : List ℕ) (xs : List M) → length ks ≡ length xs → length (cons_option (option_map (λ _. n) o) ks) ≡ length (cons_option (option_map (h p) o) xs)
+module _ {B M : Type 0} (G : Attribute → Option B) (h : GroupInContext → B → M) (names : List (List ℕ)) where
+  as_many_by : (o : Option B) (p : GroupInContext) (n : ℕ) (ks : List ℕ) (xs : List M) → length ks ≡ length xs → length (cons_option (option_map (λ _. n) o) ks) ≡ length (cons_option (option_map (h p) o) xs)
   as_many_by None p n ks xs e = e
   as_many_by (Some b) p n ks xs e = ap suc e
 
-  as_many_lines : (p : Placed) (n : ℕ) (ls : List Line) → length (filter_map (λ (l : Line). option_map (λ _. n) (G l.attribute)) ls) ≡ length (filter_map (own_item_of G h p) ls)
+  as_many_lines : (p : GroupInContext) (n : ℕ) (ls : List Line) → length (filter_map (λ (l : Line). option_map (λ _. n) (G l.attribute)) ls) ≡ length (filter_map (own_item_of G h p) ls)
   as_many_lines p n [] = refl
   as_many_lines p n (l ∷ ls) = as_many_by (G l.attribute) p n (filter_map (λ (q : Line). option_map (λ _. n) (G q.attribute)) ls) (filter_map (own_item_of G h p) ls) (as_many_lines p n ls)
 
-  pub own_many : (p : Placed) → length (own_keys G names p) ≡ length (own_items G h p)
-  own_many p = by_case (name_of p.group)
+  pub own_many : (p : GroupInContext) → length (own_keys G names p) ≡ length (own_items G h p)
+  own_many p = by_case (defined_name p.group)
     where
       by_case : (o : Option (List ℕ)) → length (by_name (λ x. filter_map (own_key_of G names x) p.group.attributes) o) ≡ length (by_name (λ x. filter_map (own_item_of G h p) p.group.attributes) o)
       by_case None = refl
       by_case (Some x) = as_many_lines p (number_of names x) p.group.attributes
 
-  own_by : (b : Bool) (o : Option B) (p : Placed) (n t : ℕ) (ks : List ℕ) (xs : List M) (bs : List B) → (n == t) ≡ b → items_of t ks xs ≡ cond b (map (h p) bs) []
+  own_by : (b : Bool) (o : Option B) (p : GroupInContext) (n t : ℕ) (ks : List ℕ) (xs : List M) (bs : List B) → (n == t) ≡ b → items_of t ks xs ≡ cond b (map (h p) bs) []
       → items_of t (cons_option (option_map (λ _. n) o) ks) (cons_option (option_map (h p) o) xs) ≡ cond b (map (h p) (cons_option o bs)) []
   own_by b None p n t ks xs bs e ih = ih
   own_by true (Some y) p n t ks xs bs e ih = rw e (ap (λ r. h p y ∷ r) ih)
   own_by false (Some y) p n t ks xs bs e ih = rw e ih
 
-  own_lines : (p : Placed) (n t : ℕ) (b : Bool) (ls : List Line) → (n == t) ≡ b
+  own_lines : (p : GroupInContext) (n t : ℕ) (b : Bool) (ls : List Line) → (n == t) ≡ b
       → items_of t (filter_map (λ (l : Line). option_map (λ _. n) (G l.attribute)) ls) (filter_map (own_item_of G h p) ls) ≡ cond b (map (h p) (filter_map (λ (l : Line). G l.attribute) ls)) []
   own_lines p n t true [] e = refl
   own_lines p n t false [] e = refl
   own_lines p n t b (l ∷ ls) e =
       own_by b (G l.attribute) p n t (filter_map (λ (q : Line). option_map (λ _. n) (G q.attribute)) ls) (filter_map (own_item_of G h p) ls) (filter_map (λ (q : Line). G q.attribute) ls) e (own_lines p n t b ls e)
 
-  own_here : (p : Placed) (o : Option (List ℕ)) (name : List ℕ) (t : ℕ) → Differ names → slice_get names t ≡ Some name → ((x : List ℕ) → o ≡ Some x → Has x names)
+  own_here : (p : GroupInContext) (o : Option (List ℕ)) (name : List ℕ) (t : ℕ) → Differ names → slice_get names t ≡ Some name → ((x : List ℕ) → o ≡ Some x → Has x names)
       → items_of t (by_name (λ x. filter_map (own_key_of G names x) p.group.attributes) o) (by_name (λ x. filter_map (own_item_of G h p) p.group.attributes) o)
-      ≡ cond (elim o as (λ _. Bool) [ None ↦ false | Some x ↦ bytes_eq x name ]) (map (h p) (said_in G p.group)) []
+      ≡ cond (elim o as (λ _. Bool) [ None ↦ false | Some x ↦ bytes_eq x name ]) (map (h p) (attribute_values G p.group)) []
   own_here p None name t d at named = refl
   own_here p (Some x) name t d at named =
       let j = has-place x names (named x refl) in
@@ -183,30 +183,30 @@ module _ {B M : Type 0} (G : Attribute → Option B) (h : Placed → B → M) (n
       own_lines p (number_of names x) t (bytes_eq x name) p.group.attributes (ap (λ k. k == t) n ∙ same_number names x name j.0 t d j.1 at)
 
 -- the lists of a symbol's own attributes are those of its definitions
-pub own_law : {T B M : Type 0} (view : T → M) (G : Attribute → Option B) (h : Placed → B → M) (P : T → Type 0) (count : ℕ) (read : List Group) (keys : List ℕ) (items : List T) (t : ℕ) (name : List ℕ)
-    → AreListed view (own_keys G (names_defined read)) (own_items G h) P count (placed read) keys items → slice_get (names_defined read) t ≡ Some name
-    → map view (items_of t keys items) ≡ flat_map (λ p. map (h p) (said_in G p.group)) (definitions_of (contents_of read) name)
+pub own_law : {T B M : Type 0} (view : T → M) (G : Attribute → Option B) (h : GroupInContext → B → M) (P : T → Type 0) (count : ℕ) (read : List Group) (keys : List ℕ) (items : List T) (t : ℕ) (name : List ℕ)
+    → AreListed view (own_keys G (names_defined read)) (own_items G h) P count (groups_in_context read) keys items → slice_get (names_defined read) t ≡ Some name
+    → map view (items_of t keys items) ≡ flat_map (λ p. map (h p) (attribute_values G p.group)) (definitions_of (contents_of read) name)
 own_law view G h P count read keys items t name l at =
     let names = names_defined read in
-    listed_law view (own_keys G names) (own_items G h) (λ p. cond (defines name p) (map (h p) (said_in G p.group)) []) P count (placed read) keys items t l (own_many G h names)
-    (λ p k. own_here G h names p (name_of p.group) name t (Differ-once (filter_map name_of read)) at (λ x e. named_there read p x k e))
-    ∙ among_some (defines name) (λ p. map (h p) (said_in G p.group)) (placed read)
+    listed_law view (own_keys G names) (own_items G h) (λ p. cond (defines name p) (map (h p) (attribute_values G p.group)) []) P count (groups_in_context read) keys items t l (own_many G h names)
+    (λ p k. own_here G h names p (defined_name p.group) name t (Differ-once (filter_map defined_name read)) at (λ x e. named_there read p x k e))
+    ∙ among_some (defines name) (λ p. map (h p) (attribute_values G p.group)) (groups_in_context read)
 
 -- the dependencies of definitions
-abbrev pub direct_keys : List (List ℕ) → Placed → List ℕ
-direct_keys names p = by_name (λ x. number_of names x ∷ []) (name_of p.group)
+abbrev pub direct_keys : List (List ℕ) → GroupInContext → List ℕ
+direct_keys names p = by_name (λ x. number_of names x ∷ []) (defined_name p.group)
 
-abbrev pub direct_items : {M : Type 0} → (Placed → M) → Placed → List M
-direct_items f p = by_name (λ x. f p ∷ []) (name_of p.group)
+abbrev pub direct_items : {M : Type 0} → (GroupInContext → M) → GroupInContext → List M
+direct_items f p = by_name (λ x. f p ∷ []) (defined_name p.group)
 
 one_of : {M : Type 0} (b : Bool) (y : M) (n t : ℕ) → (n == t) ≡ b → cond (n == t) (y ∷ []) [] ≡ cond b (y ∷ []) []
 one_of b y n t e = ap (λ c. cond c (y ∷ []) []) e
 
-direct_many : {M : Type 0} (f : Placed → M) (names : List (List ℕ)) (p : Placed) (o : Option (List ℕ)) → length (by_name (λ x. number_of names x ∷ []) o) ≡ length (by_name (λ x. f p ∷ []) o)
+direct_many : {M : Type 0} (f : GroupInContext → M) (names : List (List ℕ)) (p : GroupInContext) (o : Option (List ℕ)) → length (by_name (λ x. number_of names x ∷ []) o) ≡ length (by_name (λ x. f p ∷ []) o)
 direct_many f names p None = refl
 direct_many f names p (Some x) = refl
 
-direct_here : {M : Type 0} (f : Placed → M) (names : List (List ℕ)) (p : Placed) (o : Option (List ℕ)) (name : List ℕ) (t : ℕ) → Differ names → slice_get names t ≡ Some name → ((x : List ℕ) → o ≡ Some x → Has x names)
+direct_here : {M : Type 0} (f : GroupInContext → M) (names : List (List ℕ)) (p : GroupInContext) (o : Option (List ℕ)) (name : List ℕ) (t : ℕ) → Differ names → slice_get names t ≡ Some name → ((x : List ℕ) → o ≡ Some x → Has x names)
     → items_of t (by_name (λ x. number_of names x ∷ []) o) (by_name (λ x. f p ∷ []) o) ≡ cond (elim o as (λ _. Bool) [ None ↦ false | Some x ↦ bytes_eq x name ]) (f p ∷ []) []
 direct_here f names p None name t d at named = refl
 direct_here f names p (Some x) name t d at named =
@@ -214,103 +214,103 @@ direct_here f names p (Some x) name t d at named =
     let n : number_of names x ≡ j.0 = ap (λ o. unwrap_or o 0) j.1 in
     one_of (bytes_eq x name) (f p) (number_of names x) t (ap (λ k. k == t) n ∙ same_number names x name j.0 t d j.1 at)
 
-mapped_one : {M : Type 0} (f : Placed → M) (ps : List Placed) → flat_map (λ p. f p ∷ []) ps ≡ map f ps
+mapped_one : {M : Type 0} (f : GroupInContext → M) (ps : List GroupInContext) → flat_map (λ p. f p ∷ []) ps ≡ map f ps
 mapped_one f [] = refl
 mapped_one f (p ∷ ps) = ap (λ r. f p ∷ r) (mapped_one f ps)
 
-pub direct_law : {T M : Type 0} (view : T → M) (f : Placed → M) (P : T → Type 0) (count : ℕ) (read : List Group) (keys : List ℕ) (items : List T) (t : ℕ) (name : List ℕ)
-    → AreListed view (direct_keys (names_defined read)) (direct_items f) P count (placed read) keys items → slice_get (names_defined read) t ≡ Some name
+pub direct_law : {T M : Type 0} (view : T → M) (f : GroupInContext → M) (P : T → Type 0) (count : ℕ) (read : List Group) (keys : List ℕ) (items : List T) (t : ℕ) (name : List ℕ)
+    → AreListed view (direct_keys (names_defined read)) (direct_items f) P count (groups_in_context read) keys items → slice_get (names_defined read) t ≡ Some name
     → map view (items_of t keys items) ≡ map f (definitions_of (contents_of read) name)
 direct_law view f P count read keys items t name l at =
     let names = names_defined read in
-    listed_law view (direct_keys names) (direct_items f) (λ p. cond (defines name p) (f p ∷ []) []) P count (placed read) keys items t l (λ p. direct_many f names p (name_of p.group))
-    (λ p k. direct_here f names p (name_of p.group) name t (Differ-once (filter_map name_of read)) at (λ x e. named_there read p x k e))
-    ∙ among_some (defines name) (λ p. f p ∷ []) (placed read)
+    listed_law view (direct_keys names) (direct_items f) (λ p. cond (defines name p) (f p ∷ []) []) P count (groups_in_context read) keys items t l (λ p. direct_many f names p (defined_name p.group))
+    (λ p k. direct_here f names p (defined_name p.group) name t (Differ-once (filter_map defined_name read)) at (λ x e. named_there read p x k e))
+    ∙ among_some (defines name) (λ p. f p ∷ []) (groups_in_context read)
     ∙ mapped_one f (definitions_of (contents_of read) name)
 
 -- what forces other symbols
-abbrev pub force_key_of : (Attribute → Option Aimed) → List (List ℕ) → Line → Option ℕ
-force_key_of S names l = option_and_then (λ (a : Aimed). place_of a.name names) (S l.attribute)
+abbrev pub force_key_of : (Attribute → Option TargetAttribute) → List (List ℕ) → Line → Option ℕ
+force_key_of S names l = option_and_then (λ (a : TargetAttribute). index_of_name a.name names) (S l.attribute)
 
-abbrev pub force_by : ℕ → Placed → Aimed → Force
-force_by s p a = record { by = s; condition = attribute_condition p.around p.group a.condition }
+abbrev pub force_by : ℕ → GroupInContext → TargetAttribute → ReverseDependency
+force_by s p a = record { by = s; condition = attribute_condition p.enclosing p.group a.condition }
 
-abbrev pub force_item_of : (Attribute → Option Aimed) → List (List ℕ) → Placed → List ℕ → Line → Option Force
-force_item_of S names p x l = option_and_then (λ (a : Aimed). option_map (λ _. force_by (number_of names x) p a) (place_of a.name names)) (S l.attribute)
+abbrev pub force_item_of : (Attribute → Option TargetAttribute) → List (List ℕ) → GroupInContext → List ℕ → Line → Option ReverseDependency
+force_item_of S names p x l = option_and_then (λ (a : TargetAttribute). option_map (λ _. force_by (number_of names x) p a) (index_of_name a.name names)) (S l.attribute)
 
-abbrev pub force_keys : (Attribute → Option Aimed) → List (List ℕ) → Placed → List ℕ
-force_keys S names p = by_name (λ x. filter_map (force_key_of S names) p.group.attributes) (name_of p.group)
+abbrev pub force_keys : (Attribute → Option TargetAttribute) → List (List ℕ) → GroupInContext → List ℕ
+force_keys S names p = by_name (λ x. filter_map (force_key_of S names) p.group.attributes) (defined_name p.group)
 
-abbrev pub force_items : (Attribute → Option Aimed) → List (List ℕ) → Placed → List Force
-force_items S names p = by_name (λ x. filter_map (force_item_of S names p x) p.group.attributes) (name_of p.group)
+abbrev pub force_items : (Attribute → Option TargetAttribute) → List (List ℕ) → GroupInContext → List ReverseDependency
+force_items S names p = by_name (λ x. filter_map (force_item_of S names p x) p.group.attributes) (defined_name p.group)
 
-module _ (S : Attribute → Option Aimed) (names : List (List ℕ)) where
+module _ (S : Attribute → Option TargetAttribute) (names : List (List ℕ)) where
   forced_by : {A B : Type 0} (o : Option A) (y : B) (ks : List A) (xs : List B) → length ks ≡ length xs → length (cons_option o ks) ≡ length (cons_option (option_map (λ _. y) o) xs)
   forced_by None y ks xs e = e
   forced_by (Some a) y ks xs e = ap suc e
 
-  forced_many : (p : Placed) (x : List ℕ) (ls : List Line) → length (filter_map (force_key_of S names) ls) ≡ length (filter_map (force_item_of S names p x) ls)
+  forced_many : (p : GroupInContext) (x : List ℕ) (ls : List Line) → length (filter_map (force_key_of S names) ls) ≡ length (filter_map (force_item_of S names p x) ls)
   forced_many p x [] = refl
   forced_many p x (l ∷ ls) = by_aim (S l.attribute) (forced_many p x ls)
     where
-      by_aim : (o : Option Aimed) → length (filter_map (force_key_of S names) ls) ≡ length (filter_map (force_item_of S names p x) ls)
-          → length (cons_option (option_and_then (λ (a : Aimed). place_of a.name names) o) (filter_map (force_key_of S names) ls))
-          ≡ length (cons_option (option_and_then (λ (a : Aimed). option_map (λ _. force_by (number_of names x) p a) (place_of a.name names)) o) (filter_map (force_item_of S names p x) ls))
+      by_aim : (o : Option TargetAttribute) → length (filter_map (force_key_of S names) ls) ≡ length (filter_map (force_item_of S names p x) ls)
+          → length (cons_option (option_and_then (λ (a : TargetAttribute). index_of_name a.name names) o) (filter_map (force_key_of S names) ls))
+          ≡ length (cons_option (option_and_then (λ (a : TargetAttribute). option_map (λ _. force_by (number_of names x) p a) (index_of_name a.name names)) o) (filter_map (force_item_of S names p x) ls))
       by_aim None e = e
-      by_aim (Some a) e = forced_by (place_of a.name names) (force_by (number_of names x) p a) (filter_map (force_key_of S names) ls) (filter_map (force_item_of S names p x) ls) e
+      by_aim (Some a) e = forced_by (index_of_name a.name names) (force_by (number_of names x) p a) (filter_map (force_key_of S names) ls) (filter_map (force_item_of S names p x) ls) e
 
-  pub force_many : (p : Placed) → length (force_keys S names p) ≡ length (force_items S names p)
-  force_many p = by_case (name_of p.group)
+  pub force_many : (p : GroupInContext) → length (force_keys S names p) ≡ length (force_items S names p)
+  force_many p = by_case (defined_name p.group)
     where
       by_case : (o : Option (List ℕ)) → length (by_name (λ x. filter_map (force_key_of S names) p.group.attributes) o) ≡ length (by_name (λ x. filter_map (force_item_of S names p x) p.group.attributes) o)
       by_case None = refl
       by_case (Some x) = forced_many p x p.group.attributes
 
-  module _ (p : Placed) (s t : ℕ) (name : List ℕ) (d : Differ names) (at : slice_get names t ≡ Some name) where
-    no_place : (a : Aimed) → place_of a.name names ≡ None → bytes_eq a.name name ≡ false
+  module _ (p : GroupInContext) (s t : ℕ) (name : List ℕ) (d : Differ names) (at : slice_get names t ≡ Some name) where
+    no_place : (a : TargetAttribute) → index_of_name a.name names ≡ None → bytes_eq a.name name ≡ false
     no_place a e = by_same (bytes_eq a.name name) refl
       where
         by_same : (b : Bool) → bytes_eq a.name name ≡ b → b ≡ false
         by_same false u = refl
         by_same true u =
             let q = number_is names name t d at in
-            let r = ap (λ y. place_of y names) (same_text a.name name u) in
+            let r = ap (λ y. index_of_name y names) (same_text a.name name u) in
             cc
 
-    forced_here : (b : Bool) (o : Option ℕ) (a : Aimed) (ks : List ℕ) (xs : List Force) (us : List Aimed) → bytes_eq a.name name ≡ b → place_of a.name names ≡ o → items_of t ks xs ≡ map (force_by s p) us
+    forced_here : (b : Bool) (o : Option ℕ) (a : TargetAttribute) (ks : List ℕ) (xs : List ReverseDependency) (us : List TargetAttribute) → bytes_eq a.name name ≡ b → index_of_name a.name names ≡ o → items_of t ks xs ≡ map (force_by s p) us
         → items_of t (cons_option o ks) (cons_option (option_map (λ _. force_by s p a) o) xs) ≡ map (force_by s p) (cond b (a ∷ us) us)
     forced_here true None a ks xs us u e ih = let f = no_place a e in cc
     forced_here false None a ks xs us u e ih = ih
     forced_here true (Some j) a ks xs us u e ih = rw (same_number names a.name name j t d e at ∙ u) (ap (λ r. force_by s p a ∷ r) ih)
     forced_here false (Some j) a ks xs us u e ih = rw (same_number names a.name name j t d e at ∙ u) ih
 
-    forced_lines : (x : List ℕ) (ls : List Line) → number_of names x ≡ s → items_of t (filter_map (force_key_of S names) ls) (filter_map (force_item_of S names p x) ls) ≡ map (force_by s p) (filter (λ (a : Aimed). bytes_eq a.name name) (filter_map (λ (l : Line). S l.attribute) ls))
+    forced_lines : (x : List ℕ) (ls : List Line) → number_of names x ≡ s → items_of t (filter_map (force_key_of S names) ls) (filter_map (force_item_of S names p x) ls) ≡ map (force_by s p) (filter (λ (a : TargetAttribute). bytes_eq a.name name) (filter_map (λ (l : Line). S l.attribute) ls))
     forced_lines x [] e = refl
     forced_lines x (l ∷ ls) e = by_aim (S l.attribute) (forced_lines x ls e)
       where
-        by_aim : (o : Option Aimed) → items_of t (filter_map (force_key_of S names) ls) (filter_map (force_item_of S names p x) ls) ≡ map (force_by s p) (filter (λ (a : Aimed). bytes_eq a.name name) (filter_map (λ (q : Line). S q.attribute) ls))
-            → items_of t (cons_option (option_and_then (λ (a : Aimed). place_of a.name names) o) (filter_map (force_key_of S names) ls)) (cons_option (option_and_then (λ (a : Aimed). option_map (λ _. force_by (number_of names x) p a) (place_of a.name names)) o) (filter_map (force_item_of S names p x) ls))
-            ≡ map (force_by s p) (filter (λ (a : Aimed). bytes_eq a.name name) (cons_option o (filter_map (λ (q : Line). S q.attribute) ls)))
+        by_aim : (o : Option TargetAttribute) → items_of t (filter_map (force_key_of S names) ls) (filter_map (force_item_of S names p x) ls) ≡ map (force_by s p) (filter (λ (a : TargetAttribute). bytes_eq a.name name) (filter_map (λ (q : Line). S q.attribute) ls))
+            → items_of t (cons_option (option_and_then (λ (a : TargetAttribute). index_of_name a.name names) o) (filter_map (force_key_of S names) ls)) (cons_option (option_and_then (λ (a : TargetAttribute). option_map (λ _. force_by (number_of names x) p a) (index_of_name a.name names)) o) (filter_map (force_item_of S names p x) ls))
+            ≡ map (force_by s p) (filter (λ (a : TargetAttribute). bytes_eq a.name name) (cons_option o (filter_map (λ (q : Line). S q.attribute) ls)))
         by_aim None ih = ih
         by_aim (Some a) ih =
-            ap (λ n. items_of t (cons_option (place_of a.name names) (filter_map (force_key_of S names) ls)) (cons_option (option_map (λ _. force_by n p a) (place_of a.name names)) (filter_map (force_item_of S names p x) ls))) e
-            ∙ forced_here (bytes_eq a.name name) (place_of a.name names) a (filter_map (force_key_of S names) ls) (filter_map (force_item_of S names p x) ls) (filter (λ (b : Aimed). bytes_eq b.name name) (filter_map (λ (q : Line). S q.attribute) ls)) refl refl ih
+            ap (λ n. items_of t (cons_option (index_of_name a.name names) (filter_map (force_key_of S names) ls)) (cons_option (option_map (λ _. force_by n p a) (index_of_name a.name names)) (filter_map (force_item_of S names p x) ls))) e
+            ∙ forced_here (bytes_eq a.name name) (index_of_name a.name names) a (filter_map (force_key_of S names) ls) (filter_map (force_item_of S names p x) ls) (filter (λ (b : TargetAttribute). bytes_eq b.name name) (filter_map (λ (q : Line). S q.attribute) ls)) refl refl ih
 
 -- what stands under a symbol is what forces it
-force_here : (S : Attribute → Option Aimed) (c : Contents) (p : Placed) (o : Option (List ℕ)) (name : List ℕ) (t : ℕ) → Differ c.names → slice_get c.names t ≡ Some name → ((x : List ℕ) → o ≡ Some x → Has x c.names)
+force_here : (S : Attribute → Option TargetAttribute) (c : Contents) (p : GroupInContext) (o : Option (List ℕ)) (name : List ℕ) (t : ℕ) → Differ c.names → slice_get c.names t ≡ Some name → ((x : List ℕ) → o ≡ Some x → Has x c.names)
     → items_of t (by_name (λ x. filter_map (force_key_of S c.names) p.group.attributes) o) (by_name (λ x. filter_map (force_item_of S c.names p x) p.group.attributes) o)
-    ≡ elim o as (λ _. List Force) [ None ↦ [] | Some by ↦ forces_by c p (filter (λ (a : Aimed). bytes_eq a.name name) (said_in S p.group)) by ]
+    ≡ elim o as (λ _. List ReverseDependency) [ None ↦ [] | Some by ↦ reverse_dependencies_by c p (filter (λ (a : TargetAttribute). bytes_eq a.name name) (attribute_values S p.group)) by ]
 force_here S c p None name t d at named = refl
 force_here S c p (Some x) name t d at named =
     let j = has-place x c.names (named x refl) in
     let n : number_of c.names x ≡ j.0 = ap (λ o. unwrap_or o 0) j.1 in
     forced_lines S c.names p j.0 t name d at x p.group.attributes n
-    ∙ sym (ap (λ o. elim o as (λ _. List Force) [ None ↦ [] | Some s ↦ map (force_by s p) (filter (λ (a : Aimed). bytes_eq a.name name) (said_in S p.group)) ]) j.1)
+    ∙ sym (ap (λ o. elim o as (λ _. List ReverseDependency) [ None ↦ [] | Some s ↦ map (force_by s p) (filter (λ (a : TargetAttribute). bytes_eq a.name name) (attribute_values S p.group)) ]) j.1)
 
-pub force_law : {T : Type 0} (view : T → Force) (S : Attribute → Option Aimed) (P : T → Type 0) (count : ℕ) (read : List Group) (keys : List ℕ) (items : List T) (t : ℕ) (name : List ℕ)
-    → AreListed view (force_keys S (names_defined read)) (force_items S (names_defined read)) P count (placed read) keys items → slice_get (names_defined read) t ≡ Some name
-    → map view (items_of t keys items) ≡ flat_map (forces_at S (contents_of read) name) (placed read)
+pub force_law : {T : Type 0} (view : T → ReverseDependency) (S : Attribute → Option TargetAttribute) (P : T → Type 0) (count : ℕ) (read : List Group) (keys : List ℕ) (items : List T) (t : ℕ) (name : List ℕ)
+    → AreListed view (force_keys S (names_defined read)) (force_items S (names_defined read)) P count (groups_in_context read) keys items → slice_get (names_defined read) t ≡ Some name
+    → map view (items_of t keys items) ≡ flat_map (reverse_dependencies_of S (contents_of read) name) (groups_in_context read)
 force_law view S P count read keys items t name l at =
     let names = names_defined read in
-    listed_law view (force_keys S names) (force_items S names) (forces_at S (contents_of read) name) P count (placed read) keys items t l (force_many S names)
-    (λ p k. force_here S (contents_of read) p (name_of p.group) name t (Differ-once (filter_map name_of read)) at (λ x e. named_there read p x k e))
+    listed_law view (force_keys S names) (force_items S names) (reverse_dependencies_of S (contents_of read) name) P count (groups_in_context read) keys items t l (force_many S names)
+    (λ p k. force_here S (contents_of read) p (defined_name p.group) name t (Differ-once (filter_map defined_name read)) at (λ x e. named_there read p x k e))

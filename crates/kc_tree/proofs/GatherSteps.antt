@@ -5,12 +5,12 @@ use Rattle.std.specs.List.{cons_option}
 use Rattle.std.proofs.Math.Seq.{drop-cons, drop-length}
 use Rattle.kc_listing.specs.declared.listing.Line.{Line as CodeLine}
 use Rattle.kc_tree.specs.declared.keyed.Keyed.{Keyed}
-use Rattle.kc_tree.specs.checker.Gathers.{said_pairs, HasMore}
+use Rattle.kc_tree.specs.checker.GatheredItems.{gathered_items, HasAppended}
 
 -- the rest of attributes is left
 pub record IsRest {T : Type 0} (key : CodeLine → ℕ → Option ℕ) (item : CodeLine → ℕ → Option T) (old now : Keyed T) (lines : List CodeLine) (conditions : List ℕ) (i : ℕ) : Type 0 where
-  pub keys : now.keys.items ++ said_pairs key (drop i lines) (drop i conditions) ≡ old.keys.items ++ said_pairs key lines conditions
-  pub items : now.items.items ++ said_pairs item (drop i lines) (drop i conditions) ≡ old.items.items ++ said_pairs item lines conditions
+  pub keys : now.keys.items ++ gathered_items key (drop i lines) (drop i conditions) ≡ old.keys.items ++ gathered_items key lines conditions
+  pub items : now.items.items ++ gathered_items item (drop i lines) (drop i conditions) ≡ old.items.items ++ gathered_items item lines conditions
 
 pub all_rest : {T : Type 0} (key : CodeLine → ℕ → Option ℕ) (item : CodeLine → ℕ → Option T) (old : Keyed T) (lines : List CodeLine) (conditions : List ℕ) → IsRest key item old old lines conditions 0
 all_rest key item old lines conditions = record { keys = refl; items = refl }
@@ -20,12 +20,12 @@ consed None xs ys = ap (λ zs. zs ++ ys) (sym (append-nil xs))
 consed (Some x) xs ys = sym (append_assoc xs (x ∷ []) ys)
 
 pair_more : {T : Type 0} (item : CodeLine → ℕ → Option T) (lines : List CodeLine) (conditions : List ℕ) (i c : ℕ) (d : CodeLine) → i < length lines → i < length conditions
-    → said_pairs item (drop i lines) (drop i conditions) ≡ cons_option (item (get_or lines i d) (get_or conditions i c)) (said_pairs item (drop (i + 1) lines) (drop (i + 1) conditions))
+    → gathered_items item (drop i lines) (drop i conditions) ≡ cons_option (item (get_or lines i d) (get_or conditions i c)) (gathered_items item (drop (i + 1) lines) (drop (i + 1) conditions))
 pair_more item lines conditions i c d h k =
     let n : suc i ≡ i + 1 = omega arith in
-    ap (λ ls. said_pairs item ls (drop i conditions)) (drop-cons lines i d h)
-    ∙ ap (said_pairs item (get_or lines i d ∷ drop (suc i) lines)) (drop-cons conditions i c k)
-    ∙ ap (λ m. cons_option (item (get_or lines i d) (get_or conditions i c)) (said_pairs item (drop m lines) (drop m conditions))) n
+    ap (λ ls. gathered_items item ls (drop i conditions)) (drop-cons lines i d h)
+    ∙ ap (gathered_items item (get_or lines i d ∷ drop (suc i) lines)) (drop-cons conditions i c k)
+    ∙ ap (λ m. cons_option (item (get_or lines i d) (get_or conditions i c)) (gathered_items item (drop m lines) (drop m conditions))) n
 
 pub rest_more : {T : Type 0} (key : CodeLine → ℕ → Option ℕ) (item : CodeLine → ℕ → Option T) (old now next : Keyed T) (lines : List CodeLine) (conditions : List ℕ) (i c : ℕ) (d : CodeLine)
     → i < length lines → length conditions ≡ length lines → IsRest key item old now lines conditions i
@@ -34,19 +34,19 @@ pub rest_more : {T : Type 0} (key : CodeLine → ℕ → Option ℕ) (item : Cod
 rest_more key item old now next lines conditions i c d h e r k m =
     let l : i < length conditions = omega arith in
     record {
-      keys = ap (λ ks. ks ++ said_pairs key (drop (i + 1) lines) (drop (i + 1) conditions)) k
-          ∙ sym (consed (key (get_or lines i d) (get_or conditions i c)) now.keys.items (said_pairs key (drop (i + 1) lines) (drop (i + 1) conditions)))
+      keys = ap (λ ks. ks ++ gathered_items key (drop (i + 1) lines) (drop (i + 1) conditions)) k
+          ∙ sym (consed (key (get_or lines i d) (get_or conditions i c)) now.keys.items (gathered_items key (drop (i + 1) lines) (drop (i + 1) conditions)))
           ∙ ap (λ ks. now.keys.items ++ ks) (sym (pair_more key lines conditions i c d h l)) ∙ r.keys;
-      items = ap (λ xs. xs ++ said_pairs item (drop (i + 1) lines) (drop (i + 1) conditions)) m
-          ∙ sym (consed (item (get_or lines i d) (get_or conditions i c)) now.items.items (said_pairs item (drop (i + 1) lines) (drop (i + 1) conditions)))
+      items = ap (λ xs. xs ++ gathered_items item (drop (i + 1) lines) (drop (i + 1) conditions)) m
+          ∙ sym (consed (item (get_or lines i d) (get_or conditions i c)) now.items.items (gathered_items item (drop (i + 1) lines) (drop (i + 1) conditions)))
           ∙ ap (λ xs. now.items.items ++ xs) (sym (pair_more item lines conditions i c d h l)) ∙ r.items;
     }
 
 pub rest_done : {T : Type 0} (key : CodeLine → ℕ → Option ℕ) (item : CodeLine → ℕ → Option T) (old now : Keyed T) (lines : List CodeLine) (conditions : List ℕ) (i : ℕ) → i ≡ length lines → IsRest key item old now lines conditions i
-    → HasMore key item old now lines conditions
+    → HasAppended key item old now lines conditions
 rest_done key item old now lines conditions i e r =
     let none : drop i lines ≡ [] = ap (λ n. drop n lines) e ∙ drop-length lines in
     record {
-      keys = sym (append-nil now.keys.items) ∙ ap (λ ls. now.keys.items ++ said_pairs key ls (drop i conditions)) (sym none) ∙ r.keys;
-      items = sym (append-nil now.items.items) ∙ ap (λ ls. now.items.items ++ said_pairs item ls (drop i conditions)) (sym none) ∙ r.items;
+      keys = sym (append-nil now.keys.items) ∙ ap (λ ls. now.keys.items ++ gathered_items key ls (drop i conditions)) (sym none) ∙ r.keys;
+      items = sym (append-nil now.items.items) ∙ ap (λ ls. now.items.items ++ gathered_items item ls (drop i conditions)) (sym none) ∙ r.items;
     }

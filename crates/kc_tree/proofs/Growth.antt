@@ -3,27 +3,27 @@ use Rattle.std.proofs.Common.{◌≡◌, ℕ, ◌<◌, Bool, true, false, cond, 
 use Rattle.std.specs.Prelude.{All, IfSome}
 use Rattle.std.proofs.lemmas.List.{map-append, take_more}
 use Rattle.std.proofs.lemmas.List.Elements.{All-append, All-cons, All-nil}
-use Rattle.kc_expr.specs.Arena.{Exprs, Stands, stands_for, Grows}
+use Rattle.kc_expr.specs.Arena.{Exprs, Represents, node_expr, Grows}
 use Rattle.kc_expr.specs.Expr.{Expr}
 use Rattle.kc_expr.proofs.StoreLemmas.{stands_on}
-use Rattle.kc_statements.specs.Said.{AttributeHeld, IfHeld}
+use Rattle.kc_statements.specs.StatementViews.{AttributeNodesExist, IfNodeExists}
 use Rattle.kc_statements.specs.declared.statement.Attribute.{Attribute as CodeAttribute}
 use Rattle.kc_statements.specs.declared.statement.Attribute.TheVariants as attributes
 use Rattle.kc_statements.proofs.Growing.{grows_on}
 use Rattle.kc_statements.proofs.Later.{node_held, node_same}
 use Rattle.kc_listing.specs.declared.listing.Line.{Line as CodeLine}
-use Rattle.kc_listing.specs.Shown.{LineHeld}
-use Rattle.kc_tree_model.specs.Conditions.{all_of, visible_conjunct}
+use Rattle.kc_listing.specs.ListingView.{LineNodesExist}
+use Rattle.kc_tree_model.specs.Conditions.{conjunction_of, visible_conjunct}
 use Rattle.kc_tree.specs.checker.Conjunctions.{Conjoins, conjunct}
-use Rattle.kc_tree.specs.checker.Conjuncts.{if_told, is_prompt, conjunct_told, conjuncts_told, AreJoined, AreBehind, condition_told, line_condition}
-use Rattle.kc_tree.specs.checker.Walked.{or_yes}
+use Rattle.kc_tree.specs.checker.Conjuncts.{if_view, is_prompt, conjunct_view, conjunct_views, AreJoined, AreAppended, condition_view, line_condition}
+use Rattle.kc_tree.specs.checker.Walks.{or_yes}
 use Rattle.kc_tree.specs.declared.conditions.Conjuncts.{Conjuncts}
 use Rattle.kc_tree.specs.declared.conditions.Conjuncts.TheVariants.{Dependencies, Visibles}
 use Rattle.kc_tree.specs.declared.conditions.EntryConditions.{EntryConditions}
 
 pub conjoins_on : (old new : Exprs) → Grows old new → (o : Option ℕ) (es : List Expr) → Conjoins old o es → Conjoins new o es
 conjoins_on old new g None es h = h
-conjoins_on old new g (Some i) es h = (h.0, stands_on old new i (all_of es) g h.1)
+conjoins_on old new g (Some i) es h = (h.0, stands_on old new i (conjunction_of es) g h.1)
 
 pub there_on : (old new : Exprs) → Grows old new → (o : Option ℕ) → IfSome o (λ i. i < length old.nodes) → IfSome o (λ i. i < length new.nodes)
 there_on old new g None h = tt
@@ -51,7 +51,7 @@ joined_on old new g e ds vs own j = record {
 }
 
 -- what an attribute gives is there
-pub told_there : (w : Conjuncts) (exprs : Exprs) (a : CodeAttribute) → AttributeHeld exprs a → IfSome (conjunct_told w a) (λ i. i < length exprs.nodes)
+pub told_there : (w : Conjuncts) (exprs : Exprs) (a : CodeAttribute) → AttributeNodesExist exprs a → IfSome (conjunct_view w a) (λ i. i < length exprs.nodes)
 told_there Dependencies exprs (attributes.Typed k) h = tt
 told_there Dependencies exprs (attributes.TypedPrompt k c) h = tt
 told_there Dependencies exprs (attributes.TypedDefault k d) h = tt
@@ -77,12 +77,12 @@ told_there Visibles exprs (attributes.Visible id) h = h
 told_there Visibles exprs attributes.Help h = tt
 told_there Visibles exprs attributes.Modules h = tt
 
-if_there : (exprs : Exprs) (c : Option ℕ) → IfHeld exprs c → IfSome c (λ i. i < length exprs.nodes)
+if_there : (exprs : Exprs) (c : Option ℕ) → IfNodeExists exprs c → IfSome c (λ i. i < length exprs.nodes)
 if_there exprs None h = tt
 if_there exprs (Some i) h = h
 
 -- so is its `if`
-pub if_told_there : (exprs : Exprs) (a : CodeAttribute) → AttributeHeld exprs a → IfSome (if_told a) (λ i. i < length exprs.nodes)
+pub if_told_there : (exprs : Exprs) (a : CodeAttribute) → AttributeNodesExist exprs a → IfSome (if_view a) (λ i. i < length exprs.nodes)
 if_told_there exprs (attributes.Typed k) h = tt
 if_told_there exprs (attributes.TypedPrompt k c) h = if_there exprs c h
 if_told_there exprs (attributes.TypedDefault k d) h = if_there exprs d.condition h.1
@@ -96,29 +96,29 @@ if_told_there exprs (attributes.Visible id) h = tt
 if_told_there exprs attributes.Help h = tt
 if_told_there exprs attributes.Modules h = tt
 
-told_append : (w : Conjuncts) (exprs : Exprs) (xs ys : List CodeLine) → conjuncts_told w exprs (xs ++ ys) ≡ conjuncts_told w exprs xs ++ conjuncts_told w exprs ys
+told_append : (w : Conjuncts) (exprs : Exprs) (xs ys : List CodeLine) → conjunct_views w exprs (xs ++ ys) ≡ conjunct_views w exprs xs ++ conjunct_views w exprs ys
 told_append w exprs [] ys = refl
-told_append w exprs (x ∷ xs) ys = ap (λ es. conjunct exprs (conjunct_told w x.attribute) ++ es) (told_append w exprs xs ys) ∙ sym (append_assoc (conjunct exprs (conjunct_told w x.attribute)) (conjuncts_told w exprs xs) (conjuncts_told w exprs ys))
+told_append w exprs (x ∷ xs) ys = ap (λ es. conjunct exprs (conjunct_view w x.attribute) ++ es) (told_append w exprs xs ys) ∙ sym (append_assoc (conjunct exprs (conjunct_view w x.attribute)) (conjunct_views w exprs xs) (conjunct_views w exprs ys))
 
 -- one attribute more
 pub told_more : (w : Conjuncts) (exprs : Exprs) (lines : List CodeLine) (k : ℕ) (d : CodeLine) → k < length lines
-    → conjuncts_told w exprs (take (k + 1) lines) ≡ conjuncts_told w exprs (take k lines) ++ conjunct exprs (conjunct_told w (get_or lines k d).attribute)
+    → conjunct_views w exprs (take (k + 1) lines) ≡ conjunct_views w exprs (take k lines) ++ conjunct exprs (conjunct_view w (get_or lines k d).attribute)
 told_more w exprs lines k d h =
-    ap (conjuncts_told w exprs) (take_more lines k d h) ∙ told_append w exprs (take k lines) (get_or lines k d ∷ [])
-    ∙ ap (λ es. conjuncts_told w exprs (take k lines) ++ es) (append-nil (conjunct exprs (conjunct_told w (get_or lines k d).attribute)))
+    ap (conjunct_views w exprs) (take_more lines k d h) ∙ told_append w exprs (take k lines) (get_or lines k d ∷ [])
+    ∙ ap (λ es. conjunct_views w exprs (take k lines) ++ es) (append-nil (conjunct exprs (conjunct_view w (get_or lines k d).attribute)))
 
 -- what attributes give stays
-pub told_on : (w : Conjuncts) (old new : Exprs) (lines : List CodeLine) → Grows old new → All (LineHeld old) lines → conjuncts_told w new lines ≡ conjuncts_told w old lines
+pub told_on : (w : Conjuncts) (old new : Exprs) (lines : List CodeLine) → Grows old new → All (LineNodesExist old) lines → conjunct_views w new lines ≡ conjunct_views w old lines
 told_on w old new [] g h = refl
 told_on w old new (l ∷ lines) g h =
-    let a : AttributeHeld old l.attribute = h 0 l (omega arith) in
-    let e = conjunct_on old new g (conjunct_told w l.attribute) (told_there w old l.attribute a) in
+    let a : AttributeNodesExist old l.attribute = h 0 l (omega arith) in
+    let e = conjunct_on old new g (conjunct_view w l.attribute) (told_there w old l.attribute a) in
     let f = told_on w old new lines g (λ k d i. h (suc k) d (omega arith)) in
     cc
 
 -- a conjunction of all
-pub stands_all : (exprs : Exprs) (o : Option ℕ) (y : ℕ) (es : List Expr) → Conjoins exprs o es → Stands exprs y (all_of []) → Stands exprs (or_yes y o) (all_of es)
-stands_all exprs None y es h s = subst (λ xs. Stands exprs y (all_of xs)) (sym h) s
+pub stands_all : (exprs : Exprs) (o : Option ℕ) (y : ℕ) (es : List Expr) → Conjoins exprs o es → Represents exprs y (conjunction_of []) → Represents exprs (or_yes y o) (conjunction_of es)
+stands_all exprs None y es h s = subst (λ xs. Represents exprs y (conjunction_of xs)) (sym h) s
 stands_all exprs (Some i) y es h s = h.1
 
 -- the `visible if`s round a place as one conjunct
@@ -128,29 +128,29 @@ one_visible exprs (Some i) [] h = absurd (omega (arith, h.0))
 one_visible exprs (Some i) (v ∷ vs) h = ap (λ e. e ∷ []) h.1.is
 
 -- one attribute more is joined
-pub with_more : (old mid new : Exprs) (w : Conjuncts) (lines : List CodeLine) (k : ℕ) (d : CodeLine) (all joined c more : Option ℕ) → Grows old mid → All (LineHeld old) lines → k < length lines → d ≡ get_or lines k d → more ≡ conjunct_told w d.attribute
-    → ((es : List Expr) → Conjoins old all es → Conjoins mid joined (es ++ conjuncts_told w old (take k lines))) → ((es : List Expr) → Conjoins mid joined es → Conjoins new c (es ++ conjunct mid more))
-    → (es : List Expr) → Conjoins old all es → Conjoins new c (es ++ conjuncts_told w old (take (k + 1) lines))
+pub with_more : (old mid new : Exprs) (w : Conjuncts) (lines : List CodeLine) (k : ℕ) (d : CodeLine) (all joined c more : Option ℕ) → Grows old mid → All (LineNodesExist old) lines → k < length lines → d ≡ get_or lines k d → more ≡ conjunct_view w d.attribute
+    → ((es : List Expr) → Conjoins old all es → Conjoins mid joined (es ++ conjunct_views w old (take k lines))) → ((es : List Expr) → Conjoins mid joined es → Conjoins new c (es ++ conjunct mid more))
+    → (es : List Expr) → Conjoins old all es → Conjoins new c (es ++ conjunct_views w old (take (k + 1) lines))
 with_more old mid new w lines k d all joined c more g held h e m f step es j =
-    let a : AttributeHeld old (get_or lines k d).attribute = held k d h in
-    let n : more ≡ conjunct_told w (get_or lines k d).attribute = m ∙ ap (λ (l : CodeLine). conjunct_told w l.attribute) e in
-    let t : IfSome (conjunct_told w (get_or lines k d).attribute) (λ i. i < length old.nodes) = told_there w old (get_or lines k d).attribute a in
-    let same : conjunct mid more ≡ conjunct old (conjunct_told w (get_or lines k d).attribute) = ap (conjunct mid) n ∙ conjunct_on old mid g (conjunct_told w (get_or lines k d).attribute) t in
+    let a : AttributeNodesExist old (get_or lines k d).attribute = held k d h in
+    let n : more ≡ conjunct_view w (get_or lines k d).attribute = m ∙ ap (λ (l : CodeLine). conjunct_view w l.attribute) e in
+    let t : IfSome (conjunct_view w (get_or lines k d).attribute) (λ i. i < length old.nodes) = told_there w old (get_or lines k d).attribute a in
+    let same : conjunct mid more ≡ conjunct old (conjunct_view w (get_or lines k d).attribute) = ap (conjunct mid) n ∙ conjunct_on old mid g (conjunct_view w (get_or lines k d).attribute) t in
     subst (Conjoins new c)
-    (append_assoc es (conjuncts_told w old (take k lines)) (conjunct mid more) ∙ ap (λ xs. es ++ (conjuncts_told w old (take k lines) ++ xs)) same ∙ ap (λ xs. es ++ xs) (sym (told_more w old lines k d h)))
-    (step (es ++ conjuncts_told w old (take k lines)) (f es j))
+    (append_assoc es (conjunct_views w old (take k lines)) (conjunct mid more) ∙ ap (λ xs. es ++ (conjunct_views w old (take k lines) ++ xs)) same ∙ ap (λ xs. es ++ xs) (sym (told_more w old lines k d h)))
+    (step (es ++ conjunct_views w old (take k lines)) (f es j))
 
 by_test : (b : Bool) (x y u v : Expr) → x ≡ u → y ≡ v → cond b x y ≡ cond b u v
 by_test true x y u v e f = e
 by_test false x y u v e f = f
 
 -- the condition of an attribute, as the arena grows
-pub condition_on : (old new : Exprs) (ds vs : List Expr) (a : CodeAttribute) → Grows old new → AttributeHeld old a → condition_told new ds vs a ≡ condition_told old ds vs a
+pub condition_on : (old new : Exprs) (ds vs : List Expr) (a : CodeAttribute) → Grows old new → AttributeNodesExist old a → condition_view new ds vs a ≡ condition_view old ds vs a
 condition_on old new ds vs a g h =
-    let e = conjunct_on old new g (if_told a) (if_told_there old a h) in
-    by_test (is_prompt a) _ _ _ _ (ap (λ c. all_of (ds ++ (visible_conjunct vs ++ c))) e) (ap (λ c. all_of (ds ++ c)) e)
+    let e = conjunct_on old new g (if_view a) (if_told_there old a h) in
+    by_test (is_prompt a) _ _ _ _ (ap (λ c. conjunction_of (ds ++ (visible_conjunct vs ++ c))) e) (ap (λ c. conjunction_of (ds ++ c)) e)
 
-pub stand_on : (old new : Exprs) (ids : List ℕ) → Grows old new → All (λ i. i < length old.nodes) ids → map (stands_for new) ids ≡ map (stands_for old) ids
+pub stand_on : (old new : Exprs) (ids : List ℕ) → Grows old new → All (λ i. i < length old.nodes) ids → map (node_expr new) ids ≡ map (node_expr old) ids
 stand_on old new [] g h = refl
 stand_on old new (i ∷ ids) g h =
     let e = node_same old new i g (h 0 0 (omega arith)) in
@@ -161,17 +161,17 @@ pub held_on : (old new : Exprs) (ids : List ℕ) → Grows old new → All (λ i
 held_on old new ids g h = λ k d l. node_held old new (get_or ids k d) g (h k d l)
 
 -- one condition more
-pub behind_more : (old mid new : Exprs) (before after : List ℕ) (ds vs : List Expr) (lines : List CodeLine) (k id : ℕ) (d : CodeLine) → Grows old mid → Grows mid new → All (LineHeld old) lines → k < length lines → d ≡ get_or lines k d
-    → AreBehind old mid before after ds vs (take k lines) → Stands new id (condition_told mid ds vs d.attribute) → AreBehind old new before (after ++ id ∷ []) ds vs (take (k + 1) lines)
+pub behind_more : (old mid new : Exprs) (before after : List ℕ) (ds vs : List Expr) (lines : List CodeLine) (k id : ℕ) (d : CodeLine) → Grows old mid → Grows mid new → All (LineNodesExist old) lines → k < length lines → d ≡ get_or lines k d
+    → AreAppended old mid before after ds vs (take k lines) → Represents new id (condition_view mid ds vs d.attribute) → AreAppended old new before (after ++ id ∷ []) ds vs (take (k + 1) lines)
 behind_more old mid new before after ds vs lines k id d g m held h e b s =
     let l : d ≡ get_or lines k d = e in
-    let a : AttributeHeld old d.attribute = subst (λ (x : CodeLine). AttributeHeld old x.attribute) (sym l) (held k d h) in
-    let here : stands_for new id ≡ line_condition old ds vs (get_or lines k d) = s.is ∙ condition_on old mid ds vs d.attribute g a ∙ ap (line_condition old ds vs) l in
+    let a : AttributeNodesExist old d.attribute = subst (λ (x : CodeLine). AttributeNodesExist old x.attribute) (sym l) (held k d h) in
+    let here : node_expr new id ≡ line_condition old ds vs (get_or lines k d) = s.is ∙ condition_on old mid ds vs d.attribute g a ∙ ap (line_condition old ds vs) l in
     record {
       own = b.own ++ id ∷ [];
       is = ap (λ xs. xs ++ id ∷ []) b.is ∙ append_assoc before b.own (id ∷ []);
-      stand = map-append (stands_for new) b.own (id ∷ [])
-          ∙ ap (λ xs. xs ++ stands_for new id ∷ []) (stand_on mid new b.own m b.held ∙ b.stand)
+      stand = map-append (node_expr new) b.own (id ∷ [])
+          ∙ ap (λ xs. xs ++ node_expr new id ∷ []) (stand_on mid new b.own m b.held ∙ b.stand)
           ∙ ap (λ x. map (line_condition old ds vs) (take k lines) ++ x ∷ []) here
           ∙ sym (map-append (line_condition old ds vs) (take k lines) (get_or lines k d ∷ []))
           ∙ ap (map (line_condition old ds vs)) (sym (take_more lines k d h));
@@ -179,22 +179,22 @@ behind_more old mid new before after ds vs lines k id d g m held h e b s =
     }
 
 -- no condition yet
-pub none_behind : (exprs : Exprs) (before : List ℕ) (ds vs : List Expr) → AreBehind exprs exprs before before ds vs []
+pub none_behind : (exprs : Exprs) (before : List ℕ) (ds vs : List Expr) → AreAppended exprs exprs before before ds vs []
 none_behind exprs before ds vs = record { own = []; is = sym (append-nil before); stand = refl; held = All-nil (λ i. i < length exprs.nodes) }
 
 -- the conditions of an entry
-pub entry_joined : (old mid far new : Exprs) (lines : List CodeLine) (dependencies visibles d v s : Option ℕ) → Grows old mid → Grows mid far → Grows far new → All (LineHeld old) lines
+pub entry_joined : (old mid far new : Exprs) (lines : List CodeLine) (dependencies visibles d v s : Option ℕ) → Grows old mid → Grows mid far → Grows far new → All (LineNodesExist old) lines
     → IfSome visibles (λ i. i < length old.nodes)
-    → ((es : List Expr) → Conjoins old dependencies es → Conjoins mid d (es ++ conjuncts_told Dependencies old lines))
-    → ((es : List Expr) → Conjoins mid visibles es → Conjoins far v (es ++ conjuncts_told Visibles mid lines))
+    → ((es : List Expr) → Conjoins old dependencies es → Conjoins mid d (es ++ conjunct_views Dependencies old lines))
+    → ((es : List Expr) → Conjoins mid visibles es → Conjoins far v (es ++ conjunct_views Visibles mid lines))
     → ((es : List Expr) → Conjoins far d es → Conjoins new s (es ++ conjunct far visibles))
     → (ds vs : List Expr) → Conjoins old dependencies ds → Conjoins old visibles vs
-    → AreJoined new (record { dependencies = d; visibles = v; shown = s }) (ds ++ conjuncts_told Dependencies old lines) vs (conjuncts_told Visibles old lines)
+    → AreJoined new (record { dependencies = d; visibles = v; shown = s }) (ds ++ conjunct_views Dependencies old lines) vs (conjunct_views Visibles old lines)
 entry_joined old mid far new lines dependencies visibles d v s g h i held there f k l ds vs p q =
     let dm = f ds p in
     let same : conjunct far visibles ≡ visible_conjunct vs = one_visible far visibles vs (conjoins_on old far (grows_on old mid far g h) visibles vs q) in
     record {
-      dependencies_are = conjoins_on mid new (grows_on mid far new h i) d (ds ++ conjuncts_told Dependencies old lines) dm;
-      visibles_are = conjoins_on far new i v (vs ++ conjuncts_told Visibles old lines) (subst (λ es. Conjoins far v (vs ++ es)) (told_on Visibles old mid lines g held) (k vs (conjoins_on old mid g visibles vs q)));
-      shown_is = subst (λ es. Conjoins new s ((ds ++ conjuncts_told Dependencies old lines) ++ es)) same (l (ds ++ conjuncts_told Dependencies old lines) (conjoins_on mid far h d (ds ++ conjuncts_told Dependencies old lines) dm));
+      dependencies_are = conjoins_on mid new (grows_on mid far new h i) d (ds ++ conjunct_views Dependencies old lines) dm;
+      visibles_are = conjoins_on far new i v (vs ++ conjunct_views Visibles old lines) (subst (λ es. Conjoins far v (vs ++ es)) (told_on Visibles old mid lines g held) (k vs (conjoins_on old mid g visibles vs q)));
+      shown_is = subst (λ es. Conjoins new s ((ds ++ conjunct_views Dependencies old lines) ++ es)) same (l (ds ++ conjunct_views Dependencies old lines) (conjoins_on mid far h d (ds ++ conjunct_views Dependencies old lines) dm));
     }

@@ -3,9 +3,9 @@ use Rattle.std.proofs.Common.{◌≡◌, ℕ, Bool, true, false, cond, ◌==◌,
 use Rattle.std.specs.Prelude.{slice_get, filter_map, flat_map, option_to_list, option_and_then}
 use Rattle.std.specs.List.{cons_option}
 use Rattle.std.proofs.lemmas.Bool.{eqb-true, eq-eqb}
-use Rattle.kc_expr.specs.Lookup.{place_of}
-use Rattle.kc_tree_model.specs.Blocks.{name_of}
-use Rattle.kc_tree_model.specs.Conditions.{Placed}
+use Rattle.kc_expr.specs.Lookup.{index_of_name}
+use Rattle.kc_tree_model.specs.Blocks.{defined_name}
+use Rattle.kc_tree_model.specs.Conditions.{GroupInContext}
 use Rattle.kc_tree_model.specs.Contents.{Contents, choice_number, is_member_of, member_names}
 use Rattle.kc_tree_model.proofs.Consistency.Lists.{number-get}
 use Rattle.kc_tree.specs.checker.GroupedItems.{items_of}
@@ -28,7 +28,7 @@ some_of false f x rest = refl
 module _ (c : Contents) (k g : ℕ) (number : choice_number c g ≡ Some k) where
   -- the symbol of a name
   own : Option (List ℕ) → List ℕ
-  own x = option_to_list (option_and_then (λ n. place_of n c.names) x)
+  own x = option_to_list (option_and_then (λ n. index_of_name n c.names) x)
 
   away : (n : ℕ) → choice_number c n ≡ None → (n == g) ≡ false
   away n e = by_same (n == g) refl
@@ -58,37 +58,37 @@ module _ (c : Contents) (k g : ℕ) (number : choice_number c g ≡ Some k) wher
           cc
 
   here_by : (o : Option ℕ) (r : Option ℕ) (x : Option (List ℕ)) → option_and_then (choice_number c) o ≡ r
-      → cond (elim r as (λ _. ℕ) [ None ↦ 0 | Some j ↦ j ] == k) (member_in c r x) [] ≡ cond (elim o as (λ _. Bool) [ None ↦ false | Some n ↦ n == g ]) (option_to_list (option_and_then (λ n. place_of n c.names) x)) []
+      → cond (elim r as (λ _. ℕ) [ None ↦ 0 | Some j ↦ j ] == k) (member_in c r x) [] ≡ cond (elim o as (λ _. Bool) [ None ↦ false | Some n ↦ n == g ]) (option_to_list (option_and_then (λ n. index_of_name n c.names) x)) []
   here_by None None x e = nothing_either (0 == k) [] refl
   here_by None (Some j) x e = cc
-  here_by (Some n) None x e = nothing_either (0 == k) [] refl ∙ sym (nothing_false (n == g) (option_to_list (option_and_then (λ m. place_of m c.names) x)) (away n e))
-  here_by (Some n) (Some j) x e = ap (λ b. cond b (option_to_list (option_and_then (λ m. place_of m c.names) x)) []) (same_choice n j e)
+  here_by (Some n) None x e = nothing_either (0 == k) [] refl ∙ sym (nothing_false (n == g) (option_to_list (option_and_then (λ m. index_of_name m c.names) x)) (away n e))
+  here_by (Some n) (Some j) x e = ap (λ b. cond b (option_to_list (option_and_then (λ m. index_of_name m c.names) x)) []) (same_choice n j e)
 
-  here : (p : Placed) → cond (member_key c p == k) (members_at c p) [] ≡ cond (is_member_of g p) (option_to_list (option_and_then (λ n. place_of n c.names) (name_of p.group))) []
-  here p = here_by p.around.choice (option_and_then (choice_number c) p.around.choice) (name_of p.group) refl
+  here : (p : GroupInContext) → cond (member_key c p == k) (members_at c p) [] ≡ cond (is_member_of g p) (option_to_list (option_and_then (λ n. index_of_name n c.names) (defined_name p.group))) []
+  here p = here_by p.enclosing.choice (option_and_then (choice_number c) p.enclosing.choice) (defined_name p.group) refl
 
-  named_by : (x : Option (List ℕ)) (xs : List (List ℕ)) → filter_map (λ n. place_of n c.names) (cons_option x xs) ≡ option_to_list (option_and_then (λ n. place_of n c.names) x) ++ filter_map (λ n. place_of n c.names) xs
+  named_by : (x : Option (List ℕ)) (xs : List (List ℕ)) → filter_map (λ n. index_of_name n c.names) (cons_option x xs) ≡ option_to_list (option_and_then (λ n. index_of_name n c.names) x) ++ filter_map (λ n. index_of_name n c.names) xs
   named_by None xs = refl
-  named_by (Some n) xs = by_place (place_of n c.names)
+  named_by (Some n) xs = by_place (index_of_name n c.names)
     where
-      by_place : (o : Option ℕ) → cons_option o (filter_map (λ m. place_of m c.names) xs) ≡ option_to_list o ++ filter_map (λ m. place_of m c.names) xs
+      by_place : (o : Option ℕ) → cons_option o (filter_map (λ m. index_of_name m c.names) xs) ≡ option_to_list o ++ filter_map (λ m. index_of_name m c.names) xs
       by_place None = refl
       by_place (Some s) = refl
 
-  some_named : (b : Bool) (p : Placed) (ps : List Placed)
-      → filter_map (λ n. place_of n c.names) (filter_map (λ (q : Placed). name_of q.group) (cond b (p ∷ ps) ps))
-      ≡ cond b (option_to_list (option_and_then (λ n. place_of n c.names) (name_of p.group))) [] ++ filter_map (λ n. place_of n c.names) (filter_map (λ (q : Placed). name_of q.group) ps)
-  some_named true p ps = named_by (name_of p.group) (filter_map (λ (q : Placed). name_of q.group) ps)
+  some_named : (b : Bool) (p : GroupInContext) (ps : List GroupInContext)
+      → filter_map (λ n. index_of_name n c.names) (filter_map (λ (q : GroupInContext). defined_name q.group) (cond b (p ∷ ps) ps))
+      ≡ cond b (option_to_list (option_and_then (λ n. index_of_name n c.names) (defined_name p.group))) [] ++ filter_map (λ n. index_of_name n c.names) (filter_map (λ (q : GroupInContext). defined_name q.group) ps)
+  some_named true p ps = named_by (defined_name p.group) (filter_map (λ (q : GroupInContext). defined_name q.group) ps)
   some_named false p ps = refl
 
-  members_among : (ps : List Placed) → flat_map (members_at c) (filter (λ p. member_key c p == k) ps) ≡ filter_map (λ n. place_of n c.names) (filter_map (λ (q : Placed). name_of q.group) (filter (is_member_of g) ps))
+  members_among : (ps : List GroupInContext) → flat_map (members_at c) (filter (λ p. member_key c p == k) ps) ≡ filter_map (λ n. index_of_name n c.names) (filter_map (λ (q : GroupInContext). defined_name q.group) (filter (is_member_of g) ps))
   members_among [] = refl
   members_among (p ∷ ps) =
       some_of (member_key c p == k) (members_at c) p (filter (λ q. member_key c q == k) ps)
       ∙ ap (λ xs. xs ++ flat_map (members_at c) (filter (λ q. member_key c q == k) ps)) (here p)
-      ∙ ap (λ xs. cond (is_member_of g p) (option_to_list (option_and_then (λ n. place_of n c.names) (name_of p.group))) [] ++ xs) (members_among ps)
+      ∙ ap (λ xs. cond (is_member_of g p) (option_to_list (option_and_then (λ n. index_of_name n c.names) (defined_name p.group))) [] ++ xs) (members_among ps)
       ∙ sym (some_named (is_member_of g p) p (filter (is_member_of g) ps))
 
   -- what stands under the number of a choice
-  pub members_are : items_of k (flat_map (member_keys_at c) c.places) (flat_map (members_at c) c.places) ≡ filter_map (λ x. place_of x c.names) (member_names c g)
+  pub members_are : items_of k (flat_map (member_keys_at c) c.places) (flat_map (members_at c) c.places) ≡ filter_map (λ x. index_of_name x c.names) (member_names c g)
   members_are = grouped_is (member_key c) (members_at c) k c.places ∙ members_among c.places

@@ -6,45 +6,45 @@ use Rattle.std.proofs.lemmas.List.{map-append}
 use Rattle.std.proofs.lemmas.List.Elements.{filter-append}
 use Rattle.kc_expr.specs.Arena.{Exprs}
 use Rattle.kc_tree_model.specs.Statements.{choice, menu, source}
-use Rattle.kc_tree_model.specs.Blocks.{Group, What, said, side_of, opening, closing, inside, open_blocks, opens_choice}
-use Rattle.kc_tree_model.specs.Conditions.{Context, context, within_what, Placed, place, placed}
-use Rattle.kc_tree_model.specs.Contents.{Contents, contents_of, choice_number, place_of_number}
+use Rattle.kc_tree_model.specs.Blocks.{Group, GroupHead, of_head, side_of, opening, closing, inside, open_blocks, opens_choice}
+use Rattle.kc_tree_model.specs.Conditions.{Context, context, inner_context_of_group_head, GroupInContext, group_in_context, groups_in_context}
+use Rattle.kc_tree_model.specs.Contents.{Contents, contents_of, choice_number, index_of_number}
 use Rattle.kc_tree_model.proofs.NestedTrees.OpenBlocks.{open_inside, popped, pushed}
 use Rattle.kc_tree_model.proofs.Consistency.Lists.{Has, filter-has, has-number, has-filter}
 use Rattle.kc_tree_model.proofs.Consistency.Places.{choice_read, group-placed}
 use Rattle.kc_tree_model.proofs.Consistency.Units.{has_mapped, mapped_has}
-use Rattle.kc_listing.specs.declared.listing.What.{What as CodeWhat}
-use Rattle.kc_listing.specs.declared.listing.What.TheVariants as codes
+use Rattle.kc_listing.specs.declared.listing.GroupHead.{GroupHead as CodeWhat}
+use Rattle.kc_listing.specs.declared.listing.GroupHead.TheVariants as codes
 use Rattle.kc_listing.specs.declared.listing.Group.{Group as CodeGroup}
 use Rattle.kc_listing.specs.declared.listing.Line.{Line as CodeLine}
-use Rattle.kc_listing.specs.Shown.{WhatShown, GroupsShown}
-use Rattle.kc_tree.specs.checker.Summaries.{read_before, group_at, innermost_choice, opened_behind, is_choice_code, choice_round, choices_open}
+use Rattle.kc_listing.specs.ListingView.{RepresentsHead, RepresentsGroups}
+use Rattle.kc_tree.specs.checker.Summaries.{read_before, group_at, innermost_choice, choices_opened_after, is_choice_code, enclosing_choice, open_choices}
 use Rattle.kc_tree.proofs.Aligned.{AreNumbers, all_before, are_numbers, numbers_before, none_before, placed_before, placed_more, shown_at}
 
 -- the numbers of the groups of choices, in reading order
 abbrev pub numbers_of_choices : List Group → List ℕ
-numbers_of_choices read = map (λ (p : Placed). p.group.number) (filter (λ (p : Placed). opens_choice p.group) (placed read))
+numbers_of_choices read = map (λ (p : GroupInContext). p.group.number) (filter (λ (p : GroupInContext). opens_choice p.group) (groups_in_context read))
 
-abbrev opens : Placed → Bool
+abbrev opens : GroupInContext → Bool
 opens p = opens_choice p.group
 
-abbrev number : Placed → ℕ
+abbrev number : GroupInContext → ℕ
 number p = p.group.number
 
 own_number : Bool → ℕ → List ℕ
 own_number true n = n ∷ []
 own_number false n = []
 
-one_choice : (b : Bool) (p : Placed) → map number (cond b (p ∷ []) []) ≡ own_number b p.group.number
+one_choice : (b : Bool) (p : GroupInContext) → map number (cond b (p ∷ []) []) ≡ own_number b p.group.number
 unfolding own_number
 one_choice true p = refl
 one_choice false p = refl
 
 numbers_more : (g : Group) (before : List Group) → numbers_of_choices (g ∷ before) ≡ numbers_of_choices before ++ own_number (opens_choice g) g.number
 numbers_more g before =
-    ap (map number) (filter-append opens (placed before) (place (open_blocks 0 before) g ∷ []))
-    ∙ map-append number (filter opens (placed before)) (filter opens (place (open_blocks 0 before) g ∷ []))
-    ∙ ap (λ ns. numbers_of_choices before ++ ns) (one_choice (opens_choice g) (place (open_blocks 0 before) g))
+    ap (map number) (filter-append opens (groups_in_context before) (group_in_context (open_blocks 0 before) g ∷ []))
+    ∙ map-append number (filter opens (groups_in_context before)) (filter opens (group_in_context (open_blocks 0 before) g ∷ []))
+    ∙ ap (λ ns. numbers_of_choices before ++ ns) (one_choice (opens_choice g) (group_in_context (open_blocks 0 before) g))
 
 pub choices_more : (g : Group) (before : List Group) → opens_choice g ≡ true → numbers_of_choices (g ∷ before) ≡ numbers_of_choices before ++ g.number ∷ []
 unfolding own_number
@@ -65,8 +65,8 @@ number_small (x ∷ before) a g (inr h) = let k = number_small before a.1 g h in
 
 choices_small : (read : List Group) → AreNumbers read → (n : ℕ) → Has n (numbers_of_choices read) → n < length read
 choices_small read a n h =
-    let p = has_mapped number (filter opens (placed read)) n h in
-    let q = has-filter opens (placed read) p.0 p.1 in
+    let p = has_mapped number (filter opens (groups_in_context read)) n h in
+    let q = has-filter opens (groups_in_context read) p.0 p.1 in
     let l = number_small read a p.0.group (group-placed p.0 read q.0) in
     let e = p.2 in
     omega arith
@@ -76,11 +76,11 @@ numbers_before_others k read =
     let r = placed_before k read in (
       map number (filter opens r.0),
       ap (λ ps. map number (filter opens ps)) r.1
-          ∙ ap (map number) (filter-append opens (placed (drop k read)) r.0)
-          ∙ map-append number (filter opens (placed (drop k read))) (filter opens r.0),
+          ∙ ap (map number) (filter-append opens (groups_in_context (drop k read)) r.0)
+          ∙ map-append number (filter opens (groups_in_context (drop k read))) (filter opens r.0),
     )
 
-place_behind : (n k : ℕ) (ks rest : List ℕ) (b : Bool) → (k == n) ≡ b → (b ≡ true → ⊥) → place_of_number n ((ks ++ n ∷ []) ++ rest) ≡ Some (length ks) → cond b (Some 0) (option_map suc (place_of_number n ((ks ++ n ∷ []) ++ rest))) ≡ Some (suc (length ks))
+place_behind : (n k : ℕ) (ks rest : List ℕ) (b : Bool) → (k == n) ≡ b → (b ≡ true → ⊥) → index_of_number n ((ks ++ n ∷ []) ++ rest) ≡ Some (length ks) → cond b (Some 0) (option_map suc (index_of_number n ((ks ++ n ∷ []) ++ rest))) ≡ Some (suc (length ks))
 place_behind n k ks rest true e away ih = absurd (away refl)
 place_behind n k ks rest false e _ ih = ap (option_map suc) ih
 
@@ -88,8 +88,8 @@ place_first : (n : ℕ) (rest : List ℕ) (b : Bool) (o : Option ℕ) → b ≡ 
 place_first n rest true o e = refl
 place_first n rest false o e = cc
 
-place_there : (n : ℕ) (ks rest : List ℕ) → (Has n ks → ⊥) → place_of_number n ((ks ++ n ∷ []) ++ rest) ≡ Some (length ks)
-place_there n [] rest _ = place_first n rest (n == n) (place_of_number n rest) (eq-eqb n n refl)
+place_there : (n : ℕ) (ks rest : List ℕ) → (Has n ks → ⊥) → index_of_number n ((ks ++ n ∷ []) ++ rest) ≡ Some (length ks)
+place_there n [] rest _ = place_first n rest (n == n) (index_of_number n rest) (eq-eqb n n refl)
 place_there n (k ∷ ks) rest away = place_behind n k ks rest (k == n) refl (λ e. away (inl (eqb-true k n e))) (place_there n ks rest (λ h. away (inr h)))
 
 -- the number of a choice counts those before it
@@ -100,61 +100,61 @@ number_counts read i m a b now e =
     let prior : List Group = read_before i read in
     let d : AreNumbers (m ∷ prior) = subst AreNumbers now b in
     let apart : Has m.number (numbers_of_choices prior) → ⊥ = λ h. let l = choices_small prior d.1 m.number h in let n = d.0 in omega arith in
-    ap (place_of_number m.number) (r.1 ∙ ap (λ ns. ns ++ r.0) (ap numbers_of_choices now ∙ choices_more m prior e))
+    ap (index_of_number m.number) (r.1 ∙ ap (λ ns. ns ++ r.0) (ap numbers_of_choices now ∙ choices_more m prior e))
     ∙ place_there m.number (numbers_of_choices prior) r.0 apart
 
 -- each choice round a place has a number
-pub round_numbered : (read : List Group) (p : Placed) (n : ℕ) → Has p (placed read) → p.around.choice ≡ Some n → (k : ℕ) × (choice_number (contents_of read) n ≡ Some k)
+pub round_numbered : (read : List Group) (p : GroupInContext) (n : ℕ) → Has p (groups_in_context read) → p.enclosing.choice ≡ Some n → (k : ℕ) × (choice_number (contents_of read) n ≡ Some k)
 round_numbered read p n h e =
     let q = choice_read p read n h e in
-    let there : Has q.0.group.number (numbers_of_choices read) = mapped_has number (filter opens (placed read)) q.0 (filter-has opens (placed read) q.0 q.1 q.3) in
+    let there : Has q.0.group.number (numbers_of_choices read) = mapped_has number (filter opens (groups_in_context read)) q.0 (filter-has opens (groups_in_context read) q.0 q.1 q.3) in
     has-number n (numbers_of_choices read) (subst (λ m. Has m (numbers_of_choices read)) q.2 there)
 
 -- what is kept of the open blocks
-pub innermost_is : (c : Contents) (opened : List Group) → innermost_choice (choices_open c opened) ≡ option_and_then (choice_number c) (context opened).choice
+pub innermost_is : (c : Contents) (opened : List Group) → innermost_choice (open_choices c opened) ≡ option_and_then (choice_number c) (context opened).choice
 innermost_is c [] = refl
 innermost_is c (g ∷ outer) = refl
 
-dropped : (c : Contents) (opened : List Group) → choices_open c (drop 1 opened) ≡ drop 1 (choices_open c opened)
+dropped : (c : Contents) (opened : List Group) → open_choices c (drop 1 opened) ≡ drop 1 (open_choices c opened)
 dropped c [] = refl
 dropped c (g ∷ outer) = refl
 
-opens_same : (c : Contents) (g : Group) (before : List Group) (w : What) → g.what ≡ w → side_of w ≡ opening → ((around : Context) → (within_what w around g).choice ≡ around.choice)
-    → choices_open c (open_blocks 0 (g ∷ before)) ≡ innermost_choice (choices_open c (open_blocks 0 before)) ∷ choices_open c (open_blocks 0 before)
+opens_same : (c : Contents) (g : Group) (before : List Group) (w : GroupHead) → g.what ≡ w → side_of w ≡ opening → ((enclosing : Context) → (inner_context_of_group_head w enclosing g).choice ≡ enclosing.choice)
+    → open_choices c (open_blocks 0 (g ∷ before)) ≡ innermost_choice (open_choices c (open_blocks 0 before)) ∷ open_choices c (open_blocks 0 before)
 opens_same c g before w e side stays =
     let outer : List Group = open_blocks 0 before in
-    ap (choices_open c) (pushed g before (ap side_of e ∙ side))
-    ∙ ap (λ o. o ∷ choices_open c outer)
-    (ap (option_and_then (choice_number c)) (ap (λ v. (within_what v (context outer) g).choice) e ∙ stays (context outer)) ∙ sym (innermost_is c outer))
+    ap (open_choices c) (pushed g before (ap side_of e ∙ side))
+    ∙ ap (λ o. o ∷ open_choices c outer)
+    (ap (option_and_then (choice_number c)) (ap (λ v. (inner_context_of_group_head v (context outer) g).choice) e ∙ stays (context outer)) ∙ sym (innermost_is c outer))
 
-opens_own : (c : Contents) (g : Group) (before : List Group) (n : ℕ) → g.what ≡ said choice → choice_number c g.number ≡ Some n
-    → choices_open c (open_blocks 0 (g ∷ before)) ≡ Some n ∷ choices_open c (open_blocks 0 before)
+opens_own : (c : Contents) (g : Group) (before : List Group) (n : ℕ) → g.what ≡ of_head choice → choice_number c g.number ≡ Some n
+    → open_choices c (open_blocks 0 (g ∷ before)) ≡ Some n ∷ open_choices c (open_blocks 0 before)
 opens_own c g before n e number =
     let outer : List Group = open_blocks 0 before in
-    ap (choices_open c) (pushed g before (ap side_of e))
-    ∙ ap (λ o. o ∷ choices_open c outer) (ap (option_and_then (choice_number c)) (ap (λ v. (within_what v (context outer) g).choice) e) ∙ number)
+    ap (open_choices c) (pushed g before (ap side_of e))
+    ∙ ap (λ o. o ∷ open_choices c outer) (ap (option_and_then (choice_number c)) (ap (λ v. (inner_context_of_group_head v (context outer) g).choice) e) ∙ number)
 
-closes : (c : Contents) (g : Group) (before : List Group) → side_of g.what ≡ closing → choices_open c (open_blocks 0 (g ∷ before)) ≡ drop 1 (choices_open c (open_blocks 0 before))
-closes c g before e = ap (choices_open c) (popped g before e) ∙ dropped c (open_blocks 0 before)
+closes : (c : Contents) (g : Group) (before : List Group) → side_of g.what ≡ closing → open_choices c (open_blocks 0 (g ∷ before)) ≡ drop 1 (open_choices c (open_blocks 0 before))
+closes c g before e = ap (open_choices c) (popped g before e) ∙ dropped c (open_blocks 0 before)
 
-stays : (c : Contents) (g : Group) (before : List Group) → side_of g.what ≡ inside → choices_open c (open_blocks 0 (g ∷ before)) ≡ choices_open c (open_blocks 0 before)
-stays c g before e = ap (choices_open c) (open_inside 0 g before e)
+stays : (c : Contents) (g : Group) (before : List Group) → side_of g.what ≡ inside → open_choices c (open_blocks 0 (g ∷ before)) ≡ open_choices c (open_blocks 0 before)
+stays c g before e = ap (open_choices c) (open_inside 0 g before e)
 
-pub opened_is : (c : Contents) (e : Exprs) (names texts : List (List ℕ)) (what : CodeWhat) (g : Group) (before : List Group) (n : ℕ) → WhatShown e names texts what g.what
+pub opened_is : (c : Contents) (e : Exprs) (names texts : List (List ℕ)) (what : CodeWhat) (g : Group) (before : List Group) (n : ℕ) → RepresentsHead e names texts what g.what
     → (is_choice_code what ≡ true → choice_number c g.number ≡ Some n)
-    → choices_open c (open_blocks 0 (g ∷ before)) ≡ opened_behind what n (choices_open c (open_blocks 0 before))
+    → open_choices c (open_blocks 0 (g ∷ before)) ≡ choices_opened_after what n (open_choices c (open_blocks 0 before))
 opened_is c e names texts (codes.Config s) g before n h number = stays c g before (ap side_of h.2)
 opened_is c e names texts codes.Choice g before n h number = opens_own c g before n h (number refl)
-opened_is c e names texts (codes.Menu t) g before n h number = opens_same c g before (said (menu h.0)) h.2 refl (λ around. refl)
-opened_is c e names texts (codes.Condition id) g before n h number = opens_same c g before _ h.1 refl (λ around. refl)
+opened_is c e names texts (codes.Menu t) g before n h number = opens_same c g before (of_head (menu h.0)) h.2 refl (λ enclosing. refl)
+opened_is c e names texts (codes.Condition id) g before n h number = opens_same c g before _ h.1 refl (λ enclosing. refl)
 opened_is c e names texts (codes.Comment t) g before n h number = stays c g before (ap side_of h.2)
-opened_is c e names texts (codes.Source t) g before n h number = opens_same c g before (said (source h.0)) h.2 refl (λ around. refl)
+opened_is c e names texts (codes.Source t) g before n h number = opens_same c g before (of_head (source h.0)) h.2 refl (λ enclosing. refl)
 opened_is c e names texts codes.Mainmenu g before n h number = stays c g before (ap side_of h)
 opened_is c e names texts (codes.Ends b) g before n h number = closes c g before (ap side_of h)
 opened_is c e names texts codes.FileEnd g before n h number = closes c g before (ap side_of h)
 
 -- whether a choice begins
-pub begins_is : (e : Exprs) (names texts : List (List ℕ)) (what : CodeWhat) (g : Group) → WhatShown e names texts what g.what → opens_choice g ≡ is_choice_code what
+pub begins_is : (e : Exprs) (names texts : List (List ℕ)) (what : CodeWhat) (g : Group) → RepresentsHead e names texts what g.what → opens_choice g ≡ is_choice_code what
 begins_is e names texts (codes.Config s) g h = rw h.2 refl
 begins_is e names texts codes.Choice g h = rw h refl
 begins_is e names texts (codes.Menu t) g h = rw h.2 refl
@@ -166,17 +166,17 @@ begins_is e names texts (codes.Ends b) g h = rw h refl
 begins_is e names texts codes.FileEnd g h = rw h refl
 
 -- what is known of the choices round so many groups
-pub record AreRound (read : List Group) (i : ℕ) (around inner : List (Option ℕ)) (choices : ℕ) : Type 0 where
-  pub around_is : around ≡ map (choice_round (contents_of read)) (placed (read_before i read))
-  pub open_is : reverse inner ≡ choices_open (contents_of read) (open_blocks 0 (read_before i read))
+pub record AreRound (read : List Group) (i : ℕ) (enclosing inner : List (Option ℕ)) (choices : ℕ) : Type 0 where
+  pub around_is : enclosing ≡ map (enclosing_choice (contents_of read)) (groups_in_context (read_before i read))
+  pub open_is : reverse inner ≡ open_choices (contents_of read) (open_blocks 0 (read_before i read))
   pub choices_are : choices ≡ length (numbers_of_choices (read_before i read))
 
 pub no_rounds : (read : List Group) → AreRound read 0 [] [] 0
 no_rounds read =
     let e = none_before read in
     record {
-      around_is = sym (ap (λ r. map (choice_round (contents_of read)) (placed r)) e);
-      open_is = sym (ap (λ r. choices_open (contents_of read) (open_blocks 0 r)) e);
+      around_is = sym (ap (λ r. map (enclosing_choice (contents_of read)) (groups_in_context r)) e);
+      open_is = sym (ap (λ r. open_choices (contents_of read) (open_blocks 0 r)) e);
       choices_are = sym (ap (λ r. length (numbers_of_choices r)) e);
     }
 
@@ -184,40 +184,40 @@ counted : (read : List Group) (i : ℕ) (m : Group) (b : Bool) (n : ℕ) → rea
 counted read i m true n now o e = ap (λ k. k + 1) e ∙ sym (ap (λ r. length (numbers_of_choices r)) now ∙ count_more m (read_before i read) o)
 counted read i m false n now o e = e ∙ sym (ap (λ r. length (numbers_of_choices r)) now ∙ ap length (choices_same m (read_before i read) o))
 
-module _ (e : Exprs) (names texts : List (List ℕ)) (lines : List CodeLine) (groups : List CodeGroup) (read : List Group) (h : GroupsShown e names texts lines (length lines) (reverse groups) read) where
-  pub round_more : (i : ℕ) (around inner around2 inner2 : List (Option ℕ)) (choices choices2 : ℕ) (what : CodeWhat) → i < length groups → what ≡ (group_at groups i).what → AreRound read i around inner choices
-      → around2 ≡ around ++ innermost_choice (reverse inner) ∷ [] → reverse inner2 ≡ opened_behind what choices (reverse inner) → choices2 ≡ cond (is_choice_code what) (choices + 1) choices → AreRound read (i + 1) around2 inner2 choices2
-  round_more i around inner around2 inner2 choices choices2 what l w r ae oe ce =
+module _ (e : Exprs) (names texts : List (List ℕ)) (lines : List CodeLine) (groups : List CodeGroup) (read : List Group) (h : RepresentsGroups e names texts lines (length lines) (reverse groups) read) where
+  pub round_more : (i : ℕ) (enclosing inner around2 inner2 : List (Option ℕ)) (choices choices2 : ℕ) (what : CodeWhat) → i < length groups → what ≡ (group_at groups i).what → AreRound read i enclosing inner choices
+      → around2 ≡ enclosing ++ innermost_choice (reverse inner) ∷ [] → reverse inner2 ≡ choices_opened_after what choices (reverse inner) → choices2 ≡ cond (is_choice_code what) (choices + 1) choices → AreRound read (i + 1) around2 inner2 choices2
+  round_more i enclosing inner around2 inner2 choices choices2 what l w r ae oe ce =
       let s = shown_at e names texts lines groups read h i l in
       let c : Contents = contents_of read in
       let prior : List Group = read_before i read in
       let a = are_numbers e names texts lines (length lines) (reverse groups) read h in
-      let shown : WhatShown e names texts what s.group.what = subst (λ v. WhatShown e names texts v s.group.what) (sym w) s.shown.what in
+      let shown : RepresentsHead e names texts what s.group.what = subst (λ v. RepresentsHead e names texts v s.group.what) (sym w) s.shown.what in
       let begins = begins_is e names texts what s.group shown in
       record {
         around_is = ae
-            ∙ ap (λ x. around ++ x ∷ []) (ap innermost_choice r.open_is ∙ innermost_is c (open_blocks 0 prior))
-            ∙ ap (λ xs. xs ++ choice_round c (place (open_blocks 0 prior) s.group) ∷ []) r.around_is
-            ∙ sym (ap (map (choice_round c)) (placed_more read i s.group s.now) ∙ map-append (choice_round c) (placed prior) (place (open_blocks 0 prior) s.group ∷ []));
+            ∙ ap (λ x. enclosing ++ x ∷ []) (ap innermost_choice r.open_is ∙ innermost_is c (open_blocks 0 prior))
+            ∙ ap (λ xs. xs ++ enclosing_choice c (group_in_context (open_blocks 0 prior) s.group) ∷ []) r.around_is
+            ∙ sym (ap (map (enclosing_choice c)) (placed_more read i s.group s.now) ∙ map-append (enclosing_choice c) (groups_in_context prior) (group_in_context (open_blocks 0 prior) s.group ∷ []));
         open_is = oe
-            ∙ ap (opened_behind what choices) r.open_is
-            ∙ sym (ap (λ x. choices_open c (open_blocks 0 x)) s.now
+            ∙ ap (choices_opened_after what choices) r.open_is
+            ∙ sym (ap (λ x. open_choices c (open_blocks 0 x)) s.now
             ∙ opened_is c e names texts what s.group prior choices shown (λ b. number_counts read i s.group a (numbers_before (length read - (i + 1)) read a) s.now (begins ∙ b) ∙ ap Some (sym r.choices_are)));
         choices_are = ce ∙ counted read i s.group (is_choice_code what) choices s.now begins r.choices_are;
       }
 
-pub all_round : (read : List Group) (i : ℕ) (around inner : List (Option ℕ)) (choices : ℕ) → i ≡ length read → AreRound read i around inner choices → around ≡ map (choice_round (contents_of read)) (placed read)
-all_round read i around inner choices e r = r.around_is ∙ ap (λ x. map (choice_round (contents_of read)) (placed x)) (ap (λ n. read_before n read) e ∙ all_before read)
+pub all_round : (read : List Group) (i : ℕ) (enclosing inner : List (Option ℕ)) (choices : ℕ) → i ≡ length read → AreRound read i enclosing inner choices → enclosing ≡ map (enclosing_choice (contents_of read)) (groups_in_context read)
+all_round read i enclosing inner choices e r = r.around_is ∙ ap (λ x. map (enclosing_choice (contents_of read)) (groups_in_context x)) (ap (λ n. read_before n read) e ∙ all_before read)
 
 -- the count of choices alone
 pub none_counted : (read : List Group) → 0 ≡ length (numbers_of_choices (read_before 0 read))
 none_counted read = sym (ap (λ r. length (numbers_of_choices r)) (none_before read))
 
-pub one_counted : (e : Exprs) (names texts : List (List ℕ)) (lines : List CodeLine) (groups : List CodeGroup) (read : List Group) → GroupsShown e names texts lines (length lines) (reverse groups) read → (i n n2 : ℕ) (what : CodeWhat) → i < length groups → what ≡ (group_at groups i).what
+pub one_counted : (e : Exprs) (names texts : List (List ℕ)) (lines : List CodeLine) (groups : List CodeGroup) (read : List Group) → RepresentsGroups e names texts lines (length lines) (reverse groups) read → (i n n2 : ℕ) (what : CodeWhat) → i < length groups → what ≡ (group_at groups i).what
     → n ≡ length (numbers_of_choices (read_before i read)) → n2 ≡ cond (is_choice_code what) (n + 1) n → n2 ≡ length (numbers_of_choices (read_before (i + 1) read))
 one_counted e names texts lines groups read h i n n2 what l w c k =
     let s = shown_at e names texts lines groups read h i l in
-    let shown : WhatShown e names texts what s.group.what = subst (λ v. WhatShown e names texts v s.group.what) (sym w) s.shown.what in
+    let shown : RepresentsHead e names texts what s.group.what = subst (λ v. RepresentsHead e names texts v s.group.what) (sym w) s.shown.what in
     k ∙ counted read i s.group (is_choice_code what) n s.now (begins_is e names texts what s.group shown) c
 
 pub all_counted : (read : List Group) (i : ℕ) → i ≡ length read → length (numbers_of_choices (read_before i read)) ≡ length (contents_of read).choices

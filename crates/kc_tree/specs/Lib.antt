@@ -1,3 +1,3 @@
-pub mod Held
-pub mod Told
+pub mod TreeModel
+pub mod Views
 pub mod checker

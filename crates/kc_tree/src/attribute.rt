@@ -1,13 +1,13 @@
-//! What attributes say.
+//! The values of attributes.
 ghost use Rattle.std.specs.Prelude.{◌≡◌, ◌<◌, IfSome, is_some, length, option_map};
 ghost use Rattle.kc_expr.specs.Arena.{Exprs};
 ghost use Rattle.kc_tree_model.specs.Statements.{type_of, prompt_of, default_of, range_of, is_modules as modules};
-ghost use Rattle.kc_statements.specs.Said.{attribute_in, AttributeHeld, valued_in, ValuedHeld};
+ghost use Rattle.kc_statements.specs.StatementViews.{attribute_in, AttributeNodesExist, default_in, DefaultNodesExist};
 ghost use Rattle.kc_tree.specs.checker.Attributes.{aim_of};
-ghost use Rattle.kc_listing.specs.Names.{word_in};
+ghost use Rattle.kc_listing.specs.SymbolTable.{text_of_name};
 
 use kc_expr::NameId;
-use kc_statements::{Attribute, Valued};
+use kc_statements::{Attribute, DefaultAttribute};
 use kc_value::Kind;
 
 /// The type that an attribute gives.
@@ -33,9 +33,9 @@ pub(crate) fn is_prompt(attribute: &Attribute) -> bool
 }
 
 /// The default that an attribute is.
-pub(crate) fn default_given(attribute: &Attribute) -> Option<Valued>
-    ensures valued { (e : Exprs) → option_map (valued_in e) result ≡ default_of (attribute_in e attribute.now) }
-    ensures held { (e : Exprs) → AttributeHeld e attribute.now → IfSome result (ValuedHeld e) }
+pub(crate) fn default_given(attribute: &Attribute) -> Option<DefaultAttribute>
+    ensures valued { (e : Exprs) → option_map (default_in e) result ≡ default_of (attribute_in e attribute.now) }
+    ensures held { (e : Exprs) → AttributeNodesExist e attribute.now → IfSome result (DefaultNodesExist e) }
 {
     match *attribute {
         Attribute::Default(valued) => Some(valued),
@@ -59,9 +59,9 @@ pub(crate) fn is_modules(attribute: &Attribute) -> bool
 }
 
 /// The name that an attribute selects or implies.
-pub(crate) fn name_aimed_at(attribute: &Attribute) -> Option<NameId>
-    ensures name { (e : Exprs) → option_map (word_in e) result ≡ aim_of (attribute_in e attribute.now) }
-    ensures held { (e : Exprs) → AttributeHeld e attribute.now → IfSome result (λ i. i < length e.names) }
+pub(crate) fn target_name(attribute: &Attribute) -> Option<NameId>
+    ensures name { (e : Exprs) → option_map (text_of_name e) result ≡ aim_of (attribute_in e attribute.now) }
+    ensures held { (e : Exprs) → AttributeNodesExist e attribute.now → IfSome result (λ i. i < length e.names) }
 {
     match *attribute {
         Attribute::Select(aimed) => Some(aimed.name),

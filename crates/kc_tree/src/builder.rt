@@ -1,16 +1,16 @@
 //! From what was read to the tree.
 ghost use Rattle.std.specs.Prelude.{◌≡◌, ◌<◌, ◌^◌, ℕ, List, None, IfOk, length};
 ghost use Rattle.kc_expr.specs.Lookup.{AreDistinct};
-ghost use Rattle.kc_tree_model.specs.Files.{Files};
+ghost use Rattle.kc_tree_model.specs.TreeFiles.{Files};
 ghost use Rattle.kc_tree_model.specs.Blocks.{Group as Read};
-ghost use Rattle.kc_tree_model.specs.Contents.{whole_of, tree_of_files};
+ghost use Rattle.kc_tree_model.specs.Contents.{tree_of_groups, tree_of_files};
 ghost use Rattle.kc_tree_model.specs.Reading.{reading};
-ghost use Rattle.kc_tree_model.specs.TreeFaults.{fault_told};
+ghost use Rattle.kc_tree_model.specs.TreeFaults.{first_tree_fault};
 ghost use Rattle.kc_tree_model.specs.TreeLookup.{IsConsistent};
-ghost use Rattle.kc_listing.specs.Shown.{Shows};
+ghost use Rattle.kc_listing.specs.ListingView.{RepresentsListing};
 ghost use Rattle.kc_tree.specs.checker.Assembly.{IsWalk, AreFew, AreSymbolParts, AreChoiceParts, AreAllParts, IsGathering};
 ghost use Rattle.kc_tree.specs.checker.GatheredFits.{GatheredFit};
-ghost use Rattle.kc_tree.specs.checker.GatheredView.{whole_gathered};
+ghost use Rattle.kc_tree.specs.checker.GatheredView.{gathered_tree};
 ghost use Rattle.kc_tree.specs.checker.Summaries.{IsSummary};
 ghost use Rattle.kc_tree.specs.checker.Surface.{IsOfTree};
 
@@ -20,14 +20,14 @@ use super::definitions::gather_attributes;
 use super::entries::entries_of;
 use super::gathered::{Attributes, Gathered};
 use super::keyed::Keyed;
+use super::listing_walk::{WalkedListing, walk_all};
 use super::parts::{ChoiceRow, EntryRow, SymbolRow};
 use super::rows::symbol_rows;
 use super::summary::Summary;
 use super::symbol::MemberDefault;
 use super::tree::Tree;
 use super::unit_list::units_of;
-use super::walks::{Walked, walk_all};
-use kc_listing::{Listing, Names};
+use kc_listing::{Listing, SymbolTable};
 use kc_tree_model::Unit;
 use std::alloc::{AllocError, Global};
 
@@ -47,15 +47,15 @@ struct ChoiceParts {
     entries: Vec<EntryRow>,
 }
 
-/// The symbols and the units. An `Err` is want of memory.
+/// The symbols and the units. An `Err` means out of memory.
 fn symbol_parts(
     alloc: Global,
-    walked: &Walked,
+    walked: &WalkedListing,
     summary: &Summary,
 ) -> Result<SymbolParts, AllocError>
     requires few { AreFew walked.now }
     requires walk { (files : Files) × (root : List ℕ) × IsWalk walked.now files root }
-    requires summary { (read : List Read) → Shows walked.now.listing read → IsSummary read summary.now }
+    requires summary { (read : List Read) → RepresentsListing walked.now.listing read → IsSummary read summary.now }
     ensures { (files : Files) (root : List ℕ) → IsWalk walked.now files root → IfOk result (AreSymbolParts walked.now.listing.names.arena (reading files root).read) }
 {
     let listing = &walked.listing;
@@ -67,8 +67,8 @@ fn symbol_parts(
     })
 }
 
-/// The choices and the entries. An `Err` is want of memory.
-fn choice_parts(alloc: Global, walked: &Walked) -> Result<ChoiceParts, AllocError>
+/// The choices and the entries. An `Err` means out of memory.
+fn choice_parts(alloc: Global, walked: &WalkedListing) -> Result<ChoiceParts, AllocError>
     requires few { AreFew walked.now }
     requires walk { (files : Files) × (root : List ℕ) × IsWalk walked.now files root }
     ensures { (files : Files) (root : List ℕ) → IsWalk walked.now files root → IfOk result (AreChoiceParts walked.now.listing (reading files root).read) }
@@ -83,7 +83,7 @@ fn choice_parts(alloc: Global, walked: &Walked) -> Result<ChoiceParts, AllocErro
     })
 }
 
-/// All that is gathered behind a walk.
+/// All parts gathered after a walk.
 #[derive(Drop)]
 struct AllParts {
     summary: Summary,
@@ -91,8 +91,8 @@ struct AllParts {
     choices: ChoiceParts,
 }
 
-/// The summary, the symbols and the choices. An `Err` is want of memory.
-fn all_parts(alloc: Global, walked: &Walked) -> Result<AllParts, AllocError>
+/// The summary, the symbols and the choices. An `Err` means out of memory.
+fn all_parts(alloc: Global, walked: &WalkedListing) -> Result<AllParts, AllocError>
     requires { (files : Files) × (root : List ℕ) × IsWalk walked.now files root }
     ensures { (files : Files) (root : List ℕ) → IsWalk walked.now files root → IfOk result (AreAllParts walked.now.listing (reading files root).read) }
 {
@@ -105,7 +105,7 @@ fn all_parts(alloc: Global, walked: &Walked) -> Result<AllParts, AllocError>
 }
 
 /// All parts together.
-fn gathered(walked: Walked, parts: AllParts) -> Gathered
+fn gathered(walked: WalkedListing, parts: AllParts) -> Gathered
     ensures arena { result.arena ≡ walked.listing.names.arena }
     ensures symbols { result.symbols ≡ parts.symbols.rows }
     ensures attributes { result.attributes ≡ parts.symbols.attributes }
@@ -116,7 +116,7 @@ fn gathered(walked: Walked, parts: AllParts) -> Gathered
     ensures titles { result.titles ≡ walked.listing.texts }
     ensures units { result.units ≡ parts.symbols.units }
 {
-    let Walked {
+    let WalkedListing {
         listing,
         groups: _conditions_of_groups,
         conditions: _conditions,
@@ -127,7 +127,7 @@ fn gathered(walked: Walked, parts: AllParts) -> Gathered
         groups: _groups,
         lines: _lines,
     } = listing;
-    let Names {
+    let SymbolTable {
         arena,
         symbols: _names,
         numbers: _numbers,
@@ -139,7 +139,7 @@ fn gathered(walked: Walked, parts: AllParts) -> Gathered
     } = parts;
     let Summary {
         symbols: _abouts,
-        around: _around,
+        enclosing: _around,
         choices: _count,
         members,
     } = summary;
@@ -156,8 +156,8 @@ fn gathered(walked: Walked, parts: AllParts) -> Gathered
     }
 }
 
-/// What is gathered behind a walk. An `Err` is want of memory.
-fn gathered_of(alloc: Global, walked: Walked) -> Result<Gathered, AllocError>
+/// What is gathered after a walk. An `Err` means out of memory.
+fn gathered_of(alloc: Global, walked: WalkedListing) -> Result<Gathered, AllocError>
     requires walk { (files : Files) × (root : List ℕ) × IsWalk walked files root }
     ensures { (files : Files) (root : List ℕ) → IsWalk walked files root → IfOk result (IsGathering (reading files root).read) }
 {
@@ -165,10 +165,10 @@ fn gathered_of(alloc: Global, walked: Walked) -> Result<Gathered, AllocError>
     Ok(gathered(walked, parts))
 }
 
-/// The tree of what was read. An `Err` is want of memory.
+/// The tree of what was read. An `Err` means out of memory.
 pub(crate) fn tree_of(alloc: Global, listing: Listing) -> Result<Tree, AllocError>
     requires { IsOfTree listing }
-    ensures { (files : Files) (root : List ℕ) → fault_told files root ≡ None → Shows listing (reading files root).read
+    ensures { (files : Files) (root : List ℕ) → first_tree_fault files root ≡ None → RepresentsListing listing (reading files root).read
         → IfOk result (λ t. t.whole ≡ tree_of_files files root) }
 {
     let Ok(walked) = walk_all(alloc, listing) else {

@@ -1,28 +1,28 @@
 //! The defaults of choices.
 ghost use Rattle.std.specs.Prelude.{◌≡◌, ◌<◌, ◌++◌, ◌^◌, [], All, IfOk, List, OnOk, length, map, option_to_list};
-ghost use Rattle.kc_listing.specs.Shown.{LineHeld};
+ghost use Rattle.kc_listing.specs.ListingView.{LineNodesExist};
 ghost use Rattle.kc_tree_model.specs.Blocks.{Group as Read};
-ghost use Rattle.kc_tree_model.specs.Conditions.{placed};
+ghost use Rattle.kc_tree_model.specs.Conditions.{groups_in_context};
 ghost use Rattle.kc_tree_model.specs.Contents.{contents_of};
 ghost use Rattle.kc_tree_model.specs.TreeFaults.{tree_faults};
-ghost use Rattle.kc_tree.specs.checker.ChoiceDefaults.{group_kept, member_kept, members_kept, value_told, AreDefaultsOf, IsWalkOf};
+ghost use Rattle.kc_tree.specs.checker.ChoiceDefaults.{group_default_rows, member_default_row, member_default_rows, default_value_view, AreDefaultsOf, IsWalkOf};
 
-use super::around::begins_choice;
+use super::enclosing_choices::begins_choice;
 use super::entries::count_choices;
+use super::group_conditions::conditions_of;
+use super::group_lines::lines_of;
+use super::group_walk::GroupConditions;
 use super::keyed::Keyed;
-use super::own_conditions::conditions_of;
-use super::own_lines::lines_of;
 use super::symbol::MemberDefault;
-use super::walk::GroupConditions;
 use kc_expr::ExprId;
-use kc_listing::{Line, Listing, Names, What};
+use kc_listing::{GroupHead, Line, Listing, SymbolTable};
 use kc_statements::Attribute;
 use kc_tree_model::Sym;
 use std::alloc::{AllocError, Global};
 
 /// The value of a default.
 fn value_of(attribute: &Attribute) -> Option<ExprId>
-    ensures { result ≡ value_told attribute.now }
+    ensures { result ≡ default_value_view attribute.now }
 {
     match *attribute {
         Attribute::Default(valued) => Some(valued.value),
@@ -32,9 +32,9 @@ fn value_of(attribute: &Attribute) -> Option<ExprId>
 }
 
 /// The default that an attribute with a condition gives a choice: the symbol whose bare name it is.
-fn member_default(names: &Names, line: &Line, condition: ExprId) -> Option<MemberDefault>
-    requires { LineHeld names.now.arena line.now }
-    ensures { result ≡ member_kept names.now line.now condition }
+fn member_default(names: &SymbolTable, line: &Line, condition: ExprId) -> Option<MemberDefault>
+    requires { LineNodesExist names.now.arena line.now }
+    ensures { result ≡ member_default_row names.now line.now condition }
 {
     let value = value_of(&line.attribute)?;
     let name = names.arena.bare_name(value)?;
@@ -45,7 +45,7 @@ fn member_default(names: &Names, line: &Line, condition: ExprId) -> Option<Membe
     })
 }
 
-/// Puts a default of a choice behind others, if there is one.
+/// Appends a default of a choice, if there is one.
 fn push_default(
     found: &mut Keyed<MemberDefault>,
     choice: u32,
@@ -60,18 +60,18 @@ fn push_default(
     }
 }
 
-/// Puts the defaults of a choice behind others.
+/// Appends the defaults of a choice.
 fn push_defaults(
     found: &mut Keyed<MemberDefault>,
-    names: &Names,
+    names: &SymbolTable,
     choice: u32,
     lines: &[Line],
     conditions: &[ExprId],
 ) -> Result<(), AllocError>
     requires many { length conditions.now ≡ length lines.now }
-    requires held { All (LineHeld names.now.arena) lines.now }
-    ensures keys { OnOk result (found.new.keys.items ≡ found.old.keys.items ++ map (λ _. choice) (members_kept names.now lines.now conditions.now)) }
-    ensures items { OnOk result (found.new.items.items ≡ found.old.items.items ++ members_kept names.now lines.now conditions.now) }
+    requires held { All (LineNodesExist names.now.arena) lines.now }
+    ensures keys { OnOk result (found.new.keys.items ≡ found.old.keys.items ++ map (λ _. choice) (member_default_rows names.now lines.now conditions.now)) }
+    ensures items { OnOk result (found.new.items.items ≡ found.old.items.items ++ member_default_rows names.now lines.now conditions.now) }
 {
     for i in 0..lines.len() {
         push_default(
@@ -83,19 +83,19 @@ fn push_defaults(
     Ok(())
 }
 
-/// Puts the defaults of a group behind others, if it is a choice.
-fn put_defaults(
+/// Appends the defaults of a group, if it is a choice.
+fn push_group_defaults(
     found: &mut Keyed<MemberDefault>,
-    names: &Names,
-    what: &What,
+    names: &SymbolTable,
+    what: &GroupHead,
     choice: u32,
     lines: &[Line],
     conditions: &[ExprId],
 ) -> Result<(), AllocError>
     requires many { length conditions.now ≡ length lines.now }
-    requires held { All (LineHeld names.now.arena) lines.now }
-    ensures keys { OnOk result (found.new.keys.items ≡ found.old.keys.items ++ map (λ _. choice) (group_kept what.now names.now lines.now conditions.now)) }
-    ensures items { OnOk result (found.new.items.items ≡ found.old.items.items ++ group_kept what.now names.now lines.now conditions.now) }
+    requires held { All (LineNodesExist names.now.arena) lines.now }
+    ensures keys { OnOk result (found.new.keys.items ≡ found.old.keys.items ++ map (λ _. choice) (group_default_rows what.now names.now lines.now conditions.now)) }
+    ensures items { OnOk result (found.new.items.items ≡ found.old.items.items ++ group_default_rows what.now names.now lines.now conditions.now) }
 {
     if begins_choice(what) {
         return push_defaults(found, names, choice, lines, conditions);
@@ -103,7 +103,7 @@ fn put_defaults(
     Ok(())
 }
 
-/// The defaults of all choices, each under the number of its choice. An `Err` is want of memory.
+/// The defaults of all choices, each under the number of its choice. An `Err` means out of memory.
 pub(crate) fn member_defaults(
     alloc: Global,
     listing: &Listing,
@@ -113,7 +113,7 @@ pub(crate) fn member_defaults(
     requires walked { (read : List Read) × IsWalkOf listing.now groups.now conditions.now read }
     requires few { length listing.now.groups.items < 2 ^ 32 }
     ensures { (read : List Read) → IsWalkOf listing.now groups.now conditions.now read → tree_faults read ≡ []
-        → IfOk result (AreDefaultsOf listing.now (contents_of read) (placed read) (length (contents_of read).choices)) }
+        → IfOk result (AreDefaultsOf listing.now (contents_of read) (groups_in_context read) (length (contents_of read).choices)) }
 {
     let mut found = Keyed::new(alloc);
     let mut choices = 0;
@@ -121,7 +121,7 @@ pub(crate) fn member_defaults(
         let what = &listing.groups[i].what;
         let lines = lines_of(listing, i);
         let own = conditions_of(groups, conditions, i);
-        put_defaults(&mut found, &listing.names, what, choices, lines, own)?;
+        push_group_defaults(&mut found, &listing.names, what, choices, lines, own)?;
         choices = count_choices(what, choices);
     }
     Ok(found)

@@ -2,18 +2,18 @@
 ghost use Rattle.std.specs.Prelude.{◌≡◌, ◌<◌, List, IfOk, filter, length, reverse};
 ghost use Rattle.kc_expr.specs.Arena.{Exprs};
 ghost use Rattle.kc_tree_model.specs.Blocks.{Group as Read};
-ghost use Rattle.kc_tree_model.specs.Conditions.{placed};
-ghost use Rattle.kc_listing.specs.Shown.{Shows};
-ghost use Rattle.kc_tree.specs.checker.ChoiceRows.{opens, choice_kept, AreChoiceRows, IsGoneThrough};
+ghost use Rattle.kc_tree_model.specs.Conditions.{groups_in_context};
+ghost use Rattle.kc_listing.specs.ListingView.{RepresentsListing};
+ghost use Rattle.kc_tree.specs.checker.ChoiceRows.{opens, choice_row, AreChoiceRows, IsGoneThrough};
 ghost use Rattle.kc_tree.specs.checker.Conditioned.{own_conditions};
 ghost use Rattle.kc_tree.specs.checker.Summaries.{group_at, own_lines};
-ghost use Rattle.kc_tree.specs.checker.Walked.{AllConditionsShown};
+ghost use Rattle.kc_tree.specs.checker.Walks.{RepresentsAllConditions};
 
-use super::around::begins_choice;
-use super::own_conditions::conditions_of;
-use super::own_lines::lines_of;
+use super::enclosing_choices::begins_choice;
+use super::group_conditions::conditions_of;
+use super::group_lines::lines_of;
+use super::group_walk::{GroupConditions, first_condition};
 use super::parts::ChoiceRow;
-use super::walk::{GroupConditions, first_condition};
 use kc_expr::ExprId;
 use kc_listing::{Group, Line, Listing};
 use std::alloc::{AllocError, Global};
@@ -21,7 +21,7 @@ use std::alloc::{AllocError, Global};
 /// The row of a choice that begins with a group, which has these attributes with these conditions.
 fn row_of(group: &Group, lines: &[Line], conditions: &[ExprId]) -> ChoiceRow
     requires { length conditions.now ≡ length lines.now }
-    ensures { result ≡ choice_kept group.now lines.now conditions.now }
+    ensures { result ≡ choice_row group.now lines.now conditions.now }
 {
     ChoiceRow {
         file: group.file,
@@ -39,14 +39,14 @@ fn row_at(
 ) -> ChoiceRow
     requires gone { IsGoneThrough listing.now groups.now conditions.now }
     requires here { i < length listing.now.groups.items }
-    ensures { result ≡ choice_kept (group_at listing.now.groups.items i) (own_lines listing.now i) (own_conditions groups.now conditions.now i) }
+    ensures { result ≡ choice_row (group_at listing.now.groups.items i) (own_lines listing.now i) (own_conditions groups.now conditions.now i) }
 {
     let lines = lines_of(listing, i);
     let own = conditions_of(groups, conditions, i);
     row_of(&listing.groups[i], lines, own)
 }
 
-/// The rows of all choices. An `Err` is want of memory.
+/// The rows of all choices. An `Err` means out of memory.
 pub(crate) fn choice_rows(
     alloc: Global,
     listing: &Listing,
@@ -54,9 +54,9 @@ pub(crate) fn choice_rows(
     conditions: &[ExprId],
 ) -> Result<Vec<ChoiceRow>, AllocError>
     requires { IsGoneThrough listing.now groups.now conditions.now }
-    ensures { (exprs : Exprs) (read : List Read) → Shows listing.now read
-        → AllConditionsShown exprs listing.now.texts.items conditions.now (length conditions.now) (reverse groups.now) read
-        → IfOk result (λ rows. AreChoiceRows exprs (filter opens (placed read)) rows.items) }
+    ensures { (exprs : Exprs) (read : List Read) → RepresentsListing listing.now read
+        → RepresentsAllConditions exprs listing.now.texts.items conditions.now (length conditions.now) (reverse groups.now) read
+        → IfOk result (λ rows. AreChoiceRows exprs (filter opens (groups_in_context read)) rows.items) }
 {
     let mut rows = Vec::new(alloc);
     for i in 0..listing.groups.len() {

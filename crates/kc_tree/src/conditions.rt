@@ -1,13 +1,13 @@
 //! The conditions of entries and attributes.
 ghost use Rattle.std.specs.Prelude.{◌≡◌, ◌<◌, ◌++◌, ◌+◌, [], List, All, IfOk, IfErr, IfSome, OnOk, OnErr, length};
-ghost use Rattle.kc_expr.specs.Arena.{Grows, Stands};
+ghost use Rattle.kc_expr.specs.Arena.{Grows, Represents};
 ghost use Rattle.kc_expr.specs.Expr.{Expr};
 ghost use Rattle.kc_expr.specs.declared.fault.ExprKind.TheVariants.{OutOfMemory};
-ghost use Rattle.kc_statements.specs.Said.{AttributeHeld};
-ghost use Rattle.kc_listing.specs.Shown.{LineHeld};
-ghost use Rattle.kc_tree_model.specs.Conditions.{all_of, visible_conjunct};
+ghost use Rattle.kc_statements.specs.StatementViews.{AttributeNodesExist};
+ghost use Rattle.kc_listing.specs.ListingView.{LineNodesExist};
+ghost use Rattle.kc_tree_model.specs.Conditions.{conjunction_of, visible_conjunct};
 ghost use Rattle.kc_tree.specs.checker.Conjunctions.{Conjoins, conjunct};
-ghost use Rattle.kc_tree.specs.checker.Conjuncts.{if_told, is_prompt, conjunct_told, conjuncts_told, condition_told, AreJoined, AreBehind};
+ghost use Rattle.kc_tree.specs.checker.Conjuncts.{if_view, is_prompt, conjunct_view, conjunct_views, condition_view, AreJoined, AreAppended};
 ghost use Rattle.kc_tree.specs.declared.conditions.Conjuncts.TheVariants.{Dependencies, Visibles};
 
 use kc_expr::{Arena, ExprFault, ExprId};
@@ -21,15 +21,15 @@ pub(crate) enum Conjuncts {
     Visibles,
 }
 
-/// What stands round the inside of an open block; the title is that of a menu. `None` is the conjunction of nothing.
+/// The conditions inside an open block, and the title of a menu. `None` is the empty conjunction.
 #[derive(Clone, Copy)]
-pub(crate) struct Around {
+pub(crate) struct EnclosingConditions {
     pub dependencies: Option<ExprId>,
     pub visibles: Option<ExprId>,
     pub title: Option<usize>,
 }
 
-/// The conditions of an entry: its dependency with those round it, its `visible if` with those round it, and what its
+/// The conditions of an entry: its dependency with those around it, its `visible if` with those around it, and what its
 /// prompts depend on. `None` is the conjunction of nothing.
 #[derive(Clone, Copy)]
 pub(crate) struct EntryConditions {
@@ -38,8 +38,8 @@ pub(crate) struct EntryConditions {
     pub shown: Option<ExprId>,
 }
 
-/// A conjunction with one more behind it, where there is one; `None` is that of nothing.
-pub(crate) fn with(
+/// A conjunction with one more after it, where there is one; `None` is that of nothing.
+pub(crate) fn join_optional(
     arena: &mut Arena,
     all: Option<ExprId>,
     more: Option<ExprId>,
@@ -60,7 +60,7 @@ pub(crate) fn with(
 
 /// The `if` of an attribute, where it has one.
 fn if_of(attribute: &Attribute) -> Option<ExprId>
-    ensures { result ≡ if_told attribute.now }
+    ensures { result ≡ if_view attribute.now }
 {
     match *attribute {
         Attribute::Prompt(c) => c,
@@ -79,7 +79,7 @@ fn if_of(attribute: &Attribute) -> Option<ExprId>
 }
 
 /// Whether an attribute is a prompt.
-pub(crate) fn prompts(attribute: &Attribute) -> bool
+pub(crate) fn is_prompt_attribute(attribute: &Attribute) -> bool
     ensures { result ≡ is_prompt attribute.now }
 {
     matches!(
@@ -90,7 +90,7 @@ pub(crate) fn prompts(attribute: &Attribute) -> bool
 
 /// What an attribute gives an entry's dependency, or its `visible if`.
 fn conjunct_in(attribute: &Attribute, which: Conjuncts) -> Option<ExprId>
-    ensures { result ≡ conjunct_told which attribute.now }
+    ensures { result ≡ conjunct_view which attribute.now }
 {
     match which {
         Conjuncts::Dependencies => match *attribute {
@@ -104,47 +104,52 @@ fn conjunct_in(attribute: &Attribute, which: Conjuncts) -> Option<ExprId>
     }
 }
 
-/// A conjunction with what attributes give behind it.
-fn with_all(
+/// A conjunction with what attributes give after it.
+fn join_all(
     arena: &mut Arena,
     all: Option<ExprId>,
     lines: &[Line],
     which: Conjuncts,
 ) -> Result<Option<ExprId>, ExprFault>
     requires all { IfSome all (λ i. i < length arena.old.nodes) }
-    requires held { All (LineHeld arena.old) lines.now }
+    requires held { All (LineNodesExist arena.old) lines.now }
     ensures grows { Grows arena.old arena.new }
     ensures there { IfOk result (λ c. IfSome c (λ i. i < length arena.new.nodes)) }
-    ensures ok { IfOk result (λ c. (es : List Expr) → Conjoins arena.old all es → Conjoins arena.new c (es ++ conjuncts_told which arena.old lines.now)) }
+    ensures ok { IfOk result (λ c. (es : List Expr) → Conjoins arena.old all es → Conjoins arena.new c (es ++ conjunct_views which arena.old lines.now)) }
 {
     let mut joined = all;
     for line in lines {
-        joined = with(arena, joined, conjunct_in(&line.attribute, which))?;
+        joined = join_optional(arena, joined, conjunct_in(&line.attribute, which))?;
     }
     Ok(joined)
 }
 
-/// The conditions of an entry, by what stands round it and its attributes.
+/// The conditions of an entry, by the enclosing ones and its attributes.
 pub(crate) fn entry_conditions(
     arena: &mut Arena,
-    around: &Around,
+    enclosing: &EnclosingConditions,
     lines: &[Line],
 ) -> Result<EntryConditions, ExprFault>
-    requires dependencies { IfSome around.now.dependencies (λ i. i < length arena.old.nodes) }
-    requires visibles { IfSome around.now.visibles (λ i. i < length arena.old.nodes) }
-    requires held { All (LineHeld arena.old) lines.now }
+    requires dependencies { IfSome enclosing.now.dependencies (λ i. i < length arena.old.nodes) }
+    requires visibles { IfSome enclosing.now.visibles (λ i. i < length arena.old.nodes) }
+    requires held { All (LineNodesExist arena.old) lines.now }
     ensures grows { Grows arena.old arena.new }
-    ensures joined { IfOk result (λ e. (ds vs : List Expr) → Conjoins arena.old around.now.dependencies ds → Conjoins arena.old around.now.visibles vs
-        → AreJoined arena.new e (ds ++ conjuncts_told Dependencies arena.old lines.now) vs (conjuncts_told Visibles arena.old lines.now)) }
+    ensures joined { IfOk result (λ e. (ds vs : List Expr) → Conjoins arena.old enclosing.now.dependencies ds → Conjoins arena.old enclosing.now.visibles vs
+        → AreJoined arena.new e (ds ++ conjunct_views Dependencies arena.old lines.now) vs (conjunct_views Visibles arena.old lines.now)) }
 {
-    let dependencies = with_all(arena, around.dependencies, lines, Conjuncts::Dependencies)?;
-    let visibles = with_all(arena, around.visibles, lines, Conjuncts::Visibles)?;
+    let dependencies = join_all(
+        arena,
+        enclosing.dependencies,
+        lines,
+        Conjuncts::Dependencies,
+    )?;
+    let visibles = join_all(arena, enclosing.visibles, lines, Conjuncts::Visibles)?;
     let mut entry = EntryConditions {
         dependencies,
         visibles,
         shown: None,
     };
-    entry.shown = with(arena, entry.dependencies, around.visibles)?;
+    entry.shown = join_optional(arena, entry.dependencies, enclosing.visibles)?;
     Ok(entry)
 }
 
@@ -157,21 +162,21 @@ fn condition_of(
 ) -> Result<ExprId, ExprFault>
     requires dependencies { IfSome entry.now.dependencies (λ i. i < length arena.old.nodes) }
     requires shown { IfSome entry.now.shown (λ i. i < length arena.old.nodes) }
-    requires held { AttributeHeld arena.old attribute.now }
+    requires held { AttributeNodesExist arena.old attribute.now }
     ensures grows { Grows arena.old arena.new }
-    ensures stands { IfOk result (λ c. (ds vs own : List Expr) → AreJoined arena.old entry.now ds vs own → Stands arena.old yes (all_of [])
-        → Stands arena.new c (condition_told arena.old ds vs attribute.now)) }
+    ensures stands { IfOk result (λ c. (ds vs own : List Expr) → AreJoined arena.old entry.now ds vs own → Represents arena.old yes (conjunction_of [])
+        → Represents arena.new c (condition_view arena.old ds vs attribute.now)) }
 {
-    let all = if prompts(attribute) {
+    let all = if is_prompt_attribute(attribute) {
         entry.shown
     } else {
         entry.dependencies
     };
-    let condition = with(arena, all, if_of(attribute))?;
+    let condition = join_optional(arena, all, if_of(attribute))?;
     Ok(condition.unwrap_or(yes))
 }
 
-/// Puts the conditions of an entry's attributes behind others.
+/// Appends the conditions of an entry's attributes.
 pub(crate) fn push_conditions(
     arena: &mut Arena,
     yes: ExprId,
@@ -181,10 +186,10 @@ pub(crate) fn push_conditions(
 ) -> Result<(), ExprFault>
     requires dependencies { IfSome entry.now.dependencies (λ i. i < length arena.old.nodes) }
     requires shown { IfSome entry.now.shown (λ i. i < length arena.old.nodes) }
-    requires held { All (LineHeld arena.old) lines.now }
+    requires held { All (LineNodesExist arena.old) lines.now }
     ensures grows { Grows arena.old arena.new }
-    ensures stand { OnOk result ((ds vs own : List Expr) → AreJoined arena.old entry.now ds vs own → Stands arena.old yes (all_of [])
-        → AreBehind arena.old arena.new conditions.old.items conditions.new.items ds vs lines.now) }
+    ensures stand { OnOk result ((ds vs own : List Expr) → AreJoined arena.old entry.now ds vs own → Represents arena.old yes (conjunction_of [])
+        → AreAppended arena.old arena.new conditions.old.items conditions.new.items ds vs lines.now) }
     ensures longer { OnOk result (length conditions.new.items ≡ length conditions.old.items + length lines.now) }
 {
     for line in lines {

@@ -1,20 +1,22 @@
-//! What all definitions give symbols.
+//! The attributes of symbols, from all their definitions.
 ghost use Rattle.std.specs.Prelude.{◌≡◌, ◌<◌, [], List, All, IfOk, OnOk, length};
 ghost use Rattle.kc_tree_model.specs.Blocks.{Group as Read};
 ghost use Rattle.kc_tree_model.specs.Contents.{contents_of};
-ghost use Rattle.kc_listing.specs.Shown.{LineHeld};
+ghost use Rattle.kc_listing.specs.ListingView.{LineNodesExist};
 ghost use Rattle.kc_tree.specs.checker.ChoiceDefaults.{IsWalkOf};
 ghost use Rattle.kc_tree.specs.checker.Conditioned.{conditions_at};
 ghost use Rattle.kc_tree.specs.checker.Definitions.{HasDefinition, AreAttributes};
 
-use super::gather::{Forcing, push_defaults, push_forces, push_prompts, push_ranges};
+use super::definition_attributes::{
+    ReverseKind, push_defaults, push_prompts, push_ranges, push_reverse_dependencies,
+};
 use super::gathered::Attributes;
+use super::group_conditions::conditions_of;
+use super::group_lines::lines_of;
+use super::group_walk::GroupConditions;
 use super::keyed::Keyed;
-use super::own_conditions::conditions_of;
-use super::own_lines::lines_of;
-use super::walk::GroupConditions;
 use kc_expr::ExprId;
-use kc_listing::{Line, Listing, Names, What};
+use kc_listing::{GroupHead, Line, Listing, SymbolTable};
 use std::alloc::{AllocError, Global};
 
 /// The dependency of a group.
@@ -44,34 +46,34 @@ fn no_attributes(alloc: Global) -> Attributes
     }
 }
 
-/// Puts what a definition gives symbols behind others.
+/// Appends what a definition gives symbols.
 fn push_definition(
     found: &mut Attributes,
-    names: &Names,
+    names: &SymbolTable,
     symbol: u32,
     lines: &[Line],
     conditions: &[ExprId],
     dependency: ExprId,
 ) -> Result<(), AllocError>
     requires many { length conditions.now ≡ length lines.now }
-    requires held { All (LineHeld names.now.arena) lines.now }
+    requires held { All (LineNodesExist names.now.arena) lines.now }
     ensures { OnOk result (HasDefinition names.now symbol found.old found.new lines.now conditions.now dependency) }
 {
     push_prompts(&mut found.prompts, symbol, lines, conditions)?;
     push_defaults(&mut found.defaults, symbol, lines, conditions)?;
     push_ranges(&mut found.ranges, symbol, lines, conditions)?;
-    push_forces(
+    push_reverse_dependencies(
         &mut found.selectors,
         names,
-        Forcing::Select,
+        ReverseKind::Select,
         symbol,
         lines,
         conditions,
     )?;
-    push_forces(
+    push_reverse_dependencies(
         &mut found.impliers,
         names,
-        Forcing::Imply,
+        ReverseKind::Imply,
         symbol,
         lines,
         conditions,
@@ -79,7 +81,8 @@ fn push_definition(
     found.direct.push(symbol, dependency)
 }
 
-/// What all definitions give symbols, by the conditions of groups and of their attributes. An `Err` is want of memory.
+/// What all definitions give symbols, by the conditions of groups and of their attributes. An `Err` means out of
+/// memory.
 pub(crate) fn gather_attributes(
     alloc: Global,
     listing: &Listing,
@@ -91,7 +94,7 @@ pub(crate) fn gather_attributes(
 {
     let mut found = no_attributes(alloc);
     for i in 0..listing.groups.len() {
-        if let What::Config(s) = listing.groups[i].what {
+        if let GroupHead::Config(s) = listing.groups[i].what {
             let lines = lines_of(listing, i);
             let own = conditions_of(groups, conditions, i);
             let dependency = dependency_of(groups, i);

@@ -2,23 +2,23 @@
 ghost use Rattle.std.specs.Prelude.{◌≡◌, ◌≤◌, ◌<◌, ◌+◌, ◌^◌, ◌++◌, ℕ, List, All, IfOk, OnOk, length, map, reverse, option_to_list};
 ghost use Rattle.kc_expr.specs.Arena.{Exprs};
 ghost use Rattle.kc_tree_model.specs.Blocks.{Group as Read};
-ghost use Rattle.kc_tree_model.specs.Contents.{contents_of, whole_of};
-ghost use Rattle.kc_listing.specs.Shown.{Shows};
-ghost use Rattle.kc_tree.specs.checker.Entries.{entry_kept, choices_behind};
-ghost use Rattle.kc_tree.specs.checker.Kept.{EntryRowFits};
-ghost use Rattle.kc_tree.specs.checker.PartsView.{entry_seen};
-ghost use Rattle.kc_tree.specs.checker.Walked.{AllConditionsShown};
+ghost use Rattle.kc_tree_model.specs.Contents.{contents_of, tree_of_groups};
+ghost use Rattle.kc_listing.specs.ListingView.{RepresentsListing};
+ghost use Rattle.kc_tree.specs.checker.Entries.{entry_row, choices_after};
+ghost use Rattle.kc_tree.specs.checker.StoredParts.{EntryRowFits};
+ghost use Rattle.kc_tree.specs.checker.PartsView.{entry_from_row};
+ghost use Rattle.kc_tree.specs.checker.Walks.{RepresentsAllConditions};
 ghost use Rattle.kc_tree.specs.declared.parts.EntryRow.TheVariants.{MenuBegins, MenuEnds, Comment};
 
+use super::group_walk::GroupConditions;
 use super::parts::EntryRow;
-use super::walk::GroupConditions;
-use kc_listing::{Listing, What};
+use kc_listing::{GroupHead, Listing};
 use kc_statements::Block;
 use kc_tree_model::Sym;
 use std::alloc::{AllocError, Global};
 
-/// A place among the texts as a number of 32 bits. Want of memory where it is none.
-fn title_at(place: usize) -> Result<u32, AllocError>
+/// The index of a text as `u32`; out of memory if it doesn't fit.
+fn title_number(place: usize) -> Result<u32, AllocError>
     ensures { IfOk result (λ n. n ≡ place) }
 {
     match u32::try_from(place) {
@@ -27,52 +27,52 @@ fn title_at(place: usize) -> Result<u32, AllocError>
     }
 }
 
-/// The end of a menu whose title stands at a place.
+/// The end of a menu, with the index of its title.
 fn menu_end(title: usize, group: &GroupConditions) -> Result<EntryRow, AllocError>
     ensures { IfOk result (λ row. row ≡ MenuEnds title group.now.dependency group.now.visible) }
 {
     Ok(EntryRow::MenuEnds {
-        title: title_at(title)?,
+        title: title_number(title)?,
         dependency: group.dependency,
         visible: group.visible,
     })
 }
 
-/// The beginning of a menu whose title stands at a place.
+/// The beginning of a menu, with the index of its title.
 fn menu_begin(title: usize, group: &GroupConditions) -> Result<EntryRow, AllocError>
     ensures { IfOk result (λ row. row ≡ MenuBegins title group.now.dependency group.now.visible) }
 {
     Ok(EntryRow::MenuBegins {
-        title: title_at(title)?,
+        title: title_number(title)?,
         dependency: group.dependency,
         visible: group.visible,
     })
 }
 
-/// A comment whose text stands at a place.
+/// A comment, with the index of its text.
 fn comment(title: usize, group: &GroupConditions) -> Result<EntryRow, AllocError>
     ensures { IfOk result (λ row. row ≡ Comment title group.now.dependency) }
 {
     Ok(EntryRow::Comment {
-        title: title_at(title)?,
+        title: title_number(title)?,
         dependency: group.dependency,
     })
 }
 
-/// The entry of a group, before which so many choices stand, if it has one.
+/// The entry of a group, if it has one; `choices` counts the choices before it.
 fn entry_of(
-    what: &What,
+    what: &GroupHead,
     group: &GroupConditions,
     choices: u32,
 ) -> Result<Option<EntryRow>, AllocError>
-    ensures { IfOk result (λ row. row ≡ entry_kept what.now group.now choices) }
+    ensures { IfOk result (λ row. row ≡ entry_row what.now group.now choices) }
 {
     match *what {
-        What::Config(s) => Ok(Some(EntryRow::Definition(Sym::at(s)))),
-        What::Choice => Ok(Some(EntryRow::ChoiceBegins(choices))),
-        What::Menu(title) => Ok(Some(menu_begin(title, group)?)),
-        What::Comment(title) => Ok(Some(comment(title, group)?)),
-        What::Ends(Block::Menu) => match group.ended {
+        GroupHead::Config(s) => Ok(Some(EntryRow::Definition(Sym::at(s)))),
+        GroupHead::Choice => Ok(Some(EntryRow::ChoiceBegins(choices))),
+        GroupHead::Menu(title) => Ok(Some(menu_begin(title, group)?)),
+        GroupHead::Comment(title) => Ok(Some(comment(title, group)?)),
+        GroupHead::Ends(Block::Menu) => match group.ended {
             Some(title) => Ok(Some(menu_end(title, group)?)),
             None => Ok(None),
         },
@@ -80,25 +80,25 @@ fn entry_of(
     }
 }
 
-/// How many choices stand before the next group.
-pub(crate) fn count_choices(what: &What, choices: u32) -> u32
+/// The count of choices before the next group.
+pub(crate) fn count_choices(what: &GroupHead, choices: u32) -> u32
     requires { choices + 1 < 2 ^ 32 }
-    ensures { result ≡ choices_behind what.now choices }
+    ensures { result ≡ choices_after what.now choices }
 {
     match *what {
-        What::Choice => choices + 1,
+        GroupHead::Choice => choices + 1,
         _ => choices,
     }
 }
 
-/// Puts the entry of a group behind the others, if it has one.
+/// Appends the entry of a group, if it has one.
 fn push_entry(
     rows: &mut Vec<EntryRow>,
-    what: &What,
+    what: &GroupHead,
     group: &GroupConditions,
     choices: u32,
 ) -> Result<(), AllocError>
-    ensures { OnOk result (rows.new.items ≡ rows.old.items ++ option_to_list (entry_kept what.now group.now choices)) }
+    ensures { OnOk result (rows.new.items ≡ rows.old.items ++ option_to_list (entry_row what.now group.now choices)) }
 {
     match entry_of(what, group, choices)? {
         Some(row) => {
@@ -109,7 +109,7 @@ fn push_entry(
     }
 }
 
-/// All entries. An `Err` is want of memory.
+/// All entries. An `Err` means out of memory.
 pub(crate) fn entries_of(
     alloc: Global,
     listing: &Listing,
@@ -117,11 +117,11 @@ pub(crate) fn entries_of(
 ) -> Result<Vec<EntryRow>, AllocError>
     requires few { length listing.now.groups.items < 2 ^ 32 }
     requires many { length groups.now ≡ length listing.now.groups.items }
-    ensures entries { (exprs : Exprs) (conditions : List ℕ) (end : ℕ) (read : List Read) → Shows listing.now read
-        → AllConditionsShown exprs listing.now.texts.items conditions end (reverse groups.now) read
-        → IfOk result (λ rows. map (entry_seen exprs listing.now.texts.items) rows.items ≡ (whole_of read).entries) }
-    ensures fits { (exprs : Exprs) (conditions : List ℕ) (end : ℕ) (read : List Read) → Shows listing.now read
-        → AllConditionsShown exprs listing.now.texts.items conditions end (reverse groups.now) read
+    ensures entries { (exprs : Exprs) (conditions : List ℕ) (end : ℕ) (read : List Read) → RepresentsListing listing.now read
+        → RepresentsAllConditions exprs listing.now.texts.items conditions end (reverse groups.now) read
+        → IfOk result (λ rows. map (entry_from_row exprs listing.now.texts.items) rows.items ≡ (tree_of_groups read).entries) }
+    ensures fits { (exprs : Exprs) (conditions : List ℕ) (end : ℕ) (read : List Read) → RepresentsListing listing.now read
+        → RepresentsAllConditions exprs listing.now.texts.items conditions end (reverse groups.now) read
         → IfOk result (λ rows. All (EntryRowFits (length exprs.nodes) (length listing.now.names.symbols.items) (length (contents_of read).choices) (length listing.now.texts.items)) rows.items) }
 {
     let mut rows = Vec::new(alloc);

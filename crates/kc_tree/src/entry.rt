@@ -1,9 +1,9 @@
-//! What stands in reading order.
+//! Entries in reading order.
 use kc_expr::ExprId;
 use kc_tree_model::Sym;
 
 /// A definition, a choice, the beginning or the end of a menu, or a comment; `visible` is a menu's `visible if`, joined
-/// with those round it.
+/// with those around it.
 #[derive(Clone, Copy)]
 pub enum Entry<'a> {
     Definition(Sym),

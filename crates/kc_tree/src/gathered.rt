@@ -1,4 +1,4 @@
-//! What is gathered of a tree, and the tree of it.
+//! The lists from which a tree is built.
 ghost use Rattle.std.specs.Prelude.{◌≡◌, ◌<◌, ◌^◌, IfOk, length};
 ghost use Rattle.kc_expr.specs.Lookup.{AreDistinct};
 ghost use Rattle.kc_tree_model.specs.TreeLookup.{IsConsistent};
@@ -7,9 +7,9 @@ use super::grouped::Grouped;
 use super::keyed::Keyed;
 use super::names::symbols_of_names;
 use super::parts::{ChoiceRow, EntryRow, Parts, SymbolRow};
-use super::symbol::{Default, Force, MemberDefault, Range};
+use super::symbol::{Default, MemberDefault, Range, ReverseDependency};
 use super::tree::Tree;
-use super::units::{UnitNumbers, number_members, number_units};
+use super::unit_numbers::{UnitNumbers, number_members, number_units};
 use kc_expr::{Arena, ExprId};
 use kc_tree_model::{Sym, Unit};
 use kc_value::Text;
@@ -21,8 +21,8 @@ pub(crate) struct Attributes {
     pub prompts: Keyed<ExprId>,
     pub defaults: Keyed<Default>,
     pub ranges: Keyed<Range>,
-    pub selectors: Keyed<Force>,
-    pub impliers: Keyed<Force>,
+    pub selectors: Keyed<ReverseDependency>,
+    pub impliers: Keyed<ReverseDependency>,
     pub direct: Keyed<ExprId>,
 }
 
@@ -32,15 +32,15 @@ pub(crate) struct GroupedAttributes {
     pub prompts: Grouped<ExprId>,
     pub defaults: Grouped<Default>,
     pub ranges: Grouped<Range>,
-    pub selectors: Grouped<Force>,
-    pub impliers: Grouped<Force>,
+    pub selectors: Grouped<ReverseDependency>,
+    pub impliers: Grouped<ReverseDependency>,
     pub direct: Grouped<ExprId>,
 }
 
 impl Attributes {
     ghost use Rattle.kc_tree.specs.checker.GatheredAttributes.{HaveKeys, AreGrouped};
 
-    /// Puts together the attributes of each of so many symbols. An `Err` is want of memory.
+    /// Puts together the attributes of each of so many symbols. An `Err` means out of memory.
     fn grouped(&self, alloc: Global, count: usize) -> Result<GroupedAttributes, AllocError>
         requires keys { HaveKeys count self.now }
         requires few { count < 2 ^ 32 }
@@ -72,14 +72,14 @@ pub(crate) struct Tables {
     pub symbol_of_name: Vec<Option<Sym>>,
 }
 
-/// All that is made of what was gathered.
+/// The finished tables.
 #[derive(Drop)]
-pub(crate) struct Made {
+pub(crate) struct FinishedTables {
     pub tables: Tables,
     pub lists: Lists,
 }
 
-/// What was gathered of all groups.
+/// The lists gathered from all groups.
 #[derive(Drop)]
 pub(crate) struct Gathered {
     pub arena: Arena,
@@ -94,24 +94,25 @@ pub(crate) struct Gathered {
 }
 
 impl Gathered {
-    ghost use Rattle.kc_tree.specs.Held.{Held};
-    ghost use Rattle.kc_tree.specs.checker.GatheredView.{whole_gathered};
+    ghost use Rattle.kc_tree.specs.TreeModel.{TreeModel};
+    ghost use Rattle.kc_tree.specs.checker.GatheredView.{gathered_tree};
     ghost use Rattle.kc_tree.specs.checker.GatheredFits.{GatheredFit};
     ghost use Rattle.kc_tree.specs.checker.GatheredLists.{AreLists, AreTables, parts_made};
     ghost use Rattle.kc_tree.specs.checker.Units.{HasUnits};
 
-    /// The unit of each symbol and of each choice. An `Err` is want of memory.
+    /// The unit of each symbol and of each choice. An `Err` means out of memory.
     fn unit_numbers(&self, alloc: Global) -> Result<UnitNumbers, AllocError>
         requires few { length self.now.units.items < 2 ^ 32 }
-        requires consistent { IsConsistent (whole_gathered self.now) }
-        ensures { IfOk result (λ n. HasUnits (whole_gathered self.now) n.symbols.items n.choices.items) }
+        requires consistent { IsConsistent (gathered_tree self.now) }
+        ensures { IfOk result (λ n. HasUnits (gathered_tree self.now) n.symbols.items n.choices.items) }
     {
         let mut numbers = number_units(alloc, self.symbols.len(), self.choices.len(), &self.units)?;
         number_members(&self.symbols, &mut numbers);
         Ok(numbers)
     }
 
-    /// The attributes of each symbol together, and the members and defaults of each choice. An `Err` is want of memory.
+    /// The attributes of each symbol together, and the members and defaults of each choice. An `Err` means out of
+    /// memory.
     fn lists(&self, alloc: Global) -> Result<Lists, AllocError>
         requires fits { GatheredFit self.now }
         ensures { IfOk result (AreLists self.now) }
@@ -124,11 +125,11 @@ impl Gathered {
         })
     }
 
-    /// The unit of each symbol and of each choice, and the symbol of each name. An `Err` is want of memory.
+    /// The unit of each symbol and of each choice, and the symbol of each name. An `Err` means out of memory.
     fn tables(&self, alloc: Global) -> Result<Tables, AllocError>
         requires fits { GatheredFit self.now }
         requires distinct { AreDistinct self.now.arena.names }
-        requires consistent { IsConsistent (whole_gathered self.now) }
+        requires consistent { IsConsistent (gathered_tree self.now) }
         ensures { IfOk result (AreTables self.now) }
     {
         let names = self.arena.name_count();
@@ -138,25 +139,25 @@ impl Gathered {
         })
     }
 
-    /// All that is made of what was gathered. An `Err` is want of memory.
-    fn made(&self, alloc: Global) -> Result<Made, AllocError>
+    /// All that is made of what was gathered. An `Err` means out of memory.
+    fn made(&self, alloc: Global) -> Result<FinishedTables, AllocError>
         requires fits { GatheredFit self.now }
         requires distinct { AreDistinct self.now.arena.names }
-        requires consistent { IsConsistent (whole_gathered self.now) }
+        requires consistent { IsConsistent (gathered_tree self.now) }
         ensures tables { IfOk result (λ m. AreTables self.now m.tables) }
         ensures lists { IfOk result (λ m. AreLists self.now m.lists) }
     {
-        Ok(Made {
+        Ok(FinishedTables {
             tables: self.tables(alloc)?,
             lists: self.lists(alloc)?,
         })
     }
 
     /// The lists of the tree of what was gathered.
-    fn into_parts(self, made: Made) -> Parts
+    fn into_parts(self, made: FinishedTables) -> Parts
         ensures { result ≡ parts_made self made.lists made.tables }
     {
-        let Made { tables, lists } = made;
+        let FinishedTables { tables, lists } = made;
         Parts {
             arena: self.arena,
             symbols: self.symbols,
@@ -178,12 +179,12 @@ impl Gathered {
         }
     }
 
-    /// The tree of what was gathered. An `Err` is want of memory.
+    /// The tree of what was gathered. An `Err` means out of memory.
     pub(crate) fn into_tree(self, alloc: Global) -> Result<Tree, AllocError>
         requires fits { GatheredFit self }
         requires distinct { AreDistinct self.arena.names }
-        requires consistent { IsConsistent (whole_gathered self) }
-        ensures { IfOk result (λ t. t ≡ record { exprs = self.arena; whole = whole_gathered self }) }
+        requires consistent { IsConsistent (gathered_tree self) }
+        ensures { IfOk result (λ t. t ≡ record { exprs = self.arena; whole = gathered_tree self }) }
     {
         let made = self.made(alloc)?;
         Ok(Tree::of(self.into_parts(made)))

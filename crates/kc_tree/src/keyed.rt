@@ -25,7 +25,7 @@ impl<T: Copy> Keyed<T> {
         }
     }
 
-    /// Puts an item behind the others.
+    /// Appends an item.
     pub(crate) fn push(&mut self, key: u32, item: T) -> Result<(), AllocError>
         ensures keys { OnOk result (self.new.keys.items ≡ self.old.keys.items ++ key ∷ []) }
         ensures items { OnOk result (self.new.items.items ≡ self.old.items.items ++ item ∷ []) }
@@ -40,7 +40,7 @@ impl<T: Copy> Keyed<T> {
         Ok(())
     }
 
-    /// Puts together the items of each of so many keys. An `Err` is want of memory.
+    /// Puts together the items of each of so many keys. An `Err` means out of memory.
     pub(crate) fn grouped(&self, alloc: Global, count: usize) -> Result<Grouped<T>, AllocError>
         requires keys { (i : ℕ) → i < length self.now.keys.items → slice_index self.now.keys.items i < count }
         requires few { count < 2 ^ 32 }

@@ -1,28 +1,30 @@
 //! What the files of a Kconfig tree hold: symbols, choices, entries and units, with all conditions joined.
 #![tactic(auto)]
 
-mod after;
-mod around;
 mod attribute;
+mod attribute_checks;
 mod builder;
 mod choice_defaults;
 mod choice_rows;
 mod conditions;
+mod definition_attributes;
 mod definitions;
+mod enclosing_choices;
 mod entries;
 mod entry;
-mod forces;
-mod gather;
+mod fault_kinds;
 mod gathered;
+mod group_conditions;
+mod group_lines;
+mod group_walk;
 mod grouped;
 mod keyed;
-mod kind_of_fault;
 mod kinds;
-mod lacking;
+mod listing_walk;
 mod marks;
+mod missing_files;
+mod name_checks;
 mod names;
-mod own_conditions;
-mod own_lines;
 mod parts;
 mod paths;
 mod read;
@@ -32,13 +34,11 @@ mod summary;
 mod symbol;
 mod tree;
 mod unit_list;
-mod units;
-mod walk;
-mod walks;
+mod unit_numbers;
 
 pub use entry::Entry;
 pub use kc_tree_model::{Sym, Texts, TreeFault, TreeKind, Unit};
-pub use lacking::wanted;
+pub use missing_files::wanted;
 pub use read::read_tree;
-pub use symbol::{Choice, Default, Force, MemberDefault, Range, Symbol};
+pub use symbol::{Choice, Default, MemberDefault, Range, ReverseDependency, Symbol};
 pub use tree::Tree;

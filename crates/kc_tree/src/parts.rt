@@ -1,12 +1,12 @@
 //! How a tree is kept: flat lists, in which what belongs to one symbol or choice stands together.
 ghost use Rattle.std.specs.Prelude.{◌≡◌, ◌<◌, ℕ, [], length, Some, slice_get, slice_index_or, option_map};
-ghost use Rattle.kc_tree_model.specs.TreeLookup.{unit_of, place_of_unit};
+ghost use Rattle.kc_tree_model.specs.TreeLookup.{unit_of, index_of_unit};
 ghost use Rattle.kc_tree_model.specs.Trees.{of_choice};
 ghost use Rattle.kc_tree_model.specs.declared.ids.Unit.TheVariants.{Symbol as SymbolUnit, Choice as ChoiceUnit};
 
 use super::entry::Entry;
 use super::grouped::Grouped;
-use super::symbol::{Choice, Default, Force, MemberDefault, Range, Symbol};
+use super::symbol::{Choice, Default, MemberDefault, Range, ReverseDependency, Symbol};
 use kc_expr::{Arena, ExprId, NameId};
 use kc_tree_model::{Sym, Unit};
 use kc_value::{Kind, Text};
@@ -59,8 +59,8 @@ pub(crate) struct Parts {
     pub prompts: Grouped<ExprId>,
     pub defaults: Grouped<Default>,
     pub ranges: Grouped<Range>,
-    pub selectors: Grouped<Force>,
-    pub impliers: Grouped<Force>,
+    pub selectors: Grouped<ReverseDependency>,
+    pub impliers: Grouped<ReverseDependency>,
     pub direct: Grouped<ExprId>,
     pub choices: Vec<ChoiceRow>,
     pub members: Grouped<Sym>,
@@ -74,17 +74,17 @@ pub(crate) struct Parts {
 }
 
 impl Parts {
-    ghost use Rattle.kc_tree.specs.Told.{symbol_of, choice_of, entry_of, unit_told, SymbolFits, ChoiceFits, EntryFits};
-    ghost use Rattle.kc_tree.specs.checker.PartsView.{whole_from};
-    ghost use Rattle.kc_tree.specs.checker.Kept.{IsKept};
+    ghost use Rattle.kc_tree.specs.Views.{symbol_view, choice_view, entry_view, unit_view, SymbolFits, ChoiceFits, EntryFits};
+    ghost use Rattle.kc_tree.specs.checker.PartsView.{tree_from_rows};
+    ghost use Rattle.kc_tree.specs.checker.StoredParts.{AreSoundParts};
 
     /// A symbol by its number.
     pub(crate) fn symbol(&self, s: usize) -> Symbol<'_>
-        requires kept { IsKept self.now }
+        requires kept { AreSoundParts self.now }
         requires there { s < length self.now.symbols.items }
-        ensures symbol { slice_get (whole_from self.now).symbols s ≡ Some (symbol_of self.now.arena result) }
+        ensures symbol { slice_get (tree_from_rows self.now).symbols s ≡ Some (symbol_view self.now.arena result) }
         ensures fits { SymbolFits self.now.arena (length self.now.symbols.items) result }
-        ensures unit { result.unit ≡ unit_of (whole_from self.now) s }
+        ensures unit { result.unit ≡ unit_of (tree_from_rows self.now) s }
         ensures within { result.unit < length self.now.units.items }
     {
         let row = self.symbols[s];
@@ -106,11 +106,11 @@ impl Parts {
 
     /// A choice by its number.
     pub(crate) fn choice(&self, c: usize) -> Choice<'_>
-        requires kept { IsKept self.now }
+        requires kept { AreSoundParts self.now }
         requires there { c < length self.now.choices.items }
-        ensures choice { slice_get (whole_from self.now).choices c ≡ Some (choice_of self.now.arena result) }
+        ensures choice { slice_get (tree_from_rows self.now).choices c ≡ Some (choice_view self.now.arena result) }
         ensures fits { ChoiceFits self.now.arena (length self.now.symbols.items) result }
-        ensures unit { result.unit ≡ place_of_unit (whole_from self.now) (of_choice c) }
+        ensures unit { result.unit ≡ index_of_unit (tree_from_rows self.now) (of_choice c) }
         ensures within { result.unit < length self.now.units.items }
     {
         let row = self.choices[c];
@@ -126,9 +126,9 @@ impl Parts {
 
     /// A unit by its number.
     pub(crate) fn unit(&self, u: usize) -> Unit
-        requires kept { IsKept self.now }
+        requires kept { AreSoundParts self.now }
         requires there { u < length self.now.units.items }
-        ensures unit { slice_get (whole_from self.now).units u ≡ Some (unit_told result) }
+        ensures unit { slice_get (tree_from_rows self.now).units u ≡ Some (unit_view result) }
         ensures symbol { (s : ℕ) → result ≡ SymbolUnit s → s < length self.now.symbols.items }
         ensures choice { (c : ℕ) → result ≡ ChoiceUnit c → c < length self.now.choices.items }
     {
@@ -137,9 +137,9 @@ impl Parts {
 
     /// The unit of a symbol.
     pub(crate) fn unit_of(&self, s: usize) -> u32
-        requires kept { IsKept self.now }
+        requires kept { AreSoundParts self.now }
         requires there { s < length self.now.symbols.items }
-        ensures unit { result ≡ unit_of (whole_from self.now) s }
+        ensures unit { result ≡ unit_of (tree_from_rows self.now) s }
         ensures within { result < length self.now.units.items }
     {
         self.unit_of_symbol[s]
@@ -147,9 +147,9 @@ impl Parts {
 
     /// The name of a symbol.
     pub(crate) fn name(&self, s: usize) -> &str
-        requires kept { IsKept self.now }
+        requires kept { AreSoundParts self.now }
         requires there { s < length self.now.symbols.items }
-        ensures { option_map (λ t. t.name) (slice_get (whole_from self.now).symbols s) ≡ Some result.now }
+        ensures { option_map (λ t. t.name) (slice_get (tree_from_rows self.now).symbols s) ≡ Some result.now }
     {
         self.arena.name(self.symbols[s].name)
     }
@@ -164,9 +164,9 @@ impl Parts {
 
     /// An entry by its place.
     pub(crate) fn entry(&self, i: usize) -> Entry<'_>
-        requires kept { IsKept self.now }
+        requires kept { AreSoundParts self.now }
         requires there { i < length self.now.entries.items }
-        ensures entry { slice_get (whole_from self.now).entries i ≡ Some (entry_of self.now.arena result) }
+        ensures entry { slice_get (tree_from_rows self.now).entries i ≡ Some (entry_view self.now.arena result) }
         ensures fits { EntryFits (length self.now.arena.nodes) (length self.now.symbols.items) (length self.now.choices.items) result }
     {
         match &self.entries[i] {

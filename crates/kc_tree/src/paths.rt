@@ -13,7 +13,7 @@ pub(crate) struct Paths {
 }
 
 impl Paths {
-    ghost use Rattle.kc_tree.specs.checker.Wanting.{paths_in, with_path};
+    ghost use Rattle.kc_tree.specs.checker.MissingPaths.{paths_in, with_path};
 
     /// No paths. They are hashed by this seed.
     pub(crate) fn new(alloc: Global, seed: Seed) -> Paths
@@ -32,7 +32,7 @@ impl Paths {
         self.paths.is_empty()
     }
 
-    /// Puts a path behind the others, unless it is there. An `Err` is want of memory.
+    /// Appends a path, unless it is there. An `Err` means out of memory.
     pub(crate) fn put(&mut self, path: &str) -> Result<(), AllocError>
         ensures { OnOk result (paths_in self.new ≡ with_path path.now (paths_in self.old)) }
     {
@@ -40,7 +40,7 @@ impl Paths {
         Ok(())
     }
 
-    /// All paths in order. An `Err` is want of memory.
+    /// All paths in order. An `Err` means out of memory.
     pub(crate) fn to_list(&self) -> Result<Vec<String>, AllocError>
         ensures { IfOk result (λ list. map string_bytes list.items ≡ paths_in self.now) }
     {

@@ -1,11 +1,11 @@
 //! The tree of files.
 ghost use Rattle.std.specs.Prelude.{◌≡◌, ◌⊎◌, Some, None, IfOk, IfErr};
 ghost use Rattle.kc_tree_model.specs.Contents.{tree_of_files};
-ghost use Rattle.kc_tree_model.specs.TreeFaults.{fault_told};
-ghost use Rattle.kc_listing.specs.Told.{no_memory};
+ghost use Rattle.kc_tree_model.specs.TreeFaults.{first_tree_fault};
+ghost use Rattle.kc_listing.specs.MemoryFaults.{no_memory};
 
 use super::builder::tree_of;
-use super::lacking::out_of_memory;
+use super::missing_files::out_of_memory;
 use super::search::first_fault;
 use super::tree::Tree;
 use kc_listing::read_files;
@@ -15,7 +15,7 @@ use std::alloc::Global;
 /// The tree of files, from the one at the path `root` on.
 ///
 /// `root` and the paths of `source` lines are looked up among `texts` byte for byte. The files are read in the order of
-/// the lines ("Menu entries" and "Menu structure" of kconfig-language.rst); each `source` stands for the lines of its
+/// the lines ("Menu entries" and "Menu structure" of kconfig-language.rst); each `source` represents the lines of its
 /// file.
 ///
 /// # Errors
@@ -24,9 +24,9 @@ use std::alloc::Global;
 /// end, and where there is none the first of the faults that are looked for in all that was read, as a symbol without a
 /// type. Where memory runs out, `OutOfMemory` with no file.
 pub fn read_tree(alloc: Global, texts: &Texts, root: &str) -> Result<Tree, TreeFault>
-    ensures accepted { IfOk result (λ tree. fault_told texts.now root.now ≡ None) }
+    ensures accepted { IfOk result (λ tree. first_tree_fault texts.now root.now ≡ None) }
     ensures tree { IfOk result (λ tree. tree.whole ≡ tree_of_files texts.now root.now) }
-    ensures fault { IfErr result (λ fault. (fault ≡ no_memory) ⊎ (fault_told texts.now root.now ≡ Some fault)) }
+    ensures fault { IfErr result (λ fault. (fault ≡ no_memory) ⊎ (first_tree_fault texts.now root.now ≡ Some fault)) }
 {
     let (listing, fault) = read_files(alloc, texts, root);
     match fault {

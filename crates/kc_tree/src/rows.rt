@@ -3,12 +3,12 @@ ghost use Rattle.std.specs.Prelude.{◌≡◌, List, IfOk};
 ghost use Rattle.kc_tree_model.specs.Blocks.{Group as Read};
 ghost use Rattle.kc_tree_model.specs.Contents.{contents_of};
 ghost use Rattle.kc_tree_model.specs.Limits.{names_defined};
-ghost use Rattle.kc_listing.specs.Shown.{Shows};
-ghost use Rattle.kc_tree.specs.checker.Rows.{place_kept, row_kept, AreRowsOf};
-ghost use Rattle.kc_tree.specs.checker.Summaries.{AreAbouts, IsShown};
+ghost use Rattle.kc_listing.specs.ListingView.{RepresentsListing};
+ghost use Rattle.kc_tree.specs.checker.Rows.{place_of_group_number, row_of_symbol, AreRowsOf};
+ghost use Rattle.kc_tree.specs.checker.Summaries.{AreSymbolSummaries, IsRepresented};
 
 use super::parts::SymbolRow;
-use super::summary::About;
+use super::summary::SymbolSummary;
 use kc_expr::NameId;
 use kc_listing::{Group, Listing};
 use kc_value::Kind;
@@ -16,7 +16,7 @@ use std::alloc::{AllocError, Global};
 
 /// The file and the line of the group of that number.
 fn place_of(groups: &[Group], number: Option<u32>) -> (u32, u32)
-    ensures { result ≡ place_kept groups.now number }
+    ensures { result ≡ place_of_group_number groups.now number }
 {
     let Some(number) = number else {
         return (0, 0);
@@ -28,8 +28,8 @@ fn place_of(groups: &[Group], number: Option<u32>) -> (u32, u32)
 }
 
 /// The row of a symbol of that name.
-fn row_of(groups: &[Group], name: NameId, about: &About) -> SymbolRow
-    ensures { result ≡ row_kept groups.now name about.now }
+fn row_of(groups: &[Group], name: NameId, about: &SymbolSummary) -> SymbolRow
+    ensures { result ≡ row_of_symbol groups.now name about.now }
 {
     let (file, line) = place_of(groups, about.first);
     SymbolRow {
@@ -41,15 +41,15 @@ fn row_of(groups: &[Group], name: NameId, about: &About) -> SymbolRow
     }
 }
 
-/// The rows of all symbols. An `Err` is want of memory.
+/// The rows of all symbols. An `Err` means out of memory.
 pub(crate) fn symbol_rows(
     alloc: Global,
     listing: &Listing,
-    symbols: &[About],
+    symbols: &[SymbolSummary],
 ) -> Result<Vec<SymbolRow>, AllocError>
-    requires shown { IsShown listing.now }
-    requires symbols { AreAbouts listing.now symbols.now }
-    ensures { (read : List Read) → Shows listing.now read → IfOk result (λ rows. AreRowsOf listing.now.names.arena (contents_of read) (names_defined read) rows.items) }
+    requires shown { IsRepresented listing.now }
+    requires symbols { AreSymbolSummaries listing.now symbols.now }
+    ensures { (read : List Read) → RepresentsListing listing.now read → IfOk result (λ rows. AreRowsOf listing.now.names.arena (contents_of read) (names_defined read) rows.items) }
 {
     let names = listing.names.symbols.as_slice();
     let groups = listing.groups.as_slice();

@@ -1,33 +1,33 @@
-//! The first of the faults that are looked for where reading met none.
+//! The first fault of the checks that are made if reading met none.
 ghost use Rattle.std.specs.Prelude.{◌≡◌, ◌<◌, ◌+◌, ℕ, List, IfOk, Some, bytes_eq, length, slice_get, if◌then◌else◌};
 ghost use Rattle.kc_expr.specs.Expr.{modules as modules_name};
 ghost use Rattle.kc_tree_model.specs.Blocks.{Group as Read};
-ghost use Rattle.kc_tree_model.specs.Conditions.{Placed, placed};
+ghost use Rattle.kc_tree_model.specs.Conditions.{GroupInContext, groups_in_context};
 ghost use Rattle.kc_tree_model.specs.Contents.{contents_of, member_names};
 ghost use Rattle.kc_tree_model.specs.Limits.{names_defined};
 ghost use Rattle.kc_tree_model.specs.TreeFaults.{faults_of_group, tree_faults};
-ghost use Rattle.kc_listing.specs.Shown.{Shows};
-ghost use Rattle.kc_listing.specs.declared.listing.What.TheVariants as codes;
+ghost use Rattle.kc_listing.specs.ListingView.{RepresentsListing};
+ghost use Rattle.kc_listing.specs.declared.listing.GroupHead.TheVariants as codes;
 ghost use Rattle.kc_tree.specs.checker.Marks.{AreMarked};
-ghost use Rattle.kc_tree.specs.checker.Searching.{AreSmall, CountsChoices, HasMembers};
-ghost use Rattle.kc_tree.specs.checker.Summaries.{first_is, group_at, is_choice_code, IsShown, IsSummed};
+ghost use Rattle.kc_tree.specs.checker.FaultSearch.{AreSmall, CountsChoices, HasMembers};
+ghost use Rattle.kc_tree.specs.checker.Summaries.{first_is, group_at, is_choice_code, IsRepresented, IsSummed};
 
-use super::after::{fault_at, of_choice_lines, of_symbol_lines};
-use super::around::begins_choice;
+use super::attribute_checks::{fault_at, first_choice_fault, first_symbol_fault};
+use super::enclosing_choices::begins_choice;
+use super::fault_kinds::definition_fault;
+use super::group_lines::lines_of;
 use super::grouped::Grouped;
-use super::kind_of_fault::of_definition;
 use super::marks::mark_members;
-use super::own_lines::lines_of;
 use super::summary::Summary;
-use kc_listing::{Listing, What};
+use kc_listing::{GroupHead, Listing};
 use kc_tree_model::{Sym, TreeFault};
 use std::alloc::{AllocError, Global};
 
 /// Whether a symbol is that of modules.
 fn is_modules(listing: &Listing, s: u32) -> bool
-    requires shown { IsShown listing.now }
+    requires shown { IsRepresented listing.now }
     requires here { s < length listing.now.names.symbols.items }
-    ensures { (read : List Read) (name : List ℕ) → Shows listing.now read → slice_get (names_defined read) s ≡ Some name → result ≡ bytes_eq name modules_name }
+    ensures { (read : List Read) (name : List ℕ) → RepresentsListing listing.now read → slice_get (names_defined read) s ≡ Some name → result ≡ bytes_eq name modules_name }
 {
     let id = listing.names.symbols[s as usize];
     listing.names.arena.name(id) == "MODULES"
@@ -44,23 +44,23 @@ fn is_first(first: Option<u32>, i: usize) -> bool
 }
 
 /// The first fault of a definition and its attributes.
-fn of_config(listing: &Listing, summary: &Summary, s: u32, i: usize) -> Option<TreeFault>
-    requires shown { IsShown listing.now }
+fn config_fault(listing: &Listing, summary: &Summary, s: u32, i: usize) -> Option<TreeFault>
+    requires shown { IsRepresented listing.now }
     requires summary { IsSummed listing.now summary.now }
     requires here { i < length listing.now.groups.items }
     requires what { (group_at listing.now.groups.items i).what ≡ codes.Config s }
-    ensures { (read : List Read) (p : Placed) → Shows listing.now read → slice_get (placed read) i ≡ Some p → result ≡ slice_get (faults_of_group (contents_of read) p) 0 }
+    ensures { (read : List Read) (p : GroupInContext) → RepresentsListing listing.now read → slice_get (groups_in_context read) i ≡ Some p → result ≡ slice_get (faults_of_group (contents_of read) p) 0 }
 {
     let about = summary.symbols[s as usize];
-    let is_member = summary.around[i].is_some();
+    let is_member = summary.enclosing[i].is_some();
     let is_modules = is_modules(listing, s);
     let file = listing.groups[i].file;
-    let fault = of_definition(&about, is_member, is_first(about.first, i), is_modules);
+    let fault = definition_fault(&about, is_member, is_first(about.first, i), is_modules);
     if let Some(kind) = fault {
         return Some(fault_at(file, listing.groups[i].line, kind));
     }
     let lines = lines_of(listing, i);
-    of_symbol_lines(
+    first_symbol_fault(
         listing,
         &summary.symbols,
         about.kind(),
@@ -71,20 +71,20 @@ fn of_config(listing: &Listing, summary: &Summary, s: u32, i: usize) -> Option<T
 }
 
 /// The first fault of a choice, whose members have this mark.
-fn of_choice(listing: &Listing, marks: &[u32], mark: u32, i: usize) -> Option<TreeFault>
-    requires shown { IsShown listing.now }
+fn choice_fault(listing: &Listing, marks: &[u32], mark: u32, i: usize) -> Option<TreeFault>
+    requires shown { IsRepresented listing.now }
     requires many { length marks.now ≡ length listing.now.names.symbols.items }
     requires here { i < length listing.now.groups.items }
     requires what { (group_at listing.now.groups.items i).what ≡ codes.Choice }
-    ensures { (read : List Read) (p : Placed) → Shows listing.now read → slice_get (placed read) i ≡ Some p
+    ensures { (read : List Read) (p : GroupInContext) → RepresentsListing listing.now read → slice_get (groups_in_context read) i ≡ Some p
         → AreMarked (names_defined read) (member_names (contents_of read) p.group.number) marks.now mark → result ≡ slice_get (faults_of_group (contents_of read) p) 0 }
 {
     let file = listing.groups[i].file;
-    of_choice_lines(listing, marks, mark, file, lines_of(listing, i))
+    first_choice_fault(listing, marks, mark, file, lines_of(listing, i))
 }
 
-/// The first fault of a group, before which so many choices stand. Marks the members of a choice that it opens.
-fn of_group(
+/// The first fault of a group; `choices` counts the choices before it. Marks the members of a choice that it opens.
+fn group_fault(
     listing: &Listing,
     summary: &Summary,
     members: &Grouped<Sym>,
@@ -92,7 +92,7 @@ fn of_group(
     choices: u32,
     i: usize,
 ) -> Option<TreeFault>
-    requires shown { IsShown listing.now }
+    requires shown { IsRepresented listing.now }
     requires summary { IsSummed listing.now summary.now }
     requires here { i < length listing.now.groups.items }
     requires members { HasMembers summary.now members.now.starts.items members.now.items.items }
@@ -100,31 +100,31 @@ fn of_group(
     requires small { AreSmall marks.old.items choices }
     requires counted { CountsChoices listing.now i choices }
     requires few { choices < 4294967295 }
-    ensures fault { (read : List Read) (p : Placed) → Shows listing.now read → slice_get (placed read) i ≡ Some p → result ≡ slice_get (faults_of_group (contents_of read) p) 0 }
+    ensures fault { (read : List Read) (p : GroupInContext) → RepresentsListing listing.now read → slice_get (groups_in_context read) i ≡ Some p → result ≡ slice_get (faults_of_group (contents_of read) p) 0 }
     ensures many { length marks.new.items ≡ length listing.now.names.symbols.items }
     ensures marks { AreSmall marks.new.items (if is_choice_code (group_at listing.now.groups.items i).what then choices + 1 else choices) }
 {
     match listing.groups[i].what {
-        What::Config(s) => of_config(listing, summary, s, i),
-        What::Choice => {
+        GroupHead::Config(s) => config_fault(listing, summary, s, i),
+        GroupHead::Choice => {
             mark_members(marks, members.get(choices as usize), choices + 1);
-            of_choice(listing, marks, choices + 1, i)
+            choice_fault(listing, marks, choices + 1, i)
         }
         _ => None,
     }
 }
 
-/// The first of the faults of what was read, in reading order. An `Err` is want of memory.
+/// The first of the faults of what was read, in reading order. An `Err` means out of memory.
 pub(crate) fn first_fault(alloc: Global, listing: &Listing) -> Result<Option<TreeFault>, AllocError>
-    requires { IsShown listing.now }
-    ensures { (read : List Read) → Shows listing.now read → IfOk result (λ f. f ≡ slice_get (tree_faults read) 0) }
+    requires { IsRepresented listing.now }
+    ensures { (read : List Read) → RepresentsListing listing.now read → IfOk result (λ f. f ≡ slice_get (tree_faults read) 0) }
 {
     let summary = Summary::new(alloc, listing)?;
     let members = summary.members.grouped(alloc, summary.choices)?;
     let mut marks = vec![in alloc; 0; listing.names.symbols.len()]?;
     let mut choices = 0;
     for i in 0..listing.groups.len() {
-        let fault = of_group(listing, &summary, &members, &mut marks, choices, i);
+        let fault = group_fault(listing, &summary, &members, &mut marks, choices, i);
         if fault.is_some() {
             return Ok(fault);
         }

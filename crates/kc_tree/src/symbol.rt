@@ -1,4 +1,4 @@
-//! Symbols and choices as a tree tells them.
+//! Symbols and choices as a tree returns them.
 use kc_expr::{ExprId, NameId};
 use kc_tree_model::Sym;
 use kc_value::Kind;
@@ -20,13 +20,13 @@ pub struct Range {
 
 /// A symbol that selects or implies another, and the condition.
 #[derive(Clone, Copy)]
-pub struct Force {
+pub struct ReverseDependency {
     pub by: Sym,
     pub condition: ExprId,
 }
 
 /// A symbol: its first place, its choice and its unit, and the attributes of all its definitions in reading order, each
-/// condition joined with what stands round it; `direct` has the dependency of each definition.
+/// condition joined with the enclosing ones; `direct` has the dependency of each definition.
 #[derive(Clone, Copy)]
 pub struct Symbol<'a> {
     pub name: NameId,
@@ -38,8 +38,8 @@ pub struct Symbol<'a> {
     pub prompts: &'a [ExprId],
     pub defaults: &'a [Default],
     pub ranges: &'a [Range],
-    pub selectors: &'a [Force],
-    pub impliers: &'a [Force],
+    pub selectors: &'a [ReverseDependency],
+    pub impliers: &'a [ReverseDependency],
     pub direct: &'a [ExprId],
 }
 

@@ -1,10 +1,10 @@
 //! The tree of files.
 ghost use Rattle.std.specs.Prelude.{◌≡◌, ◌<◌, ◌↔◌, IsTrue, ℕ, List, length, Some, None, IfSome, slice_get, option_map};
-ghost use Rattle.kc_expr.specs.Lookup.{place_of};
-ghost use Rattle.kc_tree_model.specs.TreeLookup.{IsConsistent, unit_of, place_of_unit, symbol_named};
+ghost use Rattle.kc_expr.specs.Lookup.{index_of_name};
+ghost use Rattle.kc_tree_model.specs.TreeLookup.{IsConsistent, unit_of, index_of_unit, symbol_named};
 ghost use Rattle.kc_tree_model.specs.Trees.{of_choice};
 ghost use Rattle.kc_tree_model.specs.declared.ids.Unit.TheVariants.{Symbol as SymbolUnit, Choice as ChoiceUnit};
-ghost use Rattle.kc_tree.specs.Told.{symbol_of, choice_of, entry_of, unit_told, name_told, SymbolFits, ChoiceFits, EntryFits};
+ghost use Rattle.kc_tree.specs.Views.{symbol_view, choice_view, entry_view, unit_view, symbol_of_name_id, SymbolFits, ChoiceFits, EntryFits};
 
 use super::entry::Entry;
 use super::parts::Parts;
@@ -15,36 +15,36 @@ use std::marker::Model;
 
 /// What the files of a tree hold. Contracts see the names and expressions of its arena, and the tree of the definition.
 ///
-/// Everything is told in constant time.
+/// Every query takes constant time.
 #[derive(Drop)]
 pub struct Tree {
     parts: Parts,
 }
 
 impl Model for Tree {
-    ghost use Rattle.kc_tree.specs.Held.{Held};
+    ghost use Rattle.kc_tree.specs.TreeModel.{TreeModel};
     ghost use Rattle.kc_expr.specs.checker.ExprCode.{expr_code};
     ghost use Rattle.std.specs.Coded.{codes};
 
-    ghost Value = { Held };
+    ghost Value = { TreeModel };
 
     ghost coded = { Prim.hlevel (codes, expr_code) };
 
-    ghost use Rattle.kc_tree.specs.checker.TreeView.{held_in, IsKeptInside};
+    ghost use Rattle.kc_tree.specs.checker.TreeView.{parts_model, IsSoundInside};
 
-    ghost view = { held_in };
+    ghost view = { parts_model };
 
-    ghost invariant = { IsKeptInside };
+    ghost invariant = { IsSoundInside };
 }
 
 impl Tree {
-    ghost use Rattle.kc_tree.specs.checker.PartsView.{whole_from};
-    ghost use Rattle.kc_tree.specs.checker.Kept.{IsKept};
+    ghost use Rattle.kc_tree.specs.checker.PartsView.{tree_from_rows};
+    ghost use Rattle.kc_tree.specs.checker.StoredParts.{AreSoundParts};
 
     /// The tree of its lists.
     pub(crate) fn of(parts: Parts) -> Tree
-        requires { IsKept parts }
-        ensures { result ≡ record { exprs = parts.arena; whole = whole_from parts } }
+        requires { AreSoundParts parts }
+        ensures { result ≡ record { exprs = parts.arena; whole = tree_from_rows parts } }
     {
         Tree { parts }
     }
@@ -52,7 +52,7 @@ impl Tree {
     /// The arena of all names and expressions of the tree. A name that it doesn't hold is no symbol's.
     pub fn arena(&self) -> &Arena
         ensures arena { result.now ≡ self.now.exprs }
-        ensures held { (x : List ℕ) → place_of x self.now.exprs.names ≡ None → symbol_named self.now.whole x ≡ None }
+        ensures held { (x : List ℕ) → index_of_name x self.now.exprs.names ≡ None → symbol_named self.now.whole x ≡ None }
         ensures consistent { IsConsistent self.now.whole }
     {
         &self.parts.arena
@@ -96,7 +96,7 @@ impl Tree {
     /// A unit, in the order of their numbers.
     pub fn unit(&self, u: u32) -> Unit
         requires { u < length self.now.whole.units }
-        ensures unit { slice_get self.now.whole.units u ≡ Some (unit_told result) }
+        ensures unit { slice_get self.now.whole.units u ≡ Some (unit_view result) }
         ensures symbol { (s : ℕ) → result ≡ SymbolUnit s → s < length self.now.whole.symbols }
         ensures choice { (c : ℕ) → result ≡ ChoiceUnit c → c < length self.now.whole.choices }
     {
@@ -106,7 +106,7 @@ impl Tree {
     /// A symbol, in order of first definition.
     pub fn symbol(&self, s: Sym) -> Symbol<'_>
         requires { s < length self.now.whole.symbols }
-        ensures symbol { slice_get self.now.whole.symbols s ≡ Some (symbol_of self.now.exprs result) }
+        ensures symbol { slice_get self.now.whole.symbols s ≡ Some (symbol_view self.now.exprs result) }
         ensures fits { SymbolFits self.now.exprs (length self.now.whole.symbols) result }
         ensures unit { result.unit ≡ unit_of self.now.whole s }
         ensures within { result.unit < length self.now.whole.units }
@@ -117,9 +117,9 @@ impl Tree {
     /// A choice, in order of their first lines.
     pub fn choice(&self, c: u32) -> Choice<'_>
         requires { c < length self.now.whole.choices }
-        ensures choice { slice_get self.now.whole.choices c ≡ Some (choice_of self.now.exprs result) }
+        ensures choice { slice_get self.now.whole.choices c ≡ Some (choice_view self.now.exprs result) }
         ensures fits { ChoiceFits self.now.exprs (length self.now.whole.symbols) result }
-        ensures unit { result.unit ≡ place_of_unit self.now.whole (of_choice c) }
+        ensures unit { result.unit ≡ index_of_unit self.now.whole (of_choice c) }
         ensures within { result.unit < length self.now.whole.units }
     {
         self.parts.choice(c as usize)
@@ -128,7 +128,7 @@ impl Tree {
     /// An entry, in reading order.
     pub fn entry(&self, i: usize) -> Entry<'_>
         requires { i < length self.now.whole.entries }
-        ensures entry { slice_get self.now.whole.entries i ≡ Some (entry_of self.now.exprs result) }
+        ensures entry { slice_get self.now.whole.entries i ≡ Some (entry_view self.now.exprs result) }
         ensures fits { EntryFits (length self.now.exprs.nodes) (length self.now.whole.symbols) (length self.now.whole.choices) result }
     {
         self.parts.entry(i)
@@ -136,7 +136,7 @@ impl Tree {
 
     /// The symbol of a name of the arena, if an entry defines it.
     pub fn symbol_at(&self, name: NameId) -> Option<Sym>
-        ensures symbol { result ≡ name_told self.now.whole self.now.exprs.names name }
+        ensures symbol { result ≡ symbol_of_name_id self.now.whole self.now.exprs.names name }
         ensures there { IfSome result (λ s. s < length self.now.whole.symbols) }
     {
         let index = name.index();

@@ -5,38 +5,38 @@ use Rattle.std.proofs.lemmas.Bool.{cases_Bool, false≢true, eqb-true, eq-eqb, l
 use Rattle.std.proofs.lemmas.Option.{get_or_from_slice_get, slice_get-get_or}
 use Rattle.std.proofs.lemmas.List.Sums.{position_or_len_is}
 use Rattle.std.proofs.lemmas.Slice.Eq.{bytes_eq-Decides}
-use Rattle.kc_tree_model.specs.Trees.{Whole, Symbol, TreeUnit, of_symbol, of_choice}
-use Rattle.kc_tree_model.specs.TreeLookup.{IsConsistent, is_unit, place_of_unit, unit_in, unit_of_symbol, unit_of, found_at, symbol_named}
+use Rattle.kc_tree_model.specs.Trees.{Tree, Symbol, TreeUnit, of_symbol, of_choice}
+use Rattle.kc_tree_model.specs.TreeLookup.{IsConsistent, is_same_unit, index_of_unit, unit_in, unit_of_symbol, unit_of, index_if_found, symbol_named}
 
 pub inside : {X : Type 0} (xs : List X) (i : ℕ) (x : X) → slice_get xs i ≡ Some x → i < length xs
 inside [] i x e = cc
 inside (y ∷ ys) zero x e = omega arith
 inside (y ∷ ys) (suc i) x e = let rest = inside ys i x e in omega arith
 
-unit_from : (a b : TreeUnit) → is_unit a b ≡ true → a ≡ b
+unit_from : (a b : TreeUnit) → is_same_unit a b ≡ true → a ≡ b
 unit_from (of_symbol a) (of_symbol b) e = ap of_symbol (eqb-true a b e)
 unit_from (of_choice a) (of_choice b) e = ap of_choice (eqb-true a b e)
 unit_from (of_symbol a) (of_choice b) e = absurd (false≢true e)
 unit_from (of_choice a) (of_symbol b) e = absurd (false≢true e)
 
-unit_same : (a : TreeUnit) → is_unit a a ≡ true
+unit_same : (a : TreeUnit) → is_same_unit a a ≡ true
 unit_same (of_symbol a) = eq-eqb a a refl
 unit_same (of_choice a) = eq-eqb a a refl
 
-module _ (tree : Whole) (sound : IsConsistent tree) where
+module _ (tree : Tree) (sound : IsConsistent tree) where
   -- a unit's place is its number
-  pub place_is : (u : ℕ) (unit : TreeUnit) → slice_get tree.units u ≡ Some unit → place_of_unit tree unit ≡ u
+  pub place_is : (u : ℕ) (unit : TreeUnit) → slice_get tree.units u ≡ Some unit → index_of_unit tree unit ≡ u
   place_is u unit at =
       let below : u < length tree.units = inside tree.units u unit at in
-      position_or_len_is (is_unit unit) tree.units u unit (omega arith)
-      (λ k h. elim (cases_Bool (is_unit unit (get_or tree.units k unit))) [
+      position_or_len_is (is_same_unit unit) tree.units u unit (omega arith)
+      (λ k h. elim (cases_Bool (is_same_unit unit (get_or tree.units k unit))) [
         | inl same ↦
             let there : slice_get tree.units k ≡ Some unit = slice_get-get_or tree.units k unit (omega arith) ∙ ap Some (sym (unit_from unit (get_or tree.units k unit) same)) in
             let equal : k ≡ u = sound.units_differ k u unit there at in
             absurd (omega arith)
         | inr other ↦ other
       ])
-      (λ h. ap (is_unit unit) (get_or_from_slice_get tree.units u unit unit at) ∙ unit_same unit)
+      (λ h. ap (is_same_unit unit) (get_or_from_slice_get tree.units u unit unit at) ∙ unit_same unit)
 
   -- a symbol is found by its name
   pub found_by_name : (s : ℕ) (symbol : Symbol) → slice_get tree.symbols s ≡ Some symbol → symbol_named tree symbol.name ≡ Some s
@@ -51,8 +51,8 @@ module _ (tree : Whole) (sound : IsConsistent tree) where
         | inr other ↦ other
       ])
       (λ h. ap (λ (t : Symbol). bytes_eq symbol.name t.name) (get_or_from_slice_get tree.symbols s symbol symbol at) ∙ (bytes_eq-Decides symbol.name symbol.name).1 refl) in
-      ap (λ k. found_at k (length tree.symbols)) place ∙ ap (λ t. cond t (Some s) None) (lt-ltb s (length tree.symbols) below)
+      ap (λ k. index_if_found k (length tree.symbols)) place ∙ ap (λ t. cond t (Some s) None) (lt-ltb s (length tree.symbols) below)
 
   -- the number of a symbol's unit
   pub unit_is : (s u : ℕ) (symbol : Symbol) (c : Option ℕ) → slice_get tree.symbols s ≡ Some symbol → symbol.choice ≡ c → slice_get tree.units u ≡ Some (unit_in s c) → unit_of tree s ≡ u
-  unit_is s u symbol c at choice unit = ap (unit_of_symbol tree s) at ∙ ap (λ x. place_of_unit tree (unit_in s x)) choice ∙ place_is u (unit_in s c) unit
+  unit_is s u symbol c at choice unit = ap (unit_of_symbol tree s) at ∙ ap (λ x. index_of_unit tree (unit_in s x)) choice ∙ place_is u (unit_in s c) unit

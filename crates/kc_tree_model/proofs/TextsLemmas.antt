@@ -8,7 +8,7 @@ use Rattle.std.specs.declared.alloc.Global.{Global}
 use Rattle.indexmap.specs.IndexMap.{insert_entry}
 use Rattle.std.specs.Map.{lookup, keys_of}
 use Rattle.kc_tree_model.specs.checker.TextsView.{file_of}
-use Rattle.kc_tree_model.specs.Files.{Files, with_file, file_at, number_of_file, path_at, HasDistinctPaths}
+use Rattle.kc_tree_model.specs.TreeFiles.{Files, with_file, file_at, index_of_file, path_at, HasDistinctPaths}
 
 insert_by : (b : Bool) (e : String Global × Vec ℕ Global) (es fs : List (String Global × Vec ℕ Global)) (v : Vec ℕ Global) → map file_of (cond b ((e.0, v) ∷ es) (e ∷ fs)) ≡ cond b ((string_bytes e.0, v.items) ∷ map file_of es) (file_of e ∷ map file_of fs)
 insert_by true e es fs v = refl
@@ -56,7 +56,7 @@ number_by : (b : Bool) (m : ℕ) → cond b 0 (suc m) ≡ cond (not b) (1 + m) 0
 number_by true m = refl
 number_by false m = omega arith
 
-number_of_key : (path : List ℕ) (es : List (String Global × Vec ℕ Global)) → number_of_file (map file_of es) path ≡ position_or_len (λ k. bytes_eq path (string_bytes k)) (keys_of es)
+number_of_key : (path : List ℕ) (es : List (String Global × Vec ℕ Global)) → index_of_file (map file_of es) path ≡ position_or_len (λ k. bytes_eq path (string_bytes k)) (keys_of es)
 number_of_key path [] = refl
 number_of_key path (e ∷ es) = ap (λ m. cond (bytes_eq path (string_bytes e.0)) 0 (suc m)) (number_of_key path es) ∙ number_by (bytes_eq path (string_bytes e.0)) (position_or_len (λ k. bytes_eq path (string_bytes k)) (keys_of es))
 
@@ -64,9 +64,9 @@ within_by : (b : Bool) (m n : ℕ) → m ≤ n → cond b 0 (suc m) ≤ suc n
 within_by true m n h = omega arith
 within_by false m n h = omega arith
 
-number_within : (path : List ℕ) (fs : Files) → number_of_file fs path ≤ length fs
+number_within : (path : List ℕ) (fs : Files) → index_of_file fs path ≤ length fs
 number_within path [] = omega arith
-number_within path (f ∷ fs) = within_by (bytes_eq path f.0) (number_of_file fs path) (length fs) (number_within path fs)
+number_within path (f ∷ fs) = within_by (bytes_eq path f.0) (index_of_file fs path) (length fs) (number_within path fs)
 
 found_by : (b : Bool) (n i : ℕ) → cond b (Some n) None ≡ Some i → i ≡ n
 found_by true n i e = cc
@@ -80,10 +80,10 @@ length-keys : (es : List (String Global × Vec ℕ Global)) → length (keys_of 
 length-keys [] = refl
 length-keys (e ∷ es) = ap suc (length-keys es)
 
-pub number_found : (path : List ℕ) (es : List (String Global × Vec ℕ Global)) (i : ℕ) → position (λ k. bytes_eq path (string_bytes k)) (keys_of es) ≡ Some i → i ≡ number_of_file (map file_of es) path
+pub number_found : (path : List ℕ) (es : List (String Global × Vec ℕ Global)) (i : ℕ) → position (λ k. bytes_eq path (string_bytes k)) (keys_of es) ≡ Some i → i ≡ index_of_file (map file_of es) path
 number_found path es i e = found_by (nat_lt (position_or_len (λ k. bytes_eq path (string_bytes k)) (keys_of es)) (length (keys_of es))) (position_or_len (λ k. bytes_eq path (string_bytes k)) (keys_of es)) i e ∙ sym (number_of_key path es)
 
-pub number_absent : (path : List ℕ) (es : List (String Global × Vec ℕ Global)) → position (λ k. bytes_eq path (string_bytes k)) (keys_of es) ≡ None → length es ≡ number_of_file (map file_of es) path
+pub number_absent : (path : List ℕ) (es : List (String Global × Vec ℕ Global)) → position (λ k. bytes_eq path (string_bytes k)) (keys_of es) ≡ None → length es ≡ index_of_file (map file_of es) path
 number_absent path es e =
     let a = absent_by (nat_lt (position_or_len (λ k. bytes_eq path (string_bytes k)) (keys_of es)) (length (keys_of es))) (position_or_len (λ k. bytes_eq path (string_bytes k)) (keys_of es)) (length (keys_of es)) refl e in
     let k = number_of_key path es in

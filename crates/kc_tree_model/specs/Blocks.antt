@@ -1,13 +1,13 @@
--- What was read so far, the newest first, and what stands open there.
+-- The statements read so far, newest first, and the blocks that are open there.
 use Rattle.std.specs.Prelude.{ℕ, zero, suc, Bool, false, not, List, [], ◌∷◌, Option, Some, None, option_map}
 use Rattle.std.specs.List.{list_any}
 use Rattle.kc_tree_model.specs.Statements.{Block, choice_block, Head, choice, menu, condition, source, ends, Attribute, block_of_head, name_of_head, path_of_head, same_block}
 
 -- A statement that closes the open entry, or the end of a sourced file: such a file is a block, which its `source`
 -- opens and its end closes.
-pub data What : Type 0 where
-  said : Head → What
-  file_end : What
+pub data GroupHead : Type 0 where
+  of_head : Head → GroupHead
+  file_end : GroupHead
 
 -- an attribute and its line
 pub record Line : Type 0 where
@@ -23,10 +23,10 @@ pub record Position : Type 0 where
 pub record Group : Type 0 where
   pub number : ℕ
   pub at : Position
-  pub what : What
+  pub what : GroupHead
   pub attributes : List Line
 
--- whether what was read opens a block, closes one or stands in one
+-- whether a statement opens a block, closes one, or does neither
 pub data Side : Type 0 where
   opening : Side
   closing : Side
@@ -42,12 +42,12 @@ side_of_head (ends b) = closing
 side_of_head h = inside
 
 -- the end of a sourced file closes it
-abbrev pub side_of : What → Side
-side_of (said h) = side_of_head h
+abbrev pub side_of : GroupHead → Side
+side_of (of_head h) = side_of_head h
 side_of file_end = closing
 
--- The blocks that stand open, the innermost first: an opening is open where as many ends as openings came behind it.
--- Ends of all sorts are counted, since none is kept that doesn't match the innermost block: it is a StrayEnd before.
+-- The blocks not yet closed, innermost first. `n` counts the ends whose opening is still to come (newest first).
+-- Ends of all sorts are counted alike, since an end that doesn't match its block is a StrayEnd and never gets here.
 abbrev pub open_blocks : ℕ → List Group → List Group
 open_blocks n [] = []
 open_blocks n (g ∷ before) = elim (side_of g.what) [
@@ -56,22 +56,22 @@ open_blocks n (g ∷ before) = elim (side_of g.what) [
   | inside ↦ open_blocks n before
 ]
 
--- what a statement gives; the end of a file gives nothing
-abbrev pub head_gives : {A : Type 0} → (Head → Option A) → What → Option A
-head_gives f (said h) = f h
-head_gives f file_end = None
+-- a function of a statement; the end of a file has no result
+abbrev pub from_head : {A : Type 0} → (Head → Option A) → GroupHead → Option A
+from_head f (of_head h) = f h
+from_head f file_end = None
 
 -- the block that a group opens, where that is no file
-abbrev pub block_of : Group → Option Block
-block_of g = head_gives block_of_head g.what
+abbrev pub opened_block : Group → Option Block
+opened_block g = from_head block_of_head g.what
 
 -- the name that a group defines
-abbrev pub name_of : Group → Option (List ℕ)
-name_of g = head_gives name_of_head g.what
+abbrev pub defined_name : Group → Option (List ℕ)
+defined_name g = from_head name_of_head g.what
 
 -- the path of the file that a group sources
-abbrev pub source_of : Group → Option (List ℕ)
-source_of g = head_gives path_of_head g.what
+abbrev pub sourced_path : Group → Option (List ℕ)
+sourced_path g = from_head path_of_head g.what
 
 -- whether there is a block, and it is of this sort
 abbrev pub is_some_block : Block → Option Block → Bool
@@ -80,16 +80,16 @@ is_some_block b (Some c) = same_block b c
 
 -- whether a group opens a choice
 abbrev pub opens_choice : Group → Bool
-opens_choice g = is_some_block choice_block (block_of g)
+opens_choice g = is_some_block choice_block (opened_block g)
 
--- whether a choice stands open, here or in a file that sources this one
+-- whether a choice is open, here or in a file that sources this one
 abbrev pub in_choice : List Group → Bool
 in_choice read = list_any opens_choice (open_blocks 0 read)
 
 -- the innermost open block, unless that is the file that is read
 abbrev pub innermost_of : List Group → Option (Group × Block)
 innermost_of [] = None
-innermost_of (g ∷ outer) = option_map (λ b. (g, b)) (block_of g)
+innermost_of (g ∷ outer) = option_map (λ b. (g, b)) (opened_block g)
 
 -- the innermost open block of the file that is read
 abbrev pub innermost : List Group → Option (Group × Block)

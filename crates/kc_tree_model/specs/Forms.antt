@@ -1,15 +1,15 @@
--- The form of each line, by the tokens behind its first word ("Kconfig syntax", "Menu attributes").
+-- The form of each line, by the tokens after its first word ("Kconfig syntax", "Menu attributes").
 use Rattle.std.specs.Prelude.{ℕ, Bool, ◌||◌, ◌==◌, List, [], ◌∷◌, length, drop, Option, Some, None, codes, Result, Ok, Err, if◌then◌else◌}
 use Rattle.std.specs.List.{list_any}
 use Rattle.kc_value.specs.declared.value.Kind.{Kind}
-use Rattle.kc_expr.specs.Token.{Piece}
+use Rattle.kc_expr.specs.Token.{Lexeme}
 use Rattle.kc_expr.specs.declared.fault.ExprKind.{ExprKind}
 use Rattle.kc_expr.specs.declared.fault.ExprKind.TheVariants as expr_kinds
 use Rattle.kc_expr.specs.Expr.{Expr, Operand, conditional}
-use Rattle.kc_expr.specs.Grammar.{read_expr, extent, quoted_text, operand_of_piece}
+use Rattle.kc_expr.specs.Grammar.{read_expr, extent, quoted_text, operand_of_lexeme}
 use Rattle.kc_tree_model.specs.declared.fault.TreeKind.{TreeKind}
 use Rattle.kc_tree_model.specs.declared.fault.TreeKind.TheVariants.{BadToken, UnclosedQuote, Malformed, TooDeep, LeftOut, OutOfMemory}
-use Rattle.kc_tree_model.specs.Statements.{Head, config, choice, menu, condition, comment, source, mainmenu, ends, Valued, Aimed, Attribute, typed, typed_prompt, typed_default, prompt, default, depends, select, imply, range, visible, help, modules, Statement, head, attribute}
+use Rattle.kc_tree_model.specs.Statements.{Head, config, choice, menu, condition, comment, source, mainmenu, ends, DefaultAttribute, TargetAttribute, Attribute, typed, typed_prompt, typed_default, prompt, default, depends, select, imply, range, visible, help, modules, Statement, head, attribute}
 use Rattle.kc_tree_model.specs.Keywords.{Keyword, config_word, choice_word, menu_word, if_word, comment_word, source_word, mainmenu_word, end_word, type_word, default_type_word, prompt_word, default_word, depends_word, select_word, imply_word, range_word, visible_word, help_word, modules_word, option_word, left_out_word, is_word_kind, is_quoted_kind, is_the_word, is_name}
 
 infixl 10 ◌>>=◌
@@ -26,46 +26,46 @@ kind_of_fault expr_kinds.TooDeep = TooDeep
 kind_of_fault expr_kinds.LeftOut = LeftOut
 kind_of_fault expr_kinds.OutOfMemory = OutOfMemory
 
--- an expression, whether it is one operand, and the tokens behind it
-pub record Taken : Type 0 where
+-- an expression, whether it is one operand, and the tokens after it
+pub record ParsedExpr : Type 0 where
   pub expr : Expr
   pub single : Bool
-  pub rest : List Piece
+  pub rest : List Lexeme
 
 -- the expression at the front of the tokens ("Menu dependencies")
-abbrev pub expr_at : List Piece → Result Taken TreeKind
-expr_at ts = elim (read_expr (extent ts)) [ Ok e ↦ Ok (record { expr = e; single = length (extent ts) == 1; rest = drop (length (extent ts)) ts }) | Err f ↦ Err (kind_of_fault f.0) ]
+abbrev pub leading_expr : List Lexeme → Result ParsedExpr TreeKind
+leading_expr ts = elim (read_expr (extent ts)) [ Ok e ↦ Ok (record { expr = e; single = length (extent ts) == 1; rest = drop (length (extent ts)) ts }) | Err f ↦ Err (kind_of_fault f.0) ]
 
 -- nothing may follow
-abbrev pub no_more : {A : Type 0} → A → List Piece → Result A TreeKind
+abbrev pub no_more : {A : Type 0} → A → List Lexeme → Result A TreeKind
 no_more x [] = Ok x
 no_more x (t ∷ ts) = Err Malformed
 
 -- a condition at the end of a line; `m` in it means `m && MODULES`
-abbrev pub last_condition : List Piece → Result Expr TreeKind
-last_condition ts = expr_at ts >>= λ r. no_more (conditional r.expr) r.rest
+abbrev pub last_condition : List Lexeme → Result Expr TreeKind
+last_condition ts = leading_expr ts >>= λ r. no_more (conditional r.expr) r.rest
 
 -- `[if E]`
-abbrev pub optional_if : List Piece → Result (Option Expr) TreeKind
+abbrev pub optional_if : List Lexeme → Result (Option Expr) TreeKind
 optional_if [] = Ok None
 optional_if (t ∷ ts) = if is_the_word (codes "if") t then (last_condition ts >>= λ e. Ok (Some e)) else Err Malformed
 
 -- `NAME`
-abbrev pub config_line : List Piece → Result Statement TreeKind
+abbrev pub config_line : List Lexeme → Result Statement TreeKind
 config_line [] = Err Malformed
 config_line (t ∷ ts) = if is_name t then no_more (head (config t.text)) ts else Err Malformed
 
 -- nothing
-abbrev pub choice_line : List Piece → Result Statement TreeKind
+abbrev pub choice_line : List Lexeme → Result Statement TreeKind
 choice_line ts = no_more (head choice) ts
 
 -- `Q`
-abbrev pub titled_line : (List ℕ → Head) → List Piece → Result Statement TreeKind
+abbrev pub titled_line : (List ℕ → Head) → List Lexeme → Result Statement TreeKind
 titled_line f [] = Err Malformed
 titled_line f (t ∷ ts) = if is_quoted_kind t.kind then no_more (head (f (quoted_text t.text))) ts else Err Malformed
 
 -- the path that a word or a quoted text is
-abbrev pub path_of : Piece → Option (List ℕ)
+abbrev pub path_of : Lexeme → Option (List ℕ)
 path_of t = if is_quoted_kind t.kind then Some (quoted_text t.text) else if is_word_kind t.kind then Some t.text else None
 
 -- a path with one of `*`, `?` and `[`
@@ -73,58 +73,58 @@ abbrev pub is_glob : List ℕ → Bool
 is_glob path = list_any (λ c. c == 42 || (c == 63) || (c == 91)) path
 
 -- `Q` or `W`
-abbrev pub source_line : List Piece → Result Statement TreeKind
+abbrev pub source_line : List Lexeme → Result Statement TreeKind
 source_line [] = Err Malformed
 source_line (t ∷ ts) = elim (path_of t) [ None ↦ Err Malformed | Some path ↦ no_more (head (source path)) ts ]
 
 -- `Q [if E]`
-abbrev pub prompt_line : (Option Expr → Attribute) → List Piece → Result Statement TreeKind
+abbrev pub prompt_line : (Option Expr → Attribute) → List Lexeme → Result Statement TreeKind
 prompt_line f [] = Err Malformed
 prompt_line f (t ∷ ts) = if is_quoted_kind t.kind then (optional_if ts >>= λ c. Ok (attribute (f c))) else Err Malformed
 
 -- `[Q [if E]]`
-abbrev pub type_line : Kind → List Piece → Result Statement TreeKind
+abbrev pub type_line : Kind → List Lexeme → Result Statement TreeKind
 type_line k [] = Ok (attribute (typed k))
 type_line k (t ∷ ts) = prompt_line (typed_prompt k) (t ∷ ts)
 
 -- `E [if E]`, where `m` in the first stays `m`
-abbrev pub default_line : (Valued → Attribute) → List Piece → Result Statement TreeKind
+abbrev pub default_line : (DefaultAttribute → Attribute) → List Lexeme → Result Statement TreeKind
 default_line f ts = do
-  e ← expr_at ts
+  e ← leading_expr ts
   c ← optional_if e.rest
   Ok (attribute (f (record { value = e.expr; single = e.single; condition = c })))
 
 -- `NAME [if E]`
-abbrev pub aimed_line : (Aimed → Attribute) → List Piece → Result Statement TreeKind
-aimed_line f [] = Err Malformed
-aimed_line f (t ∷ ts) = if is_name t then (optional_if ts >>= λ c. Ok (attribute (f (record { name = t.text; condition = c })))) else Err Malformed
+abbrev pub target_line : (TargetAttribute → Attribute) → List Lexeme → Result Statement TreeKind
+target_line f [] = Err Malformed
+target_line f (t ∷ ts) = if is_name t then (optional_if ts >>= λ c. Ok (attribute (f (record { name = t.text; condition = c })))) else Err Malformed
 
--- `[if E]` behind two operands
-abbrev pub range_of_operands : Option Operand → Option Operand → List Piece → Result Statement TreeKind
+-- `[if E]` after two operands
+abbrev pub range_of_operands : Option Operand → Option Operand → List Lexeme → Result Statement TreeKind
 range_of_operands (Some a) (Some b) ts = optional_if ts >>= λ c. Ok (attribute (range (record { low = a; high = b; condition = c })))
 range_of_operands a b ts = Err Malformed
 
 -- `OP OP [if E]`
-abbrev pub range_line : List Piece → Result Statement TreeKind
-range_line (t ∷ u ∷ ts) = range_of_operands (operand_of_piece t) (operand_of_piece u) ts
+abbrev pub range_line : List Lexeme → Result Statement TreeKind
+range_line (t ∷ u ∷ ts) = range_of_operands (operand_of_lexeme t) (operand_of_lexeme u) ts
 range_line ts = Err Malformed
 
 -- `on E` and `if E`
-abbrev pub worded_line : List ℕ → (Expr → Attribute) → List Piece → Result Statement TreeKind
-worded_line word f [] = Err Malformed
-worded_line word f (t ∷ ts) = if is_the_word word t then (last_condition ts >>= λ e. Ok (attribute (f e))) else Err Malformed
+abbrev pub condition_line : List ℕ → (Expr → Attribute) → List Lexeme → Result Statement TreeKind
+condition_line word f [] = Err Malformed
+condition_line word f (t ∷ ts) = if is_the_word word t then (last_condition ts >>= λ e. Ok (attribute (f e))) else Err Malformed
 
 -- the options of other tools
-abbrev pub is_left_out_option : Piece → Bool
+abbrev pub is_left_out_option : Lexeme → Bool
 is_left_out_option t = is_the_word (codes "env") t || is_the_word (codes "defconfig_list") t || is_the_word (codes "allnoconfig_y") t
 
 -- `modules`
-abbrev pub option_line : List Piece → Result Statement TreeKind
+abbrev pub option_line : List Lexeme → Result Statement TreeKind
 option_line [] = Err Malformed
 option_line (t ∷ ts) = if is_the_word (codes "modules") t then no_more (attribute modules) ts else Err Malformed
 
--- what a line with this keyword says, by the tokens behind it; what is left out was told before, and has no form here
-abbrev pub statement_of : Keyword → List Piece → Result Statement TreeKind
+-- the statement of a line with this keyword and these tokens after it; forms that are left out were refused before
+abbrev pub statement_of : Keyword → List Lexeme → Result Statement TreeKind
 statement_of config_word ts = config_line ts
 statement_of choice_word ts = choice_line ts
 statement_of menu_word ts = titled_line menu ts
@@ -137,11 +137,11 @@ statement_of (type_word k) ts = type_line k ts
 statement_of (default_type_word k) ts = default_line (typed_default k) ts
 statement_of prompt_word ts = prompt_line prompt ts
 statement_of default_word ts = default_line default ts
-statement_of depends_word ts = worded_line (codes "on") depends ts
-statement_of select_word ts = aimed_line select ts
-statement_of imply_word ts = aimed_line imply ts
+statement_of depends_word ts = condition_line (codes "on") depends ts
+statement_of select_word ts = target_line select ts
+statement_of imply_word ts = target_line imply ts
 statement_of range_word ts = range_line ts
-statement_of visible_word ts = worded_line (codes "if") visible ts
+statement_of visible_word ts = condition_line (codes "if") visible ts
 statement_of help_word ts = no_more (attribute help) ts
 statement_of modules_word ts = no_more (attribute modules) ts
 statement_of option_word ts = option_line ts

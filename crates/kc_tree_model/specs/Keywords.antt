@@ -3,7 +3,7 @@ use Rattle.std.specs.Prelude.{ℕ, Bool, true, false, not, ◌&&◌, ◌||◌, n
 use Rattle.std.specs.List.{list_all}
 use Rattle.kc_value.specs.declared.value.Kind.{Kind}
 use Rattle.kc_value.specs.declared.value.Kind.TheVariants.{Bool as Boolean, Tristate, Text, Int, Hex}
-use Rattle.kc_expr.specs.Token.{Piece}
+use Rattle.kc_expr.specs.Token.{Lexeme}
 use Rattle.kc_expr.specs.declared.token.TokenKind.{TokenKind}
 use Rattle.kc_expr.specs.declared.token.TokenKind.TheVariants.{Word, Quoted}
 use Rattle.kc_tree_model.specs.TreeLookup.{is_name_byte}
@@ -52,9 +52,9 @@ keywords =
     ∷ (codes "optional", left_out_word) ∷ (codes "transitional", left_out_word) ∷ []
 
 -- the entry of a table for a word
-abbrev pub found_in : {A : Type 0} → List (List ℕ × A) → List ℕ → Option A
-found_in [] x = None
-found_in (e ∷ es) x = if bytes_eq e.0 x then Some e.1 else found_in es x
+abbrev pub keyword_in_table : {A : Type 0} → List (List ℕ × A) → List ℕ → Option A
+keyword_in_table [] x = None
+keyword_in_table (e ∷ es) x = if bytes_eq e.0 x then Some e.1 else keyword_in_table es x
 
 -- bare words
 abbrev pub is_word_kind : TokenKind → Bool
@@ -67,13 +67,13 @@ is_quoted_kind Quoted = true
 is_quoted_kind k = false
 
 -- a bare word of these letters
-abbrev pub is_the_word : List ℕ → Piece → Bool
+abbrev pub is_the_word : List ℕ → Lexeme → Bool
 is_the_word x t = is_word_kind t.kind && bytes_eq t.text x
 
 -- the keyword of a line by its first token
-abbrev pub keyword_of : Piece → Option Keyword
-keyword_of t = if is_word_kind t.kind then found_in keywords t.text else None
+abbrev pub keyword_of : Lexeme → Option Keyword
+keyword_of t = if is_word_kind t.kind then keyword_in_table keywords t.text else None
 
 -- the name of a symbol has one or more letters, digits and `_`, and is none of the three constants
-abbrev pub is_name : Piece → Bool
+abbrev pub is_name : Lexeme → Bool
 is_name t = is_word_kind t.kind && (nat_lt 0 (length t.text) && list_all is_name_byte t.text) && not (bytes_eq t.text (codes "n") || bytes_eq t.text (codes "m") || bytes_eq t.text (codes "y"))

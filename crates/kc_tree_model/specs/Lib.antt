@@ -1,6 +1,6 @@
 pub mod Trees
-pub mod Files
-pub mod Lines
+pub mod TreeFiles
+pub mod LogicalLines
 pub mod LineGrammar
 pub mod Statements
 pub mod Keywords

@@ -1,10 +1,10 @@
 -- The nested tree of what was read, and the walk down it.
 use Rattle.std.specs.Prelude.{◌≡◌, ℕ, Bool, true, false, List, [], ◌∷◌, ◌++◌, reverse, Option, None}
 use Rattle.kc_tree_model.specs.Statements.{Block, Head, source, ends, block_of_head}
-use Rattle.kc_tree_model.specs.Blocks.{Group, What, said, file_end, side_of, inside, is_some_block}
-use Rattle.kc_tree_model.specs.Files.{Files}
+use Rattle.kc_tree_model.specs.Blocks.{Group, GroupHead, of_head, file_end, side_of, inside, is_some_block}
+use Rattle.kc_tree_model.specs.TreeFiles.{Files}
 use Rattle.kc_tree_model.specs.Reading.{reading}
-use Rattle.kc_tree_model.specs.Conditions.{Placed, place, placed}
+use Rattle.kc_tree_model.specs.Conditions.{GroupInContext, group_in_context, groups_in_context}
 
 -- A list of entries and blocks ("Menu structure"). A block has the group that opens it, what stands in it and the group
 -- that ends it; a file that is read in place of a `source` is one.
@@ -20,43 +20,43 @@ listing (entry g rest) = g ∷ listing rest
 listing (block g within e rest) = g ∷ (listing within ++ e ∷ listing rest)
 
 -- a menu ends at an `endmenu`, an `if` at an `endif`, a choice at an `endchoice`, and a sourced file at its end
-abbrev pub ends_block : Option Block → What → Bool
-ends_block b (said (ends c)) = is_some_block c b
+abbrev pub ends_block : Option Block → GroupHead → Bool
+ends_block b (of_head (ends c)) = is_some_block c b
 ends_block b w = false
 
 -- the end of a sourced file
-abbrev pub is_file_end : What → Bool
+abbrev pub is_file_end : GroupHead → Bool
 is_file_end file_end = true
-is_file_end (said h) = false
+is_file_end (of_head h) = false
 
 -- what ends the block of a statement
-abbrev pub ends_head : Head → What → Bool
+abbrev pub ends_head : Head → GroupHead → Bool
 ends_head (source path) e = is_file_end e
 ends_head h e = ends_block (block_of_head h) e
 
 -- what ends the block of a group
-abbrev pub is_ended_by : What → What → Bool
-is_ended_by (said h) e = ends_head h e
+abbrev pub is_ended_by : GroupHead → GroupHead → Bool
+is_ended_by (of_head h) e = ends_head h e
 is_ended_by file_end e = false
 
--- each group stands where its form says
+-- each group is where its form allows it
 abbrev pub IsNested : Items → Type 0
 IsNested none = Unit {0}
 IsNested (entry g rest) = (side_of g.what ≡ inside) × IsNested rest
 IsNested (block g within e rest) = (is_ended_by g.what e.what ≡ true) × IsNested within × IsNested rest
 
 -- down the tree from the root, with the blocks on the path, the innermost first; each step gives what stands round the next
-abbrev pub walk : List Group → Items → List Placed
+abbrev pub walk : List Group → Items → List GroupInContext
 walk path none = []
-walk path (entry g rest) = place path g ∷ walk path rest
-walk path (block g within e rest) = place path g ∷ (walk (g ∷ path) within ++ place (g ∷ path) e ∷ walk path rest)
+walk path (entry g rest) = group_in_context path g ∷ walk path rest
+walk path (block g within e rest) = group_in_context path g ∷ (walk (g ∷ path) within ++ group_in_context (g ∷ path) e ∷ walk path rest)
 
 -- what was read is the listing of this nested tree and of no other, and the walk down it gives each place its conditions
 pub record IsTreeOf (read : List Group) (t : Items) : Type 0 where
   pub nested : IsNested t
   pub listed : listing t ≡ reverse read
   pub only : (u : Items) → IsNested u → listing u ≡ reverse read → u ≡ t
-  pub walked : placed read ≡ walk [] t
+  pub walked : groups_in_context read ≡ walk [] t
 
 -- what is read of these files without a fault is one nested tree
 abbrev pub IsReadAsOneTree : Files → List ℕ → Type 0

@@ -1,4 +1,4 @@
--- What the lines of a tree say.
+-- Statements: the meaning of a tree's lines.
 use Rattle.std.specs.Prelude.{ℕ, Bool, true, false, List, Option, Some, None}
 use Rattle.kc_value.specs.declared.value.Kind.{Kind}
 use Rattle.kc_expr.specs.Expr.{Expr, Operand}
@@ -21,18 +21,18 @@ pub data Head : Type 0 where
   ends : Block → Head
 
 -- the value of a default, whether it is one operand (in parentheses it isn't), and its `if`
-pub record Valued : Type 0 where
+pub record DefaultAttribute : Type 0 where
   pub value : Expr
   pub single : Bool
   pub condition : Option Expr
 
 -- the name in a `select` or an `imply`, and its `if`
-pub record Aimed : Type 0 where
+pub record TargetAttribute : Type 0 where
   pub name : List ℕ
   pub condition : Option Expr
 
 -- the bounds of a `range`, and its `if`
-pub record Bounded : Type 0 where
+pub record RangeAttribute : Type 0 where
   pub low : Operand
   pub high : Operand
   pub condition : Option Expr
@@ -41,18 +41,18 @@ pub record Bounded : Type 0 where
 pub data Attribute : Type 0 where
   typed : Kind → Attribute
   typed_prompt : Kind → Option Expr → Attribute
-  typed_default : Kind → Valued → Attribute
+  typed_default : Kind → DefaultAttribute → Attribute
   prompt : Option Expr → Attribute
-  default : Valued → Attribute
+  default : DefaultAttribute → Attribute
   depends : Expr → Attribute
-  select : Aimed → Attribute
-  imply : Aimed → Attribute
-  range : Bounded → Attribute
+  select : TargetAttribute → Attribute
+  imply : TargetAttribute → Attribute
+  range : RangeAttribute → Attribute
   visible : Expr → Attribute
   help : Attribute
   modules : Attribute
 
--- what a line says
+-- a statement: the meaning of one line
 pub data Statement : Type 0 where
   head : Head → Statement
   attribute : Attribute → Statement
@@ -100,7 +100,7 @@ prompt_of (typed_prompt k c) = Some c
 prompt_of a = None
 
 -- a default
-abbrev pub default_of : Attribute → Option Valued
+abbrev pub default_of : Attribute → Option DefaultAttribute
 default_of (default d) = Some d
 default_of (typed_default k d) = Some d
 default_of a = None
@@ -116,17 +116,17 @@ visible_of (visible e) = Some e
 visible_of a = None
 
 -- a range
-abbrev pub range_of : Attribute → Option Bounded
+abbrev pub range_of : Attribute → Option RangeAttribute
 range_of (range r) = Some r
 range_of a = None
 
 -- a `select`
-abbrev pub select_of : Attribute → Option Aimed
+abbrev pub select_of : Attribute → Option TargetAttribute
 select_of (select s) = Some s
 select_of a = None
 
 -- an `imply`
-abbrev pub imply_of : Attribute → Option Aimed
+abbrev pub imply_of : Attribute → Option TargetAttribute
 imply_of (imply s) = Some s
 imply_of a = None
 

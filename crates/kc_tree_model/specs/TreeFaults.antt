@@ -1,4 +1,4 @@
--- The faults that are looked for where reading met none, and the fault that is told.
+-- The checks on the whole tree, made if reading met no fault, and which fault is reported.
 use Rattle.std.specs.Prelude.{ℕ, Bool, true, false, not, ◌&&◌, ◌||◌, List, [], ◌∷◌, ◌++◌, map, flat_map, slice_get, Option, Some, None, is_some, is_none, bytes_eq, if◌then◌else◌}
 use Rattle.kc_value.specs.declared.value.Kind.{Kind}
 use Rattle.kc_value.specs.declared.value.Kind.TheVariants.{Bool as Boolean, Tristate, Text, Int, Hex}
@@ -6,10 +6,10 @@ use Rattle.kc_expr.specs.Expr.{modules as modules_name}
 use Rattle.kc_tree_model.specs.declared.fault.TreeKind.{TreeKind}
 use Rattle.kc_tree_model.specs.declared.fault.TreeKind.TheVariants.{NoType, TypeConflict, SecondPrompt, DefaultShape, RangeType, SelectType, ChoiceMember, ChoiceDefault, ModulesType}
 use Rattle.kc_tree_model.specs.declared.fault.TreeFault.{TreeFault}
-use Rattle.kc_tree_model.specs.Files.{Files}
-use Rattle.kc_tree_model.specs.Statements.{Head, config, choice, Attribute, select, imply, Valued, type_of, prompt_of, default_of, range_of, is_modules}
-use Rattle.kc_tree_model.specs.Blocks.{Group, Line, said, file_end}
-use Rattle.kc_tree_model.specs.Conditions.{Placed}
+use Rattle.kc_tree_model.specs.TreeFiles.{Files}
+use Rattle.kc_tree_model.specs.Statements.{Head, config, choice, Attribute, select, imply, DefaultAttribute, type_of, prompt_of, default_of, range_of, is_modules}
+use Rattle.kc_tree_model.specs.Blocks.{Group, Line, of_head, file_end}
+use Rattle.kc_tree_model.specs.Conditions.{GroupInContext}
 use Rattle.kc_tree_model.specs.Contents.{Contents, contents_of, is_first_definition, type_given, choice_of_symbol, member_names, member_named}
 use Rattle.kc_tree_model.specs.Reading.{Outcome, reading}
 
@@ -58,26 +58,26 @@ abbrev pub is_selectable : Contents → List ℕ → Bool
 is_selectable c name = elim (kind_of c name) [ None ↦ true | Some k ↦ is_logical k ]
 
 -- faults of a definition, at its line
-abbrev pub definition_faults : Contents → Placed → List ℕ → List TreeKind
+abbrev pub definition_faults : Contents → GroupInContext → List ℕ → List TreeKind
 definition_faults c p name =
     let first = is_first_definition c name p in
     let other = is_other_kind Boolean (type_given c name) in
     when (first && is_none (kind_of c name)) NoType
-    ++ when ((is_some p.around.choice && other) || (not first && is_some (choice_of_symbol c name))) ChoiceMember
+    ++ when ((is_some p.enclosing.choice && other) || (not first && is_some (choice_of_symbol c name))) ChoiceMember
     ++ when (first && bytes_eq name modules_name && other) ModulesType
 
 -- a default of a string, an int or a hex that isn't one operand
-abbrev pub is_shapeless : Kind → Option Valued → Bool
+abbrev pub is_shapeless : Kind → Option DefaultAttribute → Bool
 is_shapeless k None = false
 is_shapeless k (Some d) = not (is_logical k) && not d.single
 
 -- a `select` or an `imply` in, or of, a symbol that is neither bool nor tristate
-abbrev pub is_wrong_force : Contents → Kind → Attribute → Bool
-is_wrong_force c k (select a) = not (is_logical k) || not (is_selectable c a.name)
-is_wrong_force c k (imply a) = not (is_logical k) || not (is_selectable c a.name)
-is_wrong_force c k a = false
+abbrev pub is_wrong_reverse_dependency : Contents → Kind → Attribute → Bool
+is_wrong_reverse_dependency c k (select a) = not (is_logical k) || not (is_selectable c a.name)
+is_wrong_reverse_dependency c k (imply a) = not (is_logical k) || not (is_selectable c a.name)
+is_wrong_reverse_dependency c k a = false
 
--- a prompt behind another of its entry
+-- a second prompt of an entry
 abbrev pub second_prompt : Bool → Attribute → List TreeKind
 second_prompt prompted a = when (prompted && is_some (prompt_of a)) SecondPrompt
 
@@ -89,11 +89,11 @@ attribute_faults c name (Some k) prompted a =
     ++ second_prompt prompted a
     ++ when (is_shapeless k (default_of a)) DefaultShape
     ++ when (is_some (range_of a) && not (is_number k)) RangeType
-    ++ when (is_wrong_force c k a) SelectType
+    ++ when (is_wrong_reverse_dependency c k a) SelectType
     ++ when (is_modules a && not (bytes_eq name modules_name)) ModulesType
 
 -- a choice's default that isn't the bare name of one of its members
-abbrev pub is_no_member : List (List ℕ) → Option Valued → Bool
+abbrev pub is_no_member : List (List ℕ) → Option DefaultAttribute → Bool
 is_no_member members None = false
 is_no_member members (Some d) = is_none (member_named members d)
 
@@ -111,23 +111,23 @@ faults_of_lines g f prompted [] = []
 faults_of_lines g f prompted (l ∷ ls) = faults_at g l.number (f prompted l.attribute) ++ faults_of_lines g f (prompted || is_some (prompt_of l.attribute)) ls
 
 -- faults of an entry, first at its own line, those of one line by their kinds in the order of `TreeKind`
-abbrev pub faults_of_head : Contents → Placed → Head → List TreeFault
+abbrev pub faults_of_head : Contents → GroupInContext → Head → List TreeFault
 faults_of_head c p (config name) = faults_at p.group p.group.at.line (definition_faults c p name) ++ faults_of_lines p.group (attribute_faults c name (kind_of c name)) false p.group.attributes
 faults_of_head c p choice = faults_of_lines p.group (choice_faults (member_names c p.group.number)) false p.group.attributes
 faults_of_head c p h = []
 
 -- faults of what was read at a place
-abbrev pub faults_of_group : Contents → Placed → List TreeFault
-faults_of_group c p = elim p.group.what [ said h ↦ faults_of_head c p h | file_end ↦ [] ]
+abbrev pub faults_of_group : Contents → GroupInContext → List TreeFault
+faults_of_group c p = elim p.group.what [ of_head h ↦ faults_of_head c p h | file_end ↦ [] ]
 
 -- the faults of what was read, in reading order
 unfoldable pub tree_faults : List Group → List TreeFault
 tree_faults read = let c = contents_of read in flat_map (faults_of_group c) c.places
 
--- the fault that is told: the first that reading meets, and where it meets none the first of those
-abbrev pub fault_told_after : Outcome → Option TreeFault
-fault_told_after o = elim o.fault [ None ↦ slice_get (tree_faults o.read) 0 | Some f ↦ Some f ]
+-- the reported fault: the first of reading, or if there is none, the first of the checks on the whole tree
+abbrev pub first_fault_after : Outcome → Option TreeFault
+first_fault_after o = elim o.fault [ None ↦ slice_get (tree_faults o.read) 0 | Some f ↦ Some f ]
 
--- the fault that is told of the files of a tree, unless memory runs out
-unfoldable pub fault_told : Files → List ℕ → Option TreeFault
-fault_told files root = fault_told_after (reading files root)
+-- the fault reported for the files of a tree, unless memory runs out
+unfoldable pub first_tree_fault : Files → List ℕ → Option TreeFault
+first_tree_fault files root = first_fault_after (reading files root)

@@ -1,22 +1,22 @@
--- Where units and symbols stand in a tree.
+-- Indices of units and symbols in a tree.
 use Rattle.std.specs.Prelude.{◌≡◌, ℕ, ◌<◌, ◌≤◌, Bool, true, false, not, ◌&&◌, ◌||◌, List, [], length, Option, Some, None, ◌==◌, nat_lt, nat_le, if◌then◌else◌, slice_get, bytes_eq}
 use Rattle.std.specs.Str.{is_utf8}
 use Rattle.std.specs.List.{position_or_len, list_all, list_any}
 use Rattle.kc_value.specs.declared.value.Kind.TheVariants.{Bool as Boolean}
 use Rattle.kc_expr.specs.Expr.{Expr, alone, named, quoted}
-use Rattle.kc_tree_model.specs.Trees.{Whole, Symbol, Choice, Default, Force, MemberDefault, Entry, definition, choice_begins, menu_begins, menu_ends, comment, TreeUnit, of_symbol, of_choice}
-use Rattle.kc_tree_model.specs.Limits.{most_symbols, most_name_bytes}
+use Rattle.kc_tree_model.specs.Trees.{Tree, Symbol, Choice, Default, ReverseDependency, MemberDefault, Entry, definition, choice_begins, menu_begins, menu_ends, comment, TreeUnit, of_symbol, of_choice}
+use Rattle.kc_tree_model.specs.Limits.{max_symbols, max_name_bytes}
 
 -- whether two units are the same
-abbrev pub is_unit : TreeUnit → TreeUnit → Bool
-is_unit (of_symbol a) (of_symbol b) = a == b
-is_unit (of_choice a) (of_choice b) = a == b
-is_unit (of_symbol a) (of_choice b) = false
-is_unit (of_choice a) (of_symbol b) = false
+abbrev pub is_same_unit : TreeUnit → TreeUnit → Bool
+is_same_unit (of_symbol a) (of_symbol b) = a == b
+is_same_unit (of_choice a) (of_choice b) = a == b
+is_same_unit (of_symbol a) (of_choice b) = false
+is_same_unit (of_choice a) (of_symbol b) = false
 
 -- the number of a unit, and the count of units if it isn't there
-abbrev pub place_of_unit : Whole → TreeUnit → ℕ
-place_of_unit tree unit = position_or_len (is_unit unit) tree.units
+abbrev pub index_of_unit : Tree → TreeUnit → ℕ
+index_of_unit tree unit = position_or_len (is_same_unit unit) tree.units
 
 -- a member's unit is its choice, and any other symbol is its own
 abbrev pub unit_in : ℕ → Option ℕ → TreeUnit
@@ -24,29 +24,29 @@ unit_in s None = of_symbol s
 unit_in s (Some c) = of_choice c
 
 -- the number of the unit of a symbol, and the count of units if the symbol isn't there
-abbrev pub unit_of_symbol : Whole → ℕ → Option Symbol → ℕ
+abbrev pub unit_of_symbol : Tree → ℕ → Option Symbol → ℕ
 unit_of_symbol tree s None = length tree.units
-unit_of_symbol tree s (Some symbol) = place_of_unit tree (unit_in s symbol.choice)
+unit_of_symbol tree s (Some symbol) = index_of_unit tree (unit_in s symbol.choice)
 
 -- the number of a symbol's unit
-abbrev pub unit_of : Whole → ℕ → ℕ
+abbrev pub unit_of : Tree → ℕ → ℕ
 unit_of tree s = unit_of_symbol tree s (slice_get tree.symbols s)
 
--- a place in a list of so many elements
-abbrev pub found_at : ℕ → ℕ → Option ℕ
-found_at place count = if nat_lt place count then Some place else None
+-- an index, if it is below the length of the list
+abbrev pub index_if_found : ℕ → ℕ → Option ℕ
+index_if_found place count = if nat_lt place count then Some place else None
 
 -- the symbol of a name, if an entry defines it
-abbrev pub symbol_named : Whole → List ℕ → Option ℕ
+abbrev pub symbol_named : Tree → List ℕ → Option ℕ
 symbol_named tree name =
-    found_at (position_or_len (λ (s : Symbol). bytes_eq name s.name) tree.symbols) (length tree.symbols)
+    index_if_found (position_or_len (λ (s : Symbol). bytes_eq name s.name) tree.symbols) (length tree.symbols)
 
 -- a letter, a digit or `_`
 abbrev pub is_name_byte : ℕ → Bool
 is_name_byte b = (nat_le 97 b && nat_le b 122) || (nat_le 65 b && nat_le b 90) || (nat_le 48 b && nat_le b 57)
     || (b == 95)
 
--- the text of an operand that no symbol gives: a name that isn't defined stands for itself
+-- the operand's own text: a name that isn't defined is its own text
 abbrev pub own_text : Expr → List ℕ
 own_text (alone (named x)) = x
 own_text (alone (quoted x)) = x
@@ -63,11 +63,11 @@ title_of_entry (menu_ends title dependency visible) = Some title
 title_of_entry (comment title dependency) = Some title
 title_of_entry e = None
 
--- What every tree that is read has: names that are words and differ, each symbol outside choices and each choice as
+-- Holds for every tree that is read: names that are words and differ, each symbol outside choices and each choice as
 -- one unit, members that are bools of one choice, defaults of a choice that are its members, own texts and titles that
 -- are one line of UTF-8, selectors, impliers and entries of symbols and choices that are there, an entry for each
 -- symbol (the full file writes it at the first), and the limits of symbols and names.
-pub record IsConsistent (tree : Whole) : Type 0 where
+pub record IsConsistent (tree : Tree) : Type 0 where
   pub words : (s : ℕ) (symbol : Symbol) → slice_get tree.symbols s ≡ Some symbol
       → (0 < length symbol.name) × (list_all is_name_byte symbol.name ≡ true)
   pub names_differ : (s t : ℕ) (a b : Symbol) → slice_get tree.symbols s ≡ Some a → slice_get tree.symbols t ≡ Some b
@@ -96,14 +96,14 @@ pub record IsConsistent (tree : Whole) : Type 0 where
   pub own_utf8 : (s : ℕ) (symbol : Symbol) → slice_get tree.symbols s ≡ Some symbol
       → list_all (λ (d : Default). is_utf8 (own_text d.value)) symbol.defaults ≡ true
   pub selectors_there : (s : ℕ) (symbol : Symbol) → slice_get tree.symbols s ≡ Some symbol
-      → list_all (λ (f : Force). nat_lt f.by (length tree.symbols)) symbol.selectors ≡ true
+      → list_all (λ (f : ReverseDependency). nat_lt f.by (length tree.symbols)) symbol.selectors ≡ true
   pub impliers_there : (s : ℕ) (symbol : Symbol) → slice_get tree.symbols s ≡ Some symbol
-      → list_all (λ (f : Force). nat_lt f.by (length tree.symbols)) symbol.impliers ≡ true
+      → list_all (λ (f : ReverseDependency). nat_lt f.by (length tree.symbols)) symbol.impliers ≡ true
   pub units_of_choices : (c : ℕ) (choice : Choice) → slice_get tree.choices c ≡ Some choice
       → (u : ℕ) × (slice_get tree.units u ≡ Some (of_choice c))
-  pub few_symbols : length tree.symbols ≤ most_symbols
+  pub few_symbols : length tree.symbols ≤ max_symbols
   pub short_names : (s : ℕ) (symbol : Symbol) → slice_get tree.symbols s ≡ Some symbol
-      → length symbol.name ≤ most_name_bytes
+      → length symbol.name ≤ max_name_bytes
   pub defined : (s : ℕ) (symbol : Symbol) → slice_get tree.symbols s ≡ Some symbol
       → (k : ℕ) × (slice_get tree.entries k ≡ Some (definition s))
   pub entry_symbols : (k s : ℕ) → slice_get tree.entries k ≡ Some (definition s) → s < length tree.symbols

@@ -1,4 +1,4 @@
--- What a tree is: symbols, choices, entries and units, with all conditions joined.
+-- A tree: symbols, choices, entries and units, each condition joined with the enclosing ones.
 use Rattle.std.specs.Prelude.{ℕ, List, Option}
 use Rattle.kc_value.specs.declared.value.Kind.{Kind}
 use Rattle.kc_expr.specs.Expr.{Expr, Operand}
@@ -15,12 +15,12 @@ pub record Range : Type 0 where
   pub condition : Expr
 
 -- a symbol that selects or implies this one, by its number, with the condition
-pub record Force : Type 0 where
+pub record ReverseDependency : Type 0 where
   pub by : ℕ
   pub condition : Expr
 
 -- a symbol: its first place, and the attributes of all its definitions in reading order, each condition joined with
--- what stands round it; `direct` has the dependency of each definition, and `choice` the number of its choice
+-- the enclosing ones; `direct` has the dependency of each definition, and `choice` the number of its choice
 pub record Symbol : Type 0 where
   pub name : List ℕ
   pub kind : Kind
@@ -29,8 +29,8 @@ pub record Symbol : Type 0 where
   pub prompts : List Expr
   pub defaults : List Default
   pub ranges : List Range
-  pub selectors : List Force
-  pub impliers : List Force
+  pub selectors : List ReverseDependency
+  pub impliers : List ReverseDependency
   pub direct : List Expr
   pub choice : Option ℕ
 
@@ -47,7 +47,7 @@ pub record Choice : Type 0 where
   pub prompt : Option Expr
   pub defaults : List MemberDefault
 
--- what stands in reading order; the second condition of a menu is its `visible if`, joined with those round it
+-- an entry in reading order; a menu's second condition is its `visible if`, joined with the enclosing ones
 pub data Entry : Type 0 where
   definition : ℕ → Entry
   choice_begins : ℕ → Entry
@@ -61,7 +61,7 @@ pub data TreeUnit : Type 0 where
   of_choice : ℕ → TreeUnit
 
 -- symbols and choices in order of first definition, entries in reading order, units in the order of their numbers
-pub record Whole : Type 0 where
+pub record Tree : Type 0 where
   pub symbols : List Symbol
   pub choices : List Choice
   pub entries : List Entry

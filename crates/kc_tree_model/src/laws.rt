@@ -1,37 +1,37 @@
 //! Laws of the definitions.
 ghost use Rattle.std.specs.Prelude.{◌≡◌, ◌↔◌, ℕ, ◌+◌, List, [], None, Some, Ok, Err};
-ghost use Rattle.kc_tree_model.specs.Files.{Files};
-ghost use Rattle.kc_tree_model.specs.Lines.{Logical, lines_of};
+ghost use Rattle.kc_tree_model.specs.TreeFiles.{Files};
+ghost use Rattle.kc_tree_model.specs.LogicalLines.{LogicalLine, lines_of};
 ghost use Rattle.kc_tree_model.specs.LineGrammar.{IsInLines};
-ghost use Rattle.kc_tree_model.specs.Limits.{Origin, most_open_files};
+ghost use Rattle.kc_tree_model.specs.Limits.{FileSource, max_open_files};
 ghost use Rattle.kc_tree_model.specs.Reading.{read_file, reading, files_wanted};
 ghost use Rattle.kc_tree_model.specs.declared.fault.TreeFault.{TreeFault};
 ghost use Rattle.kc_tree_model.specs.Contents.{tree_of_files};
-ghost use Rattle.kc_tree_model.specs.TreeFaults.{fault_told};
+ghost use Rattle.kc_tree_model.specs.TreeFaults.{first_tree_fault};
 ghost use Rattle.kc_tree_model.specs.TreeLookup.{IsConsistent};
 ghost use Rattle.kc_tree_model.specs.NestedTrees.{IsReadAsOneTree};
 
 /// The logical lines that are read of a file's bytes are exactly those that the grammar of lines has for them: physical
-/// lines joined where they go on, and behind a line that begins one a help text up to its end by indentation.
+/// lines joined where they go on, and after a line that begins one a help text up to its end by indentation.
 pub fn lines_are_of_the_grammar()
-    ensures { (bytes : List ℕ) (lines : List Logical) → (lines_of bytes ≡ lines) ↔ IsInLines bytes lines }
+    ensures { (bytes : List ℕ) (lines : List LogicalLine) → (lines_of bytes ≡ lines) ↔ IsInLines bytes lines }
 {}
 
 /// What is read without a fault is the listing of exactly one nested tree of menus, ifs, choices, sourced files and
-/// entries, and the walk down that tree gives each place the conditions that stand round it.
+/// entries, and the walk down that tree gives each place the conditions that stand around it.
 pub fn reading_is_a_nested_tree()
     ensures { (files : Files) (root : List ℕ) → IsReadAsOneTree files root }
 {}
 
-/// No file is left unread for the bound of files within each other: where more of them might stand open, the reading is
+/// No file is left unread for the bound of files within each other: where more of them might be open, the reading is
 /// the same, since a `source` past the limit is a fault before its file would be read.
 pub fn each_file_is_read()
-    ensures { (origin : Origin) (more : ℕ) → read_file (most_open_files + more) origin origin.root [] ≡ read_file most_open_files origin origin.root [] }
+    ensures { (origin : FileSource) (more : ℕ) → read_file (max_open_files + more) origin origin.root [] ≡ read_file max_open_files origin origin.root [] }
 {}
 
 /// Where no path is wanted, reading the files meets the fault that is told for `wanted`, and none where none is told: so
 /// the paths that a tree lacks are known before it is read.
-pub fn nothing_is_missing_behind_wanted()
+pub fn nothing_is_missing_after_wanted()
     ensures none { (files : Files) (root : List ℕ) → files_wanted files root ≡ Ok [] → (reading files root).fault ≡ None }
     ensures fault { (files : Files) (root : List ℕ) (fault : TreeFault) → files_wanted files root ≡ Err fault → (reading files root).fault ≡ Some fault }
 {}
@@ -41,5 +41,5 @@ pub fn nothing_is_missing_behind_wanted()
 /// titles and the own texts of defaults are one line of UTF-8, each symbol has an entry, selectors, impliers and
 /// entries are symbols and choices of the tree, and the limits of symbols and names hold.
 pub fn trees_are_consistent()
-    ensures { (files : Files) (root : List ℕ) → fault_told files root ≡ None → IsConsistent (tree_of_files files root) }
+    ensures { (files : Files) (root : List ℕ) → first_tree_fault files root ≡ None → IsConsistent (tree_of_files files root) }
 {}

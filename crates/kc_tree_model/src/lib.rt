@@ -10,7 +10,7 @@ mod texts;
 pub use fault::{TreeFault, TreeKind};
 pub use ids::{Sym, Unit};
 pub use laws::{
-    each_file_is_read, lines_are_of_the_grammar, nothing_is_missing_behind_wanted,
+    each_file_is_read, lines_are_of_the_grammar, nothing_is_missing_after_wanted,
     reading_is_a_nested_tree, trees_are_consistent,
 };
 pub use texts::Texts;

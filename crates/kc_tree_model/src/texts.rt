@@ -1,6 +1,6 @@
 //! The files of a tree.
 ghost use Rattle.std.specs.Prelude.{◌≡◌, ◌↔◌, [], length, IsTrue, OnOk, OnErr, option_map};
-ghost use Rattle.kc_tree_model.specs.Files.{with_file, file_at, number_of_file, path_at, HasDistinctPaths};
+ghost use Rattle.kc_tree_model.specs.TreeFiles.{with_file, file_at, index_of_file, path_at, HasDistinctPaths};
 
 use indexmap::IndexMap;
 use kc_value::Seed;
@@ -16,7 +16,7 @@ pub struct Texts {
 
 impl Model for Texts {
     ghost use Rattle.std.specs.Prelude.{map};
-    ghost use Rattle.kc_tree_model.specs.Files.{Files};
+    ghost use Rattle.kc_tree_model.specs.TreeFiles.{Files};
 
     ghost Value = { Files };
 
@@ -73,7 +73,7 @@ impl Texts {
 
     /// The position of a path among the files; of one that is absent their count.
     pub fn number_of(&self, path: &str) -> usize
-        ensures { result ≡ number_of_file self.now path.now }
+        ensures { result ≡ index_of_file self.now path.now }
     {
         match self.files.get_index_of(path) {
             Some(index) => index,

@@ -11,7 +11,7 @@ further_more : (n : ℕ) (o : Option ℕ) → further n (option_map suc o) ≡ f
 further_more n None = refl
 further_more n (Some k) = ap Some (omega arith)
 
--- one byte on, behind a backslash or not
+-- one byte on, after a backslash or not
 pub closing_escaped : (n quote c : ℕ) (cs : List ℕ) → further n (closing quote true (c ∷ cs)) ≡ further (n + 1) (closing quote false cs)
 closing_escaped n quote c cs = further_more n (closing quote false cs)
 

@@ -45,7 +45,7 @@ some_from false limit m r base cs e = cc
 some_from true limit m r base cs e =
     elim (nat_lt m limit) as (λ t. cond t (Some m) None ≡ Some r → magnitude_after base limit m cs ≡ magnitude_after base limit r cs) [ true ↦ λ k. let q : m ≡ r = cc in rw q refl | false ↦ λ k. cc ] e
 
--- where a digit follows, reading goes on behind it
+-- where a digit follows, reading goes on after it
 pub goes_on : (base limit n c r : ℕ) (cs : List ℕ) → with_digit base limit n c ≡ Some r → magnitude_after base limit n (c ∷ cs) ≡ magnitude_after base limit r cs
 goes_on base limit n c r cs e = some_from (is_digit c base) limit (n * base + digit_value c) r base cs e
 

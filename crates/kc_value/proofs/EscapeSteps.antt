@@ -46,7 +46,7 @@ first_kept false b bs rest h a =
 wide_kept : (escaped : Bool) (c : ℕ) (rest : List ℕ) → IsWide c → unescaped escaped (encode_utf8 c ++ rest) ≡ encode_utf8 c ++ unescaped false rest
 wide_kept escaped c rest w = rw w.parts (first_kept escaped w.first w.more rest w.high w.all)
 
--- a character behind a backslash is itself
+-- a character after a backslash is itself
 pub escaped_char : (c : ℕ) (rest : List ℕ) → unescaped true (encode_utf8 c ++ rest) ≡ encode_utf8 c ++ unescaped false rest
 escaped_char c rest = at_size (ltb c 128) refl
   where

@@ -1,4 +1,4 @@
--- What stands behind the bytes while a text is spelled in quotes.
+-- What stands after the bytes while a text is spelled in quotes.
 use Rattle.std.proofs.Common.{◌≡◌, ℕ, ◌+◌, ◌<◌, ◌≤◌, ◌||◌, true, false, get_or, List, [], ◌∷◌, ◌++◌, length, take, append_assoc, refl, ap, sym, ◌∙◌}
 use Rattle.std.specs.Prelude.{◌==◌}
 use Rattle.std.specs.List.{flat_map}
@@ -14,7 +14,7 @@ still_there base more now e = ap (λ t. take (length base) t) e ∙ take-append_
 pub still_there_before : (base more now next : List ℕ) (b : ℕ) → now ≡ base ++ more → next ≡ now ++ b ∷ [] → take (length base) next ≡ base
 still_there_before base more now next b e n = still_there base (more ++ b ∷ []) next (n ∙ ap (λ t. t ++ b ∷ []) e ∙ append_assoc base more (b ∷ []))
 
--- the byte at the place is spelled behind those before it
+-- the byte at the place is spelled after those before it
 spelled_on : (base xs now next : List ℕ) (i : ℕ) → i < length xs → now ≡ base ++ 34 ∷ flat_map escaped_byte (take i xs) → next ≡ now ++ escaped_byte (get_or xs i 0) → next ≡ base ++ 34 ∷ flat_map escaped_byte (take (i + 1) xs)
 spelled_on base xs now next i l e n =
     let on : (34 ∷ flat_map escaped_byte (take i xs)) ++ escaped_byte (get_or xs i 0) ≡ 34 ∷ flat_map escaped_byte (take i xs ++ get_or xs i 0 ∷ []) = flat_map_more escaped_byte (34 ∷ []) (take i xs) (get_or xs i 0) in
@@ -42,7 +42,7 @@ spelled_plain base xs now next i l t e n =
     let plain : escaped_byte (get_or xs i 0) ≡ get_or xs i 0 ∷ [] = rw t refl in
     spelled_on base xs now next i l e (n ∙ ap (λ z. now ++ z) (sym plain))
 
--- the closing quote behind them all
+-- the closing quote after them all
 pub all_spelled : (base xs text now next : List ℕ) (i : ℕ) → length xs ≤ i → xs ≡ text → now ≡ base ++ 34 ∷ flat_map escaped_byte (take i xs) → next ≡ now ++ 34 ∷ [] → next ≡ base ++ quoted text
 all_spelled base xs text now next i l same e n =
     n ∙ ap (λ t. t ++ 34 ∷ []) e ∙ append_assoc base (34 ∷ flat_map escaped_byte (take i xs)) (34 ∷ []) ∙ ap (λ t. base ++ quoted t) (take_all i xs l ∙ same)

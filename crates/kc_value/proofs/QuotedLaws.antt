@@ -37,13 +37,13 @@ one_meaning whole a b (x, p, h) (y, q, k) =
     let e : x ≡ y = append_cancel_right x y (34 ∷ []) (same_tail 34 34 (x ++ 34 ∷ []) (y ++ 34 ∷ []) (sym p ∙ q)) in
     sym (body_means 34 x a h) ∙ ap (unescaped false) e ∙ body_means 34 y b k
 
--- a body is closed by the quote behind it
+-- a body is closed by the quote after it
 pub body_closes : (quote : ℕ) (body means rest : List ℕ) → eqb 92 quote ≡ false → IsBody quote body means → closing quote false (body ++ quote ∷ rest) ≡ Some (suc (length body))
 body_closes quote body means rest d none = let same : eqb quote quote ≡ true = eq-eqb quote quote refl in rw same refl
 body_closes quote body means rest d (plain {c = c} {bs = bs} {cs = cs} q s h) = rw (q, s) (ap (option_map suc) (body_closes quote bs cs rest d h))
 body_closes quote body means rest d (pair {c = c} {bs = bs} {cs = cs} h) = rw d (ap (λ o. option_map suc (option_map suc o)) (body_closes quote bs cs rest d h))
 
--- what is closed, behind a backslash or not
+-- what is closed, after a backslash or not
 abbrev pub behind : Bool → List ℕ → List ℕ
 behind true body = 92 ∷ body
 behind false body = body

@@ -1,6 +1,6 @@
 pub mod Number
 pub mod NumberGrammar
-pub mod Outside
+pub mod Streams
 pub mod Quoted
 pub mod Testing
 pub mod Tri

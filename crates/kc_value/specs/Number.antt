@@ -50,7 +50,7 @@ IsPrintable Bool n = ⊥
 IsPrintable Tristate n = ⊥
 IsPrintable Text n = ⊥
 
--- the one text of a number, without leading zeros: `0x` and lower-case digits for hex, else decimal digits behind a
+-- the one text of a number, without leading zeros: `0x` and lower-case digits for hex, else decimal digits after a
 -- minus where it is negative
 abbrev pub number_spelling : Kind → ℤ → List ℕ
 number_spelling Hex n = 48 ∷ 120 ∷ digits 16 false (unsigned_abs n)

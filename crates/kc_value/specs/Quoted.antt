@@ -2,7 +2,7 @@
 use Rattle.std.specs.Prelude.{◌≡◌, ℕ, suc, List, [], ◌∷◌, ◌++◌, Bool, true, false, ◌||◌, ◌==◌, Option, Some, None, option_map, if◌then◌else◌}
 use Rattle.std.specs.List.{flat_map}
 
--- a quote and a backslash stand behind a backslash
+-- a quote or a backslash is escaped by a backslash
 abbrev pub escaped_byte : ℕ → List ℕ
 escaped_byte c = if c == 34 || (c == 92) then 92 ∷ c ∷ [] else c ∷ []
 
@@ -11,17 +11,17 @@ abbrev pub quoted : List ℕ → List ℕ
 quoted text = 34 ∷ (flat_map escaped_byte text ++ 34 ∷ [])
 
 -- what stands between quotes: characters other than the quote and the backslash, and pairs of a backslash and
--- a character; with the text that it stands for
+-- a character; with the text that it represents
 pub data IsBody (quote : ℕ) : List ℕ → List ℕ → Type 0 where
   none : IsBody quote [] []
   plain : {c : ℕ} {bs cs : List ℕ} → (c == quote) ≡ false → (c == 92) ≡ false → IsBody quote bs cs → IsBody quote (c ∷ bs) (c ∷ cs)
   pair : {c : ℕ} {bs cs : List ℕ} → IsBody quote bs cs → IsBody quote (92 ∷ c ∷ bs) (c ∷ cs)
 
--- all of a text is a quoted one, which stands for another
+-- a text is a quoted spelling of another
 abbrev pub IsQuoted : List ℕ → List ℕ → Type 0
 IsQuoted text means = (body : List ℕ) × (text ≡ 34 ∷ (body ++ 34 ∷ [])) × IsBody 34 body means
 
--- how many bytes reach up to the closing quote and with it; a byte behind a backslash closes nothing
+-- how many bytes there are up to and including the closing quote; a byte after a backslash closes nothing
 abbrev pub closing : ℕ → Bool → List ℕ → Option ℕ
 closing quote escaped [] = None
 closing quote true (c ∷ cs) = option_map suc (closing quote false cs)

@@ -11,7 +11,7 @@ use std::alloc::{AllocError, Global};
 /// The most bytes of a number text.
 const MAX_TEXT: usize = 64;
 
-/// One digit more behind a number.
+/// One digit more after a number.
 fn push_digit(value: u64, byte: u8, base: u32) -> Option<u64>
     requires low { 2 ≤ base }
     requires high { base ≤ 36 }
@@ -85,7 +85,7 @@ pub fn hex_of(text: &[u8]) -> Option<i128>
     Some(value as i128)
 }
 
-/// The number of a text of no known type: a hex text behind `0x` or `0X`, else an int text.
+/// The number of a text of no known type: a hex text after `0x` or `0X`, else an int text.
 #[tactic(auto, unfolding(crate::specs::Number::loose_number))]
 pub fn loose_number_of(text: &[u8]) -> Option<i128>
     ensures { result ≡ loose_number text.now }
@@ -105,8 +105,8 @@ pub fn number_texts_are_the_grammars()
     ensures loose { (text : List ℕ) (z : ℤ) → (loose_number text ≡ Some z) ↔ IsLoose text z }
 {}
 
-/// The one text of a number of an int or a hex symbol, without leading zeros: decimal digits behind a minus where it
-/// is negative, or `0x` and lower-case hex digits. An `Err` is want of memory.
+/// The one text of a number of an int or a hex symbol, without leading zeros: decimal digits after a minus where it
+/// is negative, or `0x` and lower-case hex digits. An `Err` means out of memory.
 pub fn number_text(alloc: Global, kind: Kind, value: i128) -> Result<String, AllocError>
     requires { IsPrintable kind value }
     ensures text { IfOk result (λ t. string_bytes t ≡ number_spelling kind value) }

@@ -19,7 +19,7 @@ pub fn push_escaped(out: &mut Vec<u8>, text: &str) -> Result<(), AllocError>
     pushed
 }
 
-/// As `push_escaped`, but an `Err` may leave a part behind the bytes.
+/// As `push_escaped`, but an `Err` may leave a part after the bytes.
 fn push_quoted(out: &mut Vec<u8>, text: &str) -> Result<(), AllocError>
     ensures ok { OnOk result (out.new.items ≡ out.old.items ++ quoted text.now) }
     ensures kept { take (length out.old.items) out.new.items ≡ out.old.items }
@@ -35,7 +35,7 @@ fn push_quoted(out: &mut Vec<u8>, text: &str) -> Result<(), AllocError>
     Ok(())
 }
 
-/// How many bytes reach up to the closing quote and with it, behind an opening one. A byte behind a backslash closes
+/// How many bytes reach up to the closing quote and with it, after an opening one. A byte after a backslash closes
 /// nothing. `None` where nothing closes.
 pub fn closing_quote(quote: u8, bytes: &[u8]) -> Option<usize>
     ensures place { result ≡ closing quote false bytes.now }
@@ -55,7 +55,7 @@ pub fn closing_quote(quote: u8, bytes: &[u8]) -> Option<usize>
     None
 }
 
-/// The text between quotes, with the character alone for each backslash and character. An `Err` is want of memory.
+/// The text between quotes, with the character alone for each backslash and character. An `Err` means out of memory.
 pub fn unescape(alloc: Global, text: &str) -> Result<String, AllocError>
     ensures { IfOk result (λ t. string_bytes t ≡ unescaped false text.now) }
 {
@@ -72,7 +72,7 @@ pub fn unescape(alloc: Global, text: &str) -> Result<String, AllocError>
     Ok(read)
 }
 
-/// What stands between the quotes of a text in `"`.
+/// The part of a text between its `"`.
 fn body_of(text: &str) -> Option<&str>
     ensures body { IfSome result (λ b. HasBody text.now b.now) }
     ensures none { IfNone result ((means : List ℕ) → IsQuoted text.now means → ⊥) }
@@ -89,7 +89,7 @@ fn body_of(text: &str) -> Option<&str>
 }
 
 /// The text for which a quoted one stands: `"`, then characters other than `"` and `\` or a `\` and any character,
-/// then `"`. `None` for every other text. An `Err` is want of memory.
+/// then `"`. `None` for every other text. An `Err` means out of memory.
 pub fn read_quoted(alloc: Global, text: &str) -> Result<Option<String>, AllocError>
     ensures read { IfOk result (λ o. IfSome o (λ t. IsQuoted text.now (string_bytes t))) }
     ensures none { IfOk result (λ o. IfNone o ((means : List ℕ) → IsQuoted text.now means → ⊥)) }

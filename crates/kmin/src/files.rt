@@ -35,12 +35,12 @@ fn new_seed(runtime: &HostRuntime) -> Seed {
 
 /// An open file, and how many bytes it had when it was opened.
 #[derive(Drop)]
-pub(crate) struct Opened {
+pub(crate) struct OpenFile {
     reader: FromRead<File>,
     size: usize,
 }
 
-impl Source for Opened {
+impl Source for OpenFile {
     ghost left = { λ s. ⟦<FromRead<File> as Source>⟧.left s.reader };
 
     ghost failures = { λ s. ⟦<FromRead<File> as Source>⟧.failures s.reader };
@@ -59,24 +59,24 @@ fn size_now(file: &File) -> usize {
 }
 
 impl Files for Disk<'_> {
-    type File = Opened;
+    type File = OpenFile;
 
-    ghost tells = { λ _ _. None };
+    ghost content_of = { λ _ _. None };
 
     fn seed(&self) -> Seed {
         self.seed
     }
 
-    fn reader_for(&mut self, path: &str) -> Option<Opened> {
+    fn reader_for(&mut self, path: &str) -> Option<OpenFile> {
         let file = File::open(self.runtime, path).ok()?;
         let size = size_now(&file);
-        Some(Opened {
+        Some(OpenFile {
             reader: FromRead::new(file),
             size,
         })
     }
 
-    fn size_of(&self, file: &Opened) -> usize {
+    fn size_of(&self, file: &OpenFile) -> usize {
         file.size
     }
 }

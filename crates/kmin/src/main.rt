@@ -34,7 +34,7 @@ fn run_words(rt: &HostRuntime) -> io::Result<u8> {
     ))
 }
 
-/// Words that can't be read: 6 for want of memory, and else 2, since some word isn't UTF-8.
+/// Words that can't be read: 6 for lack of memory, and else 2, since some word isn't UTF-8.
 fn refuse_words(rt: &HostRuntime, error: &io::Error) -> ExitCode {
     if error.kind() == io::ErrorKind::OutOfMemory {
         let _ = eprintln!(rt; "out of memory");

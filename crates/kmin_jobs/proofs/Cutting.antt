@@ -3,12 +3,12 @@ use Rattle.std.proofs.Common.{◌≡◌, ℕ, Bool, true, false, ◌&&◌, ◌-�
 use Rattle.std.specs.List.{list_all, onto_first}
 use Rattle.std.proofs.Math.Seq.{take-append_seam}
 use Rattle.std.proofs.lemmas.Slice.Eq.{bytes_eq-Decides}
-use Rattle.kc_dotconfig_model.specs.Files.{file_lines}
+use Rattle.kc_dotconfig_model.specs.ConfigFiles.{file_lines}
 use Rattle.kmin_jobs.specs.Bundles.{marker, BeginsWithLine, HasWholeLines, has_no_marker, IsBundle, parted}
 use Rattle.kmin_jobs.specs.checker.LineEnds.{is_inline}
 use Rattle.kmin_jobs.proofs.LineLaws.{lines_of_run}
 
--- lines behind a newline are lines of their own
+-- lines after a newline are lines of their own
 behind_cases : (c : ℕ) (b : Bool) (ls ms ns : List (List ℕ)) → ls ≡ ms ++ ns → 0 < length ms → cond b ([] ∷ ls) (onto_first c ls) ≡ cond b ([] ∷ ms) (onto_first c ms) ++ ns
 behind_cases c b ls [] ns e h = absurd (omega arith)
 behind_cases c true ls (m ∷ ms) ns e h = rw e refl

@@ -7,8 +7,8 @@ use Rattle.std.specs.Prelude.{bytes_eq, IfOk, IfSome, if◌then◌else◌}
 use Rattle.std.specs.Io.KnownBytes.{Consumes, IsAtEnd}
 use Rattle.std.specs.declared.alloc.Global.{Global}
 use Rattle.std.specs.declared.alloc.AllocError.{AllocError}
-use Rattle.kc_tree_model.specs.Files.{Files, file_at, with_file}
-use Rattle.kmin_jobs.specs.Files.{Told, OpensAs, BeginAsTold, AreTextsBelow, below}
+use Rattle.kc_tree_model.specs.TreeFiles.{Files, file_at, with_file}
+use Rattle.kmin_jobs.specs.FileContents.{FileContent, OpensAs, MatchContentStart, AreTextsBelow, path_below}
 
 -- bytes that were read up to the end, or up to the limit, begin a file
 front_of : (b : List ℕ) (after : Option (List ℕ)) (bytes : List ℕ) → Consumes (Some b) after bytes → length bytes ≤ 67108865
@@ -19,8 +19,8 @@ front_of b (Some ys) bytes h l (inr e) =
     let whole : b ≡ bytes = h ∙ ap (λ z. bytes ++ z) e ∙ append-nil bytes in
     sym (ap (take 67108865) whole ∙ take_all 67108865 bytes l)
 
-front_told : (told : Told) (before after : Option (List ℕ)) (bytes : List ℕ) → OpensAs told (Some before)
-    → Consumes before after bytes → length bytes ≤ 67108865 → (length bytes ≡ 67108865) ⊎ IsAtEnd after → BeginAsTold told bytes
+front_told : (told : FileContent) (before after : Option (List ℕ)) (bytes : List ℕ) → OpensAs told (Some before)
+    → Consumes before after bytes → length bytes ≤ 67108865 → (length bytes ≡ 67108865) ⊎ IsAtEnd after → MatchContentStart told bytes
 front_told None before after bytes o h l e = tt
 front_told (Some None) before after bytes o h l e = let f : Some before ≡ None = o in cc
 front_told (Some (Some b)) before after bytes o h l e =
@@ -28,9 +28,9 @@ front_told (Some (Some b)) before after bytes o h l e =
     let k : Consumes (Some b) after bytes = rw s at h in
     front_of b after bytes k l e
 
-pub front_read : (told : Told) (before after : Option (List ℕ)) (r : Result (Option (Vec ℕ Global)) AllocError) → OpensAs told (Some before)
+pub front_read : (told : FileContent) (before after : Option (List ℕ)) (r : Result (Option (Vec ℕ Global)) AllocError) → OpensAs told (Some before)
     → IfOk r (λ found. IfSome found (λ bytes. Consumes before after bytes.items × (length bytes.items ≤ 67108865) × ((length bytes.items ≡ 67108865) ⊎ IsAtEnd after)))
-    → IfOk r (λ found. IfSome found (λ bytes. BeginAsTold told bytes.items))
+    → IfOk r (λ found. IfSome found (λ bytes. MatchContentStart told bytes.items))
 front_read told before after (Err e) o h = tt
 front_read told before after (Ok None) o h = tt
 front_read told before after (Ok (Some v)) o h = front_told told before after v.items o h.0 h.1 h.2
@@ -62,20 +62,20 @@ module _ (p b q c : List ℕ) where
   at_inserted [] h = on_new (bytes_eq q p) (bytes_eq-Decides q p) h
   at_inserted (f ∷ fs) h = on_path (bytes_eq p f.0) f fs (bytes_eq-Decides p f.0) (at_inserted fs) h
 
-inserted_one : (tells : List ℕ → Told) (root p b q c : List ℕ) (texts : Files) → AreTextsBelow tells root texts → BeginAsTold (tells (below root p)) b
-    → ((q ≡ p) × (b ≡ c)) ⊎ (file_at texts q ≡ Some c) → BeginAsTold (tells (below root q)) c
-inserted_one tells root p b q c texts h k (inl e) = rw (e.0, ← e.1) k
-inserted_one tells root p b q c texts h k (inr e) = h q c e
+inserted_one : (content_of : List ℕ → FileContent) (root p b q c : List ℕ) (texts : Files) → AreTextsBelow content_of root texts → MatchContentStart (content_of (path_below root p)) b
+    → ((q ≡ p) × (b ≡ c)) ⊎ (file_at texts q ≡ Some c) → MatchContentStart (content_of (path_below root q)) c
+inserted_one content_of root p b q c texts h k (inl e) = rw (e.0, ← e.1) k
+inserted_one content_of root p b q c texts h k (inr e) = h q c e
 
-pub inserted : (tells : List ℕ → Told) (root p b : List ℕ) (texts : Files) → AreTextsBelow tells root texts → BeginAsTold (tells (below root p)) b
-    → AreTextsBelow tells root (with_file texts p b)
-inserted tells root p b texts h k = λ q c e. inserted_one tells root p b q c texts h k (at_inserted p b q c texts e)
+pub inserted : (content_of : List ℕ → FileContent) (root p b : List ℕ) (texts : Files) → AreTextsBelow content_of root texts → MatchContentStart (content_of (path_below root p)) b
+    → AreTextsBelow content_of root (with_file texts p b)
+inserted content_of root p b texts h k = λ q c e. inserted_one content_of root p b q c texts h k (at_inserted p b q c texts e)
 
 -- files that tell the same
-pub below_again : (tells others : List ℕ → Told) (root : List ℕ) (texts : Files) → ((path : List ℕ) → others path ≡ tells path)
-    → AreTextsBelow tells root texts → AreTextsBelow others root texts
-below_again tells others root texts same h = λ path bytes e. rw (same (below root path)) (h path bytes e)
+pub below_again : (content_of others : List ℕ → FileContent) (root : List ℕ) (texts : Files) → ((path : List ℕ) → others path ≡ content_of path)
+    → AreTextsBelow content_of root texts → AreTextsBelow others root texts
+below_again content_of others root texts same h = λ path bytes e. rw (same (path_below root path)) (h path bytes e)
 
-pub below_back : (tells others : List ℕ → Told) (root : List ℕ) (texts : Files) → ((path : List ℕ) → others path ≡ tells path)
-    → AreTextsBelow others root texts → AreTextsBelow tells root texts
-below_back tells others root texts same h = λ path bytes e. rw (← same (below root path)) (h path bytes e)
+pub below_back : (content_of others : List ℕ → FileContent) (root : List ℕ) (texts : Files) → ((path : List ℕ) → others path ≡ content_of path)
+    → AreTextsBelow others root texts → AreTextsBelow content_of root texts
+below_back content_of others root texts same h = λ path bytes e. rw (← same (path_below root path)) (h path bytes e)

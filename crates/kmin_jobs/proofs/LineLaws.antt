@@ -1,7 +1,7 @@
 -- The lines of a text, one after another.
 use Rattle.std.proofs.Common.{◌≡◌, ℕ, Bool, true, false, not, ◌&&◌, ◌==◌, ◌<◌, length, arith, append-nil, List, [], ◌∷◌, ◌++◌, refl, cond}
 use Rattle.std.specs.List.{list_all, onto_first}
-use Rattle.kc_dotconfig_model.specs.Files.{file_lines}
+use Rattle.kc_dotconfig_model.specs.ConfigFiles.{file_lines}
 use Rattle.kmin_jobs.specs.checker.LineEnds.{is_inline}
 
 -- a run without a newline, and then a newline

@@ -2,7 +2,7 @@
 use Rattle.std.specs.Prelude.{◌≡◌, ℕ, Bool, not, List, [], ◌∷◌, ◌++◌, Option, IsTrue, ◌⊎◌, bytes_eq}
 use Rattle.std.specs.List.{list_all}
 use Rattle.std.specs.Io.KnownBytes.{Consumes, IsAtEnd}
-use Rattle.kc_dotconfig_model.specs.Files.{file_lines}
+use Rattle.kc_dotconfig_model.specs.ConfigFiles.{file_lines}
 
 -- the line that ends the tree: `%%`
 abbrev pub marker : List ℕ
@@ -26,6 +26,6 @@ pub data IsBundle (bundle tree configuration : List ℕ) : Type 0 where
       → IsBundle bundle tree configuration
   unparted : IsTrue (has_no_marker tree) → bundle ≡ tree → configuration ≡ [] → IsBundle bundle tree configuration
 
--- the bytes are all that a reader had left, where it tells them
-abbrev pub ReadsWhole : (before after : Option (List ℕ)) → List ℕ → Type 0
-ReadsWhole before after bytes = Consumes before after bytes × IsAtEnd after
+-- the bytes are all that a reader had left, if that is known
+abbrev pub ReadsToEnd : (before after : Option (List ℕ)) → List ℕ → Type 0
+ReadsToEnd before after bytes = Consumes before after bytes × IsAtEnd after

@@ -1,7 +1,7 @@
 pub mod Bundles
-pub mod Files
-pub mod Asked
+pub mod FileContents
+pub mod Requests
 pub mod Answers
-pub mod Bundled
-pub mod Parts
+pub mod BundleAnswers
+pub mod PartialAnswers
 pub mod checker

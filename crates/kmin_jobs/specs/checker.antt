@@ -3,4 +3,4 @@ pub mod Loaded
 pub mod Lines
 pub mod LineEnds
 pub mod Refused
-pub mod Stops
+pub mod RunErrors

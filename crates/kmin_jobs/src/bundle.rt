@@ -1,17 +1,17 @@
 //! Bundles: a tree, a line of just `%%` and a configuration.
 ghost use Rattle.std.specs.Prelude.{◌≡◌, ◌≢◌, ◌<◌, ◌≤◌, ◌⊎◌, IfOk, IfErr, OnOk, ℕ, List, length};
 ghost use Rattle.std.specs.Io.KnownBytes.{Consumes};
-ghost use Rattle.kmin_jobs.specs.Bundles.{IsBundle, ReadsWhole};
-ghost use Rattle.kmin_jobs.specs.Bundled.{Rises};
+ghost use Rattle.kmin_jobs.specs.Bundles.{IsBundle, ReadsToEnd};
+ghost use Rattle.kmin_jobs.specs.BundleAnswers.{Rises};
 
 use crate::lines::first_line;
-use crate::output::tell;
-use crate::stop::Stop;
+use crate::output::report;
+use crate::run_error::RunError;
 use kc_value::{Sink, Source};
 use std::alloc::Global;
 
 /// The most bytes of a bundle.
-const MOST_BYTES: usize = 67_108_864;
+const MAX_BYTES: usize = 67_108_864;
 
 /// How many bytes are read at once.
 const BLOCK: usize = 8192;
@@ -19,33 +19,33 @@ const BLOCK: usize = 8192;
 /// The line that ends the tree.
 const MARKER: &[u8] = b"%%";
 
-/// Reads all that a reader has left. Where a read fails, and where that is more than `MOST_BYTES` bytes, this is told.
+/// Reads all that a reader has left. Where a read fails, and where that is more than `MAX_BYTES` bytes, this is told.
 pub(crate) fn read_whole<S: Source, E: Sink>(
     alloc: Global,
     source: &mut S,
     err: &mut E,
-) -> Result<Vec<u8>, Stop>
-    ensures ok { IfOk result (λ text. ReadsWhole (S.left source.old) (S.left source.new) text.items) }
-    ensures within { IfOk result (λ text. length text.items ≤ MOST_BYTES) }
+) -> Result<Vec<u8>, RunError>
+    ensures ok { IfOk result (λ text. ReadsToEnd (S.left source.old) (S.left source.new) text.items) }
+    ensures within { IfOk result (λ text. length text.items ≤ MAX_BYTES) }
     ensures unfailed { OnOk result (S.failures source.new ≡ S.failures source.old) }
-    ensures tree { result ≢ Err Stop.Tree }
-    ensures large { result ≡ Err Stop.Configuration → (bytes : List ℕ) × Consumes (S.left source.old) (S.left source.new) bytes × (MOST_BYTES < length bytes) }
-    ensures failed { result ≡ Err Stop.Failed → Rises (S.failures source.old) (S.failures source.new) }
+    ensures tree { result ≢ Err RunError.Tree }
+    ensures large { result ≡ Err RunError.Configuration → (bytes : List ℕ) × Consumes (S.left source.old) (S.left source.new) bytes × (MAX_BYTES < length bytes) }
+    ensures failed { result ≡ Err RunError.Failed → Rises (S.failures source.old) (S.failures source.new) }
 {
     let mut text = Vec::new(alloc);
     let mut block = [0; BLOCK];
-    while text.len() <= MOST_BYTES {
+    while text.len() <= MAX_BYTES {
         let Ok(count) = source.read_some(&mut block) else {
-            tell(err, b"bundle:0: Read\n");
-            return Err(Stop::Failed);
+            report(err, b"bundle:0: Read\n");
+            return Err(RunError::Failed);
         };
         if count == 0 {
             return Ok(text);
         }
         text.extend_from_slice(&block[..count])?;
     }
-    tell(err, b"bundle:0: TooLarge\n");
-    Err(Stop::Configuration)
+    report(err, b"bundle:0: TooLarge\n");
+    Err(RunError::Configuration)
 }
 
 /// The parts of a bundle: its tree, and its configuration.

@@ -1,4 +1,4 @@
-//! What is told of a cycle: its place, and the names of its units.
+//! Reports a cycle: its place, and the names of its units.
 ghost use Rattle.std.specs.Prelude.{◌<◌, length};
 
 use crate::output::Console;
@@ -6,8 +6,9 @@ use kc_tree::{Texts, Tree, Unit};
 use kc_value::Sink;
 use std::fmt::Write;
 
-/// Tells a cycle at the place of its first unit: `FILE:LINE: Cycle A B`. A choice stands by its first member, `choice:A`.
-pub(crate) fn tell_cycle<E: Sink>(
+/// Reports a cycle at the place of its first unit: `FILE:LINE: Cycle A B`. A choice is named by its first member,
+/// `choice:A`.
+pub(crate) fn report_cycle<E: Sink>(
     texts: &Texts,
     first: &str,
     tree: &Tree,
@@ -22,7 +23,7 @@ pub(crate) fn tell_cycle<E: Sink>(
     let mut console = Console::new(err);
     let _ = write!(console, "{path}:{line}: Cycle");
     for unit in units {
-        tell_unit(tree, *unit, &mut console);
+        report_unit(tree, *unit, &mut console);
     }
     let _ = writeln!(console);
 }
@@ -45,7 +46,7 @@ fn place_of(tree: &Tree, unit: u32) -> (u32, u32) {
 }
 
 /// Tells the name of a unit.
-fn tell_unit<E: Sink>(tree: &Tree, unit: u32, console: &mut Console<'_, E>) {
+fn report_unit<E: Sink>(tree: &Tree, unit: u32, console: &mut Console<'_, E>) {
     if unit >= tree.len() {
         return;
     }

@@ -1,22 +1,22 @@
 //! What the program does: jobs over files, bundles, answers and statuses.
 #![tactic(auto)]
 
-mod ahead;
 mod bundle;
+mod bundle_answer;
 mod cycles;
 mod files;
-mod gather;
 mod lines;
 mod loading;
-mod memory;
-mod naming;
+mod memory_reader;
 mod output;
-mod packed;
+mod prefetch;
+mod run_error;
 mod running;
 mod serving;
-mod stop;
+mod symbol_lines;
+mod tree_files;
 mod trees;
-mod verbs;
+mod verb_texts;
 
 pub use files::Files;
 pub use running::run;

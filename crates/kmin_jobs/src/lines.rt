@@ -1,11 +1,11 @@
 //! Texts cut into lines.
 ghost use Rattle.std.specs.Prelude.{◌≡◌, ◌<◌, ◌≤◌, ◌++◌, ◌∷◌, [], length, IsTrue, IfSome, IfNone};
 ghost use Rattle.std.specs.List.{list_all, prefix_len};
-ghost use Rattle.kc_dotconfig_model.specs.Files.{file_lines};
+ghost use Rattle.kc_dotconfig_model.specs.ConfigFiles.{file_lines};
 ghost use Rattle.kmin_jobs.specs.Bundles.{BeginsWithLine};
-ghost use Rattle.kmin_jobs.specs.checker.LineEnds.{begins_behind_line, is_inline};
+ghost use Rattle.kmin_jobs.specs.checker.LineEnds.{begins_after_line, is_inline};
 
-/// How many bytes stand before the first newline.
+/// How many bytes there are before the first newline.
 fn line_length(text: &[u8]) -> usize
     ensures run { result ≡ prefix_len is_inline text.now }
     ensures within { result ≤ length text.now }
@@ -23,7 +23,7 @@ fn line_length(text: &[u8]) -> usize
 fn split_line(text: &[u8]) -> (&[u8], &[u8])
     ensures parts { text.now ≡ result.0.now ++ result.1.now }
     ensures run { IsTrue (list_all is_inline result.0.now) }
-    ensures longest { IsTrue (begins_behind_line result.1.now) }
+    ensures longest { IsTrue (begins_after_line result.1.now) }
 {
     text.split_at(line_length(text))
 }

@@ -1,20 +1,20 @@
-//! What is written: an answer, and what is told on standard error.
+//! Writes the answer, and reports on standard error.
 ghost use Rattle.std.specs.Prelude.{◌≡◌, ◌<◌, length, take, IfErr, OnOk};
 ghost use Rattle.std.specs.Io.KnownBytes.{Appends};
-ghost use Rattle.kmin_jobs.specs.Bundled.{Rises};
-ghost use Rattle.kmin_jobs.specs.checker.Stops.{status_of};
+ghost use Rattle.kmin_jobs.specs.BundleAnswers.{Rises};
+ghost use Rattle.kmin_jobs.specs.checker.RunErrors.{status_of};
 
-use crate::stop::Stop;
+use crate::run_error::RunError;
 use kc_minimal::{WriteFault, write_out};
 use kc_value::Sink;
 use std::fmt;
 
 /// Writes a text as far as it goes.
-pub(crate) fn tell<W: Sink>(sink: &mut W, text: &[u8]) {
+pub(crate) fn report<W: Sink>(sink: &mut W, text: &[u8]) {
     let _ = write_out(sink, text);
 }
 
-/// Writes an answer that was made whole. That a write fails is told.
+/// Writes a complete answer. A failed write is reported on standard error.
 pub(crate) fn write_answer<O: Sink, E: Sink>(
     text: &[u8],
     out: &mut O,
@@ -27,17 +27,17 @@ pub(crate) fn write_answer<O: Sink, E: Sink>(
 {
     let written = write_out(out, text);
     if written.is_err() {
-        tell(err, b"output: Write\n");
+        report(err, b"output: Write\n");
     }
     written
 }
 
-/// The exit status of what ended a run. Want of memory, which wasn't told yet, is told.
-pub(crate) fn end_with<E: Sink>(stop: Stop, err: &mut E) -> u8
+/// The exit status of a run that ended early. Out of memory is reported here, the other errors were before.
+pub(crate) fn exit_status<E: Sink>(stop: RunError, err: &mut E) -> u8
     ensures { result ≡ status_of stop }
 {
-    if stop == Stop::Memory {
-        tell(err, b"out of memory\n");
+    if stop == RunError::Memory {
+        report(err, b"out of memory\n");
     }
     stop.status()
 }

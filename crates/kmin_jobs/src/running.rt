@@ -1,23 +1,23 @@
 //! The program: words, a bundle or a job, an answer and a status.
 ghost use Rattle.std.specs.Prelude.{◌≡◌, ◌≢◌, ◌<◌, ◌≤◌, ◌⊎◌, [], List, ℕ, length};
 ghost use Rattle.std.specs.Io.KnownBytes.{Appends, Consumes};
-ghost use Rattle.kmin_jobs.specs.Bundles.{ReadsWhole};
-ghost use Rattle.kmin_jobs.specs.Bundled.{AnswersBundle, RefusesConfiguration, RefusesTree, Rises, WritesPart};
+ghost use Rattle.kmin_jobs.specs.Bundles.{ReadsToEnd};
+ghost use Rattle.kmin_jobs.specs.BundleAnswers.{AnswersBundle, RefusesConfiguration, RefusesTree, Rises, WritesPart};
 
+use crate::bundle_answer::run_bundle;
 use crate::files::Files;
-use crate::output::{end_with, tell, write_answer};
-use crate::packed::run_bundle;
+use crate::output::{exit_status, report, write_answer};
+use crate::run_error::RunError;
 use crate::serving::serve;
-use crate::stop::Stop;
 use kc_value::{Sink, Source};
-use kmin_words::{Words, read_words};
+use kmin_words::{ParsedWords, read_words};
 use std::alloc::Global;
 
 /// Runs the program on its words, the files, a reader and two writers, and answers the exit status.
 ///
 /// Without words it reads a bundle, a Kconfig tree, a line `%%` and a configuration file, and writes the full file. Else
 /// the words are a command. Statuses: 0 done, 1 a comparison found differences, 2 words refused, 3 tree refused, 4
-/// configuration refused or bundle too large, 5 a read or write failed, 6 want of memory.
+/// configuration refused or bundle too large, 5 a read or write failed, 6 out of memory.
 pub fn run<F: Files, I: Source, O: Sink, E: Sink>(
     alloc: Global,
     words: &[&str],
@@ -30,11 +30,11 @@ pub fn run<F: Files, I: Source, O: Sink, E: Sink>(
     ensures others { words.now ≡ [] → (result ≢ 1) × (result ≢ 2) }
 
     // Without words, status 0: it read a bundle of the size that is allowed to its end, wrote its full file and nothing else, and no read or write failed.
-    ensures done { words.now ≡ [] → result ≡ 0 → (bundle text : List ℕ) × ReadsWhole (I.left input.old) (I.left input.new) bundle × (length bundle ≤ 67108864) × AnswersBundle bundle text × Appends (O.taken out.old) (O.taken out.new) text }
+    ensures done { words.now ≡ [] → result ≡ 0 → (bundle text : List ℕ) × ReadsToEnd (I.left input.old) (I.left input.new) bundle × (length bundle ≤ 67108864) × AnswersBundle bundle text × Appends (O.taken out.old) (O.taken out.new) text }
     ensures unfailed { words.now ≡ [] → result ≡ 0 → (I.failures input.new ≡ I.failures input.old) × (O.failures out.new ≡ O.failures out.old) }
 
-    ensures tree { words.now ≡ [] → result ≡ 3 → (bundle : List ℕ) × ReadsWhole (I.left input.old) (I.left input.new) bundle × RefusesTree bundle }
-    ensures large_or_configuration { words.now ≡ [] → result ≡ 4 → (bundle : List ℕ) × ((Consumes (I.left input.old) (I.left input.new) bundle × (67108864 < length bundle)) ⊎ (ReadsWhole (I.left input.old) (I.left input.new) bundle × RefusesConfiguration bundle)) }
+    ensures tree { words.now ≡ [] → result ≡ 3 → (bundle : List ℕ) × ReadsToEnd (I.left input.old) (I.left input.new) bundle × RefusesTree bundle }
+    ensures large_or_configuration { words.now ≡ [] → result ≡ 4 → (bundle : List ℕ) × ((Consumes (I.left input.old) (I.left input.new) bundle × (67108864 < length bundle)) ⊎ (ReadsToEnd (I.left input.old) (I.left input.new) bundle × RefusesConfiguration bundle)) }
     ensures failed { words.now ≡ [] → result ≡ 5 → Rises (I.failures input.old) (I.failures input.new) ⊎ Rises (O.failures out.old) (O.failures out.new) }
     // On status 5 the writer took the first bytes of the full file, or nothing.
     ensures part { words.now ≡ [] → result ≡ 5 → (O.taken out.new ≡ O.taken out.old) ⊎ WritesPart (I.left input.old) (I.left input.new) (O.taken out.old) (O.taken out.new) }
@@ -43,26 +43,26 @@ pub fn run<F: Files, I: Source, O: Sink, E: Sink>(
     if words.is_empty() {
         return match run_bundle(alloc, files.seed(), input, out, err) {
             Ok(()) => 0,
-            Err(stop) => end_with(stop, err),
+            Err(stop) => exit_status(stop, err),
         };
     }
     match read_words(alloc, words) {
-        Ok(Words::Job(job)) => serve(alloc, &job, files, out, err),
-        Ok(Words::Help(text)) => tell_help(&text, out, err),
-        Ok(Words::Refused(text)) => {
-            tell(err, text.as_bytes());
+        Ok(ParsedWords::Job(job)) => serve(alloc, &job, files, out, err),
+        Ok(ParsedWords::Help(text)) => write_help(&text, out, err),
+        Ok(ParsedWords::Refused(text)) => {
+            report(err, text.as_bytes());
             2
         }
-        Err(_) => end_with(Stop::Memory, err),
+        Err(_) => exit_status(RunError::Memory, err),
     }
 }
 
 /// Writes help that was asked for.
-fn tell_help<O: Sink, E: Sink>(text: &str, out: &mut O, err: &mut E) -> u8
+fn write_help<O: Sink, E: Sink>(text: &str, out: &mut O, err: &mut E) -> u8
     ensures { (result ≡ 0) ⊎ (result ≡ 5) }
 {
     match write_answer(text.as_bytes(), out, err) {
         Ok(()) => 0,
-        Err(_) => Stop::Failed.status(),
+        Err(_) => RunError::Failed.status(),
     }
 }

@@ -1,10 +1,10 @@
 //! The commands as `clap` reads them.
-use crate::texts;
+use crate::help_texts;
 use clap::{Arg, ArgAction, Command};
 use std::alloc::{AllocError, Global};
 
-/// A command's name, and what is told of it: in a line, at length, and behind its options.
-struct Told {
+/// A command's name and its help: one line, the long text, and the text after its options.
+struct CommandHelp {
     name: &'static str,
     about: &'static str,
     long: &'static str,
@@ -12,43 +12,43 @@ struct Told {
 }
 
 /// The commands over any number of files.
-static OVER_FILES: [Told; 4] = [
-    Told {
+static OVER_FILES: [CommandHelp; 4] = [
+    CommandHelp {
         name: "min",
-        about: texts::MIN,
-        long: texts::MIN_LONG,
-        after: texts::MIN_AFTER,
+        about: help_texts::MIN,
+        long: help_texts::MIN_LONG,
+        after: help_texts::MIN_AFTER,
     },
-    Told {
+    CommandHelp {
         name: "full",
-        about: texts::FULL,
-        long: texts::FULL_LONG,
-        after: texts::FULL_AFTER,
+        about: help_texts::FULL,
+        long: help_texts::FULL_LONG,
+        after: help_texts::FULL_AFTER,
     },
-    Told {
+    CommandHelp {
         name: "missed",
-        about: texts::MISSED,
-        long: texts::MISSED_LONG,
-        after: texts::MISSED_AFTER,
+        about: help_texts::MISSED,
+        long: help_texts::MISSED_LONG,
+        after: help_texts::MISSED_AFTER,
     },
-    Told {
+    CommandHelp {
         name: "check",
-        about: texts::CHECK,
-        long: texts::CHECK_LONG,
-        after: texts::CHECK_AFTER,
+        about: help_texts::CHECK,
+        long: help_texts::CHECK_LONG,
+        after: help_texts::CHECK_AFTER,
     },
 ];
 
 /// The command over two files.
-static COMPARE: Told = Told {
+static COMPARE: CommandHelp = CommandHelp {
     name: "compare",
-    about: texts::COMPARE,
-    long: texts::COMPARE_LONG,
-    after: texts::COMPARE_AFTER,
+    about: help_texts::COMPARE,
+    long: help_texts::COMPARE_LONG,
+    after: help_texts::COMPARE_AFTER,
 };
 
 /// An option's name and the name of its value, what the value is without it, and its help.
-struct Valued {
+struct OptionHelp {
     name: &'static str,
     value: &'static str,
     default: &'static str,
@@ -56,33 +56,33 @@ struct Valued {
 }
 
 /// The options that take any value.
-static FREE: [Valued; 3] = [
-    Valued {
+static FREE: [OptionHelp; 3] = [
+    OptionHelp {
         name: "root",
         value: "DIR",
         default: ".",
-        help: texts::ROOT,
+        help: help_texts::ROOT,
     },
-    Valued {
+    OptionHelp {
         name: "tree",
         value: "PATH",
         default: "Kconfig",
-        help: texts::TREE,
+        help: help_texts::TREE,
     },
-    Valued {
+    OptionHelp {
         name: "prefix",
         value: "TEXT",
         default: "CONFIG_",
-        help: texts::PREFIX,
+        help: help_texts::PREFIX,
     },
 ];
 
 /// The option with few values.
-static IMPLY: Valued = Valued {
+static IMPLY: OptionHelp = OptionHelp {
     name: "imply",
     value: "PROFILE",
     default: "present",
-    help: texts::IMPLY,
+    help: help_texts::IMPLY,
 };
 
 /// The values of `--imply`.
@@ -117,16 +117,16 @@ fn named<'a>(alloc: Global) -> Result<Command<'a>, AllocError> {
 /// The program with its own help.
 fn helped(program: Command<'_>) -> Command<'_> {
     program
-        .version(texts::VERSION)
-        .about(texts::ABOUT)
-        .after_help(texts::AFTER)
-        .after_long_help(texts::AFTER_LONG)
-        .override_usage(texts::USAGE)
+        .version(help_texts::VERSION)
+        .about(help_texts::ABOUT)
+        .after_help(help_texts::AFTER)
+        .after_long_help(help_texts::AFTER_LONG)
+        .override_usage(help_texts::USAGE)
 }
 
 /// A command over any number of files.
-fn over_files<'a>(alloc: Global, told: &Told) -> Result<Command<'a>, AllocError> {
-    with_options(alloc, told)?.arg(any_number(alloc, "FILE", texts::FILES))
+fn over_files<'a>(alloc: Global, told: &CommandHelp) -> Result<Command<'a>, AllocError> {
+    with_options(alloc, told)?.arg(any_number(alloc, "FILE", help_texts::FILES))
 }
 
 /// A word that may be given any number of times.
@@ -138,10 +138,10 @@ fn any_number<'a>(alloc: Global, name: &'a str, help: &'a str) -> Arg<'a> {
 }
 
 /// A command over two files, each of which has to be given.
-fn over_two_files<'a>(alloc: Global, told: &Told) -> Result<Command<'a>, AllocError> {
+fn over_two_files<'a>(alloc: Global, told: &CommandHelp) -> Result<Command<'a>, AllocError> {
     let command = with_options(alloc, told)?;
-    let command = command.arg(required(alloc, "LEFT", texts::LEFT))?;
-    command.arg(required(alloc, "RIGHT", texts::RIGHT))
+    let command = command.arg(required(alloc, "LEFT", help_texts::LEFT))?;
+    command.arg(required(alloc, "RIGHT", help_texts::RIGHT))
 }
 
 /// A word that has to be given.
@@ -150,7 +150,7 @@ fn required<'a>(alloc: Global, name: &'a str, help: &'a str) -> Arg<'a> {
 }
 
 /// A command with the options that all have.
-fn with_options<'a>(alloc: Global, told: &Told) -> Result<Command<'a>, AllocError> {
+fn with_options<'a>(alloc: Global, told: &CommandHelp) -> Result<Command<'a>, AllocError> {
     let mut command = described(alloc, told);
     for valued in &FREE {
         command = command.arg(option(alloc, valued))?;
@@ -161,12 +161,12 @@ fn with_options<'a>(alloc: Global, told: &Told) -> Result<Command<'a>, AllocErro
 /// The option that takes one of few values.
 fn imply<'a>(alloc: Global) -> Arg<'a> {
     option(alloc, &IMPLY)
-        .long_help(texts::IMPLY_LONG)
+        .long_help(help_texts::IMPLY_LONG)
         .value_parser(PROFILES.as_slice())
 }
 
 /// A command with its own help.
-fn described<'a>(alloc: Global, told: &Told) -> Command<'a> {
+fn described<'a>(alloc: Global, told: &CommandHelp) -> Command<'a> {
     Command::new(alloc, told.name)
         .about(told.about)
         .long_about(told.long)
@@ -174,7 +174,7 @@ fn described<'a>(alloc: Global, told: &Told) -> Command<'a> {
 }
 
 /// An option with a value.
-fn option<'a>(alloc: Global, valued: &Valued) -> Arg<'a> {
+fn option<'a>(alloc: Global, valued: &OptionHelp) -> Arg<'a> {
     Arg::new(alloc, valued.name)
         .long(valued.name)
         .value_name(valued.value)

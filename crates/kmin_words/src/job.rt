@@ -1,4 +1,4 @@
-//! What a command asks for.
+//! Jobs: what a command asks for.
 use kc_dotconfig_model::Prefix;
 use kc_rules_model::Profile;
 

@@ -1,4 +1,4 @@
--- What a configuration keeps beside what it holds.
+-- The invariant of a configuration.
 use Rattle.std.specs.Prelude.{◌≡◌, ℕ, zero, suc, ◌+◌, ◌<◌, slice_index, List, Option, Some, None, length, map, Contains}
 use Rattle.kc_system.specs.Solutions.{user_of}
 use Rattle.kc_rules_model.specs.declared.values.UserValue.{UserValue}
@@ -9,7 +9,7 @@ use Rattle.kc_dotconfig.specs.Configured.{Configured, tree_in, IsSolved}
 abbrev pub units_of : List (ℕ × UserValue) → List ℕ
 units_of assigns = map (λ (a : ℕ × UserValue). a.0) assigns
 
--- the least unit that may stand at a place of ascending units
+-- the least unit that ascending units can have at an index
 abbrev pub next_at : List ℕ → ℕ → ℕ
 next_at units zero = 0
 next_at units (suc k) = slice_index units k + 1
@@ -18,8 +18,8 @@ next_at units (suc k) = slice_index units k + 1
 abbrev pub clears_of : List ℕ → List (ℕ × Option UserValue)
 clears_of units = map (λ (u : ℕ). (u, None)) units
 
--- the tree that it tells is that of its session, and each unit with a user value is among the units kept
-pub record IsKept (settled : Settled) (c : Configured) (held : List ℕ) : Type 0 where
+-- its tree is that of its session, and each unit with a user value is in its list
+pub record IsSoundConfig (settled : Settled) (c : Configured) (held : List ℕ) : Type 0 where
   pub same : c.system ≡ settled
   pub solved : IsSolved c
   pub covers : (u : ℕ) (x : UserValue) → user_of c.users u ≡ Some x → Contains held u

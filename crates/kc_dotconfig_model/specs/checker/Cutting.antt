@@ -1,31 +1,31 @@
--- What is known of a configuration file of which a part was told.
+-- A configuration file of which a part is known.
 use Rattle.std.specs.Prelude.{◌≡◌, ◌⊎◌, ℕ, ◌<◌, ◌≤◌, List, [], ◌∷◌, ◌++◌, length, true}
 use Rattle.std.specs.List.{AllZip}
 use Rattle.std.specs.Str.{IsUtf8}
-use Rattle.kc_tree_model.specs.Trees.{Whole}
-use Rattle.kc_dotconfig_model.specs.Names.{lacks}
-use Rattle.kc_dotconfig_model.specs.Lines.{Saying, Says, without_white_end}
-use Rattle.kc_dotconfig_model.specs.Files.{file_lines}
-use Rattle.kc_dotconfig_model.specs.LoadFaults.{MOST_BYTES, MOST_LINES, MOST_LINE_BYTES}
+use Rattle.kc_tree_model.specs.Trees.{Tree}
+use Rattle.kc_dotconfig_model.specs.PrefixGrammar.{lacks}
+use Rattle.kc_dotconfig_model.specs.ConfigLines.{LineMeaning, Means, without_white_end}
+use Rattle.kc_dotconfig_model.specs.ConfigFiles.{file_lines}
+use Rattle.kc_dotconfig_model.specs.LoadFaults.{MAX_BYTES, MAX_LINES, MAX_LINE_BYTES}
 
--- a line without a fault of its own, and what it says
-pub record IsSound (prefix : List ℕ) (tree : Whole) (line : List ℕ) (saying : Saying) : Type 0 where
+-- a line without a fault of its own, and its meaning
+pub record IsSound (prefix : List ℕ) (tree : Tree) (line : List ℕ) (saying : LineMeaning) : Type 0 where
   pub text : IsUtf8 line
-  pub short : length line ≤ MOST_LINE_BYTES
-  pub says : Says prefix tree (without_white_end line) saying
+  pub short : length line ≤ MAX_LINE_BYTES
+  pub says : Means prefix tree (without_white_end line) saying
 
 -- no bytes, or bytes that end with a newline
 abbrev pub IsEnded : List ℕ → Type 0
 IsEnded front = (front ≡ []) ⊎ ((earlier : List ℕ) × (front ≡ earlier ++ 10 ∷ []))
 
 -- a part of a file: complete lines, each without a fault, and the line so far, within all limits
-pub record IsCut (prefix : List ℕ) (tree : Whole) (told line : List ℕ) (sayings : List Saying) : Type 0 where
+pub record IsCut (prefix : List ℕ) (tree : Tree) (told line : List ℕ) (sayings : List LineMeaning) : Type 0 where
   pub front : List ℕ
   pub whole : told ≡ front ++ line
   pub ended : IsEnded front
   pub one_line : lacks 10 line ≡ true
   pub sound : AllZip (IsSound prefix tree) (file_lines front) sayings
-  pub few : length sayings ≤ MOST_LINES
-  pub room : 0 < length line → length sayings < MOST_LINES
-  pub small : length told ≤ MOST_BYTES
-  pub short : length line ≤ MOST_LINE_BYTES
+  pub few : length sayings ≤ MAX_LINES
+  pub room : 0 < length line → length sayings < MAX_LINES
+  pub small : length told ≤ MAX_BYTES
+  pub short : length line ≤ MAX_LINE_BYTES

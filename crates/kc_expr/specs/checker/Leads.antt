@@ -1,10 +1,10 @@
--- Where what stands at the front of bytes ends.
+-- The end of the token at the front of bytes.
 use Rattle.std.specs.Prelude.{ℕ, ◌-◌, ◌<◌, ◌≤◌, List, length, slice_index}
-use Rattle.kc_expr.specs.declared.token.Lead.{Lead}
-use Rattle.kc_expr.specs.declared.token.Lead.TheVariants.{White, Comment, Token, Fault}
+use Rattle.kc_expr.specs.declared.token.NextToken.{NextToken}
+use Rattle.kc_expr.specs.declared.token.NextToken.TheVariants.{White, Comment, Token, Fault}
 
--- a token is of bytes that are there and ends behind an ASCII byte; a fault stands at a byte that is there
-abbrev pub Reaches : List ℕ → Lead → Type 0
+-- a token is of bytes that are there and ends after an ASCII byte; a fault stands at a byte that is there
+abbrev pub Reaches : List ℕ → NextToken → Type 0
 Reaches bytes White = slice_index bytes 0 < 128
 Reaches bytes Comment = Unit {0}
 Reaches bytes (Token kind len) = (0 < len) × (len ≤ length bytes) × (slice_index bytes (len - 1) < 128)

@@ -1,4 +1,4 @@
--- The expressions for which nodes stand.
+-- The expressions that nodes represent.
 use Rattle.std.specs.Prelude.{ℕ, ◌<◌, List, [], ◌∷◌, ◌++◌, length, slice_index_or}
 use Rattle.kc_value.specs.declared.tri.Tri.TheVariants.{N}
 use Rattle.kc_expr.specs.Expr.{Expr, Operand, alone, related, negated, both, either, shown, constant, named, quoted}
@@ -24,7 +24,7 @@ expr_of names texts es (Both i j) = both (at es i) (at es j)
 expr_of names texts es (Either i j) = either (at es i) (at es j)
 expr_of names texts es (Shown i) = shown (at es i)
 
--- the expressions of nodes behind others
+-- the expressions of nodes after others
 abbrev pub exprs_after : List (List ℕ) → List (List ℕ) → List Expr → List Node → List Expr
 exprs_after names texts es [] = es
 exprs_after names texts es (n ∷ ns) = exprs_after names texts (es ++ expr_of names texts es n ∷ []) ns

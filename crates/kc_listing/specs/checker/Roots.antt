@@ -1,16 +1,16 @@
 -- What the reading of the first file answers.
 use Rattle.std.specs.Prelude.{◌≡◌, ◌⊎◌, [], Option, Some}
 use Rattle.kc_tree_model.specs.declared.fault.TreeFault.{TreeFault}
-use Rattle.kc_tree_model.specs.Limits.{Origin, most_open_files}
+use Rattle.kc_tree_model.specs.Limits.{FileSource, max_open_files}
 use Rattle.kc_tree_model.specs.Reading.{Outcome, read_file}
 use Rattle.kc_listing.specs.declared.listing.Listing.{Listing}
-use Rattle.kc_listing.specs.Shown.{Shows}
-use Rattle.kc_listing.specs.Told.{no_memory}
+use Rattle.kc_listing.specs.ListingView.{RepresentsListing}
+use Rattle.kc_listing.specs.MemoryFaults.{no_memory}
 
 -- all that was read, and the fault that ended it, unless memory ran out
 abbrev pub OutcomeRead : Outcome → Listing × Option TreeFault → Type 0
-OutcomeRead o result = (result.1 ≡ Some no_memory) ⊎ ((result.1 ≡ o.fault) × Shows result.0 o.read)
+OutcomeRead o result = (result.1 ≡ Some no_memory) ⊎ ((result.1 ≡ o.fault) × RepresentsListing result.0 o.read)
 
 -- the reading of the first file
-unfoldable pub of_first : Origin → Outcome
-of_first r = read_file most_open_files r r.root []
+unfoldable pub of_first : FileSource → Outcome
+of_first r = read_file max_open_files r r.root []

@@ -1,13 +1,13 @@
 -- A full file of which a part is written.
 use Rattle.std.specs.Prelude.{◌≡◌, ℕ, ◌<◌, false, List, ◌++◌, length, nat_eq, slice_index_or}
 use Rattle.std.specs.List.{list_any}
-use Rattle.kc_tree_model.specs.Trees.{Whole, Entry}
+use Rattle.kc_tree_model.specs.Trees.{Tree, Entry}
 use Rattle.kc_rules_model.specs.declared.values.UnitValue.{UnitValue}
-use Rattle.kc_minimal_model.specs.FullFile.{pieces, full_file}
+use Rattle.kc_minimal_model.specs.FullFile.{entry_texts, full_file}
 use Rattle.kc_minimal.specs.declared.full.Draft.{Draft}
 
 -- what was written and what these entries write is the full file, and the symbols that were defined are marked
-pub record IsDraft (prefix : List ℕ) (tree : Whole) (values : List UnitValue) (left : List Entry) (draft : Draft) : Type 0 where
+pub record IsDraft (prefix : List ℕ) (tree : Tree) (values : List UnitValue) (left : List Entry) (draft : Draft) : Type 0 where
   pub seen : List ℕ
   pub marked : (s : ℕ) → s < length tree.symbols → slice_index_or draft.defined.items s false ≡ list_any (nat_eq s) seen
-  pub whole : draft.text.items ++ pieces prefix tree values seen draft.gap left ≡ full_file prefix tree values
+  pub whole : draft.text.items ++ entry_texts prefix tree values seen draft.gap left ≡ full_file prefix tree values

@@ -3,22 +3,22 @@ use Rattle.std.specs.Prelude.{◌≡◌, ℕ, ◌+◌, ◌-◌, ◌<◌, ◌≤�
 use Rattle.std.specs.List.{list_any}
 use Rattle.std.specs.Option.{option_map}
 use Rattle.kc_value.specs.declared.value.Kind.{Kind}
-use Rattle.kc_expr.specs.Arena.{Exprs, stands_for}
-use Rattle.kc_expr.specs.Walked.{mentions}
+use Rattle.kc_expr.specs.Arena.{Exprs, node_expr}
+use Rattle.kc_expr.specs.Visits.{mentions}
 use Rattle.kc_tree.specs.declared.symbol.Default.{Default as KeptDefault}
 use Rattle.kc_tree.specs.declared.symbol.Range.{Range as KeptRange}
-use Rattle.kc_tree.specs.declared.symbol.Force.{Force as KeptForce}
+use Rattle.kc_tree.specs.declared.symbol.ReverseDependency.{ReverseDependency as KeptForce}
 use Rattle.kc_tree.specs.declared.symbol.Symbol.{Symbol as KeptSymbol}
 use Rattle.kc_tree.specs.declared.symbol.Choice.{Choice as KeptChoice}
 use Rattle.kc_tree.specs.declared.symbol.MemberDefault.{MemberDefault as KeptMemberDefault}
-use Rattle.kc_tree_model.specs.Trees.{Whole}
+use Rattle.kc_tree_model.specs.Trees.{Tree}
 use Rattle.kc_tree_model.specs.TreeLookup.{unit_of, symbol_named}
-use Rattle.kc_rules_model.specs.Dependencies.{dependencies, prompts_at}
+use Rattle.kc_rules_model.specs.Dependencies.{dependencies, names_in_member_prompts}
 use Rattle.kc_rules_model.specs.Kinds.{is_tristate}
 
--- those of the units below this one stand from their place in `starts` to that of the next unit, and nothing behind
+-- those of the units below this one stand from their place in `starts` to that of the next unit, and nothing after
 -- them
-pub record LinksBelow (tree : Whole) (unit : ℕ) (starts links : List ℕ) : Type 0 where
+pub record LinksBelow (tree : Tree) (unit : ℕ) (starts links : List ℕ) : Type 0 where
   pub places : length starts ≡ unit + 1
   pub last : slice_index starts unit ≡ length links
   pub rises : (u : ℕ) → u < unit → slice_index starts u ≤ slice_index starts (u + 1)
@@ -26,11 +26,11 @@ pub record LinksBelow (tree : Whole) (unit : ℕ) (starts links : List ℕ) : Ty
   pub rows : (u : ℕ) → u < unit → take (slice_index starts (u + 1) - slice_index starts u) (drop (slice_index starts u) links) ≡ dependencies tree u
 
 -- those of all units
-abbrev pub AreLinks : Whole → List ℕ → List ℕ → Type 0
+abbrev pub AreLinks : Tree → List ℕ → List ℕ → Type 0
 AreLinks tree starts links = LinksBelow tree (length tree.units) starts links
 
 -- numbers of units
-abbrev pub AreUnits : Whole → List ℕ → Type 0
+abbrev pub AreUnits : Tree → List ℕ → Type 0
 AreUnits tree units = All (λ u. u < length tree.units) units
 
 -- whether some number is this one
@@ -42,44 +42,44 @@ is_at d None = false
 is_at d (Some u) = u == d
 
 -- whether a name is that of a symbol of unit d
-abbrev pub is_of : Whole → ℕ → List ℕ → Bool
+abbrev pub is_of : Tree → ℕ → List ℕ → Bool
 is_of tree d name = is_at d (option_map (unit_of tree) (symbol_named tree name))
 
 -- whether the test passes a name in some expressions, defaults, ranges, conditions of selects and implies
 abbrev pub in_exprs : Exprs → (List ℕ → Bool) → List ℕ → Bool
-in_exprs exprs p ids = list_any (λ i. mentions p (stands_for exprs i)) ids
+in_exprs exprs p ids = list_any (λ i. mentions p (node_expr exprs i)) ids
 
 abbrev pub in_defaults : Exprs → (List ℕ → Bool) → List KeptDefault → Bool
-in_defaults exprs p ds = list_any (λ (d : KeptDefault). mentions p (stands_for exprs d.value) || mentions p (stands_for exprs d.condition)) ds
+in_defaults exprs p ds = list_any (λ (d : KeptDefault). mentions p (node_expr exprs d.value) || mentions p (node_expr exprs d.condition)) ds
 
 abbrev pub in_ranges : Exprs → (List ℕ → Bool) → List KeptRange → Bool
-in_ranges exprs p rs = list_any (λ (r : KeptRange). mentions p (stands_for exprs r.low) || mentions p (stands_for exprs r.high) || mentions p (stands_for exprs r.condition)) rs
+in_ranges exprs p rs = list_any (λ (r : KeptRange). mentions p (node_expr exprs r.low) || mentions p (node_expr exprs r.high) || mentions p (node_expr exprs r.condition)) rs
 
-abbrev pub in_forces : Exprs → (List ℕ → Bool) → List KeptForce → Bool
-in_forces exprs p fs = list_any (λ (f : KeptForce). mentions p (stands_for exprs f.condition)) fs
+abbrev pub in_reverse_dependencies : Exprs → (List ℕ → Bool) → List KeptForce → Bool
+in_reverse_dependencies exprs p fs = list_any (λ (f : KeptForce). mentions p (node_expr exprs f.condition)) fs
 
 -- the same of all names of a symbol
 abbrev pub in_symbol : Exprs → (List ℕ → Bool) → KeptSymbol → Bool
-in_symbol exprs p k = in_exprs exprs p k.prompts.now || in_defaults exprs p k.defaults.now || in_ranges exprs p k.ranges.now || in_exprs exprs p k.direct.now || in_forces exprs p k.selectors.now || in_forces exprs p k.impliers.now
+in_symbol exprs p k = in_exprs exprs p k.prompts.now || in_defaults exprs p k.defaults.now || in_ranges exprs p k.ranges.now || in_exprs exprs p k.direct.now || in_reverse_dependencies exprs p k.selectors.now || in_reverse_dependencies exprs p k.impliers.now
 
 -- the same of a choice's defaults, its members' prompts, all of its names
-abbrev pub in_member_defaults : Whole → Exprs → (List ℕ → Bool) → List KeptMemberDefault → Bool
-in_member_defaults tree exprs p ds = list_any (λ (d : KeptMemberDefault). mentions p (stands_for exprs d.condition) || list_any p (prompts_at tree d.member)) ds
+abbrev pub in_member_defaults : Tree → Exprs → (List ℕ → Bool) → List KeptMemberDefault → Bool
+in_member_defaults tree exprs p ds = list_any (λ (d : KeptMemberDefault). mentions p (node_expr exprs d.condition) || list_any p (names_in_member_prompts tree d.member)) ds
 
-abbrev pub in_members : Whole → (List ℕ → Bool) → List ℕ → Bool
-in_members tree p ms = list_any (λ s. list_any p (prompts_at tree s)) ms
+abbrev pub in_members : Tree → (List ℕ → Bool) → List ℕ → Bool
+in_members tree p ms = list_any (λ s. list_any p (names_in_member_prompts tree s)) ms
 
 abbrev pub in_prompt : Exprs → (List ℕ → Bool) → Option ℕ → Bool
 in_prompt exprs p None = false
-in_prompt exprs p (Some i) = mentions p (stands_for exprs i)
+in_prompt exprs p (Some i) = mentions p (node_expr exprs i)
 
-abbrev pub in_choice : Whole → Exprs → (List ℕ → Bool) → KeptChoice → Bool
+abbrev pub in_choice : Tree → Exprs → (List ℕ → Bool) → KeptChoice → Bool
 in_choice tree exprs p k = in_prompt exprs p k.prompt || in_member_defaults tree exprs p k.defaults.now || in_members tree p k.members.now
 
 -- whether one of the symbols that select or imply is of unit d
-abbrev pub forced_by : Whole → ℕ → List KeptForce → Bool
-forced_by tree d fs = list_any (λ (f : KeptForce). unit_of tree f.by == d) fs
+abbrev pub depends_on_reverse : Tree → ℕ → List KeptForce → Bool
+depends_on_reverse tree d fs = list_any (λ (f : KeptForce). unit_of tree f.by == d) fs
 
 -- whether unit d is that of `MODULES`, for a tristate
-abbrev pub by_modules : Whole → ℕ → Kind → Option ℕ → Bool
+abbrev pub by_modules : Tree → ℕ → Kind → Option ℕ → Bool
 by_modules tree d kind modules = is_tristate kind && is_at d (option_map (unit_of tree) modules)

@@ -1,8 +1,8 @@
 -- The symbol `MODULES`.
 use Rattle.std.specs.Prelude.{ℕ, Option}
 use Rattle.kc_expr.specs.Expr.{modules}
-use Rattle.kc_tree_model.specs.Trees.{Whole}
+use Rattle.kc_tree_model.specs.Trees.{Tree}
 use Rattle.kc_tree_model.specs.TreeLookup.{symbol_named}
 
-abbrev pub modules_symbol : Whole → Option ℕ
+abbrev pub modules_symbol : Tree → Option ℕ
 modules_symbol tree = symbol_named tree modules

@@ -2,17 +2,17 @@
 use Rattle.std.specs.Prelude.{not, List, Option, find, if◌then◌else◌}
 use Rattle.kc_value.specs.declared.tri.Tri.{Tri}
 use Rattle.kc_value.specs.Tri.{tri_or}
-use Rattle.kc_tree_model.specs.Trees.{Whole, Symbol, Default}
+use Rattle.kc_tree_model.specs.Trees.{Tree, Symbol, Default}
 use Rattle.kc_rules_model.specs.declared.profile.Profile.{Profile}
 use Rattle.kc_rules_model.specs.declared.values.UnitValue.{UnitValue}
 use Rattle.kc_rules_model.specs.Kinds.{is_n, y_for_m}
 use Rattle.kc_rules_model.specs.Rule.{base, promoted, selected, leaves_no_m}
 use Rattle.kc_rules_model.specs.SymbolValues.{condition}
 
-abbrev pub active_default_of : Whole → List UnitValue → List Default → Option Default
+abbrev pub active_default_of : Tree → List UnitValue → List Default → Option Default
 active_default_of tree values defaults = find (λ (d : Default). not (is_n (condition tree values d.condition))) defaults
 
-abbrev pub tri_rule_of : Profile → Whole → List UnitValue → Symbol → Option Tri → Tri
+abbrev pub tri_rule_of : Profile → Tree → List UnitValue → Symbol → Option Tri → Tri
 tri_rule_of profile tree values symbol user =
     let t = promoted tree values symbol.kind (tri_or (base profile tree values symbol user) (selected tree values symbol)) in
     if leaves_no_m profile tree values symbol then y_for_m t else t

@@ -5,7 +5,7 @@ use Rattle.kc_value.specs.declared.value.Kind.{Kind}
 use Rattle.kc_value.specs.declared.value.Kind.TheVariants.{Bool as Boolean, Tristate, Text, Int, Hex}
 use Rattle.kc_value.specs.Number.{number_of_text}
 use Rattle.kc_expr.specs.Expr.{Expr}
-use Rattle.kc_tree_model.specs.Trees.{Whole, Symbol, Default, Range}
+use Rattle.kc_tree_model.specs.Trees.{Tree, Symbol, Default, Range}
 use Rattle.kc_rules_model.specs.declared.values.UnitValue.{UnitValue}
 use Rattle.kc_rules_model.specs.Kinds.{is_n}
 use Rattle.kc_rules_model.specs.SymbolValues.{condition}
@@ -20,19 +20,19 @@ IsNumber Boolean = ⊥
 IsNumber Tristate = ⊥
 IsNumber Text = ⊥
 
-abbrev pub active_value_of : Whole → List UnitValue → List Default → Option Expr
+abbrev pub active_value_of : Tree → List UnitValue → List Default → Option Expr
 active_value_of tree values defaults = option_map (λ (d : Default). d.value) (active_default_of tree values defaults)
 
-abbrev pub active_range_of : Whole → List UnitValue → List Range → Option Range
+abbrev pub active_range_of : Tree → List UnitValue → List Range → Option Range
 active_range_of tree values ranges = find (λ (r : Range). not (is_n (condition tree values r.condition))) ranges
 
-abbrev pub visible_text_of : Whole → List UnitValue → Symbol → Option (List ℕ) → Option (List ℕ)
+abbrev pub visible_text_of : Tree → List UnitValue → Symbol → Option (List ℕ) → Option (List ℕ)
 visible_text_of tree values symbol user = if is_visible tree values symbol then user else None
 
-abbrev pub string_rule_of : Whole → List UnitValue → Symbol → Option (List ℕ) → List ℕ
+abbrev pub string_rule_of : Tree → List UnitValue → Symbol → Option (List ℕ) → List ℕ
 string_rule_of tree values symbol user = unwrap_or (visible_text_of tree values symbol user) (default_text tree values symbol)
 
-abbrev pub number_rule_of : Whole → List UnitValue → Symbol → Option (List ℕ) → List ℕ
+abbrev pub number_rule_of : Tree → List UnitValue → Symbol → Option (List ℕ) → List ℕ
 number_rule_of tree values symbol user =
     let range = active_range tree values symbol in
     let number : List ℕ → ℤ = λ text. unwrap_or (number_of_text symbol.kind text) (pos 0) in

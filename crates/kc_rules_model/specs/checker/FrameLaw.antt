@@ -9,9 +9,9 @@ use Rattle.kc_value.specs.declared.tri.Tri.TheVariants.{N, M, Y}
 use Rattle.kc_value.specs.declared.value.Kind.{Kind}
 use Rattle.kc_value.specs.declared.value.Kind.TheVariants.{Bool as Boolean, Tristate, Text, Int, Hex}
 use Rattle.kc_value.specs.Tri.{tri_and, tri_or}
-use Rattle.kc_expr.specs.Expr.{Expr, alone, related, negated, both, either, shown, operand_text, tri_seen, modules}
-use Rattle.kc_tree_model.specs.Trees.{Whole, Symbol, Choice, Default, Range, Force, MemberDefault, TreeUnit, of_symbol, of_choice}
-use Rattle.kc_tree_model.specs.TreeLookup.{unit_of, unit_of_symbol, unit_in, place_of_unit, symbol_named}
+use Rattle.kc_expr.specs.Expr.{Expr, alone, related, negated, both, either, shown, operand_text, symbol_tri, modules}
+use Rattle.kc_tree_model.specs.Trees.{Tree, Symbol, Choice, Default, Range, ReverseDependency, MemberDefault, TreeUnit, of_symbol, of_choice}
+use Rattle.kc_tree_model.specs.TreeLookup.{unit_of, unit_of_symbol, unit_in, index_of_unit, symbol_named}
 use Rattle.kc_system.specs.Solutions.{KeepsFrame}
 use Rattle.kc_rules_model.specs.declared.profile.Profile.{Profile}
 use Rattle.kc_rules_model.specs.declared.profile.Profile.TheVariants.{Present, Classic}
@@ -21,10 +21,10 @@ use Rattle.kc_rules_model.specs.declared.values.UserValue.{UserValue}
 use Rattle.kc_rules_model.specs.declared.values.UserValue.TheVariants.{Tri as TriUser, Text as TextUser, Member as MemberUser}
 use Rattle.kc_rules_model.specs.Kinds.{is_n, is_y, y_for_m, largest, is_bool, is_tristate, is_tri_kind}
 use Rattle.kc_value.specs.Number.{number_of_text, number_spelling}
-use Rattle.kc_rules_model.specs.SymbolValues.{condition, names_under, symbol_seen, seen_in, seen_as_tri, tri_if_chosen, member_of, tri_of, text_of}
-use Rattle.kc_rules_model.specs.Rule.{conditions, forces, is_visible, expression_text, default_tri, is_within, limited, promoted, modules_value, visibility, unassigned, base, selected, implied, implied_effect, leaves_no_m, direct_dependency, active_default, active_range, assigned_tri, assigned_text, assigned_member, tri_rule, string_rule, number_rule, number_default, default_text, visible_text, symbol_rule, choice_rule, is_shown, or_else, is_visible_member, rule, rule_of_unit, rule_of_symbol, rule_of_choice}
-use Rattle.kc_rules_model.specs.Dependencies.{units_named, units_of_forces, needed_by_symbol, needed_by_choice, needed_by, needed_by_symbol_at, needed_by_choice_at, dependencies, prompts_at, prompts_of, prompt_names}
-use Rattle.kc_expr.specs.Mentioned.{names_in, operand_names}
+use Rattle.kc_rules_model.specs.SymbolValues.{condition, environment, value_of_symbol, value_in_unit, tri_symbol_value, tri_if_selected, member_of, tri_of, text_of}
+use Rattle.kc_rules_model.specs.Rule.{conditions, reverse_dependency_limit, is_visible, expression_text, default_tri, is_within, clamped, promoted, modules_value, visibility, unassigned_value, base, selected, implied, implied_effect, leaves_no_m, direct_dependency, active_default, active_range, assigned_tri, assigned_text, assigned_member, tri_rule, string_rule, number_rule, number_default, default_text, visible_text, symbol_rule, choice_rule, is_shown, or_else, is_visible_member, rule, rule_of_unit, rule_of_symbol, rule_of_choice}
+use Rattle.kc_rules_model.specs.Dependencies.{units_named, units_of_reverse_dependencies, needed_by_symbol, needed_by_choice, needed_by, needed_by_symbol_at, needed_by_choice_at, dependencies, names_in_member_prompts, names_in_prompts, names_in_prompt}
+use Rattle.kc_expr.specs.NamesIn.{names_in, operand_names}
 use Rattle.kc_rules_model.specs.Shapes.{user_fits, unit_user_fits, choice_user_fits}
 use Rattle.kc_rules_model.specs.checker.Agreement.{Agrees, parts, text_agrees, value_agrees, find_agrees, all_map}
 
@@ -46,75 +46,75 @@ kept_where : (o : Option (List ℕ)) (p q : List ℕ → Bool) → ((x : List �
 kept_where None p q same = refl
 kept_where (Some x) p q same = ap (λ b. cond b (Some x) None) (same x)
 
-abbrev DefaultAgrees : Whole → List UnitValue → List UnitValue → Default → Type 0
+abbrev DefaultAgrees : Tree → List UnitValue → List UnitValue → Default → Type 0
 DefaultAgrees tree v w d = (condition tree v d.condition ≡ condition tree w d.condition) × (condition tree v d.value ≡ condition tree w d.value) × (expression_text tree v d.value ≡ expression_text tree w d.value)
 
-abbrev RangeAgrees : Whole → List UnitValue → List UnitValue → Range → Type 0
-RangeAgrees tree v w r = (condition tree v r.condition ≡ condition tree w r.condition) × (operand_text (names_under tree v) r.low ≡ operand_text (names_under tree w) r.low) × (operand_text (names_under tree v) r.high ≡ operand_text (names_under tree w) r.high)
+abbrev RangeAgrees : Tree → List UnitValue → List UnitValue → Range → Type 0
+RangeAgrees tree v w r = (condition tree v r.condition ≡ condition tree w r.condition) × (operand_text (environment tree v) r.low ≡ operand_text (environment tree w) r.low) × (operand_text (environment tree v) r.high ≡ operand_text (environment tree w) r.high)
 
-module _ (tree : Whole) (v w : List UnitValue) where
-  seen_in_agrees : (s : ℕ) (symbol : Symbol) → slice_get tree.symbols s ≡ Some symbol → (c : Option ℕ) → symbol.choice ≡ c → slice_get v (unit_of tree s) ≡ slice_get w (unit_of tree s) → seen_in tree v s symbol c ≡ seen_in tree w s symbol c
-  seen_in_agrees s symbol e None ec same = ap (λ held. cond (is_tri_kind symbol.kind) (seen_as_tri symbol.kind (tri_of held)) (record { kind = symbol.kind; tri = N; text = text_of held })) same
+module _ (tree : Tree) (v w : List UnitValue) where
+  seen_in_agrees : (s : ℕ) (symbol : Symbol) → slice_get tree.symbols s ≡ Some symbol → (c : Option ℕ) → symbol.choice ≡ c → slice_get v (unit_of tree s) ≡ slice_get w (unit_of tree s) → value_in_unit tree v s symbol c ≡ value_in_unit tree w s symbol c
+  seen_in_agrees s symbol e None ec same = ap (λ held. cond (is_tri_kind symbol.kind) (tri_symbol_value symbol.kind (tri_of held)) (record { kind = symbol.kind; tri = N; text = text_of held })) same
   seen_in_agrees s symbol e (Some c) ec same =
-      let unit : unit_of tree s ≡ place_of_unit tree (of_choice c) = ap (unit_of_symbol tree s) e ∙ ap (λ x. place_of_unit tree (unit_in s x)) ec in
-      ap (λ held. seen_as_tri symbol.kind (tri_if_chosen s (member_of held))) (subst (λ d. slice_get v d ≡ slice_get w d) unit same)
+      let unit : unit_of tree s ≡ index_of_unit tree (of_choice c) = ap (unit_of_symbol tree s) e ∙ ap (λ x. index_of_unit tree (unit_in s x)) ec in
+      ap (λ held. tri_symbol_value symbol.kind (tri_if_selected s (member_of held))) (subst (λ d. slice_get v d ≡ slice_get w d) unit same)
 
   seen_there : (s : ℕ) (o : Option Symbol) → slice_get tree.symbols s ≡ o → slice_get v (unit_of tree s) ≡ slice_get w (unit_of tree s)
-      → option_map (λ (symbol : Symbol). seen_in tree v s symbol symbol.choice) o ≡ option_map (λ (symbol : Symbol). seen_in tree w s symbol symbol.choice) o
+      → option_map (λ (symbol : Symbol). value_in_unit tree v s symbol symbol.choice) o ≡ option_map (λ (symbol : Symbol). value_in_unit tree w s symbol symbol.choice) o
   seen_there s None e same = refl
   seen_there s (Some symbol) e same = ap Some (seen_in_agrees s symbol e symbol.choice refl same)
 
-  seen_agrees : (s : ℕ) → slice_get v (unit_of tree s) ≡ slice_get w (unit_of tree s) → symbol_seen tree v s ≡ symbol_seen tree w s
+  seen_agrees : (s : ℕ) → slice_get v (unit_of tree s) ≡ slice_get w (unit_of tree s) → value_of_symbol tree v s ≡ value_of_symbol tree w s
   seen_agrees s same = seen_there s (slice_get tree.symbols s) refl same
 
   named_agrees : (o : Option ℕ) (rest : List ℕ) → AllByRecursion (λ d. slice_get v d ≡ slice_get w d) (cons_option (option_map (unit_of tree) o) rest)
-      → (option_and_then (λ s. symbol_seen tree v s) o ≡ option_and_then (λ s. symbol_seen tree w s) o) × AllByRecursion (λ d. slice_get v d ≡ slice_get w d) rest
+      → (option_and_then (λ s. value_of_symbol tree v s) o ≡ option_and_then (λ s. value_of_symbol tree w s) o) × AllByRecursion (λ d. slice_get v d ≡ slice_get w d) rest
   named_agrees None rest all = (refl, all)
   named_agrees (Some s) rest all = (seen_agrees s all.0, all.1)
 
   -- environments agree on the names whose units the valuations agree on
-  names_agree : (all : List (List ℕ)) → AllByRecursion (λ d. slice_get v d ≡ slice_get w d) (units_named tree all) → Agrees (names_under tree v) (names_under tree w) all
+  names_agree : (all : List (List ℕ)) → AllByRecursion (λ d. slice_get v d ≡ slice_get w d) (units_named tree all) → Agrees (environment tree v) (environment tree w) all
   names_agree [] same = tt
   names_agree (name ∷ more) same = let r = named_agrees (symbol_named tree name) (units_named tree more) same in (r.0, names_agree more r.1)
 
-  conditions_agree : (es : List Expr) → Agrees (names_under tree v) (names_under tree w) (flat_map names_in es) → conditions tree v es ≡ conditions tree w es
+  conditions_agree : (es : List Expr) → Agrees (environment tree v) (environment tree w) (flat_map names_in es) → conditions tree v es ≡ conditions tree w es
   conditions_agree [] all = refl
   conditions_agree (e ∷ es) all =
       let p = parts _ (names_in e) (flat_map names_in es) all in
-      ap (λ t. t ∷ conditions tree v es) (value_agrees (names_under tree v) (names_under tree w) e p.0) ∙ ap (λ ts. condition tree w e ∷ ts) (conditions_agree es p.1)
+      ap (λ t. t ∷ conditions tree v es) (value_agrees (environment tree v) (environment tree w) e p.0) ∙ ap (λ ts. condition tree w e ∷ ts) (conditions_agree es p.1)
 
-  visible_agrees : (symbol : Symbol) → Agrees (names_under tree v) (names_under tree w) (flat_map names_in symbol.prompts) → is_visible tree v symbol ≡ is_visible tree w symbol
+  visible_agrees : (symbol : Symbol) → Agrees (environment tree v) (environment tree w) (flat_map names_in symbol.prompts) → is_visible tree v symbol ≡ is_visible tree w symbol
   visible_agrees symbol all =
       visible_by_prompts _ (largest (conditions tree v symbol.prompts)) ∙ ap (λ ts. not (is_n (largest ts))) (conditions_agree symbol.prompts all) ∙ sym (visible_by_prompts _ (largest (conditions tree w symbol.prompts)))
 
-  forces_agree : (fs : List Force) → AllByRecursion (λ d. slice_get v d ≡ slice_get w d) (map (λ (f : Force). unit_of tree f.by) fs) → Agrees (names_under tree v) (names_under tree w) (flat_map (λ (f : Force). names_in f.condition) fs)
-      → forces tree v fs ≡ forces tree w fs
+  forces_agree : (fs : List ReverseDependency) → AllByRecursion (λ d. slice_get v d ≡ slice_get w d) (map (λ (f : ReverseDependency). unit_of tree f.by) fs) → Agrees (environment tree v) (environment tree w) (flat_map (λ (f : ReverseDependency). names_in f.condition) fs)
+      → reverse_dependency_limit tree v fs ≡ reverse_dependency_limit tree w fs
   forces_agree [] units all = refl
   forces_agree (f ∷ fs) units all =
-      let p = parts _ (names_in f.condition) (flat_map (λ (g : Force). names_in g.condition) fs) all in
-      let one = ap (λ r. tri_and (tri_seen r) (condition tree v f.condition)) (seen_agrees f.by units.0) ∙ ap (tri_and (tri_seen (symbol_seen tree w f.by))) (value_agrees (names_under tree v) (names_under tree w) f.condition p.0) in
-      ap (λ t. t ∷ forces tree v fs) one ∙ ap (λ ts. tri_and (tri_seen (symbol_seen tree w f.by)) (condition tree w f.condition) ∷ ts) (forces_agree fs units.1 p.1)
+      let p = parts _ (names_in f.condition) (flat_map (λ (g : ReverseDependency). names_in g.condition) fs) all in
+      let one = ap (λ r. tri_and (symbol_tri r) (condition tree v f.condition)) (seen_agrees f.by units.0) ∙ ap (tri_and (symbol_tri (value_of_symbol tree w f.by))) (value_agrees (environment tree v) (environment tree w) f.condition p.0) in
+      ap (λ t. t ∷ reverse_dependency_limit tree v fs) one ∙ ap (λ ts. tri_and (symbol_tri (value_of_symbol tree w f.by)) (condition tree w f.condition) ∷ ts) (forces_agree fs units.1 p.1)
 
-  forced_agrees : (fs : List Force) → AllByRecursion (λ d. slice_get v d ≡ slice_get w d) (units_of_forces tree fs) → largest (forces tree v fs) ≡ largest (forces tree w fs)
+  forced_agrees : (fs : List ReverseDependency) → AllByRecursion (λ d. slice_get v d ≡ slice_get w d) (units_of_reverse_dependencies tree fs) → largest (reverse_dependency_limit tree v fs) ≡ largest (reverse_dependency_limit tree w fs)
   forced_agrees fs all =
-      let p = parts _ (map (λ (f : Force). unit_of tree f.by) fs) (units_named tree (flat_map (λ (f : Force). names_in f.condition) fs)) all in
-      ap largest (forces_agree fs p.0 (names_agree (flat_map (λ (f : Force). names_in f.condition) fs) p.1))
+      let p = parts _ (map (λ (f : ReverseDependency). unit_of tree f.by) fs) (units_named tree (flat_map (λ (f : ReverseDependency). names_in f.condition) fs)) all in
+      ap largest (forces_agree fs p.0 (names_agree (flat_map (λ (f : ReverseDependency). names_in f.condition) fs) p.1))
 
-  expression_text_agrees : (e : Expr) → Agrees (names_under tree v) (names_under tree w) (names_in e) → expression_text tree v e ≡ expression_text tree w e
-  expression_text_agrees (alone a) all = text_agrees (names_under tree v) (names_under tree w) a all
+  expression_text_agrees : (e : Expr) → Agrees (environment tree v) (environment tree w) (names_in e) → expression_text tree v e ≡ expression_text tree w e
+  expression_text_agrees (alone a) all = text_agrees (environment tree v) (environment tree w) a all
   expression_text_agrees (related r a b) all = refl
   expression_text_agrees (negated e) all = refl
   expression_text_agrees (both a b) all = refl
   expression_text_agrees (either a b) all = refl
   expression_text_agrees (shown e) all = refl
 
-  defaults_agree : (ds : List Default) → Agrees (names_under tree v) (names_under tree w) (flat_map (λ (d : Default). names_in d.value ++ names_in d.condition) ds)
+  defaults_agree : (ds : List Default) → Agrees (environment tree v) (environment tree w) (flat_map (λ (d : Default). names_in d.value ++ names_in d.condition) ds)
       → AllByRecursion (DefaultAgrees tree v w) ds
   defaults_agree [] all = tt
   defaults_agree (d ∷ ds) all =
       let p = parts _ (names_in d.value ++ names_in d.condition) (flat_map (λ (e : Default). names_in e.value ++ names_in e.condition) ds) all in
       let q = parts _ (names_in d.value) (names_in d.condition) p.0 in
-      ((value_agrees (names_under tree v) (names_under tree w) d.condition q.1, value_agrees (names_under tree v) (names_under tree w) d.value q.0, expression_text_agrees d.value q.0), defaults_agree ds p.1)
+      ((value_agrees (environment tree v) (environment tree w) d.condition q.1, value_agrees (environment tree v) (environment tree w) d.value q.0, expression_text_agrees d.value q.0), defaults_agree ds p.1)
 
   default_tri_agrees : (ds : List Default) → AllByRecursion (DefaultAgrees tree v w) ds
       → default_tri tree v (find (λ (d : Default). not (is_n (condition tree v d.condition))) ds) ≡ default_tri tree w (find (λ (d : Default). not (is_n (condition tree w d.condition))) ds)
@@ -129,14 +129,14 @@ module _ (tree : Whole) (v w : List UnitValue) where
       (λ o. unwrap_or (option_map (λ (d : Default). expression_text tree v d.value) o) []) (λ o. unwrap_or (option_map (λ (d : Default). expression_text tree w d.value) o) []) ds refl
       (all_map _ _ (λ (d : Default) p. (ap (λ t. not (is_n t)) p.0, p.2)) ds all)
 
-  ranges_agree : (rs : List Range) → Agrees (names_under tree v) (names_under tree w) (flat_map (λ (r : Range). operand_names r.low ++ operand_names r.high ++ names_in r.condition) rs)
+  ranges_agree : (rs : List Range) → Agrees (environment tree v) (environment tree w) (flat_map (λ (r : Range). operand_names r.low ++ operand_names r.high ++ names_in r.condition) rs)
       → AllByRecursion (RangeAgrees tree v w) rs
   ranges_agree [] all = tt
   ranges_agree (r ∷ rs) all =
       let p = parts _ (operand_names r.low ++ operand_names r.high ++ names_in r.condition) (flat_map (λ (q : Range). operand_names q.low ++ operand_names q.high ++ names_in q.condition) rs) all in
       let q = parts _ (operand_names r.low ++ operand_names r.high) (names_in r.condition) p.0 in
       let o = parts _ (operand_names r.low) (operand_names r.high) q.0 in
-      ((value_agrees (names_under tree v) (names_under tree w) r.condition q.1, text_agrees (names_under tree v) (names_under tree w) r.low o.0, text_agrees (names_under tree v) (names_under tree w) r.high o.1), ranges_agree rs p.1)
+      ((value_agrees (environment tree v) (environment tree w) r.condition q.1, text_agrees (environment tree v) (environment tree w) r.low o.0, text_agrees (environment tree v) (environment tree w) r.high o.1), ranges_agree rs p.1)
 
   within_agrees : (kind : Kind) (n : ℤ) (rs : List Range) → AllByRecursion (RangeAgrees tree v w) rs
       → is_within tree v kind (find (λ (r : Range). not (is_n (condition tree v r.condition))) rs) n ≡ is_within tree w kind (find (λ (r : Range). not (is_n (condition tree w r.condition))) rs) n
@@ -144,8 +144,8 @@ module _ (tree : Whole) (v w : List UnitValue) where
       find_agrees (λ (r : Range). not (is_n (condition tree v r.condition))) (λ (r : Range). not (is_n (condition tree w r.condition))) (λ o. is_within tree v kind o n) (λ o. is_within tree w kind o n) rs refl
       (all_map _ _ (λ (r : Range) p. (
         ap (λ t. not (is_n t)) p.0,
-        ap (λ t. not (int_lt n (unwrap_or (number_of_text kind t) (pos 0))) && not (int_lt (unwrap_or (number_of_text kind (operand_text (names_under tree v) r.high)) (pos 0)) n)) p.1
-            ∙ ap (λ t. not (int_lt n (unwrap_or (number_of_text kind (operand_text (names_under tree w) r.low)) (pos 0))) && not (int_lt (unwrap_or (number_of_text kind t) (pos 0)) n)) p.2,
+        ap (λ t. not (int_lt n (unwrap_or (number_of_text kind t) (pos 0))) && not (int_lt (unwrap_or (number_of_text kind (operand_text (environment tree v) r.high)) (pos 0)) n)) p.1
+            ∙ ap (λ t. not (int_lt n (unwrap_or (number_of_text kind (operand_text (environment tree w) r.low)) (pos 0))) && not (int_lt (unwrap_or (number_of_text kind t) (pos 0)) n)) p.2,
       )) rs all)
 
   abbrev limited_by : Kind → ℤ → List ℕ → List ℕ → List ℕ → List ℕ
@@ -153,21 +153,21 @@ module _ (tree : Whole) (v w : List UnitValue) where
       cond (int_lt n (unwrap_or (number_of_text kind low) (pos 0))) (number_spelling kind (unwrap_or (number_of_text kind low) (pos 0))) (cond (int_lt (unwrap_or (number_of_text kind high) (pos 0)) n) (number_spelling kind (unwrap_or (number_of_text kind high) (pos 0))) text)
 
   limited_agrees : (kind : Kind) (n : ℤ) (text : List ℕ) (rs : List Range) → AllByRecursion (RangeAgrees tree v w) rs
-      → limited tree v kind (find (λ (r : Range). not (is_n (condition tree v r.condition))) rs) n text ≡ limited tree w kind (find (λ (r : Range). not (is_n (condition tree w r.condition))) rs) n text
+      → clamped tree v kind (find (λ (r : Range). not (is_n (condition tree v r.condition))) rs) n text ≡ clamped tree w kind (find (λ (r : Range). not (is_n (condition tree w r.condition))) rs) n text
   limited_agrees kind n text rs all =
-      find_agrees (λ (r : Range). not (is_n (condition tree v r.condition))) (λ (r : Range). not (is_n (condition tree w r.condition))) (λ o. limited tree v kind o n text) (λ o. limited tree w kind o n text) rs refl
+      find_agrees (λ (r : Range). not (is_n (condition tree v r.condition))) (λ (r : Range). not (is_n (condition tree w r.condition))) (λ o. clamped tree v kind o n text) (λ o. clamped tree w kind o n text) rs refl
       (all_map _ _ (λ (r : Range) p. (
         ap (λ t. not (is_n t)) p.0,
-        ap (λ t. limited_by kind n text t (operand_text (names_under tree v) r.high)) p.1 ∙ ap (λ t. limited_by kind n text (operand_text (names_under tree w) r.low) t) p.2,
+        ap (λ t. limited_by kind n text t (operand_text (environment tree v) r.high)) p.1 ∙ ap (λ t. limited_by kind n text (operand_text (environment tree w) r.low) t) p.2,
       )) rs all)
 
-  modules_agree : (b : Bool) → Agrees (names_under tree v) (names_under tree w) (cond b (modules ∷ []) []) → b ≡ true → modules_value tree v ≡ modules_value tree w
-  modules_agree true all e = ap tri_seen all.0
+  modules_agree : (b : Bool) → Agrees (environment tree v) (environment tree w) (cond b (modules ∷ []) []) → b ≡ true → modules_value tree v ≡ modules_value tree w
+  modules_agree true all e = ap symbol_tri all.0
   modules_agree false all e = cc
 
   -- what a symbol's rule needs of two valuations
   record SymbolAgrees (symbol : Symbol) : Type 0 where
-    prompts : Agrees (names_under tree v) (names_under tree w) (flat_map names_in symbol.prompts)
+    prompts : Agrees (environment tree v) (environment tree w) (flat_map names_in symbol.prompts)
     defaults : AllByRecursion (DefaultAgrees tree v w) symbol.defaults
     ranges : AllByRecursion (RangeAgrees tree v w) symbol.ranges
     direct : direct_dependency tree v symbol ≡ direct_dependency tree w symbol
@@ -182,8 +182,8 @@ module _ (tree : Whole) (v w : List UnitValue) where
       let R = flat_map (λ (r : Range). operand_names r.low ++ operand_names r.high ++ names_in r.condition) symbol.ranges in
       let G = flat_map names_in symbol.direct in
       let K = cond (is_tristate symbol.kind) (modules ∷ []) [] in
-      let p1 = parts _ (units_named tree (P ++ D ++ R ++ G ++ K) ++ units_of_forces tree symbol.selectors) (units_of_forces tree symbol.impliers) all in
-      let p2 = parts _ (units_named tree (P ++ D ++ R ++ G ++ K)) (units_of_forces tree symbol.selectors) p1.0 in
+      let p1 = parts _ (units_named tree (P ++ D ++ R ++ G ++ K) ++ units_of_reverse_dependencies tree symbol.selectors) (units_of_reverse_dependencies tree symbol.impliers) all in
+      let p2 = parts _ (units_named tree (P ++ D ++ R ++ G ++ K)) (units_of_reverse_dependencies tree symbol.selectors) p1.0 in
       let e = names_agree (P ++ D ++ R ++ G ++ K) p2.0 in
       let a1 = parts _ (P ++ D ++ R ++ G) K e in
       let a2 = parts _ (P ++ D ++ R) G a1.0 in
@@ -210,7 +210,7 @@ module _ (tree : Whole) (v w : List UnitValue) where
   effect_agrees symbol a =
       ap (λ g. cond (is_n g) N (implied tree v symbol)) a.direct ∙ ap (λ i. cond (is_n (direct_dependency tree w symbol)) N i) a.implies
 
-  unassigned_agrees : (profile : Profile) (symbol : Symbol) → SymbolAgrees symbol → unassigned profile tree v symbol ≡ unassigned profile tree w symbol
+  unassigned_agrees : (profile : Profile) (symbol : Symbol) → SymbolAgrees symbol → unassigned_value profile tree v symbol ≡ unassigned_value profile tree w symbol
   unassigned_agrees Present symbol a =
       let F : Tri → Tri → Tri → Tri = λ d i g. cond (is_n i) d (tri_and (tri_or d i) g) in
       let d = default_tri tree w (active_default tree w symbol) in
@@ -223,7 +223,7 @@ module _ (tree : Whole) (v w : List UnitValue) where
   base_agrees : (profile : Profile) (symbol : Symbol) → SymbolAgrees symbol → (o : Option Tri) → base profile tree v symbol o ≡ base profile tree w symbol o
   base_agrees profile symbol a None = unassigned_agrees profile symbol a
   base_agrees profile symbol a (Some t) =
-      ap (λ x. cond (not (is_n x)) (tri_and t x) (unassigned profile tree v symbol)) (visibility_agrees symbol a)
+      ap (λ x. cond (not (is_n x)) (tri_and t x) (unassigned_value profile tree v symbol)) (visibility_agrees symbol a)
       ∙ ap (λ y. cond (not (is_n (visibility tree w symbol))) (tri_and t (visibility tree w symbol)) y) (unassigned_agrees profile symbol a)
 
   leaves_agrees : (profile : Profile) (symbol : Symbol) → SymbolAgrees symbol → leaves_no_m profile tree v symbol ≡ leaves_no_m profile tree w symbol
@@ -248,7 +248,7 @@ module _ (tree : Whole) (v w : List UnitValue) where
 
   number_default_agrees : (symbol : Symbol) → SymbolAgrees symbol → number_default tree v symbol ≡ number_default tree w symbol
   number_default_agrees symbol a =
-      let L : List UnitValue → ℤ → List ℕ → List ℕ = λ values n text. limited tree values symbol.kind (active_range tree values symbol) n text in
+      let L : List UnitValue → ℤ → List ℕ → List ℕ = λ values n text. clamped tree values symbol.kind (active_range tree values symbol) n text in
       let F : List UnitValue → List ℕ → List ℕ = λ values text. cond (is_some (number_of_text symbol.kind text)) (L values (unwrap_or (number_of_text symbol.kind text) (pos 0)) text) (L values (pos 0) []) in
       let text = default_text tree w symbol in
       ap (F v) (default_text_agrees symbol.defaults a.defaults)
@@ -270,43 +270,43 @@ module _ (tree : Whole) (v w : List UnitValue) where
   symbol_rule_agrees Int profile symbol a x = ap (λ t. TextValue t) (number_rule_agrees symbol a x)
   symbol_rule_agrees Hex profile symbol a x = ap (λ t. TextValue t) (number_rule_agrees symbol a x)
 
-  seen_at : (o : Option Symbol) → Agrees (names_under tree v) (names_under tree w) (prompts_of o) → unwrap_or (option_map (is_visible tree v) o) false ≡ unwrap_or (option_map (is_visible tree w) o) false
+  seen_at : (o : Option Symbol) → Agrees (environment tree v) (environment tree w) (names_in_prompts o) → unwrap_or (option_map (is_visible tree v) o) false ≡ unwrap_or (option_map (is_visible tree w) o) false
   seen_at None all = refl
   seen_at (Some symbol) all = visible_agrees symbol all
 
-  visible_member_agrees : (s : ℕ) → Agrees (names_under tree v) (names_under tree w) (prompts_at tree s) → is_visible_member tree v s ≡ is_visible_member tree w s
+  visible_member_agrees : (s : ℕ) → Agrees (environment tree v) (environment tree w) (names_in_member_prompts tree s) → is_visible_member tree v s ≡ is_visible_member tree w s
   visible_member_agrees s all = seen_at (slice_get tree.symbols s) all
 
-  members_agree : (ms : List ℕ) → Agrees (names_under tree v) (names_under tree w) (flat_map (prompts_at tree) ms) → AllByRecursion (λ s. Agrees (names_under tree v) (names_under tree w) (prompts_at tree s)) ms
+  members_agree : (ms : List ℕ) → Agrees (environment tree v) (environment tree w) (flat_map (names_in_member_prompts tree) ms) → AllByRecursion (λ s. Agrees (environment tree v) (environment tree w) (names_in_member_prompts tree s)) ms
   members_agree [] all = tt
-  members_agree (s ∷ ms) all = let p = parts _ (prompts_at tree s) (flat_map (prompts_at tree) ms) all in (p.0, members_agree ms p.1)
+  members_agree (s ∷ ms) all = let p = parts _ (names_in_member_prompts tree s) (flat_map (names_in_member_prompts tree) ms) all in (p.0, members_agree ms p.1)
 
-  member_agrees : (ms : List ℕ) → AllByRecursion (λ s. Agrees (names_under tree v) (names_under tree w) (prompts_at tree s)) ms → (s : ℕ) → list_any (λ m. m == s) ms ≡ true → Agrees (names_under tree v) (names_under tree w) (prompts_at tree s)
+  member_agrees : (ms : List ℕ) → AllByRecursion (λ s. Agrees (environment tree v) (environment tree w) (names_in_member_prompts tree s)) ms → (s : ℕ) → list_any (λ m. m == s) ms ≡ true → Agrees (environment tree v) (environment tree w) (names_in_member_prompts tree s)
   member_agrees [] all s e = absurd (false≢true e)
   member_agrees (m ∷ ms) all s e = elim (or_cases (m == s) (list_any (λ n. n == s) ms) e) [
-    | inl here ↦ subst (λ n. Agrees (names_under tree v) (names_under tree w) (prompts_at tree n)) (eqb-true m s here) all.0
+    | inl here ↦ subst (λ n. Agrees (environment tree v) (environment tree w) (names_in_member_prompts tree n)) (eqb-true m s here) all.0
     | inr later ↦ member_agrees ms all.1 s later
   ]
 
-  choice_defaults_agree : (ds : List MemberDefault) → Agrees (names_under tree v) (names_under tree w) (flat_map (λ (d : MemberDefault). names_in d.condition ++ prompts_at tree d.member) ds)
+  choice_defaults_agree : (ds : List MemberDefault) → Agrees (environment tree v) (environment tree w) (flat_map (λ (d : MemberDefault). names_in d.condition ++ names_in_member_prompts tree d.member) ds)
       → AllByRecursion (λ (d : MemberDefault). ((not (is_n (condition tree v d.condition)) && is_visible_member tree v d.member) ≡ (not (is_n (condition tree w d.condition)) && is_visible_member tree w d.member)) × (◌≡◌ {A = Option ℕ} (Some d.member) (Some d.member))) ds
   choice_defaults_agree [] all = tt
   choice_defaults_agree (d ∷ ds) all =
-      let p = parts _ (names_in d.condition ++ prompts_at tree d.member) (flat_map (λ (e : MemberDefault). names_in e.condition ++ prompts_at tree e.member) ds) all in
-      let q = parts _ (names_in d.condition) (prompts_at tree d.member) p.0 in (
+      let p = parts _ (names_in d.condition ++ names_in_member_prompts tree d.member) (flat_map (λ (e : MemberDefault). names_in e.condition ++ names_in_member_prompts tree e.member) ds) all in
+      let q = parts _ (names_in d.condition) (names_in_member_prompts tree d.member) p.0 in (
         (
-          ap (λ t. not (is_n t) && is_visible_member tree v d.member) (value_agrees (names_under tree v) (names_under tree w) d.condition q.0)
+          ap (λ t. not (is_n t) && is_visible_member tree v d.member) (value_agrees (environment tree v) (environment tree w) d.condition q.0)
               ∙ ap (λ b. not (is_n (condition tree w d.condition)) && b) (visible_member_agrees d.member q.1),
           refl,
         ),
         choice_defaults_agree ds p.1,
       )
 
-  shown_agrees : (o : Option Expr) → Agrees (names_under tree v) (names_under tree w) (prompt_names o) → unwrap_or (option_map (λ e. not (is_n (condition tree v e))) o) false ≡ unwrap_or (option_map (λ e. not (is_n (condition tree w e))) o) false
+  shown_agrees : (o : Option Expr) → Agrees (environment tree v) (environment tree w) (names_in_prompt o) → unwrap_or (option_map (λ e. not (is_n (condition tree v e))) o) false ≡ unwrap_or (option_map (λ e. not (is_n (condition tree w e))) o) false
   shown_agrees None all = refl
-  shown_agrees (Some e) all = ap (λ t. not (is_n t)) (value_agrees (names_under tree v) (names_under tree w) e all)
+  shown_agrees (Some e) all = ap (λ t. not (is_n t)) (value_agrees (environment tree v) (environment tree w) e all)
 
-  chosen_agrees : (choice : Choice) (x : Option UserValue) → IfSome x (λ y. IsTrue (choice_user_fits (Some choice) y)) → AllByRecursion (λ s. Agrees (names_under tree v) (names_under tree w) (prompts_at tree s)) choice.members
+  chosen_agrees : (choice : Choice) (x : Option UserValue) → IfSome x (λ y. IsTrue (choice_user_fits (Some choice) y)) → AllByRecursion (λ s. Agrees (environment tree v) (environment tree w) (names_in_member_prompts tree s)) choice.members
       → option_and_then (λ s. cond (is_visible_member tree v s) (Some s) None) (assigned_member x) ≡ option_and_then (λ s. cond (is_visible_member tree w s) (Some s) None) (assigned_member x)
   chosen_agrees choice None fits all = refl
   chosen_agrees choice (Some (TriUser t)) fits all = refl
@@ -315,9 +315,9 @@ module _ (tree : Whole) (v w : List UnitValue) where
 
   choice_rule_agrees : (choice : Choice) (x : Option UserValue) → IfSome x (λ y. IsTrue (choice_user_fits (Some choice) y)) → AllByRecursion (λ d. slice_get v d ≡ slice_get w d) (needed_by_choice tree choice) → choice_rule tree choice x v ≡ choice_rule tree choice x w
   choice_rule_agrees choice x fits all =
-      let P = prompt_names choice.prompt in
-      let D = flat_map (λ (d : MemberDefault). names_in d.condition ++ prompts_at tree d.member) choice.defaults in
-      let Q = flat_map (prompts_at tree) choice.members in
+      let P = names_in_prompt choice.prompt in
+      let D = flat_map (λ (d : MemberDefault). names_in d.condition ++ names_in_member_prompts tree d.member) choice.defaults in
+      let Q = flat_map (names_in_member_prompts tree) choice.members in
       let e = names_agree (P ++ D ++ Q) all in
       let a1 = parts _ (P ++ D) Q e in
       let a2 = parts _ P D a1.0 in
@@ -358,7 +358,7 @@ each_of P [] h = tt
 each_of P (x ∷ xs) h = (h x (or_left (x == x) (list_any (λ e. e == x) xs) (eq-eqb x x refl)), each_of P xs (λ d t. h d (or_right (x == d) (list_any (λ e. e == d) xs) t)))
 
 -- the rules of every tree keep the frame law, in both profiles
-pub rules_frame : (profile : Profile) (tree : Whole) → KeepsFrame (length tree.units) (dependencies tree) (rule profile tree) (λ u x. IsTrue (user_fits tree u x))
+pub rules_frame : (profile : Profile) (tree : Tree) → KeepsFrame (length tree.units) (dependencies tree) (rule profile tree) (λ u x. IsTrue (user_fits tree u x))
 unfolding dependencies rule user_fits
 rules_frame profile tree = record {
   same = λ u x v w inside v_len w_len fits agree.

@@ -4,7 +4,7 @@ use Rattle.std.specs.List.{range_with_len, All}
 use Rattle.std.specs.List.Sorted.{IsStrictlyIncreasing}
 use Rattle.std.proofs.lemmas.List.Kept.{IsStrictlyIncreasing-filter}
 use Rattle.std.proofs.lemmas.List.Elements.{All-filter, All-contains, All-cons, All-nil, All-weaker}
-use Rattle.kc_tree_model.specs.Trees.{Whole}
+use Rattle.kc_tree_model.specs.Trees.{Tree}
 use Rattle.kc_system.specs.Dependencies.{IsGraph}
 use Rattle.kc_rules_model.specs.Dependencies.{dependencies}
 
@@ -24,7 +24,7 @@ range_below : (a n : ℕ) → All (λ d. d < a + n) (range_with_len a n)
 range_below a zero = All-nil _
 range_below a (suc n) = All-cons (λ d. d < a + suc n) a (range_with_len (a + 1) n) (omega arith) (All-weaker (λ d. d < a + 1 + n) (λ d. d < a + suc n) (λ d h. omega arith) (range_with_len (a + 1) n) (range_below (a + 1) n))
 
-pub rules_graph : (tree : Whole) → IsGraph (length tree.units) (dependencies tree)
+pub rules_graph : (tree : Tree) → IsGraph (length tree.units) (dependencies tree)
 unfolding dependencies
 rules_graph tree = record {
   ascending = λ u h. IsStrictlyIncreasing-filter _ (range_with_len 0 (length tree.units)) (range_rises 0 (length tree.units));

@@ -7,7 +7,7 @@ use Rattle.kc_value.specs.declared.tri.Tri.TheVariants.{N, M, Y}
 use Rattle.kc_value.specs.declared.value.Kind.{Kind}
 use Rattle.kc_value.specs.declared.value.Kind.TheVariants.{Bool as Boolean, Tristate, Text, Int, Hex}
 use Rattle.kc_value.specs.Tri.{tri_and, tri_or}
-use Rattle.kc_tree_model.specs.Trees.{Whole, Symbol, Choice, TreeUnit, of_symbol, of_choice}
+use Rattle.kc_tree_model.specs.Trees.{Tree, Symbol, Choice, TreeUnit, of_symbol, of_choice}
 use Rattle.kc_system.specs.Solutions.{Restores}
 use Rattle.kc_rules_model.specs.declared.profile.Profile.{Profile}
 use Rattle.kc_rules_model.specs.declared.values.UnitValue.{UnitValue}
@@ -16,7 +16,7 @@ use Rattle.kc_rules_model.specs.declared.values.UserValue.{UserValue}
 use Rattle.kc_rules_model.specs.declared.values.UserValue.TheVariants.{Tri as TriUser, Text as TextUser, Member as MemberUser}
 use Rattle.kc_rules_model.specs.Kinds.{is_m, is_n, y_for_m, is_bool, is_tristate, is_tri_kind}
 use Rattle.kc_value.specs.Number.{number_of_text}
-use Rattle.kc_rules_model.specs.Rule.{rule, rule_of_unit, rule_of_symbol, rule_of_choice, symbol_rule, tri_rule, string_rule, number_rule, choice_rule, as_user, is_visible, visibility, modules_value, unassigned, selected, leaves_no_m, default_text, number_default, is_within, active_range, or_else, is_shown, is_visible_member}
+use Rattle.kc_rules_model.specs.Rule.{rule, rule_of_unit, rule_of_symbol, rule_of_choice, symbol_rule, tri_rule, string_rule, number_rule, choice_rule, as_user, is_visible, visibility, modules_value, unassigned_value, selected, leaves_no_m, default_text, number_default, is_within, active_range, or_else, is_shown, is_visible_member}
 use Rattle.kc_rules_model.specs.Shapes.{user_fits, unit_user_fits, symbol_user_fits, choice_user_fits, tri_fits}
 
 abbrev pub promoted_if : Bool → Tri → Tri
@@ -118,7 +118,7 @@ itself : (f : Option UserValue → UnitValue) (fits : UserValue → Bool) (x : U
     → (again : UserValue) × (as_user (f (Some x)) ≡ Some again) × IsTrue (fits again) × (f (Some again) ≡ f (Some x))
 itself f fits x fitting e = (x, e, fitting, refl)
 
-module _ (tree : Whole) (values : List UnitValue) where
+module _ (tree : Tree) (values : List UnitValue) where
   restored_tri : (profile : Profile) (symbol : Symbol) (x : Option UserValue) → ((l : Bool) (t : Tri) → IsTrue (tri_fits symbol.kind (promoted_if l (promoted_if (is_bool symbol.kind || (is_tristate symbol.kind && is_n (modules_value tree values))) t))))
       → Restored (λ y. TriValue (tri_rule profile tree symbol y values)) (symbol_user_fits (Some symbol)) x
   restored_tri profile symbol None small fits differs = absurd (differs refl)
@@ -128,7 +128,7 @@ module _ (tree : Whole) (values : List UnitValue) where
       let p = is_bool symbol.kind || (is_tristate symbol.kind && is_n (modules_value tree values)) in
       let l = leaves_no_m profile tree values symbol in
       let top = visibility tree values symbol in
-      let un = unassigned profile tree values symbol in
+      let un = unassigned_value profile tree values symbol in
       let s = selected tree values symbol in
       let as_table : (b : Tri) → tri_rule profile tree symbol (Some (TriUser b)) values ≡ tri_with (p || l) top un s b =
       λ b. promoted_twice p l (tri_or (cond (not (is_n top)) (tri_and b top) un) s) in
@@ -202,6 +202,6 @@ module _ (tree : Whole) (values : List UnitValue) where
   restored_unit profile (Some (of_choice c)) x fits differs = restored_choice_at (slice_get tree.choices c) (choice_user_fits (slice_get tree.choices c)) x fits differs
 
 -- the rules of every tree keep the restore law, in both profiles
-pub rules_restore : (profile : Profile) (tree : Whole) → Restores (length tree.units) (rule profile tree) as_user (λ u x. IsTrue (user_fits tree u x))
+pub rules_restore : (profile : Profile) (tree : Tree) → Restores (length tree.units) (rule profile tree) as_user (λ u x. IsTrue (user_fits tree u x))
 unfolding rule user_fits
 rules_restore profile tree = record { restored = λ u x v inside len fits differs. restored_unit tree v profile (slice_get tree.units u) x fits differs }

@@ -1,10 +1,10 @@
 -- One quoted text.
 use Rattle.std.specs.Prelude.{Bool, false, List, [], ◌∷◌}
-use Rattle.kc_expr.specs.Token.{Piece}
+use Rattle.kc_expr.specs.Token.{Lexeme}
 use Rattle.kc_tree_model.specs.Keywords.{is_quoted_kind}
 
 -- whether tokens are one quoted text
-abbrev pub is_one_quoted : List Piece → Bool
+abbrev pub is_one_quoted : List Lexeme → Bool
 is_one_quoted [] = false
 is_one_quoted (t ∷ []) = is_quoted_kind t.kind
 is_one_quoted (t ∷ u ∷ ts) = false

@@ -1,41 +1,41 @@
 -- The rows of choices.
 use Rattle.std.specs.Prelude.{◌≡◌, ℕ, ◌<◌, Bool, List, [], ◌∷◌, length, reverse, slice_get, Some, option_map}
-use Rattle.kc_expr.specs.Arena.{Exprs, stands_for}
+use Rattle.kc_expr.specs.Arena.{Exprs, node_expr}
 use Rattle.kc_tree_model.specs.Blocks.{Group, opens_choice}
-use Rattle.kc_tree_model.specs.Conditions.{Placed, prompts_of}
+use Rattle.kc_tree_model.specs.Conditions.{GroupInContext, prompts_of}
 use Rattle.kc_listing.specs.declared.listing.Group.{Group as CodeGroup}
 use Rattle.kc_listing.specs.declared.listing.Line.{Line as CodeLine}
 use Rattle.kc_listing.specs.declared.listing.Listing.{Listing}
-use Rattle.kc_listing.specs.Shown.{Shows}
+use Rattle.kc_listing.specs.ListingView.{RepresentsListing}
 use Rattle.kc_tree.specs.checker.Firsts.{first_prompt}
-use Rattle.kc_tree.specs.checker.Walked.{AllConditionsShown}
+use Rattle.kc_tree.specs.checker.Walks.{RepresentsAllConditions}
 use Rattle.kc_tree.specs.declared.parts.ChoiceRow.{ChoiceRow}
-use Rattle.kc_tree.specs.declared.walk.GroupConditions.{GroupConditions}
+use Rattle.kc_tree.specs.declared.group_walk.GroupConditions.{GroupConditions}
 
 -- what was read is shown, and its conditions
 pub record IsGoneThrough (l : Listing) (groups : List GroupConditions) (conditions : List ℕ) : Type 0 where
   pub exprs : Exprs
   pub read : List Group
-  pub shows : Shows l read
-  pub walked : AllConditionsShown exprs l.texts.items conditions (length conditions) (reverse groups) read
+  pub shows : RepresentsListing l read
+  pub walked : RepresentsAllConditions exprs l.texts.items conditions (length conditions) (reverse groups) read
 
 -- the row of a choice that begins with a group, which has these attributes with these conditions
-abbrev pub choice_kept : CodeGroup → List CodeLine → List ℕ → ChoiceRow
-choice_kept g ls cs = record { file = g.file; line = g.line; prompt = first_prompt ls cs }
+abbrev pub choice_row : CodeGroup → List CodeLine → List ℕ → ChoiceRow
+choice_row g ls cs = record { file = g.file; line = g.line; prompt = first_prompt ls cs }
 
 -- whether a choice begins at a place
-abbrev pub opens : Placed → Bool
+abbrev pub opens : GroupInContext → Bool
 opens p = opens_choice p.group
 
--- a row stands for the choice that begins at a place
-pub record IsChoiceRow (exprs : Exprs) (p : Placed) (r : ChoiceRow) : Type 0 where
+-- a row represents the choice that begins at a place
+pub record IsChoiceRow (exprs : Exprs) (p : GroupInContext) (r : ChoiceRow) : Type 0 where
   pub file_is : r.file ≡ p.group.at.file
   pub line_is : r.line ≡ p.group.at.line
-  pub prompt_is : option_map (stands_for exprs) r.prompt ≡ slice_get (prompts_of p.around p.group) 0
+  pub prompt_is : option_map (node_expr exprs) r.prompt ≡ slice_get (prompts_of p.enclosing p.group) 0
   pub held : (i : ℕ) → r.prompt ≡ Some i → i < length exprs.nodes
 
--- rows stand for the choices that begin at these places
-abbrev pub AreChoiceRows : Exprs → List Placed → List ChoiceRow → Type 0
+-- rows represent the choices that begin at these places
+abbrev pub AreChoiceRows : Exprs → List GroupInContext → List ChoiceRow → Type 0
 AreChoiceRows exprs [] [] = Unit {0}
 AreChoiceRows exprs (p ∷ ps) (r ∷ rs) = IsChoiceRow exprs p r × AreChoiceRows exprs ps rs
 AreChoiceRows exprs ps rs = ⊥

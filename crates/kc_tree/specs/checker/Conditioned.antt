@@ -2,8 +2,8 @@
 use Rattle.std.specs.Prelude.{ℕ, ◌+◌, None, List, length, nat_lt, reverse, slice_range, slice_index_or, if◌then◌else◌}
 use Rattle.kc_expr.specs.Arena.{Exprs}
 use Rattle.kc_tree_model.specs.Blocks.{Group}
-use Rattle.kc_tree.specs.checker.Walked.{AllConditionsShown}
-use Rattle.kc_tree.specs.declared.walk.GroupConditions.{GroupConditions}
+use Rattle.kc_tree.specs.checker.Walks.{RepresentsAllConditions}
+use Rattle.kc_tree.specs.declared.group_walk.GroupConditions.{GroupConditions}
 
 -- the conditions of a group, and where those of its attributes end
 abbrev pub no_conditions : GroupConditions
@@ -23,4 +23,4 @@ pub record IsConditioned (groups : List GroupConditions) (conditions : List ℕ)
   pub exprs : Exprs
   pub texts : List (List ℕ)
   pub read : List Group
-  pub shown : AllConditionsShown exprs texts conditions (length conditions) (reverse groups) read
+  pub shown : RepresentsAllConditions exprs texts conditions (length conditions) (reverse groups) read

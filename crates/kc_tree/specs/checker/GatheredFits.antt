@@ -1,8 +1,8 @@
 -- What the lists that were gathered keep.
 use Rattle.std.specs.Prelude.{◌≡◌, ℕ, ◌<◌, ◌^◌, length, All, Some, slice_get}
-use Rattle.kc_tree.specs.Told.{DefaultFits, RangeFits, HasOperands, ForceFits, MemberDefaultFits}
+use Rattle.kc_tree.specs.Views.{DefaultFits, RangeFits, HasOperands, ReverseDependencyFits, MemberDefaultFits}
 use Rattle.kc_tree.specs.checker.GatheredAttributes.{AreKeys, HaveKeys}
-use Rattle.kc_tree.specs.checker.Kept.{EntryRowFits}
+use Rattle.kc_tree.specs.checker.StoredParts.{EntryRowFits}
 use Rattle.kc_tree.specs.declared.parts.SymbolRow.{SymbolRow}
 use Rattle.kc_tree.specs.declared.parts.ChoiceRow.{ChoiceRow}
 use Rattle.kc_tree.specs.declared.gathered.Gathered.{Gathered}
@@ -20,8 +20,8 @@ pub record GatheredFit (g : Gathered) : Type 0 where
   pub defaults : All (DefaultFits (length g.arena.nodes)) g.attributes.defaults.items.items
   pub ranges : All (RangeFits (length g.arena.nodes)) g.attributes.ranges.items.items
   pub bounds : All (HasOperands g.arena) g.attributes.ranges.items.items
-  pub selectors : All (ForceFits (length g.arena.nodes) (length g.symbols.items)) g.attributes.selectors.items.items
-  pub impliers : All (ForceFits (length g.arena.nodes) (length g.symbols.items)) g.attributes.impliers.items.items
+  pub selectors : All (ReverseDependencyFits (length g.arena.nodes) (length g.symbols.items)) g.attributes.selectors.items.items
+  pub impliers : All (ReverseDependencyFits (length g.arena.nodes) (length g.symbols.items)) g.attributes.impliers.items.items
   pub direct : All (λ i. i < length g.arena.nodes) g.attributes.direct.items.items
   pub choice_prompts : (c i : ℕ) (r : ChoiceRow) → slice_get g.choices.items c ≡ Some r → r.prompt ≡ Some i → i < length g.arena.nodes
   pub members : All (λ s. s < length g.symbols.items) g.members.items.items

@@ -1,7 +1,7 @@
 -- The lists that are made of what was gathered.
 use Rattle.std.specs.Prelude.{length}
 use Rattle.kc_tree.specs.checker.GatheredAttributes.{AreGrouped}
-use Rattle.kc_tree.specs.checker.GatheredView.{whole_gathered}
+use Rattle.kc_tree.specs.checker.GatheredView.{gathered_tree}
 use Rattle.kc_tree.specs.checker.GroupedItems.{IsGrouped}
 use Rattle.kc_tree.specs.checker.NameTable.{IsTable}
 use Rattle.kc_tree.specs.checker.Units.{HasUnits}
@@ -18,7 +18,7 @@ pub record AreLists (g : Gathered) (l : Lists) : Type 0 where
 
 -- each symbol and each choice has its unit, and each name its symbol
 pub record AreTables (g : Gathered) (t : Tables) : Type 0 where
-  pub units : HasUnits (whole_gathered g) t.units.symbols.items t.units.choices.items
+  pub units : HasUnits (gathered_tree g) t.units.symbols.items t.units.choices.items
   pub names : IsTable (length g.arena.names) g.symbols.items (length g.symbols.items) t.symbol_of_name.items
 
 -- the lists of the tree

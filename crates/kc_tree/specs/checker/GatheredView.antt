@@ -1,11 +1,11 @@
--- What the lists that were gathered stand for.
+-- What the lists that were gathered represent.
 use Rattle.std.specs.Prelude.{ℕ, [], map, option_map, slice_index_or}
-use Rattle.kc_expr.specs.Arena.{stands_for}
+use Rattle.kc_expr.specs.Arena.{node_expr}
 use Rattle.kc_tree_model.specs.Trees as tree
-use Rattle.kc_tree_model.specs.Trees.{Whole}
-use Rattle.kc_tree.specs.Told.{default_of, range_of, force_of, member_default_of, unit_told}
+use Rattle.kc_tree_model.specs.Trees.{Tree}
+use Rattle.kc_tree.specs.Views.{default_view, range_view, reverse_dependency_view, member_default_view, unit_view}
 use Rattle.kc_tree.specs.checker.GroupedItems.{items_of}
-use Rattle.kc_tree.specs.checker.PartsView.{seen_from, entry_seen}
+use Rattle.kc_tree.specs.checker.PartsView.{from_rows, entry_from_row}
 use Rattle.kc_tree.specs.declared.parts.SymbolRow.{SymbolRow}
 use Rattle.kc_tree.specs.declared.parts.ChoiceRow.{ChoiceRow}
 use Rattle.kc_tree.specs.declared.gathered.Gathered.{Gathered}
@@ -17,12 +17,12 @@ symbol_gathered g s r = record {
   kind = r.kind;
   file = r.file;
   line = r.line;
-  prompts = map (stands_for g.arena) (items_of s g.attributes.prompts.keys.items g.attributes.prompts.items.items);
-  defaults = map (default_of g.arena) (items_of s g.attributes.defaults.keys.items g.attributes.defaults.items.items);
-  ranges = map (range_of g.arena) (items_of s g.attributes.ranges.keys.items g.attributes.ranges.items.items);
-  selectors = map (force_of g.arena) (items_of s g.attributes.selectors.keys.items g.attributes.selectors.items.items);
-  impliers = map (force_of g.arena) (items_of s g.attributes.impliers.keys.items g.attributes.impliers.items.items);
-  direct = map (stands_for g.arena) (items_of s g.attributes.direct.keys.items g.attributes.direct.items.items);
+  prompts = map (node_expr g.arena) (items_of s g.attributes.prompts.keys.items g.attributes.prompts.items.items);
+  defaults = map (default_view g.arena) (items_of s g.attributes.defaults.keys.items g.attributes.defaults.items.items);
+  ranges = map (range_view g.arena) (items_of s g.attributes.ranges.keys.items g.attributes.ranges.items.items);
+  selectors = map (reverse_dependency_view g.arena) (items_of s g.attributes.selectors.keys.items g.attributes.selectors.items.items);
+  impliers = map (reverse_dependency_view g.arena) (items_of s g.attributes.impliers.keys.items g.attributes.impliers.items.items);
+  direct = map (node_expr g.arena) (items_of s g.attributes.direct.keys.items g.attributes.direct.items.items);
   choice = r.choice;
 }
 
@@ -32,14 +32,14 @@ choice_gathered g c r = record {
   file = r.file;
   line = r.line;
   members = items_of c g.members.keys.items g.members.items.items;
-  prompt = option_map (stands_for g.arena) r.prompt;
-  defaults = map (member_default_of g.arena) (items_of c g.member_defaults.keys.items g.member_defaults.items.items);
+  prompt = option_map (node_expr g.arena) r.prompt;
+  defaults = map (member_default_view g.arena) (items_of c g.member_defaults.keys.items g.member_defaults.items.items);
 }
 
-abbrev pub whole_gathered : Gathered → Whole
-whole_gathered g = record {
-  symbols = seen_from (symbol_gathered g) 0 g.symbols.items;
-  choices = seen_from (choice_gathered g) 0 g.choices.items;
-  entries = map (entry_seen g.arena g.titles.items) g.entries.items;
-  units = map unit_told g.units.items;
+abbrev pub gathered_tree : Gathered → Tree
+gathered_tree g = record {
+  symbols = from_rows (symbol_gathered g) 0 g.symbols.items;
+  choices = from_rows (choice_gathered g) 0 g.choices.items;
+  entries = map (entry_from_row g.arena g.titles.items) g.entries.items;
+  units = map unit_view g.units.items;
 }

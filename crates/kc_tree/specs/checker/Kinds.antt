@@ -6,10 +6,10 @@ use Rattle.kc_tree_model.specs.declared.fault.TreeKind.{TreeKind}
 use Rattle.kc_tree_model.specs.declared.fault.TreeKind.TheVariants.{NoType, TypeConflict, SecondPrompt, DefaultShape, RangeType, SelectType, ChoiceMember, ChoiceDefault, ModulesType}
 use Rattle.kc_tree_model.specs.Statements.{Attribute, type_of, prompt_of, default_of, range_of, is_modules}
 use Rattle.kc_tree_model.specs.TreeFaults.{is_other_kind, kind_or_bool, is_shapeless, is_number}
-use Rattle.kc_tree.specs.declared.summary.About.{About}
+use Rattle.kc_tree.specs.declared.summary.SymbolSummary.{SymbolSummary}
 
 -- the fault of a definition, by what is known of its symbol
-abbrev pub definition_kind : About → (is_member is_first is_modules : Bool) → Option TreeKind
+abbrev pub definition_kind : SymbolSummary → (is_member is_first is_modules : Bool) → Option TreeKind
 definition_kind about is_member is_first is_modules =
     if is_first && is_none (kind_or_bool about.given (is_some about.choice)) then Some NoType
     else if (is_member && is_other_kind Boolean about.given) || (not is_first && is_some about.choice) then Some ChoiceMember

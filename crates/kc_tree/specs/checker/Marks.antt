@@ -1,12 +1,12 @@
 -- The marks of the members of a choice.
 use Rattle.std.specs.Prelude.{◌≡◌, ℕ, ◌<◌, ◌==◌, true, false, List, length, slice_get, slice_index, is_some, Some, None}
 use Rattle.std.specs.List.{list_any}
-use Rattle.kc_expr.specs.Lookup.{place_of}
+use Rattle.kc_expr.specs.Lookup.{index_of_name}
 
 -- the symbols of these names have this mark, and no others
 pub record AreMarked (names members : List (List ℕ)) (marks : List ℕ) (mark : ℕ) : Type 0 where
-  pub marked : (s : ℕ) (x : List ℕ) → slice_get names s ≡ Some x → (slice_index marks s == mark) ≡ is_some (place_of x members)
-  pub within : (x : List ℕ) → place_of x names ≡ None → place_of x members ≡ None
+  pub marked : (s : ℕ) (x : List ℕ) → slice_get names s ≡ Some x → (slice_index marks s == mark) ≡ is_some (index_of_name x members)
+  pub within : (x : List ℕ) → index_of_name x names ≡ None → index_of_name x members ≡ None
 
 -- these symbols were marked, and the marks of the others are as they were
 pub record WereMarked (old : List ℕ) (members : List ℕ) (mark : ℕ) (new : List ℕ) : Type 0 where

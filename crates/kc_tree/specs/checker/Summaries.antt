@@ -1,27 +1,27 @@
--- What is known of symbols and choices before conditions are joined.
+-- Summaries of symbols and choices, before conditions are joined.
 use Rattle.std.specs.Prelude.{◌≡◌, ℕ, Bool, true, false, ◌-◌, ◌+◌, ◌==◌, List, [], ◌∷◌, drop, length, map, filter, flat_map, slice_get, slice_index_or, slice_range, Option, Some, None, option_and_then, option_to_list, nat_lt, if◌then◌else◌}
 use Rattle.std.specs.Option.{option_or}
 use Rattle.kc_value.specs.declared.value.Kind.{Kind}
 use Rattle.kc_expr.specs.Arena.{Exprs}
-use Rattle.kc_expr.specs.Lookup.{place_of}
-use Rattle.kc_statements.specs.Said.{attribute_in}
+use Rattle.kc_expr.specs.Lookup.{index_of_name}
+use Rattle.kc_statements.specs.StatementViews.{attribute_in}
 use Rattle.kc_tree_model.specs.Statements.{type_of}
-use Rattle.kc_tree_model.specs.Blocks.{Group, name_of}
-use Rattle.kc_tree_model.specs.Conditions.{Placed, placed, context, said_in}
+use Rattle.kc_tree_model.specs.Blocks.{Group, defined_name}
+use Rattle.kc_tree_model.specs.Conditions.{GroupInContext, groups_in_context, context, attribute_values}
 use Rattle.kc_tree_model.specs.Contents.{Contents, contents_of, choice_number, defines}
 use Rattle.kc_listing.specs.declared.listing.Group.{Group as CodeGroup}
 use Rattle.kc_listing.specs.declared.listing.Line.{Line as CodeLine}
 use Rattle.kc_listing.specs.declared.listing.Listing.{Listing}
-use Rattle.kc_listing.specs.declared.listing.What.{What as CodeWhat}
-use Rattle.kc_listing.specs.declared.listing.What.TheVariants as codes
-use Rattle.kc_listing.specs.Shown.{Shows}
-use Rattle.kc_tree.specs.declared.summary.About.{About}
+use Rattle.kc_listing.specs.declared.listing.GroupHead.{GroupHead as CodeWhat}
+use Rattle.kc_listing.specs.declared.listing.GroupHead.TheVariants as codes
+use Rattle.kc_listing.specs.ListingView.{RepresentsListing}
+use Rattle.kc_tree.specs.declared.summary.SymbolSummary.{SymbolSummary}
 use Rattle.kc_tree.specs.declared.summary.Summary.{Summary}
 
 -- a listing shows something that was read
-pub record IsShown (l : Listing) : Type 0 where
+pub record IsRepresented (l : Listing) : Type 0 where
   pub read : List Group
-  pub shows : Shows l read
+  pub shows : RepresentsListing l read
 
 -- what was read before a group, the newest first
 abbrev pub read_before : ℕ → List Group → List Group
@@ -46,82 +46,82 @@ abbrev pub is_choice_code : CodeWhat → Bool
 is_choice_code codes.Choice = true
 is_choice_code w = false
 
--- the choice in which the innermost block stands or which it is
+-- the choice that encloses the innermost block or is that block
 abbrev pub innermost_choice : List (Option ℕ) → Option ℕ
 innermost_choice [] = None
 innermost_choice (o ∷ os) = o
 
--- the choices in which open blocks stand or which they are, the innermost first, behind a group before which so many choices stand
-abbrev pub opened_behind : CodeWhat → ℕ → List (Option ℕ) → List (Option ℕ)
-opened_behind codes.Choice n os = Some n ∷ os
-opened_behind (codes.Menu t) n os = innermost_choice os ∷ os
-opened_behind (codes.Condition e) n os = innermost_choice os ∷ os
-opened_behind (codes.Source t) n os = innermost_choice os ∷ os
-opened_behind (codes.Ends b) n os = drop 1 os
-opened_behind codes.FileEnd n os = drop 1 os
-opened_behind w n os = os
+-- for each open block after a group, innermost first, the choice that encloses it or is it; `n` counts the choices before the group
+abbrev pub choices_opened_after : CodeWhat → ℕ → List (Option ℕ) → List (Option ℕ)
+choices_opened_after codes.Choice n os = Some n ∷ os
+choices_opened_after (codes.Menu t) n os = innermost_choice os ∷ os
+choices_opened_after (codes.Condition e) n os = innermost_choice os ∷ os
+choices_opened_after (codes.Source t) n os = innermost_choice os ∷ os
+choices_opened_after (codes.Ends b) n os = drop 1 os
+choices_opened_after codes.FileEnd n os = drop 1 os
+choices_opened_after w n os = os
 
--- the number of the choice round a place
-abbrev pub choice_round : Contents → Placed → Option ℕ
-choice_round c p = option_and_then (choice_number c) p.around.choice
+-- the number of the enclosing choice of a place
+abbrev pub enclosing_choice : Contents → GroupInContext → Option ℕ
+enclosing_choice c p = option_and_then (choice_number c) p.enclosing.choice
 
--- the numbers of the choices in which open blocks stand or which they are
-abbrev pub choices_open : Contents → List Group → List (Option ℕ)
-choices_open c [] = []
-choices_open c (g ∷ outer) = option_and_then (choice_number c) (context (g ∷ outer)).choice ∷ choices_open c outer
+-- for each open block, the number of the choice that encloses it or is it
+abbrev pub open_choices : Contents → List Group → List (Option ℕ)
+open_choices c [] = []
+open_choices c (g ∷ outer) = option_and_then (choice_number c) (context (g ∷ outer)).choice ∷ open_choices c outer
 
--- the first of what the definitions of a name among some places say
-abbrev pub first_said : {A : Type 0} → (Placed → List A) → List Placed → List ℕ → Option A
-first_said f places name = slice_get (flat_map f (filter (defines name) places)) 0
+-- the first value among the definitions of a name
+abbrev pub first_in_definitions : {A : Type 0} → (GroupInContext → List A) → List GroupInContext → List ℕ → Option A
+first_in_definitions f places name = slice_get (flat_map f (filter (defines name) places)) 0
 
-abbrev pub number_at : Placed → List ℕ
+abbrev pub number_at : GroupInContext → List ℕ
 number_at p = p.group.number ∷ []
 
-abbrev pub choices_at : Contents → Placed → List ℕ
-choices_at c p = option_to_list (choice_round c p)
+abbrev pub choices_at : Contents → GroupInContext → List ℕ
+choices_at c p = option_to_list (enclosing_choice c p)
 
--- what some places say of a symbol
-abbrev pub about_in : Contents → List Placed → List ℕ → About
-about_in c places name = record {
-  first = first_said number_at places name;
-  given = first_said (λ (p : Placed). said_in type_of p.group) places name;
-  choice = first_said (choices_at c) places name;
+-- the summary of a symbol from some places
+abbrev pub summary_in : Contents → List GroupInContext → List ℕ → SymbolSummary
+summary_in c places name = record {
+  first = first_in_definitions number_at places name;
+  given = first_in_definitions (λ (p : GroupInContext). attribute_values type_of p.group) places name;
+  choice = first_in_definitions (choices_at c) places name;
 }
 
--- what some places say of all symbols
-abbrev pub abouts : Contents → List Placed → List About
-abouts c places = map (about_in c places) c.names
+-- the summaries of all symbols from some places
+abbrev pub symbol_summaries : Contents → List GroupInContext → List SymbolSummary
+symbol_summaries c places = map (summary_in c places) c.names
 
 -- what is known of the symbols of a listing
-abbrev pub AreAbouts : Listing → List About → Type 0
-AreAbouts l symbols = (read : List Group) → Shows l read → symbols ≡ abouts (contents_of read) (placed read)
+abbrev pub AreSymbolSummaries : Listing → List SymbolSummary → Type 0
+AreSymbolSummaries l symbols = (read : List Group) → RepresentsListing l read → symbols ≡ symbol_summaries (contents_of read) (groups_in_context read)
 
 -- the type that a line gives
 abbrev pub type_in : Exprs → CodeLine → Option Kind
 type_in e l = type_of (attribute_in e l.attribute)
 
 -- the first of both
-abbrev pub about_or : About → About → About
-about_or a b = record { first = option_or a.first b.first; given = option_or a.given b.given; choice = option_or a.choice b.choice }
+abbrev pub first_summary : SymbolSummary → SymbolSummary → SymbolSummary
+first_summary a b = record { first = option_or a.first b.first; given = option_or a.given b.given; choice = option_or a.choice b.choice }
 
 -- the symbol that a place defines as a member of a choice, and that choice
 abbrev pub member_in : Contents → Option ℕ → Option (List ℕ) → List ℕ
 member_in c None name = []
-member_in c (Some k) name = option_to_list (option_and_then (λ x. place_of x c.names) name)
+member_in c (Some k) name = option_to_list (option_and_then (λ x. index_of_name x c.names) name)
 
-abbrev pub members_at : Contents → Placed → List ℕ
-members_at c p = member_in c (choice_round c p) (name_of p.group)
+abbrev pub members_at : Contents → GroupInContext → List ℕ
+members_at c p = member_in c (enclosing_choice c p) (defined_name p.group)
 
-abbrev pub member_key : Contents → Placed → ℕ
-member_key c p = elim (choice_round c p) [ None ↦ 0 | Some k ↦ k ]
+abbrev pub member_key : Contents → GroupInContext → ℕ
+member_key c p = elim (enclosing_choice c p) [ None ↦ 0 | Some k ↦ k ]
 
-abbrev pub member_keys_at : Contents → Placed → List ℕ
+abbrev pub member_keys_at : Contents → GroupInContext → List ℕ
 member_keys_at c p = map (λ _. member_key c p) (members_at c p)
 
 -- what is known of all that was read
 pub record IsSummaryOf (c : Contents) (s : Summary) : Type 0 where
-  pub symbols : s.symbols.items ≡ map (about_in c c.places) c.names
-  pub around : s.around.items ≡ map (choice_round c) c.places
+  pub symbols : s.symbols.items ≡ map (summary_in c c.places) c.names
+  pub enclosing : s.enclosing.items ≡ map (enclosing_choice c) c.places
   pub choices : s.choices ≡ length c.choices
   pub member_keys : s.members.keys.items ≡ flat_map (member_keys_at c) c.places
   pub members : s.members.items.items ≡ flat_map (members_at c) c.places
@@ -136,4 +136,4 @@ first_is (Some n) i = n == i
 
 -- what is known of a listing
 abbrev pub IsSummed : Listing → Summary → Type 0
-IsSummed l s = (read : List Group) → Shows l read → IsSummary read s
+IsSummed l s = (read : List Group) → RepresentsListing l read → IsSummary read s

@@ -1,11 +1,11 @@
--- What contracts see of a tree, by its lists.
-use Rattle.kc_tree.specs.Held.{Held}
-use Rattle.kc_tree.specs.checker.Kept.{IsKept}
-use Rattle.kc_tree.specs.checker.PartsView.{whole_from}
+-- The view of a tree's lists.
+use Rattle.kc_tree.specs.TreeModel.{TreeModel}
+use Rattle.kc_tree.specs.checker.StoredParts.{AreSoundParts}
+use Rattle.kc_tree.specs.checker.PartsView.{tree_from_rows}
 use Rattle.kc_tree.specs.declared.tree.Tree.TheInside.{Inside}
 
-abbrev pub held_in : Inside → Held
-held_in t = record { exprs = t.parts.arena; whole = whole_from t.parts }
+abbrev pub parts_model : Inside → TreeModel
+parts_model t = record { exprs = t.parts.arena; whole = tree_from_rows t.parts }
 
-abbrev pub IsKeptInside : Inside → Type 0
-IsKeptInside t = IsKept t.parts
+abbrev pub IsSoundInside : Inside → Type 0
+IsSoundInside t = AreSoundParts t.parts

@@ -3,12 +3,12 @@ use Rattle.std.specs.Prelude.{ℕ, Bool, false, ◌==◌, ◌&&◌, List, filter
 use Rattle.kc_tree_model.specs.declared.ids.Unit.{Unit as ToldUnit}
 use Rattle.kc_tree_model.specs.declared.ids.Unit.TheVariants.{Symbol as SymbolUnit, Choice as ChoiceUnit}
 use Rattle.kc_tree_model.specs.Trees.{TreeUnit}
-use Rattle.kc_tree_model.specs.Blocks.{head_gives}
-use Rattle.kc_tree_model.specs.Conditions.{Placed}
+use Rattle.kc_tree_model.specs.Blocks.{from_head}
+use Rattle.kc_tree_model.specs.Conditions.{GroupInContext}
 use Rattle.kc_tree_model.specs.Contents.{Contents, unit_of_head}
-use Rattle.kc_listing.specs.declared.listing.What.{What as CodeWhat}
-use Rattle.kc_listing.specs.declared.listing.What.TheVariants as codes
-use Rattle.kc_tree.specs.declared.summary.About.{About}
+use Rattle.kc_listing.specs.declared.listing.GroupHead.{GroupHead as CodeWhat}
+use Rattle.kc_listing.specs.declared.listing.GroupHead.TheVariants as codes
+use Rattle.kc_tree.specs.declared.summary.SymbolSummary.{SymbolSummary}
 
 -- whether a number is this one
 abbrev pub is_number : ℕ → Option ℕ → Bool
@@ -16,23 +16,23 @@ is_number n None = false
 is_number n (Some k) = k == n
 
 -- whether a symbol is a unit, and the group of this number defines it first
-abbrev pub is_unit_at : ℕ → About → Bool
+abbrev pub is_unit_at : ℕ → SymbolSummary → Bool
 is_unit_at n a = is_number n a.first && is_none a.choice
 
 -- the unit of that symbol, if it stands first there
-abbrev pub unit_got : ℕ → ℕ → Option About → Option ToldUnit
-unit_got n s None = None
-unit_got n s (Some a) = if is_unit_at n a then Some (SymbolUnit s) else None
+abbrev pub first_unit : ℕ → ℕ → Option SymbolSummary → Option ToldUnit
+first_unit n s None = None
+first_unit n s (Some a) = if is_unit_at n a then Some (SymbolUnit s) else None
 
 -- the unit that stands first in a group of this number, before which so many choices stand
-abbrev pub unit_kept : List About → ℕ → ℕ → CodeWhat → Option ToldUnit
-unit_kept symbols n choices codes.Choice = Some (ChoiceUnit choices)
-unit_kept symbols n choices (codes.Config s) = unit_got n s (slice_get symbols s)
-unit_kept symbols n choices w = None
+abbrev pub unit_of_group : List SymbolSummary → ℕ → ℕ → CodeWhat → Option ToldUnit
+unit_of_group symbols n choices codes.Choice = Some (ChoiceUnit choices)
+unit_of_group symbols n choices (codes.Config s) = first_unit n s (slice_get symbols s)
+unit_of_group symbols n choices w = None
 
 -- the units of what was read
-abbrev pub unit_read : Contents → Placed → Option TreeUnit
-unit_read c p = head_gives (unit_of_head c p) p.group.what
+abbrev pub unit_read : Contents → GroupInContext → Option TreeUnit
+unit_read c p = from_head (unit_of_head c p) p.group.what
 
 abbrev pub units_read : Contents → List TreeUnit
 units_read c = filter_map (unit_read c) c.places

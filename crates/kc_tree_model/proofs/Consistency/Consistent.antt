@@ -1,19 +1,19 @@
 -- What is read without a fault is a consistent tree.
-use Rattle.kc_tree_model.specs.Statements.{Valued, default_of}
+use Rattle.kc_tree_model.specs.Statements.{DefaultAttribute, default_of}
 use Rattle.std.proofs.Common.{◌≡◌, ℕ, ◌<◌, true, List, [], Option, Some, None, refl, ap, sym, ◌∙◌, subst, length, filter, not, cond, Bool, false}
 use Rattle.std.specs.Prelude.{slice_get, filter_map, flat_map, ◌==◌, option_map, option_and_then}
 use Rattle.std.specs.List.{list_any, list_all}
 use Rattle.kc_value.specs.declared.value.Kind.TheVariants.{Bool as Boolean}
-use Rattle.kc_expr.specs.Lookup.{place_of}
+use Rattle.kc_expr.specs.Lookup.{index_of_name}
 use Rattle.kc_tree_model.specs.declared.fault.TreeFault.{TreeFault}
 use Rattle.kc_tree_model.specs.Trees.{Symbol, Choice, TreeUnit, of_symbol, of_choice, Default, MemberDefault}
 use Rattle.kc_tree_model.specs.TreeLookup.{IsConsistent, is_name_byte, has_newline, own_text}
-use Rattle.kc_tree_model.specs.Files.{Files}
-use Rattle.kc_tree_model.specs.Blocks.{name_of, Line}
-use Rattle.kc_tree_model.specs.Conditions.{Placed, attribute_condition, said_in}
+use Rattle.kc_tree_model.specs.TreeFiles.{Files}
+use Rattle.kc_tree_model.specs.Blocks.{defined_name, Line}
+use Rattle.kc_tree_model.specs.Conditions.{GroupInContext, attribute_condition, attribute_values}
 use Rattle.kc_tree_model.specs.Reading.{reading}
-use Rattle.kc_tree_model.specs.Contents.{Contents, contents_of, choice_number, symbol_of, is_member_of, member_names, choice_of, whole_of, tree_of_files, defaults_at, bare_name, name_among, member_named, member_default, definitions_of, defines}
-use Rattle.kc_tree_model.specs.TreeFaults.{faults_of_group, tree_faults, fault_told}
+use Rattle.kc_tree_model.specs.Contents.{Contents, contents_of, choice_number, symbol_of, is_member_of, member_names, choice_of, tree_of_groups, tree_of_files, defaults_at, bare_name, name_among, member_named, member_default, definitions_of, defines}
+use Rattle.kc_tree_model.specs.TreeFaults.{faults_of_group, tree_faults, first_tree_fault}
 use Rattle.kc_tree_model.proofs.Consistency.Lists.{Has, has-at, has-filter, filter-has, has-filter_map, filter_map-has, has-any, any-has, place-get, number-get, at_most_once, all_pass, has_flat_map}
 use Rattle.kc_tree_model.proofs.Consistency.Places.{IsWord, is_read, value_of_group}
 use Rattle.kc_tree_model.proofs.Consistency.Definitions.{IsSound, choice_places, choices_of, member_kind, no_first, nothing_at, sound_contents, symbols_of, unit_at, units_of}
@@ -27,19 +27,19 @@ use Rattle.std.specs.Str.{is_utf8}
 use Rattle.std.proofs.lemmas.Str.{is_utf8-from_IsUtf8}
 
 -- the members of a choice
-member_number : (c : Contents) (n s : ℕ) → Has s (filter_map (λ x. place_of x c.names) (member_names c n)) → (q : Placed) × (x : List ℕ) × Has q c.places × (name_of q.group ≡ Some x) × (q.around.choice ≡ Some n) × (place_of x c.names ≡ Some s)
+member_number : (c : Contents) (n s : ℕ) → Has s (filter_map (λ x. index_of_name x c.names) (member_names c n)) → (q : GroupInContext) × (x : List ℕ) × Has q c.places × (defined_name q.group ≡ Some x) × (q.enclosing.choice ≡ Some n) × (index_of_name x c.names ≡ Some s)
 member_number c n s h =
-    let a = has-filter_map (λ x. place_of x c.names) (member_names c n) s h in
-    let b = has-filter_map (λ (p : Placed). name_of p.group) (filter (is_member_of n) c.places) a.0 a.1 in
+    let a = has-filter_map (λ x. index_of_name x c.names) (member_names c n) s h in
+    let b = has-filter_map (λ (p : GroupInContext). defined_name p.group) (filter (is_member_of n) c.places) a.0 a.1 in
     let d = has-filter (is_member_of n) c.places b.0 b.1 in
     (b.0, a.0, d.0, b.2, member_is n b.0 d.1, a.2)
 
-number_of_member : (c : Contents) (n s : ℕ) (q : Placed) (x : List ℕ) → Has q c.places → name_of q.group ≡ Some x → q.around.choice ≡ Some n → place_of x c.names ≡ Some s → Has s (filter_map (λ x. place_of x c.names) (member_names c n))
+number_of_member : (c : Contents) (n s : ℕ) (q : GroupInContext) (x : List ℕ) → Has q c.places → defined_name q.group ≡ Some x → q.enclosing.choice ≡ Some n → index_of_name x c.names ≡ Some s → Has s (filter_map (λ x. index_of_name x c.names) (member_names c n))
 number_of_member c n s q x h e m k =
-    filter_map-has (λ x. place_of x c.names) (member_names c n) x s
-    (filter_map-has (λ (p : Placed). name_of p.group) (filter (is_member_of n) c.places) q x (filter-has (is_member_of n) c.places q h (is_member n q m)) e) k
+    filter_map-has (λ x. index_of_name x c.names) (member_names c n) x s
+    (filter_map-has (λ (p : GroupInContext). defined_name p.group) (filter (is_member_of n) c.places) q x (filter-has (is_member_of n) c.places q h (is_member n q m)) e) k
 
-module _ (c : Contents) (s : IsSound c) (none : (p : Placed) → Has p c.places → faults_of_group c p ≡ []) where
+module _ (c : Contents) (s : IsSound c) (none : (p : GroupInContext) → Has p c.places → faults_of_group c p ≡ []) where
   words : (i : ℕ) (symbol : Symbol) → slice_get (symbols_of c) i ≡ Some symbol → (0 < length symbol.name) × (list_all is_name_byte symbol.name ≡ true)
   words i symbol h =
       let r = symbol_at c i symbol h in
@@ -94,7 +94,7 @@ module _ (c : Contents) (s : IsSound c) (none : (p : Placed) → Has p c.places 
   members : (k i : ℕ) (choice : Choice) → slice_get (choices_of c) k ≡ Some choice → list_any (λ m. m == i) choice.members ≡ true → (symbol : Symbol) × (slice_get (symbols_of c) i ≡ Some symbol) × (symbol.choice ≡ Some k)
   members k i x h e =
       let p = choice_at c k x h in
-      let m = member_number c p.0.group.number i (has-any i (filter_map (λ x. place_of x c.names) (member_names c p.0.group.number)) (subst (λ (x : Choice). list_any (λ m. m == i) x.members ≡ true) (sym p.2) e)) in
+      let m = member_number c p.0.group.number i (has-any i (filter_map (λ x. index_of_name x c.names) (member_names c p.0.group.number)) (subst (λ (x : Choice). list_any (λ m. m == i) x.members ≡ true) (sym p.2) e)) in
       (symbol_of c m.1, symbol_there c i m.1 (place-get m.1 c.names i m.5), choice_of_member c s none m.0 m.1 p.0.group.number k m.2 m.3 m.4 (at_number c s k p.0 p.1))
 
   listed : (i k : ℕ) (symbol : Symbol) → slice_get (symbols_of c) i ≡ Some symbol → symbol.choice ≡ Some k → (choice : Choice) × (slice_get (choices_of c) k ≡ Some choice) × (list_any (λ m. m == i) choice.members ≡ true)
@@ -102,7 +102,7 @@ module _ (c : Contents) (s : IsSound c) (none : (p : Placed) → Has p c.places 
       let r = symbol_at c i symbol h in
       let m = choice_around c r.0 k (choice_of_name c r.0 symbol (Some k) r.2 e) in
       let p = number_at c s k m.1 (number-get m.1 c.choices k m.5) in
-      (choice_of c p.0, choice_there_at c k p.0 p.1, any-has i (filter_map (λ x. place_of x c.names) (member_names c p.0.group.number)) (number_of_member c p.0.group.number i m.0 r.0 m.2 m.3 (m.4 ∙ ap Some (sym p.2)) (place_is c s r.0 i r.1)))
+      (choice_of c p.0, choice_there_at c k p.0 p.1, any-has i (filter_map (λ x. index_of_name x c.names) (member_names c p.0.group.number)) (number_of_member c p.0.group.number i m.0 r.0 m.2 m.3 (m.4 ∙ ap Some (sym p.2)) (place_is c s r.0 i r.1)))
 
 -- a default of a choice is of a member
 mapped_from : {A B : Type 0} (f : A → B) (o : Option A) (y : B) → option_map f o ≡ Some y → (x : A) × (o ≡ Some x) × (f x ≡ y)
@@ -112,28 +112,28 @@ mapped_from f (Some x) y h = (x, refl, cc)
 named_member : (members : List (List ℕ)) (b : Bool) (o : Option (List ℕ)) (x : List ℕ) → cond b (option_and_then (name_among members) o) None ≡ Some x → Has x members
 named_member members true o x h =
     let a = and_then_some (name_among members) o x h in
-    let b = mapped_from (λ _. a.0) (place_of a.0 members) x a.2 in
+    let b = mapped_from (λ _. a.0) (index_of_name a.0 members) x a.2 in
     subst (λ y. Has y members) b.2 (has-at a.0 members b.0 (place-get a.0 members b.0 b.1))
 named_member members false o x h = cc
 
-default_of_member : (c : Contents) (p : Placed) (v : Valued) (d : MemberDefault) → member_default c p v ≡ Some d → Has d.member (filter_map (λ x. place_of x c.names) (member_names c p.group.number))
+default_of_member : (c : Contents) (p : GroupInContext) (v : DefaultAttribute) (d : MemberDefault) → member_default c p v ≡ Some d → Has d.member (filter_map (λ x. index_of_name x c.names) (member_names c p.group.number))
 default_of_member c p v d h =
-    let a = mapped_from (λ s. record { member = s; condition = attribute_condition p.around p.group v.condition }) _ d h in
-    let b = and_then_some (λ x. place_of x c.names) (member_named (member_names c p.group.number) v) a.0 a.1 in
+    let a = mapped_from (λ s. record { member = s; condition = attribute_condition p.enclosing p.group v.condition }) _ d h in
+    let b = and_then_some (λ x. index_of_name x c.names) (member_named (member_names c p.group.number) v) a.0 a.1 in
     let m : Has b.0 (member_names c p.group.number) = named_member (member_names c p.group.number) v.single (bare_name v.value) b.0 b.1 in
-    subst (λ n. Has n (filter_map (λ x. place_of x c.names) (member_names c p.group.number))) (ap (λ (y : MemberDefault). y.member) a.2) (filter_map-has (λ x. place_of x c.names) (member_names c p.group.number) b.0 a.0 m b.2)
+    subst (λ n. Has n (filter_map (λ x. index_of_name x c.names) (member_names c p.group.number))) (ap (λ (y : MemberDefault). y.member) a.2) (filter_map-has (λ x. index_of_name x c.names) (member_names c p.group.number) b.0 a.0 m b.2)
 
 default_members : (c : Contents) (k : ℕ) (x : Choice) → slice_get (choices_of c) k ≡ Some x → list_all (λ (d : MemberDefault). list_any (λ m. m == d.member) x.members) x.defaults ≡ true
 default_members c k x h =
     let p = choice_at c k x h in
     subst (λ (y : Choice). list_all (λ (d : MemberDefault). list_any (λ m. m == d.member) y.members) y.defaults ≡ true) p.2
     (all_pass (λ (d : MemberDefault). list_any (λ m. m == d.member) (choice_of c p.0).members) (choice_of c p.0).defaults
-    (λ d e. let r = has-filter_map (member_default c p.0) (said_in default_of p.0.group) d e in any-has d.member (choice_of c p.0).members (default_of_member c p.0 r.0 d r.2)))
+    (λ d e. let r = has-filter_map (member_default c p.0) (attribute_values default_of p.0.group) d e in any-has d.member (choice_of c p.0).members (default_of_member c p.0 r.0 d r.2)))
 
 -- the own texts of defaults are one line of UTF-8
-default_is_plain : (c : Contents) (s : IsSound c) (p : Placed) (d : Default) → Has p c.places → Has d (defaults_at p) → IsPlainText (own_text d.value)
+default_is_plain : (c : Contents) (s : IsSound c) (p : GroupInContext) (d : Default) → Has p c.places → Has d (defaults_at p) → IsPlainText (own_text d.value)
 default_is_plain c s p d h k =
-    let a = has_mapped (λ (v : Valued). record { value = v.value; condition = attribute_condition p.around p.group v.condition }) (said_in default_of p.group) d k in
+    let a = has_mapped (λ (v : DefaultAttribute). record { value = v.value; condition = attribute_condition p.enclosing p.group v.condition }) (attribute_values default_of p.group) d k in
     let b = has-filter_map (λ (l : Line). default_of l.attribute) p.group.attributes a.0 a.1 in
     subst (λ (y : Default). IsPlainText (own_text y.value)) a.2 (value_of_group p.group.attributes b.0 a.0 (s.values p h) b.1 b.2)
 
@@ -149,14 +149,14 @@ no_reading_fault : (o : Option TreeFault) (t : Option TreeFault) → elim o as (
 no_reading_fault None t h = h
 no_reading_fault (Some f) t h = cc
 
-no_faults : (files : Files) (root : List ℕ) → fault_told files root ≡ None → (p : Placed) → Has p (contents_of (reading files root).read).places → faults_of_group (contents_of (reading files root).read) p ≡ []
-unfolding fault_told tree_faults
+no_faults : (files : Files) (root : List ℕ) → first_tree_fault files root ≡ None → (p : GroupInContext) → Has p (contents_of (reading files root).read).places → faults_of_group (contents_of (reading files root).read) p ≡ []
+unfolding first_tree_fault tree_faults
 no_faults files root h p k =
     let read = (reading files root).read in
     nothing_at (faults_of_group (contents_of read)) (contents_of read).places p (no_first (flat_map (faults_of_group (contents_of read)) (contents_of read).places) (no_reading_fault (reading files root).fault _ h)) k
 
-pub tree_is_consistent : (files : Files) (root : List ℕ) → fault_told files root ≡ None → IsConsistent (tree_of_files files root)
-unfolding tree_of_files whole_of symbols_of choices_of choice_places units_of unit_at
+pub tree_is_consistent : (files : Files) (root : List ℕ) → first_tree_fault files root ≡ None → IsConsistent (tree_of_files files root)
+unfolding tree_of_files tree_of_groups symbols_of choices_of choice_places units_of unit_at
 tree_is_consistent files root h =
     let c = contents_of (reading files root).read in
     let s = sound_contents (reading files root).read (is_read files root) in

@@ -9,8 +9,8 @@ use Rattle.kc_tree_model.specs.declared.fault.TreeKind.TheVariants.{ChoiceMember
 use Rattle.kc_tree_model.specs.declared.fault.TreeFault.{TreeFault}
 use Rattle.kc_tree_model.specs.Trees.{Symbol, Choice, TreeUnit}
 use Rattle.kc_tree_model.specs.Statements.{config}
-use Rattle.kc_tree_model.specs.Blocks.{Group, said, file_end, head_gives, name_of, opens_choice}
-use Rattle.kc_tree_model.specs.Conditions.{Placed}
+use Rattle.kc_tree_model.specs.Blocks.{Group, of_head, file_end, from_head, defined_name, opens_choice}
+use Rattle.kc_tree_model.specs.Conditions.{GroupInContext}
 use Rattle.kc_tree_model.specs.Contents.{Contents, contents_of, defines, first_definition, type_given, choice_of_symbol, symbol_of, choice_of, is_first_definition, unit_of_head}
 use Rattle.kc_tree_model.specs.TreeFaults.{when, is_other_kind, definition_faults, faults_of_head, faults_of_group}
 use Rattle.kc_tree_model.proofs.Consistency.Lists.{Has, has-filter_map, filter_map-has, same_text, text_same, Differ, has-once, once-has, Differ-once}
@@ -54,20 +54,20 @@ pub not_not : (b : Bool) → not b ≡ false → b ≡ true
 not_not true h = refl
 not_not false h = cc
 
-module _ (c : Contents) (none : (p : Placed) → Has p c.places → faults_of_group c p ≡ []) where
+module _ (c : Contents) (none : (p : GroupInContext) → Has p c.places → faults_of_group c p ≡ []) where
   -- a definition has no fault of its own
-  pub sound : (p : Placed) (name : List ℕ) → Has p c.places → name_of p.group ≡ Some name → definition_faults c p name ≡ []
+  pub sound : (p : GroupInContext) (name : List ℕ) → Has p c.places → defined_name p.group ≡ Some name → definition_faults c p name ≡ []
   sound p name h e =
-      let what : p.group.what ≡ said (config name) = what_of_name p.group.what name e in
-      let here : faults_of_head c p (config name) ≡ [] = sym (ap (λ w. elim w as (λ _. List TreeFault) [ said x ↦ faults_of_head c p x | file_end ↦ [] ]) what) ∙ none p h in
+      let what : p.group.what ≡ of_head (config name) = what_of_name p.group.what name e in
+      let here : faults_of_head c p (config name) ≡ [] = sym (ap (λ w. elim w as (λ _. List TreeFault) [ of_head x ↦ faults_of_head c p x | file_end ↦ [] ]) what) ∙ none p h in
       nothing_mapped (λ k. record { file = Some p.group.at.file; line = p.group.at.line; kind = k }) (definition_faults c p name) (nothing_left _ _ here).0
 
-  pub member_rule : (p : Placed) (name : List ℕ) → Has p c.places → name_of p.group ≡ Some name
-      → ((is_some p.around.choice && is_other_kind Boolean (type_given c name)) ≡ false) × ((not (is_first_definition c name p) && is_some (choice_of_symbol c name)) ≡ false)
+  pub member_rule : (p : GroupInContext) (name : List ℕ) → Has p c.places → defined_name p.group ≡ Some name
+      → ((is_some p.enclosing.choice && is_other_kind Boolean (type_given c name)) ≡ false) × ((not (is_first_definition c name p) && is_some (choice_of_symbol c name)) ≡ false)
   member_rule p name h e = neither _ _ (not_when _ ChoiceMember (nothing_left _ _ (nothing_left _ _ (sound p name h e)).0).1)
 
   -- a definition of a symbol with a member is its first
-  pub is_first : (p : Placed) (name : List ℕ) (k : ℕ) → Has p c.places → name_of p.group ≡ Some name → choice_of_symbol c name ≡ Some k → is_first_definition c name p ≡ true
+  pub is_first : (p : GroupInContext) (name : List ℕ) (k : ℕ) → Has p c.places → defined_name p.group ≡ Some name → choice_of_symbol c name ≡ Some k → is_first_definition c name p ≡ true
   is_first p name k h e m = not_not _ (left_false _ _ (member_rule p name h e).1 (ap is_some m))
 
   pub no_other_kind : (k : Option Kind) → is_other_kind Boolean k ≡ false → unwrap_or k Boolean ≡ Boolean
@@ -78,32 +78,32 @@ module _ (c : Contents) (none : (p : Placed) → Has p c.places → faults_of_gr
   no_other_kind (Some Int) h = cc
   no_other_kind (Some Hex) h = cc
 
-  pub member_kind : (p : Placed) (name : List ℕ) (n : ℕ) → Has p c.places → name_of p.group ≡ Some name → p.around.choice ≡ Some n → unwrap_or (type_given c name) Boolean ≡ Boolean
+  pub member_kind : (p : GroupInContext) (name : List ℕ) (n : ℕ) → Has p c.places → defined_name p.group ≡ Some name → p.enclosing.choice ≡ Some n → unwrap_or (type_given c name) Boolean ≡ Boolean
   member_kind p name n h e m = no_other_kind (type_given c name) (right_false _ _ (member_rule p name h e).0 (ap is_some m))
 
 -- what `defines` and `is_first_definition` say
-pub defined : (p : Placed) (name : List ℕ) → defines name p ≡ true → name_of p.group ≡ Some name
-defined p name h = by_name (name_of p.group) h
+pub defined : (p : GroupInContext) (name : List ℕ) → defines name p ≡ true → defined_name p.group ≡ Some name
+defined p name h = by_name (defined_name p.group) h
   where
     by_name : (o : Option (List ℕ)) → elim o [ None ↦ false | Some x ↦ bytes_eq x name ] ≡ true → o ≡ Some name
     by_name None k = cc
     by_name (Some x) k = ap Some (same_text x name k)
 
-pub defining : (p : Placed) (name : List ℕ) → name_of p.group ≡ Some name → defines name p ≡ true
-defining p name h = by_name (name_of p.group) h
+pub defining : (p : GroupInContext) (name : List ℕ) → defined_name p.group ≡ Some name → defines name p ≡ true
+defining p name h = by_name (defined_name p.group) h
   where
     by_name : (o : Option (List ℕ)) → o ≡ Some name → elim o [ None ↦ false | Some x ↦ bytes_eq x name ] ≡ true
     by_name None k = cc
     by_name (Some x) k = text_same x name cc
 
-pub first_number : (c : Contents) (name : List ℕ) (p : Placed) → is_first_definition c name p ≡ true → (g : Group) × (first_definition c name ≡ Some g) × (g.number ≡ p.group.number)
+pub first_number : (c : Contents) (name : List ℕ) (p : GroupInContext) → is_first_definition c name p ≡ true → (g : Group) × (first_definition c name ≡ Some g) × (g.number ≡ p.group.number)
 first_number c name p h = by_first (first_definition c name) refl h
   where
     by_first : (o : Option Group) → first_definition c name ≡ o → elim o [ None ↦ false | Some g ↦ g.number == p.group.number ] ≡ true → (g : Group) × (first_definition c name ≡ Some g) × (g.number ≡ p.group.number)
     by_first None e k = cc
     by_first (Some g) e k = (g, e, eqb-true g.number p.group.number k)
 
-pub one_number : (c : Contents) (name : List ℕ) (p q : Placed) → is_first_definition c name p ≡ true → is_first_definition c name q ≡ true → p.group.number ≡ q.group.number
+pub one_number : (c : Contents) (name : List ℕ) (p q : GroupInContext) → is_first_definition c name p ≡ true → is_first_definition c name q ≡ true → p.group.number ≡ q.group.number
 one_number c name p q h k =
     let a = first_number c name p h in
     let b = first_number c name q k in
@@ -114,14 +114,14 @@ one_number c name p q h k =
 unfoldable pub symbols_of : Contents → List Symbol
 symbols_of c = map (symbol_of c) c.names
 
-unfoldable pub choice_places : Contents → List Placed
-choice_places c = filter (λ (p : Placed). opens_choice p.group) c.places
+unfoldable pub choice_places : Contents → List GroupInContext
+choice_places c = filter (λ (p : GroupInContext). opens_choice p.group) c.places
 
 unfoldable pub choices_of : Contents → List Choice
 choices_of c = map (choice_of c) (choice_places c)
 
-unfoldable pub unit_at : Contents → Placed → Option TreeUnit
-unit_at c p = head_gives (unit_of_head c p) p.group.what
+unfoldable pub unit_at : Contents → GroupInContext → Option TreeUnit
+unit_at c p = from_head (unit_of_head c p) p.group.what
 
 unfoldable pub units_of : Contents → List TreeUnit
 units_of c = filter_map (unit_at c) c.places
@@ -131,24 +131,24 @@ pub record IsSound (c : Contents) : Type 0 where
   pub numbers : NumbersDiffer c.places
   pub names : Differ c.names
   pub words : (name : List ℕ) → Has name c.names → IsWord name
-  pub defined_once : (name : List ℕ) → Has name c.names → (p : Placed) × Has p c.places × (name_of p.group ≡ Some name)
-  pub named : (p : Placed) (name : List ℕ) → Has p c.places → name_of p.group ≡ Some name → Has name c.names
-  pub values : (p : Placed) → Has p c.places → AreValues p.group.attributes
-  pub choices : c.choices ≡ map (λ (p : Placed). p.group.number) (filter (λ (p : Placed). opens_choice p.group) c.places)
-  pub choice_there : (p : Placed) (n : ℕ) → Has p c.places → p.around.choice ≡ Some n → (q : Placed) × Has q c.places × (q.group.number ≡ n) × (opens_choice q.group ≡ true)
+  pub defined_once : (name : List ℕ) → Has name c.names → (p : GroupInContext) × Has p c.places × (defined_name p.group ≡ Some name)
+  pub named : (p : GroupInContext) (name : List ℕ) → Has p c.places → defined_name p.group ≡ Some name → Has name c.names
+  pub values : (p : GroupInContext) → Has p c.places → AreValues p.group.attributes
+  pub choices : c.choices ≡ map (λ (p : GroupInContext). p.group.number) (filter (λ (p : GroupInContext). opens_choice p.group) c.places)
+  pub choice_there : (p : GroupInContext) (n : ℕ) → Has p c.places → p.enclosing.choice ≡ Some n → (q : GroupInContext) × Has q c.places × (q.group.number ≡ n) × (opens_choice q.group ≡ true)
 
 pub sound_contents : (read : List Group) → IsRead read → IsSound (contents_of read)
 sound_contents read r = record {
   numbers = numbers_differ read r;
-  names = Differ-once (filter_map name_of read);
+  names = Differ-once (filter_map defined_name read);
   words = λ name h.
-      let g = has-filter_map name_of read name (has-once name (filter_map name_of read) h) in
+      let g = has-filter_map defined_name read name (has-once name (filter_map defined_name read) h) in
       subst NamesWord (what_of_name g.0.what name g.2) (word_of_group g.0 read r g.1);
   defined_once = λ name h.
-      let g = has-filter_map name_of read name (has-once name (filter_map name_of read) h) in
+      let g = has-filter_map defined_name read name (has-once name (filter_map defined_name read) h) in
       let p = placed-group g.0 read g.1 in
-      (p.0, p.1, ap name_of p.2 ∙ g.2);
-  named = λ p name h e. once-has name (filter_map name_of read) (filter_map-has name_of read p.group name (group-placed p read h) e);
+      (p.0, p.1, ap defined_name p.2 ∙ g.2);
+  named = λ p name h e. once-has name (filter_map defined_name read) (filter_map-has defined_name read p.group name (group-placed p read h) e);
   values = λ p h. values_of_group p.group read r (group-placed p read h);
   choices = refl;
   choice_there = λ p n h e. choice_read p read n h e;

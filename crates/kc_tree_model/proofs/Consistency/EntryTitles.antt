@@ -4,12 +4,12 @@ use Rattle.std.specs.Prelude.{slice_get, option_map}
 use Rattle.kc_expr.specs.Expr.{Expr}
 use Rattle.kc_tree_model.specs.Trees.{Entry, definition, choice_begins, menu_begins, menu_ends}
 use Rattle.kc_tree_model.specs.TreeLookup.{title_of_entry}
-use Rattle.kc_tree_model.specs.Files.{Files}
+use Rattle.kc_tree_model.specs.TreeFiles.{Files}
 use Rattle.kc_tree_model.specs.Statements.{menu_block, config, choice, menu, condition, comment, source, mainmenu, ends, title_of_head}
-use Rattle.kc_tree_model.specs.Blocks.{Group, What, said, file_end, head_gives, open_blocks}
-use Rattle.kc_tree_model.specs.Conditions.{Placed, place, placed}
+use Rattle.kc_tree_model.specs.Blocks.{Group, GroupHead, of_head, file_end, from_head, open_blocks}
+use Rattle.kc_tree_model.specs.Conditions.{GroupInContext, group_in_context, groups_in_context}
 use Rattle.kc_tree_model.specs.Reading.{reading}
-use Rattle.kc_tree_model.specs.Contents.{Contents, contents_of, entry_of_head, menu_end_of, whole_of, tree_of_files}
+use Rattle.kc_tree_model.specs.Contents.{Contents, contents_of, entry_of_head, menu_end_of, tree_of_groups, tree_of_files}
 use Rattle.kc_tree_model.proofs.Consistency.TitledLines.{title_in}
 use Rattle.kc_tree_model.proofs.Consistency.Lists.{Has, has-at, has-append, has-filter_map}
 use Rattle.kc_tree_model.proofs.Consistency.Places.{group-placed, has-open_blocks}
@@ -17,22 +17,22 @@ use Rattle.kc_tree_model.proofs.Consistency.Titles.{IsPlain, titles_plain, plain
 use Rattle.kc_tree_model.proofs.Consistency.PlainTexts.{IsPlainText}
 
 -- an open block was read
-opened_read : (p : Placed) (read : List Group) (g : Group) → Has p (placed read) → Has g p.opened → Has g read
+opened_read : (p : GroupInContext) (read : List Group) (g : Group) → Has p (groups_in_context read) → Has g p.opened → Has g read
 opened_read p [] g h k = absurd h
-opened_read p (x ∷ before) g h k = elim (has-append p (placed before) (place (open_blocks 0 before) x ∷ []) h) [
+opened_read p (x ∷ before) g h k = elim (has-append p (groups_in_context before) (group_in_context (open_blocks 0 before) x ∷ []) h) [
   | inl a ↦ inr (opened_read p before g a k)
-  | inr b ↦ elim b [ inl e ↦ inr (has-open_blocks g 0 before (subst (Has g) (sym (ap (λ (y : Placed). y.opened) e)) k)) | inr e ↦ absurd e ]
+  | inr b ↦ elim b [ inl e ↦ inr (has-open_blocks g 0 before (subst (Has g) (sym (ap (λ (y : GroupInContext). y.opened) e)) k)) | inr e ↦ absurd e ]
 ]
 
-menu_title : (w : What) (title : List ℕ) → head_gives title_of_head w ≡ Some title → head_gives title_in w ≡ Some title
-menu_title (said (menu x)) title e = e
-menu_title (said (config x)) title e = cc
-menu_title (said choice) title e = cc
-menu_title (said (condition c)) title e = cc
-menu_title (said (comment x)) title e = cc
-menu_title (said (source x)) title e = cc
-menu_title (said mainmenu) title e = cc
-menu_title (said (ends b)) title e = cc
+menu_title : (w : GroupHead) (title : List ℕ) → from_head title_of_head w ≡ Some title → from_head title_in w ≡ Some title
+menu_title (of_head (menu x)) title e = e
+menu_title (of_head (config x)) title e = cc
+menu_title (of_head choice) title e = cc
+menu_title (of_head (condition c)) title e = cc
+menu_title (of_head (comment x)) title e = cc
+menu_title (of_head (source x)) title e = cc
+menu_title (of_head mainmenu) title e = cc
+menu_title (of_head (ends b)) title e = cc
 menu_title file_end title e = cc
 
 same_title : (d e : Entry) (x title : List ℕ) → title_of_entry d ≡ Some x → title_of_entry e ≡ Some title → Some d ≡ Some e → x ≡ title
@@ -41,8 +41,8 @@ same_title d e x title first second k = let same : d ≡ e = cc in let both : So
 no_title : (d e : Entry) (title : List ℕ) → title_of_entry d ≡ None → title_of_entry e ≡ Some title → Some d ≡ Some e → ⊥
 no_title d e title first second k = let same : d ≡ e = cc in let both : None ≡ Some title = sym first ∙ ap title_of_entry same ∙ second in cc
 
-menu_plain : (f : List ℕ → Expr → Expr → Entry) → ((t : List ℕ) (d v : Expr) → title_of_entry (f t d v) ≡ Some t) → (dependency visible : Expr) (w : What) → IsPlain w → (e : Entry) (title : List ℕ) → title_of_entry e ≡ Some title
-    → (o : Option (List ℕ)) → head_gives title_of_head w ≡ o → option_map (λ t. f t dependency visible) o ≡ Some e → IsPlainText title
+menu_plain : (f : List ℕ → Expr → Expr → Entry) → ((t : List ℕ) (d v : Expr) → title_of_entry (f t d v) ≡ Some t) → (dependency visible : Expr) (w : GroupHead) → IsPlain w → (e : Entry) (title : List ℕ) → title_of_entry e ≡ Some title
+    → (o : Option (List ℕ)) → from_head title_of_head w ≡ o → option_map (λ t. f t dependency visible) o ≡ Some e → IsPlainText title
 menu_plain f has d v w plain e title told None is k = cc
 menu_plain f has d v w plain e title told (Some t) is k = subst IsPlainText (same_title (f t d v) e t title (has t d v) told k) (plain t (menu_title w t is))
 
@@ -52,22 +52,22 @@ numbered f none e title told (Some n) k = no_title (f n) e title (none n) told k
 
 end_plain : (opened : List Group) → ((g : Group) → Has g opened → IsPlain g.what) → (e : Entry) (title : List ℕ) → title_of_entry e ≡ Some title → menu_end_of opened ≡ Some e → IsPlainText title
 end_plain [] plain e title told k = cc
-end_plain (g ∷ outer) plain e title told k = menu_plain menu_ends (λ t d v. refl) _ _ g.what (plain g (inl refl)) e title told (head_gives title_of_head g.what) refl k
+end_plain (g ∷ outer) plain e title told k = menu_plain menu_ends (λ t d v. refl) _ _ g.what (plain g (inl refl)) e title told (from_head title_of_head g.what) refl k
 
-entry_plain : (c : Contents) (p : Placed) (w : What) → p.group.what ≡ w → IsPlain p.group.what → ((g : Group) → Has g p.opened → IsPlain g.what) → (e : Entry) (title : List ℕ) → title_of_entry e ≡ Some title → head_gives (entry_of_head c p) w ≡ Some e → IsPlainText title
-entry_plain c p (said (config name)) is plain opened e title told k = absurd (numbered definition (λ n. refl) e title told _ k)
-entry_plain c p (said choice) is plain opened e title told k = absurd (numbered choice_begins (λ n. refl) e title told _ k)
-entry_plain c p (said (menu x)) is plain opened e title told k = menu_plain menu_begins (λ t d v. refl) _ _ p.group.what plain e title told (head_gives title_of_head p.group.what) refl k
-entry_plain c p (said (comment x)) is plain opened e title told k = subst IsPlainText (same_title _ e x title refl told k) (plain x (ap (head_gives title_in) is))
-entry_plain c p (said (ends menu_block)) is plain opened e title told k = end_plain p.opened opened e title told k
+entry_plain : (c : Contents) (p : GroupInContext) (w : GroupHead) → p.group.what ≡ w → IsPlain p.group.what → ((g : Group) → Has g p.opened → IsPlain g.what) → (e : Entry) (title : List ℕ) → title_of_entry e ≡ Some title → from_head (entry_of_head c p) w ≡ Some e → IsPlainText title
+entry_plain c p (of_head (config name)) is plain opened e title told k = absurd (numbered definition (λ n. refl) e title told _ k)
+entry_plain c p (of_head choice) is plain opened e title told k = absurd (numbered choice_begins (λ n. refl) e title told _ k)
+entry_plain c p (of_head (menu x)) is plain opened e title told k = menu_plain menu_begins (λ t d v. refl) _ _ p.group.what plain e title told (from_head title_of_head p.group.what) refl k
+entry_plain c p (of_head (comment x)) is plain opened e title told k = subst IsPlainText (same_title _ e x title refl told k) (plain x (ap (from_head title_in) is))
+entry_plain c p (of_head (ends menu_block)) is plain opened e title told k = end_plain p.opened opened e title told k
 entry_plain c p w is plain opened e title told k = cc
 
 -- in each tree of files
 pub entry_titles_plain : (files : Files) (root : List ℕ) (k : ℕ) (e : Entry) (title : List ℕ) → slice_get (tree_of_files files root).entries k ≡ Some e → title_of_entry e ≡ Some title → IsPlainText title
-unfolding tree_of_files whole_of
+unfolding tree_of_files tree_of_groups
 entry_titles_plain files root k e title at told =
     let read = (reading files root).read in
     let c = contents_of (reading files root).read in
     let plain = titles_plain files root in
-    let from = has-filter_map (λ (p : Placed). head_gives (entry_of_head (contents_of (reading files root).read) p) p.group.what) c.places e (has-at e _ k at) in
+    let from = has-filter_map (λ (p : GroupInContext). from_head (entry_of_head (contents_of (reading files root).read) p) p.group.what) c.places e (has-at e _ k at) in
     entry_plain c from.0 from.0.group.what refl (plain_of_group from.0.group read plain (group-placed from.0 read from.1)) (λ g h. plain_of_group g read plain (opened_read from.0 read g from.1 h)) e title told from.2

@@ -2,21 +2,21 @@
 use Rattle.std.proofs.Common.{◌≡◌, Bool, true, false, not, cond, List, [], ◌∷◌, Option, Some, None, Result, Ok, Err, subst, length}
 use Rattle.std.specs.Prelude.{nat_lt}
 use Rattle.std.specs.Str.{is_utf8}
-use Rattle.kc_expr.specs.Token.{Piece, lexed}
+use Rattle.kc_expr.specs.Token.{Lexeme, lexemes_from}
 use Rattle.kc_expr.specs.declared.fault.ExprFault.{ExprFault}
 use Rattle.kc_tree_model.specs.declared.fault.TreeKind.TheVariants.{LeftOut, Misplaced, StrayEnd, TooDeep, TooMany, LineTooLong, NotUtf8}
-use Rattle.kc_tree_model.specs.Lines.{Logical}
+use Rattle.kc_tree_model.specs.LogicalLines.{LogicalLine}
 use Rattle.kc_tree_model.specs.Statements.{Statement}
 use Rattle.kc_tree_model.specs.Keywords.{Keyword, keyword_of}
 use Rattle.kc_tree_model.specs.Forms.{statement_of}
 use Rattle.kc_tree_model.specs.Blocks.{Group}
 use Rattle.kc_tree_model.specs.Placement.{is_allowed, is_left_out, is_stray_end}
-use Rattle.kc_tree_model.specs.Limits.{most_line_bytes, is_too_deep, is_too_many}
-use Rattle.kc_tree_model.specs.Reading.{said_with, said_by, said_by_word, said_by_tokens, line_says}
+use Rattle.kc_tree_model.specs.Limits.{max_line_bytes, is_too_deep, is_too_many}
+use Rattle.kc_tree_model.specs.Reading.{statement_by_keyword, statement_of_tokens, statement_by_word, statement_or_fault, statement_on_line}
 use Rattle.kc_tree_model.proofs.NestedTrees.LineFits.{bind_ok, unless_ok, past_test}
 
 -- a statement that a line says passes no limit of names and symbols
-few_by_keyword : (read : List Group) (k : Keyword) (ts : List Piece) (s : Statement) → said_with read k ts ≡ Ok (Some s) → is_too_many read s ≡ false
+few_by_keyword : (read : List Group) (k : Keyword) (ts : List Lexeme) (s : Statement) → statement_by_keyword read k ts ≡ Ok (Some s) → is_too_many read s ≡ false
 few_by_keyword read k ts s h =
     let a = unless_ok (is_left_out read k ts) LeftOut _ (Some s) h in
     let b = unless_ok (not (is_allowed read k)) Misplaced _ (Some s) a.1 in
@@ -27,22 +27,22 @@ few_by_keyword read k ts s h =
     let same : d.0 ≡ s = cc in
     subst (λ x. is_too_many read x ≡ false) same f.0
 
-few_by_word : (read : List Group) (w : Option Keyword) (ts : List Piece) (s : Statement) → said_by_word read ts w ≡ Ok (Some s) → is_too_many read s ≡ false
+few_by_word : (read : List Group) (w : Option Keyword) (ts : List Lexeme) (s : Statement) → statement_by_word read ts w ≡ Ok (Some s) → is_too_many read s ≡ false
 few_by_word read None ts s h = cc
 few_by_word read (Some k) ts s h = few_by_keyword read k ts s h
 
-few_in_line : (read : List Group) (ts : List Piece) (s : Statement) → said_by read ts ≡ Ok (Some s) → is_too_many read s ≡ false
+few_in_line : (read : List Group) (ts : List Lexeme) (s : Statement) → statement_of_tokens read ts ≡ Ok (Some s) → is_too_many read s ≡ false
 few_in_line read [] s h = cc
 few_in_line read (t ∷ ts) s h = few_by_word read (keyword_of t) ts s h
 
-few_lexed : (read : List Group) (r : Result (List Piece) ExprFault) (s : Statement) → said_by_tokens read r ≡ Ok (Some s) → is_too_many read s ≡ false
+few_lexed : (read : List Group) (r : Result (List Lexeme) ExprFault) (s : Statement) → statement_or_fault read r ≡ Ok (Some s) → is_too_many read s ≡ false
 few_lexed read (Err e) s h = cc
 few_lexed read (Ok ts) s h = few_in_line read ts s h
 
-few_or_help : (read : List Group) (b : Bool) (r : Result (List Piece) ExprFault) (s : Statement) → cond b (Ok None) (said_by_tokens read r) ≡ Ok (Some s) → is_too_many read s ≡ false
+few_or_help : (read : List Group) (b : Bool) (r : Result (List Lexeme) ExprFault) (s : Statement) → cond b (Ok None) (statement_or_fault read r) ≡ Ok (Some s) → is_too_many read s ≡ false
 few_or_help read true r s h = cc
 few_or_help read false r s h = few_lexed read r s h
 
-pub line_few : (read : List Group) (l : Logical) (s : Statement) → line_says read l ≡ Ok (Some s) → is_too_many read s ≡ false
-unfolding line_says
-line_few read l s h = few_or_help read l.help (lexed 0 0 l.text) s (past_test (not (is_utf8 l.text)) NotUtf8 _ (Some s) (past_test (nat_lt most_line_bytes (length l.text)) LineTooLong _ (Some s) h))
+pub line_few : (read : List Group) (l : LogicalLine) (s : Statement) → statement_on_line read l ≡ Ok (Some s) → is_too_many read s ≡ false
+unfolding statement_on_line
+line_few read l s h = few_or_help read l.help (lexemes_from 0 0 l.text) s (past_test (not (is_utf8 l.text)) NotUtf8 _ (Some s) (past_test (nat_lt max_line_bytes (length l.text)) LineTooLong _ (Some s) h))

@@ -4,9 +4,9 @@ use Rattle.std.specs.Prelude.{slice_get, filter_map, flat_map, option_map, bytes
 use Rattle.std.specs.List.{list_any, list_all, cons_option}
 use Rattle.std.proofs.lemmas.Slice.Eq.{bytes_eq-Decides}
 use Rattle.std.proofs.lemmas.Bool.{eqb-true, eq-eqb}
-use Rattle.kc_expr.specs.Lookup.{place_of}
-use Rattle.kc_tree_model.specs.Limits.{is_among, once}
-use Rattle.kc_tree_model.specs.Contents.{place_of_number}
+use Rattle.kc_expr.specs.Lookup.{index_of_name}
+use Rattle.kc_tree_model.specs.Limits.{is_in_list, without_repeats}
+use Rattle.kc_tree_model.specs.Contents.{index_of_number}
 
 -- x is an element
 abbrev pub Has : {A : Type 0} → A → List A → Type 0
@@ -157,9 +157,9 @@ place_by x y ys false (Some j) zero e ih h = absurd (first_is_not_later j (sym h
 place_by x y ys false (Some j) (suc i) e ih h = ih i (one_less j i h)
 
 -- the place of a text has it
-pub place-get : (x : List ℕ) (ys : List (List ℕ)) (i : ℕ) → place_of x ys ≡ Some i → slice_get ys i ≡ Some x
+pub place-get : (x : List ℕ) (ys : List (List ℕ)) (i : ℕ) → index_of_name x ys ≡ Some i → slice_get ys i ≡ Some x
 place-get x [] i h = cc
-place-get x (y ∷ ys) i h = place_by x y ys (bytes_eq x y) (place_of x ys) i refl (λ j k. place-get x ys j k) h
+place-get x (y ∷ ys) i h = place_by x y ys (bytes_eq x y) (index_of_name x ys) i refl (λ j k. place-get x ys j k) h
 
 has_place_by : (b : Bool) (o : Option ℕ) (i : ℕ) → o ≡ Some i → (j : ℕ) × (cond b (Some 0) (option_map suc o) ≡ Some j)
 has_place_by true o i e = (0, refl)
@@ -170,10 +170,10 @@ first_place true o e = refl
 first_place false o e = cc
 
 -- a text that is there has a place
-pub has-place : (x : List ℕ) (ys : List (List ℕ)) → Has x ys → (i : ℕ) × (place_of x ys ≡ Some i)
+pub has-place : (x : List ℕ) (ys : List (List ℕ)) → Has x ys → (i : ℕ) × (index_of_name x ys ≡ Some i)
 has-place x [] h = absurd h
-has-place x (y ∷ ys) (inl e) = (0, first_place (bytes_eq x y) (place_of x ys) (text_same x y (sym e)))
-has-place x (y ∷ ys) (inr h) = let r = has-place x ys h in has_place_by (bytes_eq x y) (place_of x ys) r.0 r.1
+has-place x (y ∷ ys) (inl e) = (0, first_place (bytes_eq x y) (index_of_name x ys) (text_same x y (sym e)))
+has-place x (y ∷ ys) (inr h) = let r = has-place x ys h in has_place_by (bytes_eq x y) (index_of_name x ys) r.0 r.1
 
 -- no element stands twice
 abbrev pub Differ : {A : Type 0} → List A → Type 0
@@ -192,44 +192,44 @@ Differ-append [] x d n = ((λ h. h), tt)
 Differ-append (y ∷ ys) x d n = ((λ h. elim (has-append y ys (x ∷ []) h) [ inl a ↦ d.0 a | inr b ↦ elim b [ inl e ↦ n (inl (sym e)) | inr e ↦ e ] ]), Differ-append ys x d.1 (λ h. n (inr h)))
 
 -- each name once
-among-has : (x : List ℕ) (xs : List (List ℕ)) → Has x xs → is_among x xs ≡ true
+among-has : (x : List ℕ) (xs : List (List ℕ)) → Has x xs → is_in_list x xs ≡ true
 among-has x [] h = absurd h
 among-has x (y ∷ ys) (inl e) = any_first (bytes_eq y x) _ (text_same y x e)
 among-has x (y ∷ ys) (inr h) = any_later (bytes_eq y x) _ (among-has x ys h)
 
-has-among : (x : List ℕ) (xs : List (List ℕ)) → is_among x xs ≡ true → Has x xs
+has-among : (x : List ℕ) (xs : List (List ℕ)) → is_in_list x xs ≡ true → Has x xs
 has-among x [] h = cc
 has-among x (y ∷ ys) h = among_by (bytes_eq y x) refl h (has-among x ys)
   where
-    among_by : (b : Bool) → bytes_eq y x ≡ b → (b || is_among x ys) ≡ true → (is_among x ys ≡ true → Has x ys) → Has x (y ∷ ys)
+    among_by : (b : Bool) → bytes_eq y x ≡ b → (b || is_in_list x ys) ≡ true → (is_in_list x ys ≡ true → Has x ys) → Has x (y ∷ ys)
     among_by true e h ih = inl (same_text y x e)
     among_by false e h ih = inr (ih h)
 
-once_by : (x y : List ℕ) (xs : List (List ℕ)) (b : Bool) → (Has y (once xs) → Has y xs) → Has y (cond b (once xs) (once xs ++ x ∷ [])) → Has y (x ∷ xs)
+once_by : (x y : List ℕ) (xs : List (List ℕ)) (b : Bool) → (Has y (without_repeats xs) → Has y xs) → Has y (cond b (without_repeats xs) (without_repeats xs ++ x ∷ [])) → Has y (x ∷ xs)
 once_by x y xs true ih h = inr (ih h)
-once_by x y xs false ih h = elim (has-append y (once xs) (x ∷ []) h) [ inl a ↦ inr (ih a) | inr b ↦ elim b [ inl e ↦ inl e | inr e ↦ absurd e ] ]
+once_by x y xs false ih h = elim (has-append y (without_repeats xs) (x ∷ []) h) [ inl a ↦ inr (ih a) | inr b ↦ elim b [ inl e ↦ inl e | inr e ↦ absurd e ] ]
 
-pub has-once : (y : List ℕ) (xs : List (List ℕ)) → Has y (once xs) → Has y xs
+pub has-once : (y : List ℕ) (xs : List (List ℕ)) → Has y (without_repeats xs) → Has y xs
 has-once y [] h = h
-has-once y (x ∷ xs) h = once_by x y xs (is_among x xs) (has-once y xs) h
+has-once y (x ∷ xs) h = once_by x y xs (is_in_list x xs) (has-once y xs) h
 
-into_once_by : (x y : List ℕ) (xs : List (List ℕ)) (b : Bool) → is_among x xs ≡ b → (Has y xs → Has y (once xs)) → Has y (x ∷ xs) → Has y (cond b (once xs) (once xs ++ x ∷ []))
+into_once_by : (x y : List ℕ) (xs : List (List ℕ)) (b : Bool) → is_in_list x xs ≡ b → (Has y xs → Has y (without_repeats xs)) → Has y (x ∷ xs) → Has y (cond b (without_repeats xs) (without_repeats xs ++ x ∷ []))
 into_once_by x y xs true e ih (inl k) = ih (subst (λ z. Has z xs) k (has-among x xs e))
 into_once_by x y xs true e ih (inr k) = ih k
-into_once_by x y xs false e ih (inl k) = append-has_right y (once xs) (x ∷ []) (inl k)
-into_once_by x y xs false e ih (inr k) = append-has_left y (once xs) (x ∷ []) (ih k)
+into_once_by x y xs false e ih (inl k) = append-has_right y (without_repeats xs) (x ∷ []) (inl k)
+into_once_by x y xs false e ih (inr k) = append-has_left y (without_repeats xs) (x ∷ []) (ih k)
 
-pub once-has : (y : List ℕ) (xs : List (List ℕ)) → Has y xs → Has y (once xs)
+pub once-has : (y : List ℕ) (xs : List (List ℕ)) → Has y xs → Has y (without_repeats xs)
 once-has y [] h = h
-once-has y (x ∷ xs) h = into_once_by x y xs (is_among x xs) refl (once-has y xs) h
+once-has y (x ∷ xs) h = into_once_by x y xs (is_in_list x xs) refl (once-has y xs) h
 
-differ_by : (x : List ℕ) (xs : List (List ℕ)) (b : Bool) → is_among x xs ≡ b → Differ (once xs) → Differ (cond b (once xs) (once xs ++ x ∷ []))
+differ_by : (x : List ℕ) (xs : List (List ℕ)) (b : Bool) → is_in_list x xs ≡ b → Differ (without_repeats xs) → Differ (cond b (without_repeats xs) (without_repeats xs ++ x ∷ []))
 differ_by x xs true e d = d
-differ_by x xs false e d = Differ-append (once xs) x d (λ h. let k : is_among x xs ≡ true = among-has x xs (has-once x xs h) in cc)
+differ_by x xs false e d = Differ-append (without_repeats xs) x d (λ h. let k : is_in_list x xs ≡ true = among-has x xs (has-once x xs h) in cc)
 
-pub Differ-once : (xs : List (List ℕ)) → Differ (once xs)
+pub Differ-once : (xs : List (List ℕ)) → Differ (without_repeats xs)
 Differ-once [] = tt
-Differ-once (x ∷ xs) = differ_by x xs (is_among x xs) refl (Differ-once xs)
+Differ-once (x ∷ xs) = differ_by x xs (is_in_list x xs) refl (Differ-once xs)
 
 -- the place of a number among numbers
 number_by : (n k : ℕ) (ks : List ℕ) (b : Bool) (o : Option ℕ) (i : ℕ) → (k == n) ≡ b → ((j : ℕ) → o ≡ Some j → slice_get ks j ≡ Some n) → cond b (Some 0) (option_map suc o) ≡ Some i → slice_get (k ∷ ks) i ≡ Some n
@@ -239,11 +239,11 @@ number_by n k ks false None i e ih h = cc
 number_by n k ks false (Some j) zero e ih h = absurd (first_is_not_later j (sym h))
 number_by n k ks false (Some j) (suc i) e ih h = ih i (one_less j i h)
 
-pub number-get : (n : ℕ) (ks : List ℕ) (i : ℕ) → place_of_number n ks ≡ Some i → slice_get ks i ≡ Some n
+pub number-get : (n : ℕ) (ks : List ℕ) (i : ℕ) → index_of_number n ks ≡ Some i → slice_get ks i ≡ Some n
 number-get n [] i h = cc
-number-get n (k ∷ ks) i h = number_by n k ks (k == n) (place_of_number n ks) i refl (λ j e. number-get n ks j e) h
+number-get n (k ∷ ks) i h = number_by n k ks (k == n) (index_of_number n ks) i refl (λ j e. number-get n ks j e) h
 
-pub has-number : (n : ℕ) (ks : List ℕ) → Has n ks → (i : ℕ) × (place_of_number n ks ≡ Some i)
+pub has-number : (n : ℕ) (ks : List ℕ) → Has n ks → (i : ℕ) × (index_of_number n ks ≡ Some i)
 has-number n [] h = absurd h
-has-number n (k ∷ ks) (inl e) = (0, first_place (k == n) (place_of_number n ks) (eq-eqb k n e))
-has-number n (k ∷ ks) (inr h) = let r = has-number n ks h in has_place_by (k == n) (place_of_number n ks) r.0 r.1
+has-number n (k ∷ ks) (inl e) = (0, first_place (k == n) (index_of_number n ks) (eq-eqb k n e))
+has-number n (k ∷ ks) (inr h) = let r = has-number n ks h in has_place_by (k == n) (index_of_number n ks) r.0 r.1

@@ -5,18 +5,18 @@ use Rattle.std.specs.List.{list_all}
 use Rattle.std.proofs.lemmas.Bool.{lt-ltb}
 use Rattle.std.proofs.lemmas.List.{length-map}
 use Rattle.kc_expr.specs.Expr.{Expr}
-use Rattle.kc_expr.specs.Lookup.{place_of}
-use Rattle.kc_tree_model.specs.Trees.{Choice, Entry, Force, Symbol, of_choice, definition, choice_begins, menu_begins, menu_ends}
-use Rattle.kc_tree_model.specs.Statements.{Aimed, Attribute, menu_block, config, choice, menu, comment, ends, select_of, imply_of, title_of_head}
-use Rattle.kc_tree_model.specs.Blocks.{Group, What, said, head_gives, name_of}
-use Rattle.kc_tree_model.specs.Conditions.{Placed, attribute_condition, said_in}
-use Rattle.kc_tree_model.specs.Contents.{Contents, choice_number, choice_of, entry_of_head, forces_at, forces_by, menu_end_of, symbol_of}
+use Rattle.kc_expr.specs.Lookup.{index_of_name}
+use Rattle.kc_tree_model.specs.Trees.{Choice, Entry, ReverseDependency, Symbol, of_choice, definition, choice_begins, menu_begins, menu_ends}
+use Rattle.kc_tree_model.specs.Statements.{TargetAttribute, Attribute, menu_block, config, choice, menu, comment, ends, select_of, imply_of, title_of_head}
+use Rattle.kc_tree_model.specs.Blocks.{Group, GroupHead, of_head, from_head, defined_name}
+use Rattle.kc_tree_model.specs.Conditions.{GroupInContext, attribute_condition, attribute_values}
+use Rattle.kc_tree_model.specs.Contents.{Contents, choice_number, choice_of, entry_of_head, reverse_dependencies_of, reverse_dependencies_by, menu_end_of, symbol_of}
 use Rattle.kc_tree_model.proofs.Consistency.Lists.{Has, all_pass, get_below, has-at, has-filter_map, has_flat_map, number-get, place-get}
 use Rattle.kc_tree_model.proofs.Consistency.Definitions.{IsSound, choice_places, choices_of, symbols_of, units_of}
 use Rattle.kc_tree_model.proofs.Consistency.Units.{at_number, choice_at, choice_place, choice_unit_at, has_mapped, number_at, number_is, symbol_at, unit_listed}
 
 -- a number below that of symbols, and of choices
-below_symbols : (c : Contents) (name : List ℕ) (s : ℕ) → place_of name c.names ≡ Some s → s < length (symbols_of c)
+below_symbols : (c : Contents) (name : List ℕ) (s : ℕ) → index_of_name name c.names ≡ Some s → s < length (symbols_of c)
 unfolding symbols_of
 below_symbols c name s h = let k = get_below c.names s name (place-get name c.names s h) in omega (arith, length-map c.names (symbol_of c))
 
@@ -28,32 +28,32 @@ below_choices c s n k h =
     omega (arith, length-map (choice_places c) (choice_of c))
 
 -- a selector and an implier is a symbol
-force_numbered : (p : Placed) (aims : List Aimed) (o : Option ℕ) (f : Force)
-    → Has f (elim o as (λ _. List Force) [ None ↦ [] | Some s ↦ map (λ (a : Aimed). record { by = s; condition = attribute_condition p.around p.group a.condition }) aims ]) → o ≡ Some f.by
+force_numbered : (p : GroupInContext) (aims : List TargetAttribute) (o : Option ℕ) (f : ReverseDependency)
+    → Has f (elim o as (λ _. List ReverseDependency) [ None ↦ [] | Some s ↦ map (λ (a : TargetAttribute). record { by = s; condition = attribute_condition p.enclosing p.group a.condition }) aims ]) → o ≡ Some f.by
 force_numbered p aims None f h = absurd h
 force_numbered p aims (Some s) f h =
-    let a = has_mapped (λ (a : Aimed). record { by = s; condition = attribute_condition p.around p.group a.condition }) aims f h in
-    ap (λ (y : Force). Some y.by) a.2
+    let a = has_mapped (λ (a : TargetAttribute). record { by = s; condition = attribute_condition p.enclosing p.group a.condition }) aims f h in
+    ap (λ (y : ReverseDependency). Some y.by) a.2
 
-forces_from : (g : Attribute → Option Aimed) (c : Contents) (name : List ℕ) (p : Placed) (o : Option (List ℕ)) (f : Force)
-    → Has f (elim o as (λ _. List Force) [ None ↦ [] | Some by ↦ forces_by c p (filter (λ (a : Aimed). bytes_eq a.name name) (said_in g p.group)) by ]) → f.by < length (symbols_of c)
+forces_from : (g : Attribute → Option TargetAttribute) (c : Contents) (name : List ℕ) (p : GroupInContext) (o : Option (List ℕ)) (f : ReverseDependency)
+    → Has f (elim o as (λ _. List ReverseDependency) [ None ↦ [] | Some by ↦ reverse_dependencies_by c p (filter (λ (a : TargetAttribute). bytes_eq a.name name) (attribute_values g p.group)) by ]) → f.by < length (symbols_of c)
 forces_from g c name p None f h = absurd h
-forces_from g c name p (Some by) f h = below_symbols c by f.by (force_numbered p (filter (λ (a : Aimed). bytes_eq a.name name) (said_in g p.group)) (place_of by c.names) f h)
+forces_from g c name p (Some by) f h = below_symbols c by f.by (force_numbered p (filter (λ (a : TargetAttribute). bytes_eq a.name name) (attribute_values g p.group)) (index_of_name by c.names) f h)
 
-forces_below : (g : Attribute → Option Aimed) (c : Contents) (name : List ℕ) → list_all (λ (f : Force). nat_lt f.by (length (symbols_of c))) (flat_map (forces_at g c name) c.places) ≡ true
+forces_below : (g : Attribute → Option TargetAttribute) (c : Contents) (name : List ℕ) → list_all (λ (f : ReverseDependency). nat_lt f.by (length (symbols_of c))) (flat_map (reverse_dependencies_of g c name) c.places) ≡ true
 forces_below g c name =
-    all_pass (λ (f : Force). nat_lt f.by (length (symbols_of c))) (flat_map (forces_at g c name) c.places)
-    (λ f h. let r = has_flat_map (forces_at g c name) c.places f h in lt-ltb f.by (length (symbols_of c)) (forces_from g c name r.0 (name_of r.0.group) f r.2))
+    all_pass (λ (f : ReverseDependency). nat_lt f.by (length (symbols_of c))) (flat_map (reverse_dependencies_of g c name) c.places)
+    (λ f h. let r = has_flat_map (reverse_dependencies_of g c name) c.places f h in lt-ltb f.by (length (symbols_of c)) (forces_from g c name r.0 (defined_name r.0.group) f r.2))
 
-pub selectors_there : (c : Contents) → IsSound c → (i : ℕ) (symbol : Symbol) → slice_get (symbols_of c) i ≡ Some symbol → list_all (λ (f : Force). nat_lt f.by (length (symbols_of c))) symbol.selectors ≡ true
+pub selectors_there : (c : Contents) → IsSound c → (i : ℕ) (symbol : Symbol) → slice_get (symbols_of c) i ≡ Some symbol → list_all (λ (f : ReverseDependency). nat_lt f.by (length (symbols_of c))) symbol.selectors ≡ true
 selectors_there c s i symbol h =
     let r = symbol_at c i symbol h in
-    subst (λ (y : Symbol). list_all (λ (f : Force). nat_lt f.by (length (symbols_of c))) y.selectors ≡ true) r.2 (forces_below select_of c r.0)
+    subst (λ (y : Symbol). list_all (λ (f : ReverseDependency). nat_lt f.by (length (symbols_of c))) y.selectors ≡ true) r.2 (forces_below select_of c r.0)
 
-pub impliers_there : (c : Contents) → IsSound c → (i : ℕ) (symbol : Symbol) → slice_get (symbols_of c) i ≡ Some symbol → list_all (λ (f : Force). nat_lt f.by (length (symbols_of c))) symbol.impliers ≡ true
+pub impliers_there : (c : Contents) → IsSound c → (i : ℕ) (symbol : Symbol) → slice_get (symbols_of c) i ≡ Some symbol → list_all (λ (f : ReverseDependency). nat_lt f.by (length (symbols_of c))) symbol.impliers ≡ true
 impliers_there c s i symbol h =
     let r = symbol_at c i symbol h in
-    subst (λ (y : Symbol). list_all (λ (f : Force). nat_lt f.by (length (symbols_of c))) y.impliers ≡ true) r.2 (forces_below imply_of c r.0)
+    subst (λ (y : Symbol). list_all (λ (f : ReverseDependency). nat_lt f.by (length (symbols_of c))) y.impliers ≡ true) r.2 (forces_below imply_of c r.0)
 
 -- a choice is a unit
 pub units_of_choices : (c : Contents) → IsSound c → (k : ℕ) (x : Choice) → slice_get (choices_of c) k ≡ Some x → (u : ℕ) × (slice_get (units_of c) u ≡ Some (of_choice k))
@@ -85,35 +85,35 @@ no_menu test f none d v e n told (Some t) k = no_number test (f t d v) e n (none
 
 no_end : (test : Entry → Option ℕ) → ((t : List ℕ) (d v : Expr) → test (menu_ends t d v) ≡ None) → (opened : List Group) (e : Entry) (n : ℕ) → test e ≡ Some n → menu_end_of opened ≡ Some e → ⊥
 no_end test none [] e n told k = cc
-no_end test none (g ∷ outer) e n told k = no_menu test menu_ends none _ _ e n told (head_gives title_of_head g.what) k
+no_end test none (g ∷ outer) e n told k = no_menu test menu_ends none _ _ e n told (from_head title_of_head g.what) k
 
 numbered : (test : Entry → Option ℕ) (f : ℕ → Entry) → ((m : ℕ) → test (f m) ≡ Some m) → (e : Entry) (n : ℕ) → test e ≡ Some n → (o : Option ℕ) → option_map f o ≡ Some e → o ≡ Some n
 numbered test f some e n told None k = cc
 numbered test f some e n told (Some m) k = let same : f m ≡ e = cc in sym (some m) ∙ ap test same ∙ told
 
-symbol_entry : (c : Contents) (p : Placed) (w : What) (e : Entry) (n : ℕ) → symbol_of_entry e ≡ Some n → head_gives (entry_of_head c p) w ≡ Some e → n < length (symbols_of c)
-symbol_entry c p (said (config name)) e n told k = below_symbols c name n (numbered symbol_of_entry definition (λ m. refl) e n told (place_of name c.names) k)
-symbol_entry c p (said choice) e n told k = absurd (no_numbers symbol_of_entry choice_begins (λ m. refl) e n told _ k)
-symbol_entry c p (said (menu x)) e n told k = absurd (no_menu symbol_of_entry menu_begins (λ t d v. refl) _ _ e n told (head_gives title_of_head p.group.what) k)
-symbol_entry c p (said (comment x)) e n told k = absurd (no_number symbol_of_entry _ e n refl told k)
-symbol_entry c p (said (ends menu_block)) e n told k = absurd (no_end symbol_of_entry (λ t d v. refl) p.opened e n told k)
+symbol_entry : (c : Contents) (p : GroupInContext) (w : GroupHead) (e : Entry) (n : ℕ) → symbol_of_entry e ≡ Some n → from_head (entry_of_head c p) w ≡ Some e → n < length (symbols_of c)
+symbol_entry c p (of_head (config name)) e n told k = below_symbols c name n (numbered symbol_of_entry definition (λ m. refl) e n told (index_of_name name c.names) k)
+symbol_entry c p (of_head choice) e n told k = absurd (no_numbers symbol_of_entry choice_begins (λ m. refl) e n told _ k)
+symbol_entry c p (of_head (menu x)) e n told k = absurd (no_menu symbol_of_entry menu_begins (λ t d v. refl) _ _ e n told (from_head title_of_head p.group.what) k)
+symbol_entry c p (of_head (comment x)) e n told k = absurd (no_number symbol_of_entry _ e n refl told k)
+symbol_entry c p (of_head (ends menu_block)) e n told k = absurd (no_end symbol_of_entry (λ t d v. refl) p.opened e n told k)
 symbol_entry c p w e n told k = cc
 
-choice_entry : (c : Contents) → IsSound c → (p : Placed) (w : What) (e : Entry) (n : ℕ) → choice_of_entry e ≡ Some n → head_gives (entry_of_head c p) w ≡ Some e → n < length (choices_of c)
-choice_entry c s p (said (config name)) e n told k = absurd (no_numbers choice_of_entry definition (λ m. refl) e n told _ k)
-choice_entry c s p (said choice) e n told k = below_choices c s p.group.number n (numbered choice_of_entry choice_begins (λ m. refl) e n told (choice_number c p.group.number) k)
-choice_entry c s p (said (menu x)) e n told k = absurd (no_menu choice_of_entry menu_begins (λ t d v. refl) _ _ e n told (head_gives title_of_head p.group.what) k)
-choice_entry c s p (said (comment x)) e n told k = absurd (no_number choice_of_entry _ e n refl told k)
-choice_entry c s p (said (ends menu_block)) e n told k = absurd (no_end choice_of_entry (λ t d v. refl) p.opened e n told k)
+choice_entry : (c : Contents) → IsSound c → (p : GroupInContext) (w : GroupHead) (e : Entry) (n : ℕ) → choice_of_entry e ≡ Some n → from_head (entry_of_head c p) w ≡ Some e → n < length (choices_of c)
+choice_entry c s p (of_head (config name)) e n told k = absurd (no_numbers choice_of_entry definition (λ m. refl) e n told _ k)
+choice_entry c s p (of_head choice) e n told k = below_choices c s p.group.number n (numbered choice_of_entry choice_begins (λ m. refl) e n told (choice_number c p.group.number) k)
+choice_entry c s p (of_head (menu x)) e n told k = absurd (no_menu choice_of_entry menu_begins (λ t d v. refl) _ _ e n told (from_head title_of_head p.group.what) k)
+choice_entry c s p (of_head (comment x)) e n told k = absurd (no_number choice_of_entry _ e n refl told k)
+choice_entry c s p (of_head (ends menu_block)) e n told k = absurd (no_end choice_of_entry (λ t d v. refl) p.opened e n told k)
 choice_entry c s p w e n told k = cc
 
 -- what the entries name is there
-pub entry_symbols : (c : Contents) → IsSound c → (k n : ℕ) → slice_get (filter_map (λ (p : Placed). head_gives (entry_of_head c p) p.group.what) c.places) k ≡ Some (definition n) → n < length (symbols_of c)
+pub entry_symbols : (c : Contents) → IsSound c → (k n : ℕ) → slice_get (filter_map (λ (p : GroupInContext). from_head (entry_of_head c p) p.group.what) c.places) k ≡ Some (definition n) → n < length (symbols_of c)
 entry_symbols c s k n at =
-    let r = has-filter_map (λ (p : Placed). head_gives (entry_of_head c p) p.group.what) c.places (definition n) (has-at (definition n) _ k at) in
+    let r = has-filter_map (λ (p : GroupInContext). from_head (entry_of_head c p) p.group.what) c.places (definition n) (has-at (definition n) _ k at) in
     symbol_entry c r.0 r.0.group.what (definition n) n refl r.2
 
-pub entry_choices : (c : Contents) → IsSound c → (k n : ℕ) → slice_get (filter_map (λ (p : Placed). head_gives (entry_of_head c p) p.group.what) c.places) k ≡ Some (choice_begins n) → n < length (choices_of c)
+pub entry_choices : (c : Contents) → IsSound c → (k n : ℕ) → slice_get (filter_map (λ (p : GroupInContext). from_head (entry_of_head c p) p.group.what) c.places) k ≡ Some (choice_begins n) → n < length (choices_of c)
 entry_choices c s k n at =
-    let r = has-filter_map (λ (p : Placed). head_gives (entry_of_head c p) p.group.what) c.places (choice_begins n) (has-at (choice_begins n) _ k at) in
+    let r = has-filter_map (λ (p : GroupInContext). from_head (entry_of_head c p) p.group.what) c.places (choice_begins n) (has-at (choice_begins n) _ k at) in
     choice_entry c s r.0 r.0.group.what (choice_begins n) n refl r.2

@@ -1,11 +1,11 @@
 -- A logical line has no newline, nor have its tokens.
 use Rattle.std.proofs.Common.{◌≡◌, ℕ, zero, suc, ◌+◌, ◌-◌, Bool, true, false, cond, ◌||◌, ◌==◌, List, [], ◌∷◌, ◌++◌, Ok, refl, length, map, take, drop}
 use Rattle.kc_value.specs.Quoted.{unescaped}
-use Rattle.kc_expr.specs.Token.{Piece, lexed}
+use Rattle.kc_expr.specs.Token.{Lexeme, lexemes_from}
 use Rattle.kc_expr.specs.Grammar.{between_quotes, quoted_text}
 use Rattle.kc_expr.proofs.TokenTexts.{AllTexts, texts_of_line}
 use Rattle.kc_tree_model.specs.TreeLookup.{has_newline}
-use Rattle.kc_tree_model.specs.Lines.{Physical, Logical, byte_before, cut, without_last, without_return, physical_lines, goes_on, joined, lines_joined, logical, lines_of}
+use Rattle.kc_tree_model.specs.LogicalLines.{PhysicalLine, LogicalLine, with_first_byte, split_at_newlines, without_last, without_return, physical_lines, is_continued, joined_bytes, continuation_count, logical_lines_from, lines_of}
 
 neither : (a b : Bool) → (a || b) ≡ false → (a ≡ false) × (b ≡ false)
 neither true b h = cc
@@ -44,63 +44,63 @@ one_unescaped false (x ∷ xs) h =
     one_if (x == 92) (unescaped true xs) (x ∷ unescaped false xs) (one_unescaped true xs r.1) (none_of (x == 10) (has_newline (unescaped false xs)) r.0 (one_unescaped false xs r.1))
 
 -- physical lines have no newline
-AreOne : List Physical → Type 0
+AreOne : List PhysicalLine → Type 0
 AreOne [] = Unit {0}
 AreOne (l ∷ ls) = (has_newline l.text ≡ false) × AreOne ls
 
-one_before : (b : ℕ) (ls : List Physical) → (b == 10) ≡ false → AreOne ls → AreOne (byte_before b ls)
+one_before : (b : ℕ) (ls : List PhysicalLine) → (b == 10) ≡ false → AreOne ls → AreOne (with_first_byte b ls)
 unfolding AreOne
 one_before b [] e h = (none_of (b == 10) false e refl, tt)
 one_before b (l ∷ ls) e h = (none_of (b == 10) (has_newline l.text) e h.0, h.1)
 
-one_cut_by : (b : ℕ) (ls : List Physical) (t : Bool) → (b == 10) ≡ t → AreOne ls → AreOne (cond t (record { text = []; ended = true } ∷ ls) (byte_before b ls))
+one_cut_by : (b : ℕ) (ls : List PhysicalLine) (t : Bool) → (b == 10) ≡ t → AreOne ls → AreOne (cond t (record { text = []; ended = true } ∷ ls) (with_first_byte b ls))
 unfolding AreOne
 one_cut_by b ls true e h = (refl, h)
 one_cut_by b ls false e h = one_before b ls e h
 
-one_cut : (bytes : List ℕ) → AreOne (cut bytes)
+one_cut : (bytes : List ℕ) → AreOne (split_at_newlines bytes)
 unfolding AreOne
 one_cut [] = tt
-one_cut (b ∷ bs) = one_cut_by b (cut bs) (b == 10) refl (one_cut bs)
+one_cut (b ∷ bs) = one_cut_by b (split_at_newlines bs) (b == 10) refl (one_cut bs)
 
-one_returned : (l : Physical) (b : Bool) → has_newline l.text ≡ false → has_newline ((cond b (record { text = without_last l.text; ended = true }) l).text) ≡ false
+one_returned : (l : PhysicalLine) (b : Bool) → has_newline l.text ≡ false → has_newline ((cond b (record { text = without_last l.text; ended = true }) l).text) ≡ false
 one_returned l true h = one_take _ l.text h
 one_returned l false h = h
 
-one_physical : (ls : List Physical) → AreOne ls → AreOne (map without_return ls)
+one_physical : (ls : List PhysicalLine) → AreOne ls → AreOne (map without_return ls)
 unfolding AreOne
 one_physical [] h = tt
 one_physical (l ∷ ls) h = (one_returned l _ h.0, one_physical ls h.1)
 
-one_joined : (ls : List Physical) → AreOne ls → has_newline (joined ls) ≡ false
+one_joined : (ls : List PhysicalLine) → AreOne ls → has_newline (joined_bytes ls) ≡ false
 unfolding AreOne
 one_joined [] h = refl
-one_joined (l ∷ ls) h = one_if (goes_on l) (without_last l.text ++ joined ls) l.text (one_append (without_last l.text) (joined ls) (one_take _ l.text h.0) (one_joined ls h.1)) h.0
+one_joined (l ∷ ls) h = one_if (is_continued l) (without_last l.text ++ joined_bytes ls) l.text (one_append (without_last l.text) (joined_bytes ls) (one_take _ l.text h.0) (one_joined ls h.1)) h.0
 
 -- nor have logical lines
-abbrev pub AreOneLine : List Logical → Type 0
+abbrev pub AreOneLine : List LogicalLine → Type 0
 AreOneLine [] = Unit {0}
 AreOneLine (l ∷ ls) = (has_newline l.text ≡ false) × AreOneLine ls
 
-one_logical : (behind help n : ℕ) (ls : List Physical) → AreOne ls → AreOneLine (logical behind help n ls)
+one_logical : (behind help n : ℕ) (ls : List PhysicalLine) → AreOne ls → AreOneLine (logical_lines_from behind help n ls)
 unfolding AreOne
 one_logical behind help n [] h = tt
 one_logical (suc behind) help n (l ∷ ls) h = one_logical behind help (n + 1) ls h.1
 one_logical zero (suc help) n (l ∷ ls) h = (h.0, one_logical 0 help (n + 1) ls h.1)
-one_logical zero zero n (l ∷ ls) h = (one_joined (l ∷ ls) h, one_logical (lines_joined (l ∷ ls)) _ (n + 1) ls h.1)
+one_logical zero zero n (l ∷ ls) h = (one_joined (l ∷ ls) h, one_logical (continuation_count (l ∷ ls)) _ (n + 1) ls h.1)
 
 pub lines_are_one : (bytes : List ℕ) → AreOneLine (lines_of bytes)
 unfolding lines_of
-lines_are_one bytes = one_logical 0 0 1 (physical_lines bytes) (one_physical (cut bytes) (one_cut bytes))
+lines_are_one bytes = one_logical 0 0 1 (physical_lines bytes) (one_physical (split_at_newlines bytes) (one_cut bytes))
 
 -- nor have tokens
 abbrev pub OneText : List ℕ → Type 0
 OneText text = has_newline text ≡ false
 
-abbrev ArePieces : List Piece → Type 0
+abbrev ArePieces : List Lexeme → Type 0
 ArePieces ts = AllTexts OneText ts
 
-pub one_lexed : (bytes : List ℕ) (ts : List Piece) → has_newline bytes ≡ false → lexed 0 0 bytes ≡ Ok ts → ArePieces ts
+pub one_lexed : (bytes : List ℕ) (ts : List Lexeme) → has_newline bytes ≡ false → lexemes_from 0 0 bytes ≡ Ok ts → ArePieces ts
 one_lexed bytes ts one h = texts_of_line OneText one_take (λ x xs k. (neither (x == 10) (has_newline xs) k).1) 0 0 bytes ts one h
 
 -- nor has the text for which a quoted token stands

@@ -2,7 +2,7 @@
 use Rattle.std.proofs.Common.{◌≡◌, ℕ, Bool, true, false, cond, ◌||◌, ◌&&◌, ◌==◌, List, [], ◌∷◌, ◌++◌, Option, Some, None, Result, Ok, Err, refl, ap, ◌∙◌, subst, length, drop}
 use Rattle.kc_value.specs.declared.tri.Tri.{Tri}
 use Rattle.kc_expr.specs.Expr.{Expr, Operand, named, quoted, alone}
-use Rattle.kc_expr.specs.Token.{Piece}
+use Rattle.kc_expr.specs.Token.{Lexeme}
 use Rattle.kc_expr.specs.Grammar.{Level, IsExpr, one_and, more_ors, one_factor, more_ands, operand, relation, negation, parentheses, quoted_text, letter_value, constant_else, operand_of_kind, is_operand_kind, is_close, extent, read_expr}
 use Rattle.kc_expr.specs.declared.fault.ExprKind.{ExprKind}
 use Rattle.kc_expr.specs.declared.fault.ExprFault.{ExprFault}
@@ -12,25 +12,25 @@ use Rattle.kc_expr.proofs.GrammarLaws.{expr_sound}
 use Rattle.kc_expr.proofs.TokenTexts.{AllTexts}
 use Rattle.kc_tree_model.specs.declared.fault.TreeKind.{TreeKind}
 use Rattle.kc_tree_model.specs.TreeLookup.{own_text}
-use Rattle.kc_tree_model.specs.Forms.{Taken, kind_of_fault}
+use Rattle.kc_tree_model.specs.Forms.{ParsedExpr, kind_of_fault}
 use Rattle.kc_tree_model.proofs.NestedTrees.LineFits.{IsValueOf}
 
-taken_same : (y z : Taken) (r : Result Taken TreeKind) → r ≡ Ok y → r ≡ Ok z → y ≡ z
+taken_same : (y z : ParsedExpr) (r : Result ParsedExpr TreeKind) → r ≡ Ok y → r ≡ Ok z → y ≡ z
 taken_same y z r h k = cc
 
-taken_by : (ts : List Piece) (r : Result Expr (ExprKind × List Piece)) (x : Taken) → read_expr (extent ts) ≡ r → elim r as (λ _. Result Taken TreeKind) [ Ok e ↦ Ok (record { expr = e; single = length (extent ts) == 1; rest = drop (length (extent ts)) ts }) | Err f ↦ Err (kind_of_fault f.0) ] ≡ Ok x → read_expr (extent ts) ≡ Ok x.expr
-taken_by ts (Ok e) x h k = let same : record { expr = e; single = length (extent ts) == 1; rest = drop (length (extent ts)) ts } ≡ x = taken_same (record { expr = e; single = length (extent ts) == 1; rest = drop (length (extent ts)) ts }) x (Ok (record { expr = e; single = length (extent ts) == 1; rest = drop (length (extent ts)) ts })) refl k in h ∙ ap (λ (y : Taken). Ok y.expr) same
+taken_by : (ts : List Lexeme) (r : Result Expr (ExprKind × List Lexeme)) (x : ParsedExpr) → read_expr (extent ts) ≡ r → elim r as (λ _. Result ParsedExpr TreeKind) [ Ok e ↦ Ok (record { expr = e; single = length (extent ts) == 1; rest = drop (length (extent ts)) ts }) | Err f ↦ Err (kind_of_fault f.0) ] ≡ Ok x → read_expr (extent ts) ≡ Ok x.expr
+taken_by ts (Ok e) x h k = let same : record { expr = e; single = length (extent ts) == 1; rest = drop (length (extent ts)) ts } ≡ x = taken_same (record { expr = e; single = length (extent ts) == 1; rest = drop (length (extent ts)) ts }) x (Ok (record { expr = e; single = length (extent ts) == 1; rest = drop (length (extent ts)) ts })) refl k in h ∙ ap (λ (y : ParsedExpr). Ok y.expr) same
 taken_by ts (Err f) x h k = cc
 
-pieces_front : (P : List ℕ → Type 0) (ts us : List Piece) → AllTexts P (ts ++ us) → AllTexts P ts
+pieces_front : (P : List ℕ → Type 0) (ts us : List Lexeme) → AllTexts P (ts ++ us) → AllTexts P ts
 pieces_front P [] us h = tt
 pieces_front P (t ∷ ts) us h = (h.0, pieces_front P ts us h.1)
 
-extent_by : (P : List ℕ → Type 0) (b : Bool) (t : Piece) (us : List Piece) → P t.text → AllTexts P us → AllTexts P (cond b (t ∷ []) (t ∷ us))
+extent_by : (P : List ℕ → Type 0) (b : Bool) (t : Lexeme) (us : List Lexeme) → P t.text → AllTexts P us → AllTexts P (cond b (t ∷ []) (t ∷ us))
 extent_by P true t us h k = (h, tt)
 extent_by P false t us h k = (h, k)
 
-of_extent : (P : List ℕ → Type 0) (ts : List Piece) → AllTexts P ts → AllTexts P (extent ts)
+of_extent : (P : List ℕ → Type 0) (ts : List Lexeme) → AllTexts P ts → AllTexts P (extent ts)
 of_extent P [] a = tt
 of_extent P (t ∷ []) a = a
 of_extent P (t ∷ u ∷ ts) a = extent_by P ((is_operand_kind t.kind || is_close t.kind) && is_operand_kind u.kind) t (extent (u ∷ ts)) a.0 (of_extent P (u ∷ ts) a.1)
@@ -54,7 +54,7 @@ module _ (P : List ℕ → Type 0) (nothing : P []) (unquoted : (text : List ℕ
   of_operand Open text a h e = cc
   of_operand Close text a h e = cc
 
-  of_expr : {l : Level} {d : ℕ} {ts : List Piece} {e : Expr} → IsExpr l d ts e → AllTexts P ts → P (own_text e)
+  of_expr : {l : Level} {d : ℕ} {ts : List Lexeme} {e : Expr} → IsExpr l d ts e → AllTexts P ts → P (own_text e)
   of_expr (one_and h) a = of_expr h a
   of_expr (more_ors o h k g q) a = nothing
   of_expr (one_factor h) a = of_expr h a
@@ -64,7 +64,7 @@ module _ (P : List ℕ → Type 0) (nothing : P []) (unquoted : (text : List ℕ
   of_expr (negation t k h q) a = nothing
   of_expr (parentheses {ts = ts} o c k h m q) a = of_expr h (pieces_front P ts (c ∷ []) (subst (AllTexts P) q a).1)
 
-  pub own_text_of_value : (tokens : Result (List Piece) ExprFault) (value : Expr) → ((ts : List Piece) → tokens ≡ Ok ts → AllTexts P ts) → IsValueOf tokens value → P (own_text value)
+  pub own_text_of_value : (tokens : Result (List Lexeme) ExprFault) (value : Expr) → ((ts : List Lexeme) → tokens ≡ Ok ts → AllTexts P ts) → IsValueOf tokens value → P (own_text value)
   own_text_of_value tokens value all v =
       let pieces : AllTexts P v.rest = (all (v.first ∷ v.rest) v.stand).1 in
       let reads : read_expr (extent v.rest) ≡ Ok v.taken.expr = taken_by v.rest (read_expr (extent v.rest)) v.taken refl v.read_as in

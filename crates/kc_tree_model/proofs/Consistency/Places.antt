@@ -2,15 +2,15 @@
 use Rattle.std.proofs.Common.{◌≡◌, inl, inr, ◌⊎◌, ℕ, zero, suc, ◌<◌, Bool, true, false, ◌&&◌, List, [], ◌∷◌, ◌++◌, Option, Some, None, Ok, refl, ap, sym, ◌∙◌, subst, length, arith}
 use Rattle.std.specs.Prelude.{nat_lt}
 use Rattle.std.specs.List.{list_all}
-use Rattle.kc_expr.specs.Token.{Piece}
+use Rattle.kc_expr.specs.Token.{Lexeme}
 use Rattle.kc_tree_model.specs.TreeLookup.{is_name_byte, own_text, has_newline}
-use Rattle.kc_tree_model.specs.Files.{Files}
-use Rattle.kc_tree_model.specs.Lines.{Logical}
-use Rattle.kc_tree_model.specs.Statements.{choice_block, Head, config, choice, menu, condition, comment, source, mainmenu, ends, Statement, head, attribute, Attribute, Valued, default_of, name_of_head, block_of_head}
+use Rattle.kc_tree_model.specs.TreeFiles.{Files}
+use Rattle.kc_tree_model.specs.LogicalLines.{LogicalLine}
+use Rattle.kc_tree_model.specs.Statements.{choice_block, Head, config, choice, menu, condition, comment, source, mainmenu, ends, Statement, head, attribute, Attribute, DefaultAttribute, default_of, name_of_head, block_of_head}
 use Rattle.kc_tree_model.specs.Keywords.{is_name}
-use Rattle.kc_tree_model.specs.Blocks.{Group, Line, Position, What, said, file_end, Side, side_of, opening, closing, inside, head_gives, open_blocks, opens_choice, is_some_block}
-use Rattle.kc_tree_model.specs.Reading.{line_says, after_line, with_attribute, reading}
-use Rattle.kc_tree_model.specs.Conditions.{Context, context, within_what, Placed, place, placed}
+use Rattle.kc_tree_model.specs.Blocks.{Group, Line, Position, GroupHead, of_head, file_end, Side, side_of, opening, closing, inside, from_head, open_blocks, opens_choice, is_some_block}
+use Rattle.kc_tree_model.specs.Reading.{statement_on_line, with_statement, with_attribute, reading}
+use Rattle.kc_tree_model.specs.Conditions.{Context, context, inner_context_of_group_head, GroupInContext, group_in_context, groups_in_context}
 use Rattle.kc_tree_model.proofs.NestedTrees.LineFits.{line_names, line_values, line_utf8}
 use Rattle.kc_tree_model.proofs.Consistency.Lists.{Has, has-append, append-has_left, append-has_right}
 use Rattle.kc_tree_model.proofs.Consistency.PlainTexts.{IsPlainText, value_is_plain}
@@ -20,14 +20,14 @@ use Rattle.kc_tree_model.proofs.Consistency.Kept.{reading_keeps}
 abbrev pub IsWord : List ℕ → Type 0
 IsWord name = (0 < length name) × (list_all is_name_byte name ≡ true)
 
-abbrev pub NamesWord : What → Type 0
-NamesWord (said (config name)) = IsWord name
+abbrev pub NamesWord : GroupHead → Type 0
+NamesWord (of_head (config name)) = IsWord name
 NamesWord w = Unit {0}
 
 -- the own texts of defaults are one line of UTF-8
 abbrev pub AreValues : List Line → Type 0
 AreValues [] = Unit {0}
-AreValues (l ∷ ls) = ((d : Valued) → default_of l.attribute ≡ Some d → IsPlainText (own_text d.value)) × AreValues ls
+AreValues (l ∷ ls) = ((d : DefaultAttribute) → default_of l.attribute ≡ Some d → IsPlainText (own_text d.value)) × AreValues ls
 
 -- each group has its number among all, defines a word if it defines something, and has such values
 abbrev pub IsRead : List Group → Type 0
@@ -41,14 +41,14 @@ both_true false b h = cc
 below : (m n : ℕ) → nat_lt m n ≡ true → m < n
 below m n h = grind arith
 
-word_of_name : (t : Piece) → is_name t ≡ true → IsWord t.text
+word_of_name : (t : Lexeme) → is_name t ≡ true → IsWord t.text
 word_of_name t h =
     let a = both_true _ _ h in
     let b = both_true _ _ a.0 in
     let c = both_true _ _ b.1 in
     (below 0 (length t.text) c.0, c.1)
 
-word_said : (read : List Group) (l : Logical) (h : Head) → line_says read l ≡ Ok (Some (head h)) → NamesWord (said h)
+word_said : (read : List Group) (l : LogicalLine) (h : Head) → statement_on_line read l ≡ Ok (Some (head h)) → NamesWord (of_head h)
 word_said read l (config name) e = let r = line_names read l name e in subst IsWord r.1 (word_of_name r.0 r.2)
 word_said read l choice e = tt
 word_said read l (menu title) e = tt
@@ -58,23 +58,23 @@ word_said read l (source path) e = tt
 word_said read l mainmenu e = tt
 word_said read l (ends b) e = tt
 
-values_said : (read : List Group) (l : Logical) (a : Attribute) → has_newline l.text ≡ false → line_says read l ≡ Ok (Some (attribute a)) → (d : Valued) → default_of a ≡ Some d → IsPlainText (own_text d.value)
+values_said : (read : List Group) (l : LogicalLine) (a : Attribute) → has_newline l.text ≡ false → statement_on_line read l ≡ Ok (Some (attribute a)) → (d : DefaultAttribute) → default_of a ≡ Some d → IsPlainText (own_text d.value)
 values_said read l a one e d m = value_is_plain l.text d.value (one, line_utf8 read l (Some (attribute a)) e) (line_values read l a d m e)
 
-AreValues-append : (ls : List Line) (l : Line) → AreValues ls → ((d : Valued) → default_of l.attribute ≡ Some d → IsPlainText (own_text d.value)) → AreValues (ls ++ l ∷ [])
+AreValues-append : (ls : List Line) (l : Line) → AreValues ls → ((d : DefaultAttribute) → default_of l.attribute ≡ Some d → IsPlainText (own_text d.value)) → AreValues (ls ++ l ∷ [])
 AreValues-append [] l h k = (k, tt)
 AreValues-append (x ∷ xs) l h k = (h.0, AreValues-append xs l h.1 k)
 
-attribute_read : (read : List Group) (line : ℕ) (a : Attribute) → ((d : Valued) → default_of a ≡ Some d → IsPlainText (own_text d.value)) → IsRead read → IsRead (with_attribute line a read)
+attribute_read : (read : List Group) (line : ℕ) (a : Attribute) → ((d : DefaultAttribute) → default_of a ≡ Some d → IsPlainText (own_text d.value)) → IsRead read → IsRead (with_attribute line a read)
 attribute_read [] line a v h = tt
 attribute_read (g ∷ before) line a v h = (h.0, h.1, AreValues-append g.attributes (record { number = line; attribute = a }) h.2 v, h.3)
 
-pub value_of_group : (ls : List Line) (l : Line) (d : Valued) → AreValues ls → Has l ls → default_of l.attribute ≡ Some d → IsPlainText (own_text d.value)
+pub value_of_group : (ls : List Line) (l : Line) (d : DefaultAttribute) → AreValues ls → Has l ls → default_of l.attribute ≡ Some d → IsPlainText (own_text d.value)
 value_of_group [] l d v h e = absurd h
 value_of_group (x ∷ xs) l d v (inl k) e = v.0 d (ap (λ (y : Line). default_of y.attribute) k ∙ e)
 value_of_group (x ∷ xs) l d v (inr k) e = value_of_group xs l d v.1 k e
 
-line_read : (read : List Group) (at : Position) (l : Logical) (s : Option Statement) → IsRead read → has_newline l.text ≡ false → line_says read l ≡ Ok s → IsRead (after_line at s read)
+line_read : (read : List Group) (at : Position) (l : LogicalLine) (s : Option Statement) → IsRead read → has_newline l.text ≡ false → statement_on_line read l ≡ Ok s → IsRead (with_statement at s read)
 line_read read at l None h one e = h
 line_read read at l (Some (head x)) h one e = (refl, word_said read l x e, tt, h)
 line_read read at l (Some (attribute a)) h one e = attribute_read read at.line a (values_said read l a one e) h
@@ -83,14 +83,14 @@ pub is_read : (files : Files) (root : List ℕ) → IsRead (reading files root).
 is_read files root = reading_keeps IsRead (record { by_line = line_read; by_end = λ read at h. (refl, tt, tt, h) }) tt files root
 
 -- a place has its group, and a group its place
-pub group-placed : (p : Placed) (read : List Group) → Has p (placed read) → Has p.group read
+pub group-placed : (p : GroupInContext) (read : List Group) → Has p (groups_in_context read) → Has p.group read
 group-placed p [] h = absurd h
-group-placed p (g ∷ before) h = elim (has-append p (placed before) (place (open_blocks 0 before) g ∷ []) h) [ inl a ↦ inr (group-placed p before a) | inr b ↦ elim b [ inl e ↦ inl (ap (λ (x : Placed). x.group) e) | inr e ↦ absurd e ] ]
+group-placed p (g ∷ before) h = elim (has-append p (groups_in_context before) (group_in_context (open_blocks 0 before) g ∷ []) h) [ inl a ↦ inr (group-placed p before a) | inr b ↦ elim b [ inl e ↦ inl (ap (λ (x : GroupInContext). x.group) e) | inr e ↦ absurd e ] ]
 
-pub placed-group : (g : Group) (read : List Group) → Has g read → (p : Placed) × Has p (placed read) × (p.group ≡ g)
+pub placed-group : (g : Group) (read : List Group) → Has g read → (p : GroupInContext) × Has p (groups_in_context read) × (p.group ≡ g)
 placed-group g [] h = absurd h
-placed-group g (x ∷ before) (inl e) = (place (open_blocks 0 before) x, append-has_right (place (open_blocks 0 before) x) (placed before) (place (open_blocks 0 before) x ∷ []) (inl refl), e)
-placed-group g (x ∷ before) (inr h) = let r = placed-group g before h in (r.0, append-has_left r.0 (placed before) (place (open_blocks 0 before) x ∷ []) r.1, r.2)
+placed-group g (x ∷ before) (inl e) = (group_in_context (open_blocks 0 before) x, append-has_right (group_in_context (open_blocks 0 before) x) (groups_in_context before) (group_in_context (open_blocks 0 before) x ∷ []) (inl refl), e)
+placed-group g (x ∷ before) (inr h) = let r = placed-group g before h in (r.0, append-has_left r.0 (groups_in_context before) (group_in_context (open_blocks 0 before) x ∷ []) r.1, r.2)
 
 -- words and numbers of groups
 pub word_of_group : (g : Group) (read : List Group) → IsRead read → Has g read → NamesWord g.what
@@ -109,26 +109,26 @@ number_below g (x ∷ before) r (inl e) = let same : x.number ≡ g.number = ap 
 number_below g (x ∷ before) r (inr h) = let k : g.number < length before = number_below g before r.3 h in omega arith
 
 -- no two places have one number
-abbrev pub NumbersDiffer : List Placed → Type 0
+abbrev pub NumbersDiffer : List GroupInContext → Type 0
 NumbersDiffer [] = Unit {0}
-NumbersDiffer (p ∷ ps) = ((q : Placed) → Has q ps → p.group.number ≡ q.group.number → ⊥) × NumbersDiffer ps
+NumbersDiffer (p ∷ ps) = ((q : GroupInContext) → Has q ps → p.group.number ≡ q.group.number → ⊥) × NumbersDiffer ps
 
-NumbersDiffer-append : (ps : List Placed) (p : Placed) → NumbersDiffer ps → ((q : Placed) → Has q ps → q.group.number ≡ p.group.number → ⊥) → NumbersDiffer (ps ++ p ∷ [])
+NumbersDiffer-append : (ps : List GroupInContext) (p : GroupInContext) → NumbersDiffer ps → ((q : GroupInContext) → Has q ps → q.group.number ≡ p.group.number → ⊥) → NumbersDiffer (ps ++ p ∷ [])
 NumbersDiffer-append [] p d n = ((λ q h e. h), tt)
 NumbersDiffer-append (x ∷ xs) p d n = (
-  (λ q h e. elim (has-append q xs (p ∷ []) h) [ inl a ↦ d.0 q a e | inr b ↦ elim b [ inl k ↦ n x (inl refl) (e ∙ sym (ap (λ (y : Placed). y.group.number) k)) | inr k ↦ k ] ]),
+  (λ q h e. elim (has-append q xs (p ∷ []) h) [ inl a ↦ d.0 q a e | inr b ↦ elim b [ inl k ↦ n x (inl refl) (e ∙ sym (ap (λ (y : GroupInContext). y.group.number) k)) | inr k ↦ k ] ]),
   NumbersDiffer-append xs p d.1 (λ q h e. n q (inr h) e),
 )
 
-pub numbers_differ : (read : List Group) → IsRead read → NumbersDiffer (placed read)
+pub numbers_differ : (read : List Group) → IsRead read → NumbersDiffer (groups_in_context read)
 numbers_differ [] r = tt
-numbers_differ (g ∷ before) r = NumbersDiffer-append (placed before) (place (open_blocks 0 before) g) (numbers_differ before r.3) (λ q h e. let k : q.group.number < length before = number_below q.group before r.3 (group-placed q before h) in omega (arith, e, r.0))
+numbers_differ (g ∷ before) r = NumbersDiffer-append (groups_in_context before) (group_in_context (open_blocks 0 before) g) (numbers_differ before r.3) (λ q h e. let k : q.group.number < length before = number_below q.group before r.3 (group-placed q before h) in omega (arith, e, r.0))
 
-pub same_place : (ps : List Placed) (p q : Placed) → NumbersDiffer ps → Has p ps → Has q ps → p.group.number ≡ q.group.number → p ≡ q
+pub same_place : (ps : List GroupInContext) (p q : GroupInContext) → NumbersDiffer ps → Has p ps → Has q ps → p.group.number ≡ q.group.number → p ≡ q
 same_place [] p q d h k e = absurd h
 same_place (x ∷ xs) p q d (inl a) (inl b) e = sym a ∙ b
-same_place (x ∷ xs) p q d (inl a) (inr b) e = absurd (d.0 q b (ap (λ (y : Placed). y.group.number) a ∙ e))
-same_place (x ∷ xs) p q d (inr a) (inl b) e = absurd (d.0 p a (ap (λ (y : Placed). y.group.number) b ∙ sym e))
+same_place (x ∷ xs) p q d (inl a) (inr b) e = absurd (d.0 q b (ap (λ (y : GroupInContext). y.group.number) a ∙ e))
+same_place (x ∷ xs) p q d (inr a) (inl b) e = absurd (d.0 p a (ap (λ (y : GroupInContext). y.group.number) b ∙ sym e))
 same_place (x ∷ xs) p q d (inr a) (inr b) e = same_place xs p q d.1 a b e
 
 -- the choice round a place is one that was read
@@ -143,53 +143,53 @@ pub has-open_blocks : (x : Group) (n : ℕ) (gs : List Group) → Has x (open_bl
 has-open_blocks x n [] h = h
 has-open_blocks x n (g ∷ gs) h = open_by (side_of g.what) g x n gs (λ m k. has-open_blocks x m gs k) h
 
-within_by : (w : What) (around : Context) (g : Group) (n : ℕ) → g.what ≡ w → (within_what w around g).choice ≡ Some n → ((g.number ≡ n) × (opens_choice g ≡ true)) ⊎ (around.choice ≡ Some n)
-within_by (said (config name)) around g n e h = inr h
-within_by (said choice) around g n e h = inl (cc, ap (λ w. is_some_block choice_block (head_gives block_of_head w)) e)
-within_by (said (menu title)) around g n e h = inr h
-within_by (said (condition c)) around g n e h = inr h
-within_by (said (comment title)) around g n e h = inr h
-within_by (said (source path)) around g n e h = inr h
-within_by (said mainmenu) around g n e h = inr h
-within_by (said (ends b)) around g n e h = inr h
-within_by file_end around g n e h = inr h
+within_by : (w : GroupHead) (enclosing : Context) (g : Group) (n : ℕ) → g.what ≡ w → (inner_context_of_group_head w enclosing g).choice ≡ Some n → ((g.number ≡ n) × (opens_choice g ≡ true)) ⊎ (enclosing.choice ≡ Some n)
+within_by (of_head (config name)) enclosing g n e h = inr h
+within_by (of_head choice) enclosing g n e h = inl (cc, ap (λ w. is_some_block choice_block (from_head block_of_head w)) e)
+within_by (of_head (menu title)) enclosing g n e h = inr h
+within_by (of_head (condition c)) enclosing g n e h = inr h
+within_by (of_head (comment title)) enclosing g n e h = inr h
+within_by (of_head (source path)) enclosing g n e h = inr h
+within_by (of_head mainmenu) enclosing g n e h = inr h
+within_by (of_head (ends b)) enclosing g n e h = inr h
+within_by file_end enclosing g n e h = inr h
 
 choice-context : (gs : List Group) (n : ℕ) → (context gs).choice ≡ Some n → (x : Group) × Has x gs × (x.number ≡ n) × (opens_choice x ≡ true)
 choice-context [] n h = cc
 choice-context (g ∷ gs) n h = elim (within_by g.what (context gs) g n refl h) [ inl a ↦ (g, inl refl, a.0, a.1) | inr b ↦ let r = choice-context gs n b in (r.0, inr r.1, r.2, r.3) ]
 
-pub choice_read : (p : Placed) (read : List Group) (n : ℕ) → Has p (placed read) → p.around.choice ≡ Some n → (q : Placed) × Has q (placed read) × (q.group.number ≡ n) × (opens_choice q.group ≡ true)
+pub choice_read : (p : GroupInContext) (read : List Group) (n : ℕ) → Has p (groups_in_context read) → p.enclosing.choice ≡ Some n → (q : GroupInContext) × Has q (groups_in_context read) × (q.group.number ≡ n) × (opens_choice q.group ≡ true)
 choice_read p [] n h e = absurd h
-choice_read p (g ∷ before) n h e = elim (has-append p (placed before) (place (open_blocks 0 before) g ∷ []) h) [
-  | inl a ↦ (let r = choice_read p before n a e in (r.0, append-has_left r.0 (placed before) (place (open_blocks 0 before) g ∷ []) r.1, r.2, r.3))
+choice_read p (g ∷ before) n h e = elim (has-append p (groups_in_context before) (group_in_context (open_blocks 0 before) g ∷ []) h) [
+  | inl a ↦ (let r = choice_read p before n a e in (r.0, append-has_left r.0 (groups_in_context before) (group_in_context (open_blocks 0 before) g ∷ []) r.1, r.2, r.3))
   | inr b ↦ elim b [
     | inl k ↦ (
-        let c = choice-context (open_blocks 0 before) n (ap (λ (y : Placed). y.around.choice) k ∙ e) in
+        let c = choice-context (open_blocks 0 before) n (ap (λ (y : GroupInContext). y.enclosing.choice) k ∙ e) in
         let r = placed-group c.0 before (has-open_blocks c.0 0 before c.1) in
-        (r.0, append-has_left r.0 (placed before) (place (open_blocks 0 before) g ∷ []) r.1, ap (λ (y : Group). y.number) r.2 ∙ c.2, ap opens_choice r.2 ∙ c.3))
+        (r.0, append-has_left r.0 (groups_in_context before) (group_in_context (open_blocks 0 before) g ∷ []) r.1, ap (λ (y : Group). y.number) r.2 ∙ c.2, ap opens_choice r.2 ∙ c.3))
     | inr k ↦ absurd k
   ]
 ]
 
 -- what places say they are
-pub what_of_name : (w : What) (name : List ℕ) → head_gives name_of_head w ≡ Some name → w ≡ said (config name)
-what_of_name (said (config x)) name h = ap (λ y. said (config y)) cc
-what_of_name (said choice) name h = cc
-what_of_name (said (menu title)) name h = cc
-what_of_name (said (condition c)) name h = cc
-what_of_name (said (comment title)) name h = cc
-what_of_name (said (source path)) name h = cc
-what_of_name (said mainmenu) name h = cc
-what_of_name (said (ends b)) name h = cc
+pub what_of_name : (w : GroupHead) (name : List ℕ) → from_head name_of_head w ≡ Some name → w ≡ of_head (config name)
+what_of_name (of_head (config x)) name h = ap (λ y. of_head (config y)) cc
+what_of_name (of_head choice) name h = cc
+what_of_name (of_head (menu title)) name h = cc
+what_of_name (of_head (condition c)) name h = cc
+what_of_name (of_head (comment title)) name h = cc
+what_of_name (of_head (source path)) name h = cc
+what_of_name (of_head mainmenu) name h = cc
+what_of_name (of_head (ends b)) name h = cc
 what_of_name file_end name h = cc
 
-pub what_of_choice : (w : What) → is_some_block choice_block (head_gives block_of_head w) ≡ true → w ≡ said choice
-what_of_choice (said (config x)) h = cc
-what_of_choice (said choice) h = refl
-what_of_choice (said (menu title)) h = cc
-what_of_choice (said (condition c)) h = cc
-what_of_choice (said (comment title)) h = cc
-what_of_choice (said (source path)) h = cc
-what_of_choice (said mainmenu) h = cc
-what_of_choice (said (ends b)) h = cc
+pub what_of_choice : (w : GroupHead) → is_some_block choice_block (from_head block_of_head w) ≡ true → w ≡ of_head choice
+what_of_choice (of_head (config x)) h = cc
+what_of_choice (of_head choice) h = refl
+what_of_choice (of_head (menu title)) h = cc
+what_of_choice (of_head (condition c)) h = cc
+what_of_choice (of_head (comment title)) h = cc
+what_of_choice (of_head (source path)) h = cc
+what_of_choice (of_head mainmenu) h = cc
+what_of_choice (of_head (ends b)) h = cc
 what_of_choice file_end h = cc

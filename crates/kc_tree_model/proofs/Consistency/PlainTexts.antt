@@ -3,7 +3,7 @@ use Rattle.std.proofs.Common.{◌≡◌, ℕ, false, List, [], ◌∷◌, IsUtf8
 use Rattle.std.proofs.lemmas.Str.{IsUtf8-nil}
 use Rattle.kc_expr.specs.Expr.{Expr}
 use Rattle.kc_expr.specs.Grammar.{quoted_text}
-use Rattle.kc_expr.specs.Token.{Piece, lexed}
+use Rattle.kc_expr.specs.Token.{Lexeme, lexemes_from}
 use Rattle.kc_expr.proofs.TokenTexts.{AllTexts}
 use Rattle.kc_tree_model.specs.TreeLookup.{own_text, has_newline}
 use Rattle.kc_tree_model.proofs.NestedTrees.LineFits.{IsValueOf}
@@ -18,17 +18,17 @@ IsPlainText text = (has_newline text ≡ false) × IsUtf8 text
 plain_quoted : (text : List ℕ) → IsPlainText text → IsPlainText (quoted_text text)
 plain_quoted text h = (one_quoted text h.0, utf8_quoted text h.1)
 
-both_texts : (ts : List Piece) → AllTexts OneText ts → AllTexts IsUtf8 ts → AllTexts IsPlainText ts
+both_texts : (ts : List Lexeme) → AllTexts OneText ts → AllTexts IsUtf8 ts → AllTexts IsPlainText ts
 both_texts [] one u = tt
 both_texts (t ∷ ts) one u = ((one.0, u.0), both_texts ts one.1 u.1)
 
-plain_tokens : (line : List ℕ) (ts : List Piece) → IsPlainText line → lexed 0 0 line ≡ Ok ts → AllTexts IsPlainText ts
+plain_tokens : (line : List ℕ) (ts : List Lexeme) → IsPlainText line → lexemes_from 0 0 line ≡ Ok ts → AllTexts IsPlainText ts
 plain_tokens line ts h e = both_texts ts (one_lexed line ts h.0 e) (utf8_tokens line ts h.1 e)
 
 -- the own text of a value that is read of a line
-pub value_is_plain : (line : List ℕ) (value : Expr) → IsPlainText line → IsValueOf (lexed 0 0 line) value → IsPlainText (own_text value)
-value_is_plain line value h v = own_text_of_value IsPlainText (refl, IsUtf8-nil) plain_quoted (lexed 0 0 line) value (λ ts e. plain_tokens line ts h e) v
+pub value_is_plain : (line : List ℕ) (value : Expr) → IsPlainText line → IsValueOf (lexemes_from 0 0 line) value → IsPlainText (own_text value)
+value_is_plain line value h v = own_text_of_value IsPlainText (refl, IsUtf8-nil) plain_quoted (lexemes_from 0 0 line) value (λ ts e. plain_tokens line ts h e) v
 
 -- the text of a quoted token of a line
-pub title_is_plain : (line : List ℕ) (first t : Piece) (us : List Piece) → IsPlainText line → lexed 0 0 line ≡ Ok (first ∷ t ∷ us) → IsPlainText (quoted_text t.text)
+pub title_is_plain : (line : List ℕ) (first t : Lexeme) (us : List Lexeme) → IsPlainText line → lexemes_from 0 0 line ≡ Ok (first ∷ t ∷ us) → IsPlainText (quoted_text t.text)
 title_is_plain line first t us h e = plain_quoted t.text (plain_tokens line (first ∷ t ∷ us) h e).1.0

@@ -1,15 +1,15 @@
 -- The title that a line says is the text of one of its tokens.
 use Rattle.std.proofs.Common.{ap, ◌∙◌, ◌≡◌, Bool, true, false, cond, List, [], ◌∷◌, Option, Some, None, Result, Ok, Err, ℕ, refl, sym}
-use Rattle.kc_expr.specs.Token.{Piece, lexed}
+use Rattle.kc_expr.specs.Token.{Lexeme, lexemes_from}
 use Rattle.kc_expr.specs.Grammar.{quoted_text}
 use Rattle.kc_tree_model.specs.declared.fault.TreeKind.{TreeKind}
 use Rattle.kc_tree_model.specs.declared.fault.TreeKind.TheVariants.{Malformed}
-use Rattle.kc_tree_model.specs.Lines.{Logical}
+use Rattle.kc_tree_model.specs.LogicalLines.{LogicalLine}
 use Rattle.kc_tree_model.specs.Statements.{Head, choice, menu, condition, comment, source, mainmenu, Statement, head}
 use Rattle.kc_tree_model.specs.Keywords.{Keyword, choice_word, menu_word, if_word, comment_word, source_word, mainmenu_word, is_quoted_kind}
 use Rattle.kc_tree_model.specs.Forms.{statement_of, titled_line, path_of, no_more, last_condition}
 use Rattle.kc_tree_model.specs.Blocks.{Group}
-use Rattle.kc_tree_model.specs.Reading.{line_says}
+use Rattle.kc_tree_model.specs.Reading.{statement_on_line}
 use Rattle.kc_tree_model.proofs.NestedTrees.LineFits.{bind_ok, sort_of_head, sort_of_word, other_sort, line_said}
 
 -- the title of a menu or comment
@@ -19,8 +19,8 @@ title_in (comment title) = Some title
 title_in h = None
 
 -- a title is the text of one quoted token
-abbrev Titled : List Piece → List ℕ → Type 0
-Titled ts title = (t : Piece) × (us : List Piece) × (ts ≡ t ∷ us) × (quoted_text t.text ≡ title)
+abbrev Titled : List Lexeme → List ℕ → Type 0
+Titled ts title = (t : Lexeme) × (us : List Lexeme) × (ts ≡ t ∷ us) × (quoted_text t.text ≡ title)
 
 not_titled : (g h : Head) (title : List ℕ) → title_in g ≡ None → title_in h ≡ Some title → (r : Result Statement TreeKind) → r ≡ Ok (head g) → r ≡ Ok (head h) → ⊥
 not_titled g h title none some r a b = let same : g ≡ h = cc in let both : None ≡ Some title = sym none ∙ ap title_in same ∙ some in cc
@@ -28,26 +28,26 @@ not_titled g h title none some r a b = let same : g ≡ h = cc in let both : Non
 title_same : (q h : Head) (x title : List ℕ) → title_in q ≡ Some x → title_in h ≡ Some title → (r : Result Statement TreeKind) → r ≡ Ok (head q) → r ≡ Ok (head h) → x ≡ title
 title_same q h x title first second r a b = let same : q ≡ h = cc in let both : Some x ≡ Some title = sym first ∙ ap title_in same ∙ second in cc
 
-titled_by : (f : List ℕ → Head) → ((x : List ℕ) → title_in (f x) ≡ Some x) → (t : Piece) (us : List Piece) (h : Head) (title : List ℕ) → title_in h ≡ Some title → (b : Bool) → cond b (no_more (head (f (quoted_text t.text))) us) (Err Malformed) ≡ Ok (head h) → Titled (t ∷ us) title
+titled_by : (f : List ℕ → Head) → ((x : List ℕ) → title_in (f x) ≡ Some x) → (t : Lexeme) (us : List Lexeme) (h : Head) (title : List ℕ) → title_in h ≡ Some title → (b : Bool) → cond b (no_more (head (f (quoted_text t.text))) us) (Err Malformed) ≡ Ok (head h) → Titled (t ∷ us) title
 titled_by f has t [] h title e true k = (t, [], refl, title_same (f (quoted_text t.text)) h (quoted_text t.text) title (has (quoted_text t.text)) e (Ok (head (f (quoted_text t.text)))) refl k)
 titled_by f has t (u ∷ us) h title e true k = cc
 titled_by f has t us h title e false k = cc
 
-titled : (f : List ℕ → Head) → ((x : List ℕ) → title_in (f x) ≡ Some x) → (ts : List Piece) (h : Head) (title : List ℕ) → title_in h ≡ Some title → titled_line f ts ≡ Ok (head h) → Titled ts title
+titled : (f : List ℕ → Head) → ((x : List ℕ) → title_in (f x) ≡ Some x) → (ts : List Lexeme) (h : Head) (title : List ℕ) → title_in h ≡ Some title → titled_line f ts ≡ Ok (head h) → Titled ts title
 titled f has [] h title e k = cc
 titled f has (t ∷ us) h title e k = titled_by f has t us h title e (is_quoted_kind t.kind) k
 
-no_main : (t : Piece) (us : List Piece) (h : Head) (title : List ℕ) → title_in h ≡ Some title → (b : Bool) → cond b (no_more (head mainmenu) us) (Err Malformed) ≡ Ok (head h) → ⊥
+no_main : (t : Lexeme) (us : List Lexeme) (h : Head) (title : List ℕ) → title_in h ≡ Some title → (b : Bool) → cond b (no_more (head mainmenu) us) (Err Malformed) ≡ Ok (head h) → ⊥
 no_main t [] h title e true k = not_titled mainmenu h title refl e (Ok (head mainmenu)) refl k
 no_main t (u ∷ us) h title e true k = cc
 no_main t us h title e false k = cc
 
-no_source : (ts : List Piece) (h : Head) (title : List ℕ) → title_in h ≡ Some title → (o : Option (List ℕ)) → elim o as (λ _. Result Statement TreeKind) [ None ↦ Err Malformed | Some path ↦ no_more (head (source path)) ts ] ≡ Ok (head h) → ⊥
+no_source : (ts : List Lexeme) (h : Head) (title : List ℕ) → title_in h ≡ Some title → (o : Option (List ℕ)) → elim o as (λ _. Result Statement TreeKind) [ None ↦ Err Malformed | Some path ↦ no_more (head (source path)) ts ] ≡ Ok (head h) → ⊥
 no_source ts h title e None k = cc
 no_source [] h title e (Some path) k = not_titled (source path) h title refl e (Ok (head (source path))) refl k
 no_source (t ∷ ts) h title e (Some path) k = cc
 
-title_said : (k : Keyword) (ts : List Piece) (h : Head) (title : List ℕ) → title_in h ≡ Some title → other_sort ≡ sort_of_word k → statement_of k ts ≡ Ok (head h) → Titled ts title
+title_said : (k : Keyword) (ts : List Lexeme) (h : Head) (title : List ℕ) → title_in h ≡ Some title → other_sort ≡ sort_of_word k → statement_of k ts ≡ Ok (head h) → Titled ts title
 title_said menu_word ts h title e s k = titled menu (λ x. refl) ts h title e k
 title_said comment_word ts h title e s k = titled comment (λ x. refl) ts h title e k
 title_said mainmenu_word [] h title e s k = cc
@@ -65,8 +65,8 @@ titled_sort (comment x) title e = refl
 titled_sort h title e = cc
 
 -- the title that a line says is the text of one of its tokens
-pub line_titles : (read : List Group) (l : Logical) (h : Head) (title : List ℕ) → title_in h ≡ Some title → line_says read l ≡ Ok (Some (head h))
-    → (first : Piece) × (t : Piece) × (us : List Piece) × (lexed 0 0 l.text ≡ Ok (first ∷ t ∷ us)) × (quoted_text t.text ≡ title)
+pub line_titles : (read : List Group) (l : LogicalLine) (h : Head) (title : List ℕ) → title_in h ≡ Some title → statement_on_line read l ≡ Ok (Some (head h))
+    → (first : Lexeme) × (t : Lexeme) × (us : List Lexeme) × (lexemes_from 0 0 l.text ≡ Ok (first ∷ t ∷ us)) × (quoted_text t.text ≡ title)
 line_titles read l h title e k =
     let s = line_said read l (Some (head h)) k in
     let t = title_said s.keyword s.rest h title e (sym (titled_sort h title e) ∙ s.sort) s.form in

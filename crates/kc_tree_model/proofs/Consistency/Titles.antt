@@ -1,11 +1,11 @@
 -- Each title that was read is one line of UTF-8.
 use Rattle.std.proofs.Common.{◌≡◌, inl, inr, ℕ, false, List, [], ◌∷◌, Option, Some, None, Ok, subst}
 use Rattle.kc_tree_model.specs.TreeLookup.{has_newline}
-use Rattle.kc_tree_model.specs.Files.{Files}
-use Rattle.kc_tree_model.specs.Lines.{Logical}
+use Rattle.kc_tree_model.specs.TreeFiles.{Files}
+use Rattle.kc_tree_model.specs.LogicalLines.{LogicalLine}
 use Rattle.kc_tree_model.specs.Statements.{Head, Statement, head, attribute, Attribute}
-use Rattle.kc_tree_model.specs.Blocks.{Group, Position, What, said, file_end, head_gives}
-use Rattle.kc_tree_model.specs.Reading.{line_says, after_line, with_attribute, reading}
+use Rattle.kc_tree_model.specs.Blocks.{Group, Position, GroupHead, of_head, file_end, from_head}
+use Rattle.kc_tree_model.specs.Reading.{statement_on_line, with_statement, with_attribute, reading}
 use Rattle.kc_tree_model.proofs.NestedTrees.LineFits.{line_utf8}
 use Rattle.kc_tree_model.proofs.Consistency.TitledLines.{title_in, line_titles}
 use Rattle.kc_tree_model.proofs.Consistency.Lists.{Has}
@@ -13,21 +13,21 @@ use Rattle.kc_tree_model.proofs.Consistency.PlainTexts.{IsPlainText, title_is_pl
 use Rattle.kc_tree_model.proofs.Consistency.Kept.{reading_keeps}
 
 -- a group's title is one line of UTF-8
-abbrev pub IsPlain : What → Type 0
-IsPlain w = (title : List ℕ) → head_gives title_in w ≡ Some title → IsPlainText title
+abbrev pub IsPlain : GroupHead → Type 0
+IsPlain w = (title : List ℕ) → from_head title_in w ≡ Some title → IsPlainText title
 
 abbrev pub ArePlain : List Group → Type 0
 ArePlain [] = Unit {0}
 ArePlain (g ∷ before) = IsPlain g.what × ArePlain before
 
-plain_said : (read : List Group) (l : Logical) (h : Head) → has_newline l.text ≡ false → line_says read l ≡ Ok (Some (head h)) → IsPlain (said h)
+plain_said : (read : List Group) (l : LogicalLine) (h : Head) → has_newline l.text ≡ false → statement_on_line read l ≡ Ok (Some (head h)) → IsPlain (of_head h)
 plain_said read l h one e title has = let r = line_titles read l h title has e in subst IsPlainText r.4 (title_is_plain l.text r.0 r.1 r.2 (one, line_utf8 read l (Some (head h)) e) r.3)
 
 attribute_plain : (read : List Group) (line : ℕ) (a : Attribute) → ArePlain read → ArePlain (with_attribute line a read)
 attribute_plain [] line a h = tt
 attribute_plain (g ∷ before) line a h = h
 
-line_plain : (read : List Group) (at : Position) (l : Logical) (s : Option Statement) → ArePlain read → has_newline l.text ≡ false → line_says read l ≡ Ok s → ArePlain (after_line at s read)
+line_plain : (read : List Group) (at : Position) (l : LogicalLine) (s : Option Statement) → ArePlain read → has_newline l.text ≡ false → statement_on_line read l ≡ Ok s → ArePlain (with_statement at s read)
 line_plain read at l None h one e = h
 line_plain read at l (Some (head x)) h one e = (plain_said read l x one e, h)
 line_plain read at l (Some (attribute a)) h one e = attribute_plain read at.line a h

@@ -14,7 +14,7 @@ use Rattle.kc_expr.specs.declared.token.Relop.TheVariants.{Equal, NotEqual, Less
 use Rattle.kc_expr.specs.declared.token.TokenKind.{TokenKind}
 use Rattle.kc_expr.specs.declared.token.TokenKind.TheVariants.{Word, Quoted, Relation, Not, And, Or, Open, Close}
 use Rattle.kc_expr.specs.Grammar.{is_quote, between_quotes, quoted_text}
-use Rattle.kc_expr.specs.Token.{Piece, is_white_byte, is_word_byte, lexed}
+use Rattle.kc_expr.specs.Token.{Lexeme, is_white_byte, is_word_byte, lexemes_from}
 use Rattle.kc_expr.specs.TokenGrammar.{IsToken, IsCut, ends, comment, white, token}
 use Rattle.kc_expr.proofs.CutLaws.{read_cut}
 use Rattle.kc_expr.proofs.TokenTexts.{AllTexts}
@@ -58,7 +58,7 @@ token_ends Or text is = record { front = 124 ∷ []; last = 124; parts = is; low
 token_ends Open text is = record { front = []; last = 40; parts = is; low = omega arith }
 token_ends Close text is = record { front = []; last = 41; parts = is; low = omega arith }
 
--- behind such a text UTF-8 may be cut
+-- after such a text UTF-8 may be cut
 cut_behind : (text rest : List ℕ) → EndsLow text → IsUtf8 (text ++ rest) → IsUtf8 text × IsUtf8 rest
 cut_behind text rest e u =
     let n = length e.front in
@@ -69,7 +69,7 @@ cut_behind text rest e u =
     let cut = IsCharBoundary-after_ascii (text ++ rest) n u (omega (arith, size, length-append text rest)) (omega (arith, here, last_low)) in
     (subst IsUtf8 (take_at text rest (n + 1) size) (IsUtf8-take (text ++ rest) (n + 1) u cut), subst IsUtf8 (drop_at text rest (n + 1) size) (IsUtf8-drop (text ++ rest) (n + 1) u cut))
 
-utf8_cut : {at : ℕ} {bytes : List ℕ} {ps : List Piece} → IsCut at bytes ps → IsUtf8 bytes → AllTexts IsUtf8 ps
+utf8_cut : {at : ℕ} {bytes : List ℕ} {ps : List Lexeme} → IsCut at bytes ps → IsUtf8 bytes → AllTexts IsUtf8 ps
 utf8_cut ends u = tt
 utf8_cut comment u = tt
 utf8_cut (white {c = c} {bytes = bytes} w more) u = utf8_cut more (cut_behind (c ∷ []) bytes (record { front = []; last = c; parts = refl; low = white_low c w }) u).1
@@ -78,7 +78,7 @@ utf8_cut (token p rest e is longest starts stops more) u =
     (r.0, utf8_cut more r.1)
 
 -- the texts of tokens are UTF-8
-pub utf8_tokens : (line : List ℕ) (ts : List Piece) → IsUtf8 line → lexed 0 0 line ≡ Ok ts → AllTexts IsUtf8 ts
+pub utf8_tokens : (line : List ℕ) (ts : List Lexeme) → IsUtf8 line → lexemes_from 0 0 line ≡ Ok ts → AllTexts IsUtf8 ts
 utf8_tokens line ts u h = utf8_cut (read_cut (length line) 0 line ts (omega arith) h) u
 
 -- and so is what they are without backslashes

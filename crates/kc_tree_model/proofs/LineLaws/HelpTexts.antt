@@ -4,46 +4,46 @@ use Rattle.std.specs.Prelude.{nat_le, take_while}
 use Rattle.std.specs.List.{list_all}
 use Rattle.std.proofs.lemmas.Bool.{and_parts, lt-ltb, eqb-true, eqb-false}
 use Rattle.std.proofs.lemmas.List.Sums.{take_while-cons}
-use Rattle.kc_tree_model.specs.Lines.{Physical, is_blank, indentation, first_indentation, help_len, logical}
+use Rattle.kc_tree_model.specs.LogicalLines.{PhysicalLine, is_blank, indentation, first_indentation, help_line_count, logical_lines_from}
 use Rattle.kc_tree_model.specs.LineGrammar.{is_of_help, begins_of_help, IsHelpText, help_lines}
 
 -- the test of the lines, where the column isn't 0
-abbrev reaches : ℕ → Physical → Bool
+abbrev reaches : ℕ → PhysicalLine → Bool
 reaches n l = is_blank l || nat_le n (indentation l)
 
-column_none : (help : List Physical) → list_all (is_of_help 0) help ≡ true → length help ≡ 0
+column_none : (help : List PhysicalLine) → list_all (is_of_help 0) help ≡ true → length help ≡ 0
 column_none [] all = refl
 column_none (l ∷ ls) all = cc
 
-of_help_is : (n : ℕ) (l : Physical) → 0 < n → is_of_help n l ≡ reaches n l
+of_help_is : (n : ℕ) (l : PhysicalLine) → 0 < n → is_of_help n l ≡ reaches n l
 of_help_is n l some = ap (λ t. t && reaches n l) (lt-ltb 0 n some)
 
-of_help_reaches : (n : ℕ) (help : List Physical) → 0 < n → list_all (is_of_help n) help ≡ true → list_all (reaches n) help ≡ true
+of_help_reaches : (n : ℕ) (help : List PhysicalLine) → 0 < n → list_all (is_of_help n) help ≡ true → list_all (reaches n) help ≡ true
 of_help_reaches n [] some all = refl
 of_help_reaches n (l ∷ ls) some all =
     let p = and_parts (is_of_help n l) (list_all (is_of_help n) ls) all in
     ap (λ t. t && list_all (reaches n) ls) (sym (of_help_is n l some) ∙ p.0) ∙ of_help_reaches n ls some p.1
 
 -- whether the first passes
-abbrev first_passes : (Physical → Bool) → List Physical → Bool
+abbrev first_passes : (PhysicalLine → Bool) → List PhysicalLine → Bool
 first_passes test [] = false
 first_passes test (l ∷ ls) = test l
 
-begins_reaches : (n : ℕ) (rest : List Physical) → 0 < n → begins_of_help n rest ≡ false → first_passes (reaches n) rest ≡ false
+begins_reaches : (n : ℕ) (rest : List PhysicalLine) → 0 < n → begins_of_help n rest ≡ false → first_passes (reaches n) rest ≡ false
 begins_reaches n [] some e = refl
 begins_reaches n (l ∷ ls) some e = sym (of_help_is n l some) ∙ e
 
-taken_none : (test : Physical → Bool) (rest : List Physical) → first_passes test rest ≡ false → length (take_while test rest) ≡ 0
+taken_none : (test : PhysicalLine → Bool) (rest : List PhysicalLine) → first_passes test rest ≡ false → length (take_while test rest) ≡ 0
 taken_none test [] e = refl
 taken_none test (l ∷ ls) e = ap length (take_while-cons test l ls ∙ ap (λ t. cond t (l ∷ take_while test ls) []) e)
 
-taken_front : (test : Physical → Bool) (front rest : List Physical) → list_all test front ≡ true → first_passes test rest ≡ false → length (take_while test (front ++ rest)) ≡ length front
+taken_front : (test : PhysicalLine → Bool) (front rest : List PhysicalLine) → list_all test front ≡ true → first_passes test rest ≡ false → length (take_while test (front ++ rest)) ≡ length front
 taken_front test [] rest all e = taken_none test rest e
 taken_front test (l ∷ ls) rest all e =
     let p = and_parts (test l) (list_all test ls) all in
     ap length (take_while-cons test l (ls ++ rest) ∙ ap (λ t. cond t (l ∷ take_while test (ls ++ rest)) []) p.0) ∙ ap suc (taken_front test ls rest p.1 e)
 
-len_by : (b : Bool) (n : ℕ) (help rest : List Physical) → (n == 0) ≡ b → list_all (is_of_help n) help ≡ true → begins_of_help n rest ≡ false → cond b 0 (length (take_while (reaches n) (help ++ rest))) ≡ length help
+len_by : (b : Bool) (n : ℕ) (help rest : List PhysicalLine) → (n == 0) ≡ b → list_all (is_of_help n) help ≡ true → begins_of_help n rest ≡ false → cond b 0 (length (take_while (reaches n) (help ++ rest))) ≡ length help
 len_by true n help rest e all stops = sym (column_none help (subst (λ k. list_all (is_of_help k) help ≡ true) (eqb-true n 0 e) all))
 len_by false n help rest e all stops =
     let some : 0 < n = above n (eqb-false n 0 e) in
@@ -53,29 +53,29 @@ len_by false n help rest e all stops =
     above zero no_zero = absurd (no_zero refl)
     above (suc n) no_zero = omega arith
 
-pub help_count : (help rest : List Physical) → IsHelpText help rest → help_len (help ++ rest) ≡ length help
+pub help_count : (help rest : List PhysicalLine) → IsHelpText help rest → help_line_count (help ++ rest) ≡ length help
 help_count help rest h = len_by (first_indentation (help ++ rest) == 0) (first_indentation (help ++ rest)) help rest refl h.within h.ends
 
 -- the lines of a help text are passed
-pub help_passed : (n : ℕ) (help rest : List Physical) → logical 0 (length help) n (help ++ rest) ≡ help_lines n help ++ logical 0 0 (n + length help) rest
-help_passed n [] rest = ap (λ k. logical 0 0 k rest) (omega arith)
-help_passed n (l ∷ ls) rest = ap (λ x. record { number = n; text = l.text; help = true } ∷ x) (help_passed (n + 1) ls rest ∙ ap (λ k. help_lines (n + 1) ls ++ logical 0 0 k rest) (omega arith))
+pub help_passed : (n : ℕ) (help rest : List PhysicalLine) → logical_lines_from 0 (length help) n (help ++ rest) ≡ help_lines n help ++ logical_lines_from 0 0 (n + length help) rest
+help_passed n [] rest = ap (λ k. logical_lines_from 0 0 k rest) (omega arith)
+help_passed n (l ∷ ls) rest = ap (λ x. record { number = n; text = l.text; help = true } ∷ x) (help_passed (n + 1) ls rest ∙ ap (λ k. help_lines (n + 1) ls ++ logical_lines_from 0 0 k rest) (omega arith))
 
 -- the help text at the front of lines
-pub record Help (all : List Physical) : Type 0 where
-  pub help : List Physical
-  pub rest : List Physical
+pub record Help (all : List PhysicalLine) : Type 0 where
+  pub help : List PhysicalLine
+  pub rest : List PhysicalLine
   pub parts : all ≡ help ++ rest
   pub is_help : IsHelpText help rest
 
-record Parted (test : Physical → Bool) (all : List Physical) : Type 0 where
-  front : List Physical
-  rest : List Physical
+record Parted (test : PhysicalLine → Bool) (all : List PhysicalLine) : Type 0 where
+  front : List PhysicalLine
+  rest : List PhysicalLine
   parts : all ≡ front ++ rest
   passes : list_all test front ≡ true
   stops : first_passes test rest ≡ false
 
-parted : (test : Physical → Bool) (all : List Physical) → Parted test all
+parted : (test : PhysicalLine → Bool) (all : List PhysicalLine) → Parted test all
 parted test [] = record { front = []; rest = []; parts = refl; passes = refl; stops = refl }
 parted test (l ∷ ls) = by_test (test l) refl (parted test ls)
   where
@@ -83,11 +83,11 @@ parted test (l ∷ ls) = by_test (test l) refl (parted test ls)
     by_test true e p = record { front = l ∷ p.front; rest = p.rest; parts = ap (λ x. l ∷ x) p.parts; passes = ap (λ t. t && list_all test p.front) e ∙ p.passes; stops = p.stops }
     by_test false e p = record { front = []; rest = l ∷ ls; parts = refl; passes = refl; stops = e }
 
-begins_is_first : (n : ℕ) (rest : List Physical) → first_passes (is_of_help n) rest ≡ false → begins_of_help n rest ≡ false
+begins_is_first : (n : ℕ) (rest : List PhysicalLine) → first_passes (is_of_help n) rest ≡ false → begins_of_help n rest ≡ false
 begins_is_first n [] e = refl
 begins_is_first n (l ∷ ls) e = e
 
-pub help_of : (all : List Physical) → Help all
+pub help_of : (all : List PhysicalLine) → Help all
 help_of all =
     let p = parted (is_of_help (first_indentation all)) all in
     record {

@@ -1,12 +1,12 @@
 -- A list in which each end matches the innermost open block is the listing of a nested tree with open ends.
 use Rattle.std.proofs.Common.{◌≡◌, Bool, true, false, List, [], ◌∷◌, ◌++◌, refl, ap, sym, ◌∙◌, append_assoc}
-use Rattle.kc_tree_model.specs.Blocks.{Group, What, Side, side_of, opening, closing, inside, open_blocks}
+use Rattle.kc_tree_model.specs.Blocks.{Group, GroupHead, Side, side_of, opening, closing, inside, open_blocks}
 use Rattle.kc_tree_model.specs.NestedTrees.{Items, none, entry, block, listing, IsNested, is_ended_by}
 use Rattle.kc_tree_model.proofs.NestedTrees.OpenBlocks.{pushed}
 use Rattle.kc_tree_model.proofs.NestedTrees.Walks.{onto, onto-append, open-listing}
 
 -- whether the innermost of these blocks ends so
-abbrev pub ends_first : List Group → What → Bool
+abbrev pub ends_first : List Group → GroupHead → Bool
 ends_first [] e = false
 ends_first (g ∷ outer) e = is_ended_by g.what e
 
@@ -15,7 +15,7 @@ abbrev pub EndsMatch : List Group → Type 0
 EndsMatch [] = Unit {0}
 EndsMatch (g ∷ before) = (side_of g.what ≡ closing → ends_first (open_blocks 0 before) g.what ≡ true) × EndsMatch before
 
--- items behind items
+-- items after items
 append : Items → Items → Items
 append none u = u
 append (entry g rest) u = entry g (append rest u)
@@ -33,7 +33,7 @@ IsNested-append none u h k = k
 IsNested-append (entry g rest) u h k = (h.0, IsNested-append rest u h.1 k)
 IsNested-append (block g w e rest) u h k = (h.0, h.1, IsNested-append rest u h.2 k)
 
--- a tree of which the last blocks stand open: what is finished at the root, and of each open block its beginning and
+-- a tree of which the last blocks are open: what is finished at the root, and of each open block its beginning and
 -- what is finished in it
 pub data Unfinished : Type 0 where
   root : Items → Unfinished

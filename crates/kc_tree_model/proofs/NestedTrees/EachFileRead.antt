@@ -1,4 +1,4 @@
--- No file is left unread: a `source` behind as many open files as may be is TooDeep before.
+-- No file is left unread: a `source` after as many open files as may be is TooDeep before.
 use Rattle.std.proofs.Common.{◌≡◌, ℕ, zero, suc, ◌+◌, ◌<◌, ◌≤◌, Bool, true, false, not, cond, List, [], ◌∷◌, ◌++◌, Option, Some, None, Result, Ok, Err, refl, ap, sym, ◌∙◌, length, drop, arith}
 use Rattle.std.specs.Prelude.{filter_map, is_some, nat_le}
 use Rattle.std.specs.List.{cons_option}
@@ -6,38 +6,38 @@ use Rattle.std.proofs.lemmas.Bool.{leb-false}
 use Rattle.kc_tree_model.specs.declared.fault.TreeKind.{TreeKind}
 use Rattle.kc_tree_model.specs.declared.fault.TreeKind.TheVariants.{SourceLoop, MissingFile, TooDeep}
 use Rattle.kc_tree_model.specs.declared.fault.TreeFault.{TreeFault}
-use Rattle.kc_tree_model.specs.Lines.{Logical, lines_of}
+use Rattle.kc_tree_model.specs.LogicalLines.{LogicalLine, lines_of}
 use Rattle.kc_tree_model.specs.Statements.{Block, Head, config, choice, menu, condition, comment, source, mainmenu, ends, Statement, head, attribute, block_of_head, path_of_head}
-use Rattle.kc_tree_model.specs.Blocks.{Group, Position, What, said, file_end, head_gives, open_blocks, source_of, innermost}
-use Rattle.kc_tree_model.specs.Limits.{Origin, bytes_in, is_among, open_files, source_fault, most_open_files}
-use Rattle.kc_tree_model.specs.Reading.{line_says, after_line, with_group, path_said, Outcome, behind_file, behind_source, behind_statement, behind_line, read_lines, read_file}
+use Rattle.kc_tree_model.specs.Blocks.{Group, Position, GroupHead, of_head, file_end, from_head, open_blocks, sourced_path, innermost}
+use Rattle.kc_tree_model.specs.Limits.{FileSource, bytes_in, is_in_list, open_files, source_fault, max_open_files}
+use Rattle.kc_tree_model.specs.Reading.{statement_on_line, with_statement, with_group, path_to_read, Outcome, continue_after_file, continue_after_source, continue_after_statement, continue_after_line, read_lines, read_file}
 use Rattle.kc_tree_model.proofs.NestedTrees.Building.{EndsMatch, ends_first}
 use Rattle.kc_tree_model.proofs.NestedTrees.LineFits.{Fits, line_fits}
 use Rattle.kc_tree_model.proofs.NestedTrees.OpenBlocks.{popped}
 use Rattle.kc_tree_model.proofs.NestedTrees.ReadingNests.{AllBlocks, Since, Closes, Reads, after_said, source_group, file_closes}
 
 -- blocks of a file are no files
-no_file : (w : What) (b : Block) → head_gives block_of_head w ≡ Some b → head_gives path_of_head w ≡ None
-no_file (said (config name)) b e = refl
-no_file (said choice) b e = refl
-no_file (said (menu title)) b e = refl
-no_file (said (condition c)) b e = refl
-no_file (said (comment title)) b e = refl
-no_file (said (source path)) b e = cc
-no_file (said mainmenu) b e = refl
-no_file (said (ends c)) b e = refl
+no_file : (w : GroupHead) (b : Block) → from_head block_of_head w ≡ Some b → from_head path_of_head w ≡ None
+no_file (of_head (config name)) b e = refl
+no_file (of_head choice) b e = refl
+no_file (of_head (menu title)) b e = refl
+no_file (of_head (condition c)) b e = refl
+no_file (of_head (comment title)) b e = refl
+no_file (of_head (source path)) b e = cc
+no_file (of_head mainmenu) b e = refl
+no_file (of_head (ends c)) b e = refl
 no_file file_end b e = refl
 
-no_files : (gs hs : List Group) → AllBlocks gs → filter_map source_of (gs ++ hs) ≡ filter_map source_of hs
+no_files : (gs hs : List Group) → AllBlocks gs → filter_map sourced_path (gs ++ hs) ≡ filter_map sourced_path hs
 no_files [] hs own = refl
-no_files (g ∷ gs) hs own = ap (λ o. cons_option o (filter_map source_of (gs ++ hs))) (no_file g.what own.0.0 own.0.1) ∙ no_files gs hs own.1
+no_files (g ∷ gs) hs own = ap (λ o. cons_option o (filter_map sourced_path (gs ++ hs))) (no_file g.what own.0.0 own.0.1) ∙ no_files gs hs own.1
 
 -- so many files are open as where the file began
-same_files : (r : Origin) (start read : List Group) → Since start read → length (open_files r read) ≡ length (open_files r start)
-same_files r start read s = ap (λ gs. length (r.root ∷ filter_map source_of gs)) s.opened ∙ ap (λ ps. length (r.root ∷ ps)) (no_files s.blocks (open_blocks 0 start) s.own)
+same_files : (r : FileSource) (start read : List Group) → Since start read → length (open_files r read) ≡ length (open_files r start)
+same_files r start read s = ap (λ gs. length (r.root ∷ filter_map sourced_path gs)) s.opened ∙ ap (λ ps. length (r.root ∷ ps)) (no_files s.blocks (open_blocks 0 start) s.own)
 
--- and one more behind a `source`
-one_more_file : (r : Origin) (read : List Group) (at : Position) (path : List ℕ) → length (open_files r (source_group read at path ∷ read)) ≡ suc (length (open_files r read))
+-- and one more after a `source`
+one_more_file : (r : FileSource) (read : List Group) (at : Position) (path : List ℕ) → length (open_files r (source_group read at path ∷ read)) ≡ suc (length (open_files r read))
 unfolding source_group
 one_more_file r read at path = refl
 
@@ -46,26 +46,26 @@ past_kind true k o h = cc
 past_kind false k o h = (refl, h)
 
 -- where a `source` has no fault there is room
-has_room : (r : Origin) (read : List Group) (path : List ℕ) → source_fault r read path ≡ None → length (open_files r read) < most_open_files
+has_room : (r : FileSource) (read : List Group) (path : List ℕ) → source_fault r read path ≡ None → length (open_files r read) < max_open_files
 unfolding source_fault
 has_room r read path h =
-    let a = past_kind (is_among path (open_files r read)) SourceLoop _ h in
+    let a = past_kind (is_in_list path (open_files r read)) SourceLoop _ h in
     let b = past_kind (not (is_some (r.bytes path))) MissingFile _ a.1 in
-    let c = past_kind (nat_le most_open_files (length (open_files r read))) TooDeep _ b.1 in
-    leb-false most_open_files (length (open_files r read)) c.0
+    let c = past_kind (nat_le max_open_files (length (open_files r read))) TooDeep _ b.1 in
+    leb-false max_open_files (length (open_files r read)) c.0
 
--- two readings of lines that agree behind what was read since a file began
+-- two readings of lines that agree after what was read since a file began
 abbrev Agree : List Group → (List Group → Outcome) → (List Group → Outcome) → Type 0
 Agree start f g = (read : List Group) → Since start read → f read ≡ g read
 
 -- two readings of files that agree one file further within
-abbrev AgreeWithin : Origin → List Group → (List ℕ → List Group → Outcome) → (List ℕ → List Group → Outcome) → Type 0
-AgreeWithin r start f g = (path : List ℕ) (inner : List Group) → innermost inner ≡ None → EndsMatch inner → length (open_files r start) < most_open_files
+abbrev AgreeWithin : FileSource → List Group → (List ℕ → List Group → Outcome) → (List ℕ → List Group → Outcome) → Type 0
+AgreeWithin r start f g = (path : List ℕ) (inner : List Group) → innermost inner ≡ None → EndsMatch inner → length (open_files r start) < max_open_files
     → length (open_files r inner) ≡ suc (length (open_files r start)) → f path inner ≡ g path inner
 
-module _ (r : Origin) (start : List Group) (first : innermost start ≡ None) (f g : List ℕ → List Group → Outcome) (closes : Reads f) (within : AgreeWithin r start f g) where
+module _ (r : FileSource) (start : List Group) (first : innermost start ≡ None) (f g : List ℕ → List Group → Outcome) (closes : Reads f) (within : AgreeWithin r start f g) where
   same_behind : (p q : List Group → Outcome) (at : Position) (read : List Group) (path : List ℕ) (o : Outcome) (k : Option TreeFault) → o.fault ≡ k → Agree start p q → Since start read
-      → (o.fault ≡ None → Closes (source_group read at path ∷ read) o.read) → behind_file p at o k ≡ behind_file q at o k
+      → (o.fault ≡ None → Closes (source_group read at path ∷ read) o.read) → continue_after_file p at o k ≡ continue_after_file q at o k
   unfolding source_group
   same_behind p q at read path o (Some k) e agree s c = refl
   same_behind p q at read path o None e agree s c =
@@ -79,7 +79,7 @@ module _ (r : Origin) (start : List Group) (first : innermost start ≡ None) (f
       })
 
   same_source : (p q : List Group → Outcome) (at : Position) (read : List Group) (path : List ℕ) (k : Option TreeKind) → source_fault r read path ≡ k → Agree start p q → Since start read
-      → behind_source f p at path (source_group read at path ∷ read) k ≡ behind_source g q at path (source_group read at path ∷ read) k
+      → continue_after_source f p at path (source_group read at path ∷ read) k ≡ continue_after_source g q at path (source_group read at path ∷ read) k
   unfolding source_group Reads
   same_source p q at read path (Some k) e agree s = refl
   same_source p q at read path None e agree s =
@@ -89,37 +89,37 @@ module _ (r : Origin) (start : List Group) (first : innermost start ≡ None) (f
       let matched : EndsMatch (source_group read at path ∷ read) = ((λ c. cc), s.matched) in
       let agreed : f path (source_group read at path ∷ read) ≡ g path (source_group read at path ∷ read) = within path (source_group read at path ∷ read) refl matched (omega (arith, room, same)) (one_more_file r read at path ∙ ap suc same) in
       same_behind p q at read path o o.fault refl agree s (λ h. closes path (source_group read at path ∷ read) refl matched h)
-      ∙ ap (λ (x : Outcome). behind_file q at x x.fault) agreed
+      ∙ ap (λ (x : Outcome). continue_after_file q at x x.fault) agreed
 
   same_head : (p q : List Group → Outcome) (at : Position) (read : List Group) (x : Head) (path : Option (List ℕ)) → path_of_head x ≡ path → Agree start p q → Since start read → Fits read (Some (head x))
-      → behind_statement f p r at read (Some (head x)) path ≡ behind_statement g q r at read (Some (head x)) path
+      → continue_after_statement f p r at read (Some (head x)) path ≡ continue_after_statement g q r at read (Some (head x)) path
   unfolding source_group
-  same_head p q at read x None e agree s fits = agree (after_line at (Some (head x)) read) (after_said start read at (Some (head x)) first s e fits)
+  same_head p q at read x None e agree s fits = agree (with_statement at (Some (head x)) read) (after_said start read at (Some (head x)) first s e fits)
   same_head p q at read (source y) (Some path) e agree s fits =
       let same : y ≡ path = cc in
-      ap (λ z. behind_source f p at path (after_line at (Some (head (source z))) read) (source_fault r read path)) same
+      ap (λ z. continue_after_source f p at path (with_statement at (Some (head (source z))) read) (source_fault r read path)) same
       ∙ same_source p q at read path (source_fault r read path) refl agree s
-      ∙ sym (ap (λ z. behind_source g q at path (after_line at (Some (head (source z))) read) (source_fault r read path)) same)
+      ∙ sym (ap (λ z. continue_after_source g q at path (with_statement at (Some (head (source z))) read) (source_fault r read path)) same)
   same_head p q at read x (Some path) e agree s fits = cc
 
-  same_statement : (p q : List Group → Outcome) (at : Position) (read : List Group) (x : Option Statement) (path : Option (List ℕ)) → path_said x ≡ path → Agree start p q → Since start read → Fits read x
-      → behind_statement f p r at read x path ≡ behind_statement g q r at read x path
+  same_statement : (p q : List Group → Outcome) (at : Position) (read : List Group) (x : Option Statement) (path : Option (List ℕ)) → path_to_read x ≡ path → Agree start p q → Since start read → Fits read x
+      → continue_after_statement f p r at read x path ≡ continue_after_statement g q r at read x path
   same_statement p q at read (Some (head x)) path e agree s fits = same_head p q at read x path e agree s fits
-  same_statement p q at read (Some (attribute a)) None e agree s fits = agree (after_line at (Some (attribute a)) read) (after_said start read at (Some (attribute a)) first s e fits)
+  same_statement p q at read (Some (attribute a)) None e agree s fits = agree (with_statement at (Some (attribute a)) read) (after_said start read at (Some (attribute a)) first s e fits)
   same_statement p q at read (Some (attribute a)) (Some path) e agree s fits = cc
   same_statement p q at read None None e agree s fits = agree read s
   same_statement p q at read None (Some path) e agree s fits = cc
 
   same_line : (p q : List Group → Outcome) (at : Position) (read : List Group) (x : Result (Option Statement) TreeKind) → ((o : Option Statement) → x ≡ Ok o → Fits read o) → Agree start p q → Since start read
-      → behind_line f p r at read x ≡ behind_line g q r at read x
+      → continue_after_line f p r at read x ≡ continue_after_line g q r at read x
   same_line p q at read (Err k) fits agree s = refl
-  same_line p q at read (Ok o) fits agree s = same_statement p q at read o (path_said o) refl agree s (fits o refl)
+  same_line p q at read (Ok o) fits agree s = same_statement p q at read o (path_to_read o) refl agree s (fits o refl)
 
-  same_lines : (file : ℕ) (ls : List Logical) → Agree start (read_lines f r file ls) (read_lines g r file ls)
+  same_lines : (file : ℕ) (ls : List LogicalLine) → Agree start (read_lines f r file ls) (read_lines g r file ls)
   same_lines file [] = λ read s. refl
-  same_lines file (l ∷ ls) = λ read s. same_line (read_lines f r file ls) (read_lines g r file ls) (record { file = file; line = l.number }) read (line_says read l) (line_fits read l) (same_lines file ls) s
+  same_lines file (l ∷ ls) = λ read s. same_line (read_lines f r file ls) (read_lines g r file ls) (record { file = file; line = l.number }) read (statement_on_line read l) (line_fits read l) (same_lines file ls) s
 
-same_file : (m n : ℕ) (r : Origin) (path : List ℕ) (start : List Group) → m ≤ n → innermost start ≡ None → EndsMatch start → length (open_files r start) ≤ most_open_files → most_open_files < length (open_files r start) + m
+same_file : (m n : ℕ) (r : FileSource) (path : List ℕ) (start : List Group) → m ≤ n → innermost start ≡ None → EndsMatch start → length (open_files r start) ≤ max_open_files → max_open_files < length (open_files r start) + m
     → read_file m r path start ≡ read_file n r path start
 same_file zero n r path start le first matched few many = absurd (omega arith)
 same_file (suc m) zero r path start le first matched few many = absurd (omega arith)
@@ -129,5 +129,5 @@ same_file (suc m) (suc n) r path start le first matched few many =
     (r.number path) (lines_of (bytes_in r path)) start (record { blocks = []; own = tt; opened = refl; matched = matched })
 
 -- from the limit on, the reading is the same
-pub each_file_read : (r : Origin) (more : ℕ) → read_file (most_open_files + more) r r.root [] ≡ read_file most_open_files r r.root []
-each_file_read r more = sym (same_file most_open_files (most_open_files + more) r r.root [] (omega arith) refl tt (omega arith) (omega arith))
+pub each_file_read : (r : FileSource) (more : ℕ) → read_file (max_open_files + more) r r.root [] ≡ read_file max_open_files r r.root []
+each_file_read r more = sym (same_file max_open_files (max_open_files + more) r r.root [] (omega arith) refl tt (omega arith) (omega arith))

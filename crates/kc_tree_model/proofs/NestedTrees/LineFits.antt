@@ -5,19 +5,19 @@ use Rattle.std.specs.Str.{is_utf8}
 use Rattle.std.proofs.lemmas.Str.{IsUtf8-from_is_utf8}
 use Rattle.kc_value.specs.declared.value.Kind.{Kind}
 use Rattle.kc_expr.specs.Expr.{Expr, Operand}
-use Rattle.kc_expr.specs.Token.{Piece, lexed}
-use Rattle.kc_expr.specs.Grammar.{operand_of_piece, quoted_text}
+use Rattle.kc_expr.specs.Token.{Lexeme, lexemes_from}
+use Rattle.kc_expr.specs.Grammar.{operand_of_lexeme, quoted_text}
 use Rattle.kc_expr.specs.declared.fault.ExprFault.{ExprFault}
 use Rattle.kc_tree_model.specs.declared.fault.TreeKind.{TreeKind}
 use Rattle.kc_tree_model.specs.declared.fault.TreeKind.TheVariants.{Malformed, LeftOut, Misplaced, StrayEnd, TooDeep, TooMany, LineTooLong, NotUtf8}
-use Rattle.kc_tree_model.specs.Lines.{Logical}
-use Rattle.kc_tree_model.specs.Statements.{Block, Head, config, choice, menu, condition, comment, source, mainmenu, ends, Valued, Aimed, Attribute, typed_prompt, typed_default, prompt, default, depends, select, imply, range, visible, help, modules, default_of, Statement, head, attribute}
+use Rattle.kc_tree_model.specs.LogicalLines.{LogicalLine}
+use Rattle.kc_tree_model.specs.Statements.{Block, Head, config, choice, menu, condition, comment, source, mainmenu, ends, DefaultAttribute, TargetAttribute, Attribute, typed_prompt, typed_default, prompt, default, depends, select, imply, range, visible, help, modules, default_of, Statement, head, attribute}
 use Rattle.kc_tree_model.specs.Keywords.{Keyword, config_word, choice_word, menu_word, if_word, comment_word, source_word, mainmenu_word, end_word, type_word, default_type_word, prompt_word, default_word, depends_word, select_word, imply_word, range_word, visible_word, help_word, modules_word, option_word, left_out_word, keyword_of, is_name, is_quoted_kind, is_the_word}
-use Rattle.kc_tree_model.specs.Forms.{Taken, expr_at, ◌>>=◌, statement_of, config_line, choice_line, titled_line, source_line, path_of, prompt_line, type_line, default_line, aimed_line, range_of_operands, range_line, worded_line, option_line, no_more, last_condition, optional_if}
+use Rattle.kc_tree_model.specs.Forms.{ParsedExpr, leading_expr, ◌>>=◌, statement_of, config_line, choice_line, titled_line, source_line, path_of, prompt_line, type_line, default_line, target_line, range_of_operands, range_line, condition_line, option_line, no_more, last_condition, optional_if}
 use Rattle.kc_tree_model.specs.Blocks.{Group, is_stray}
-use Rattle.kc_tree_model.specs.Placement.{Open, open_entry, takes, entry_takes, is_allowed, is_left_out, is_stray_end}
-use Rattle.kc_tree_model.specs.Limits.{most_line_bytes, is_too_deep, is_too_many}
-use Rattle.kc_tree_model.specs.Reading.{unless, said_with, said_by, said_by_word, said_by_tokens, line_says}
+use Rattle.kc_tree_model.specs.Placement.{OpenEntry, open_entry, allows_attribute, open_entry_allows, is_allowed, is_left_out, is_stray_end}
+use Rattle.kc_tree_model.specs.Limits.{max_line_bytes, is_too_deep, is_too_many}
+use Rattle.kc_tree_model.specs.Reading.{unless, statement_by_keyword, statement_of_tokens, statement_by_word, statement_or_fault, statement_on_line}
 
 -- sorts of statements: definitions, ends, defaults, other attributes, and all others
 pub data Sort : Type 0 where
@@ -63,7 +63,7 @@ gives_if : (b : Bool) (t : Sort) (r : Result Statement TreeKind) (e : TreeKind) 
 gives_if true t r e h = h
 gives_if false t r e h = tt
 
-gives_last : (s : Statement) (ts : List Piece) (t : Sort) → sort_of s ≡ t → Gives t (no_more s ts)
+gives_last : (s : Statement) (ts : List Lexeme) (t : Sort) → sort_of s ≡ t → Gives t (no_more s ts)
 gives_last s [] t h = h
 gives_last s (p ∷ ts) t h = tt
 
@@ -71,59 +71,59 @@ gives_bind : {A : Type 0} (r : Result A TreeKind) (f : A → Result Statement Tr
 gives_bind (Ok x) f t h = h x
 gives_bind (Err e) f t h = tt
 
-gives_config : (ts : List Piece) → Gives config_sort (config_line ts)
+gives_config : (ts : List Lexeme) → Gives config_sort (config_line ts)
 gives_config [] = tt
 gives_config (p ∷ ts) = gives_if (is_name p) config_sort (no_more (head (config p.text)) ts) Malformed (gives_last (head (config p.text)) ts config_sort refl)
 
-gives_choice : (ts : List Piece) → Gives other_sort (choice_line ts)
+gives_choice : (ts : List Lexeme) → Gives other_sort (choice_line ts)
 gives_choice ts = gives_last (head choice) ts other_sort refl
 
-gives_title : (f : List ℕ → Head) → ((x : List ℕ) → sort_of_head (f x) ≡ other_sort) → (ts : List Piece) → Gives other_sort (titled_line f ts)
+gives_title : (f : List ℕ → Head) → ((x : List ℕ) → sort_of_head (f x) ≡ other_sort) → (ts : List Lexeme) → Gives other_sort (titled_line f ts)
 gives_title f h [] = tt
 gives_title f h (p ∷ ts) = gives_if (is_quoted_kind p.kind) other_sort (no_more (head (f (quoted_text p.text))) ts) Malformed (gives_last (head (f (quoted_text p.text))) ts other_sort (h (quoted_text p.text)))
 
-gives_source_by : (o : Option (List ℕ)) (ts : List Piece) → Gives other_sort (elim o [ None ↦ Err Malformed | Some path ↦ no_more (head (source path)) ts ])
+gives_source_by : (o : Option (List ℕ)) (ts : List Lexeme) → Gives other_sort (elim o [ None ↦ Err Malformed | Some path ↦ no_more (head (source path)) ts ])
 gives_source_by None ts = tt
 gives_source_by (Some path) ts = gives_last (head (source path)) ts other_sort refl
 
-gives_source : (ts : List Piece) → Gives other_sort (source_line ts)
+gives_source : (ts : List Lexeme) → Gives other_sort (source_line ts)
 gives_source [] = tt
 gives_source (p ∷ ts) = gives_source_by (path_of p) ts
 
-gives_prompt : (f : Option Expr → Attribute) → ((c : Option Expr) → sort_of_attribute (f c) ≡ attribute_sort) → (ts : List Piece) → Gives attribute_sort (prompt_line f ts)
+gives_prompt : (f : Option Expr → Attribute) → ((c : Option Expr) → sort_of_attribute (f c) ≡ attribute_sort) → (ts : List Lexeme) → Gives attribute_sort (prompt_line f ts)
 gives_prompt f h [] = tt
 gives_prompt f h (p ∷ ts) = gives_if (is_quoted_kind p.kind) attribute_sort (optional_if ts >>= λ c. Ok (attribute (f c))) Malformed (gives_bind (optional_if ts) (λ c. Ok (attribute (f c))) attribute_sort h)
 
-gives_type : (k : Kind) (ts : List Piece) → Gives attribute_sort (type_line k ts)
+gives_type : (k : Kind) (ts : List Lexeme) → Gives attribute_sort (type_line k ts)
 gives_type k [] = refl
 gives_type k (p ∷ ts) = gives_prompt (typed_prompt k) (λ c. refl) (p ∷ ts)
 
-gives_default : (f : Valued → Attribute) → ((d : Valued) → sort_of_attribute (f d) ≡ default_sort) → (ts : List Piece) → Gives default_sort (default_line f ts)
-gives_default f h ts = gives_bind (expr_at ts) (λ e. optional_if e.rest >>= λ c. Ok (attribute (f (record { value = e.expr; single = e.single; condition = c })))) default_sort (λ e. gives_bind (optional_if e.rest) (λ c. Ok (attribute (f (record { value = e.expr; single = e.single; condition = c })))) default_sort (λ c. h (record { value = e.expr; single = e.single; condition = c })))
+gives_default : (f : DefaultAttribute → Attribute) → ((d : DefaultAttribute) → sort_of_attribute (f d) ≡ default_sort) → (ts : List Lexeme) → Gives default_sort (default_line f ts)
+gives_default f h ts = gives_bind (leading_expr ts) (λ e. optional_if e.rest >>= λ c. Ok (attribute (f (record { value = e.expr; single = e.single; condition = c })))) default_sort (λ e. gives_bind (optional_if e.rest) (λ c. Ok (attribute (f (record { value = e.expr; single = e.single; condition = c })))) default_sort (λ c. h (record { value = e.expr; single = e.single; condition = c })))
 
-gives_aimed : (f : Aimed → Attribute) → ((a : Aimed) → sort_of_attribute (f a) ≡ attribute_sort) → (ts : List Piece) → Gives attribute_sort (aimed_line f ts)
+gives_aimed : (f : TargetAttribute → Attribute) → ((a : TargetAttribute) → sort_of_attribute (f a) ≡ attribute_sort) → (ts : List Lexeme) → Gives attribute_sort (target_line f ts)
 gives_aimed f h [] = tt
 gives_aimed f h (p ∷ ts) = gives_if (is_name p) attribute_sort (optional_if ts >>= λ c. Ok (attribute (f (record { name = p.text; condition = c })))) Malformed (gives_bind (optional_if ts) (λ c. Ok (attribute (f (record { name = p.text; condition = c })))) attribute_sort (λ c. h (record { name = p.text; condition = c })))
 
-gives_bounds : (a b : Option Operand) (ts : List Piece) → Gives attribute_sort (range_of_operands a b ts)
+gives_bounds : (a b : Option Operand) (ts : List Lexeme) → Gives attribute_sort (range_of_operands a b ts)
 gives_bounds (Some a) (Some b) ts = gives_bind (optional_if ts) (λ c. Ok (attribute (range (record { low = a; high = b; condition = c })))) attribute_sort (λ c. refl)
 gives_bounds (Some a) None ts = tt
 gives_bounds None b ts = tt
 
-gives_range : (ts : List Piece) → Gives attribute_sort (range_line ts)
+gives_range : (ts : List Lexeme) → Gives attribute_sort (range_line ts)
 gives_range [] = tt
 gives_range (p ∷ []) = tt
-gives_range (p ∷ q ∷ ts) = gives_bounds (operand_of_piece p) (operand_of_piece q) ts
+gives_range (p ∷ q ∷ ts) = gives_bounds (operand_of_lexeme p) (operand_of_lexeme q) ts
 
-gives_worded : (w : List ℕ) (f : Expr → Attribute) → ((e : Expr) → sort_of_attribute (f e) ≡ attribute_sort) → (ts : List Piece) → Gives attribute_sort (worded_line w f ts)
+gives_worded : (w : List ℕ) (f : Expr → Attribute) → ((e : Expr) → sort_of_attribute (f e) ≡ attribute_sort) → (ts : List Lexeme) → Gives attribute_sort (condition_line w f ts)
 gives_worded w f h [] = tt
 gives_worded w f h (p ∷ ts) = gives_if (is_the_word w p) attribute_sort (last_condition ts >>= λ e. Ok (attribute (f e))) Malformed (gives_bind (last_condition ts) (λ e. Ok (attribute (f e))) attribute_sort h)
 
-gives_option : (ts : List Piece) → Gives attribute_sort (option_line ts)
+gives_option : (ts : List Lexeme) → Gives attribute_sort (option_line ts)
 gives_option [] = tt
 gives_option (p ∷ ts) = gives_if (is_the_word _ p) attribute_sort (no_more (attribute modules) ts) Malformed (gives_last (attribute modules) ts attribute_sort refl)
 
-gives_statement : (k : Keyword) (ts : List Piece) → Gives (sort_of_word k) (statement_of k ts)
+gives_statement : (k : Keyword) (ts : List Lexeme) → Gives (sort_of_word k) (statement_of k ts)
 gives_statement config_word ts = gives_config ts
 gives_statement choice_word ts = gives_choice ts
 gives_statement menu_word ts = gives_title menu (λ _. refl) ts
@@ -146,7 +146,7 @@ gives_statement modules_word ts = gives_last (attribute modules) ts attribute_so
 gives_statement option_word ts = gives_option ts
 gives_statement left_out_word ts = tt
 
--- what a line may say behind what was read
+-- what a line may say after what was read
 abbrev FitsHead : List Group → Head → Type 0
 FitsHead read (ends b) = is_stray read b ≡ false
 FitsHead read h = Unit {0}
@@ -154,10 +154,10 @@ FitsHead read h = Unit {0}
 abbrev pub Fits : List Group → Option Statement → Type 0
 Fits read None = Unit {0}
 Fits read (Some (head h)) = FitsHead read h
-Fits read (Some (attribute a)) = (e : Open) × (open_entry read ≡ Some e)
+Fits read (Some (attribute a)) = (e : OpenEntry) × (open_entry read ≡ Some e)
 
 -- an attribute's keyword is allowed where an entry is open
-entry_of_taken : (o : Option Open) (k : Keyword) → elim o [ None ↦ false | Some e ↦ takes e k ] ≡ true → (e : Open) × (o ≡ Some e)
+entry_of_taken : (o : Option OpenEntry) (k : Keyword) → elim o [ None ↦ false | Some e ↦ allows_attribute e k ] ≡ true → (e : OpenEntry) × (o ≡ Some e)
 entry_of_taken None k h = cc
 entry_of_taken (Some e) k h = (e, refl)
 
@@ -171,7 +171,7 @@ attribute_sorted (default d) = refl
 attribute_sorted (typed_default k d) = refl
 attribute_sorted a = refl
 
-taken : (read : List Group) (k : Keyword) → is_attribute_sort (sort_of_word k) ≡ true → is_allowed read k ≡ true → entry_takes read k ≡ true
+taken : (read : List Group) (k : Keyword) → is_attribute_sort (sort_of_word k) ≡ true → is_allowed read k ≡ true → open_entry_allows read k ≡ true
 taken read config_word e h = cc
 taken read choice_word e h = cc
 taken read menu_word e h = cc
@@ -205,21 +205,21 @@ not_false true h = refl
 not_false false h = cc
 
 -- what a line that says a statement is, by its tokens
-pub record Said (read : List Group) (tokens : Result (List Piece) ExprFault) (s : Statement) : Type 0 where
+pub record Said (read : List Group) (tokens : Result (List Lexeme) ExprFault) (s : Statement) : Type 0 where
   pub keyword : Keyword
-  pub first : Piece
-  pub rest : List Piece
+  pub first : Lexeme
+  pub rest : List Lexeme
   pub stand : tokens ≡ Ok (first ∷ rest)
   pub allowed : is_allowed read keyword ≡ true
   pub matched : is_stray_end read keyword ≡ false
   pub form : statement_of keyword rest ≡ Ok s
   pub sort : sort_of s ≡ sort_of_word keyword
 
-abbrev pub SaidIfSome : List Group → Result (List Piece) ExprFault → Option Statement → Type 0
+abbrev pub SaidIfSome : List Group → Result (List Lexeme) ExprFault → Option Statement → Type 0
 SaidIfSome read tokens None = Unit {0}
 SaidIfSome read tokens (Some s) = Said read tokens s
 
-said_keyword : (read : List Group) (k : Keyword) (t : Piece) (ts : List Piece) (o : Option Statement) → said_with read k ts ≡ Ok o → SaidIfSome read (Ok (t ∷ ts)) o
+said_keyword : (read : List Group) (k : Keyword) (t : Lexeme) (ts : List Lexeme) (o : Option Statement) → statement_by_keyword read k ts ≡ Ok o → SaidIfSome read (Ok (t ∷ ts)) o
 said_keyword read k t ts o h =
     let a = unless_ok (is_left_out read k ts) LeftOut _ o h in
     let b = unless_ok (not (is_allowed read k)) Misplaced _ o a.1 in
@@ -239,20 +239,20 @@ said_keyword read k t ts o h =
       sort = subst (Gives (sort_of_word k)) d.1 (gives_statement k ts);
     })
 
-said_by_keyword : (read : List Group) (w : Option Keyword) (t : Piece) (ts : List Piece) (o : Option Statement) → said_by_word read ts w ≡ Ok o → SaidIfSome read (Ok (t ∷ ts)) o
+said_by_keyword : (read : List Group) (w : Option Keyword) (t : Lexeme) (ts : List Lexeme) (o : Option Statement) → statement_by_word read ts w ≡ Ok o → SaidIfSome read (Ok (t ∷ ts)) o
 said_by_keyword read None t ts o h = cc
 said_by_keyword read (Some k) t ts o h = said_keyword read k t ts o h
 
-said_in_line : (read : List Group) (ts : List Piece) (o : Option Statement) → said_by read ts ≡ Ok o → SaidIfSome read (Ok ts) o
+said_in_line : (read : List Group) (ts : List Lexeme) (o : Option Statement) → statement_of_tokens read ts ≡ Ok o → SaidIfSome read (Ok ts) o
 said_in_line read [] None h = tt
 said_in_line read [] (Some s) h = cc
 said_in_line read (t ∷ ts) o h = said_by_keyword read (keyword_of t) t ts o h
 
-said_lexed : (read : List Group) (r : Result (List Piece) ExprFault) (o : Option Statement) → said_by_tokens read r ≡ Ok o → SaidIfSome read r o
+said_lexed : (read : List Group) (r : Result (List Lexeme) ExprFault) (o : Option Statement) → statement_or_fault read r ≡ Ok o → SaidIfSome read r o
 said_lexed read (Err e) o h = cc
 said_lexed read (Ok ts) o h = said_in_line read ts o h
 
-said_or_help : (read : List Group) (b : Bool) (r : Result (List Piece) ExprFault) (o : Option Statement) → cond b (Ok None) (said_by_tokens read r) ≡ Ok o → SaidIfSome read r o
+said_or_help : (read : List Group) (b : Bool) (r : Result (List Lexeme) ExprFault) (o : Option Statement) → cond b (Ok None) (statement_or_fault read r) ≡ Ok o → SaidIfSome read r o
 said_or_help read true r None h = tt
 said_or_help read true r (Some s) h = cc
 said_or_help read false r o h = said_lexed read r o h
@@ -261,68 +261,68 @@ pub past_test : (b : Bool) (e : TreeKind) (r : Result (Option Statement) TreeKin
 past_test true e r o h = cc
 past_test false e r o h = h
 
-pub line_said : (read : List Group) (l : Logical) (o : Option Statement) → line_says read l ≡ Ok o → SaidIfSome read (lexed 0 0 l.text) o
-unfolding line_says
-line_said read l o h = said_or_help read l.help (lexed 0 0 l.text) o (past_test (not (is_utf8 l.text)) NotUtf8 _ o (past_test (nat_lt most_line_bytes (length l.text)) LineTooLong _ o h))
+pub line_said : (read : List Group) (l : LogicalLine) (o : Option Statement) → statement_on_line read l ≡ Ok o → SaidIfSome read (lexemes_from 0 0 l.text) o
+unfolding statement_on_line
+line_said read l o h = said_or_help read l.help (lexemes_from 0 0 l.text) o (past_test (not (is_utf8 l.text)) NotUtf8 _ o (past_test (nat_lt max_line_bytes (length l.text)) LineTooLong _ o h))
 
-fits_said : (read : List Group) (r : Result (List Piece) ExprFault) (o : Option Statement) → SaidIfSome read r o → Fits read o
+fits_said : (read : List Group) (r : Result (List Lexeme) ExprFault) (o : Option Statement) → SaidIfSome read r o → Fits read o
 fits_said read r None h = tt
 fits_said read r (Some s) h = fits_statement read h.keyword s h.sort h.allowed h.matched
 
-pub line_fits : (read : List Group) (l : Logical) (o : Option Statement) → line_says read l ≡ Ok o → Fits read o
-line_fits read l o h = fits_said read (lexed 0 0 l.text) o (line_said read l o h)
+pub line_fits : (read : List Group) (l : LogicalLine) (o : Option Statement) → statement_on_line read l ≡ Ok o → Fits read o
+line_fits read l o h = fits_said read (lexemes_from 0 0 l.text) o (line_said read l o h)
 
 -- the name that a line defines
-named_well : (t : Piece) (ts : List Piece) (name : List ℕ) (b : Bool) → is_name t ≡ b → cond b (no_more (head (config t.text)) ts) (Err Malformed) ≡ Ok (head (config name)) → (t.text ≡ name) × (is_name t ≡ true)
+named_well : (t : Lexeme) (ts : List Lexeme) (name : List ℕ) (b : Bool) → is_name t ≡ b → cond b (no_more (head (config t.text)) ts) (Err Malformed) ≡ Ok (head (config name)) → (t.text ≡ name) × (is_name t ≡ true)
 named_well t [] name true e h = (cc, e)
 named_well t (u ∷ ts) name true e h = cc
 named_well t ts name false e h = cc
 
-config_named : (ts : List Piece) (name : List ℕ) → config_line ts ≡ Ok (head (config name)) → (t : Piece) × (t.text ≡ name) × (is_name t ≡ true)
+config_named : (ts : List Lexeme) (name : List ℕ) → config_line ts ≡ Ok (head (config name)) → (t : Lexeme) × (t.text ≡ name) × (is_name t ≡ true)
 config_named [] name h = cc
 config_named (t ∷ ts) name h = let r = named_well t ts name (is_name t) refl h in (t, r.0, r.1)
 
-config_said : (k : Keyword) (ts : List Piece) (name : List ℕ) → config_sort ≡ sort_of_word k → statement_of k ts ≡ Ok (head (config name)) → (t : Piece) × (t.text ≡ name) × (is_name t ≡ true)
+config_said : (k : Keyword) (ts : List Lexeme) (name : List ℕ) → config_sort ≡ sort_of_word k → statement_of k ts ≡ Ok (head (config name)) → (t : Lexeme) × (t.text ≡ name) × (is_name t ≡ true)
 config_said config_word ts name e h = config_named ts name h
 config_said k ts name e h = cc
 
-pub line_names : (read : List Group) (l : Logical) (name : List ℕ) → line_says read l ≡ Ok (Some (head (config name))) → (t : Piece) × (t.text ≡ name) × (is_name t ≡ true)
+pub line_names : (read : List Group) (l : LogicalLine) (name : List ℕ) → statement_on_line read l ≡ Ok (Some (head (config name))) → (t : Lexeme) × (t.text ≡ name) × (is_name t ≡ true)
 line_names read l name h = let s = line_said read l (Some (head (config name))) h in config_said s.keyword s.rest name s.sort s.form
 
--- the value of a default is read of the tokens behind its word
-pub record IsValueOf (tokens : Result (List Piece) ExprFault) (value : Expr) : Type 0 where
-  pub first : Piece
-  pub rest : List Piece
+-- the value of a default is read of the tokens after its word
+pub record IsValueOf (tokens : Result (List Lexeme) ExprFault) (value : Expr) : Type 0 where
+  pub first : Lexeme
+  pub rest : List Lexeme
   pub stand : tokens ≡ Ok (first ∷ rest)
-  pub taken : Taken
-  pub read_as : expr_at rest ≡ Ok taken
+  pub taken : ParsedExpr
+  pub read_as : leading_expr rest ≡ Ok taken
   pub is : taken.expr ≡ value
 
 attribute_same : (x y : Attribute) (r : Result Statement TreeKind) → r ≡ Ok (attribute x) → r ≡ Ok (attribute y) → x ≡ y
 attribute_same x y r h k = cc
 
-valued_same : (x y : Valued) → Some x ≡ Some y → x.value ≡ y.value
-valued_same x y k = let z : x ≡ y = cc in ap (λ (v : Valued). v.value) z
+valued_same : (x y : DefaultAttribute) → Some x ≡ Some y → x.value ≡ y.value
+valued_same x y k = let z : x ≡ y = cc in ap (λ (v : DefaultAttribute). v.value) z
 
-default_value : (f : Valued → Attribute) (g : Attribute → Option Valued) → ((d : Valued) → g (f d) ≡ Some d) → (ts : List Piece) (a : Attribute) (d : Valued) → g a ≡ Some d → default_line f ts ≡ Ok (attribute a) → (x : Taken) × (expr_at ts ≡ Ok x) × (x.expr ≡ d.value)
+default_value : (f : DefaultAttribute → Attribute) (g : Attribute → Option DefaultAttribute) → ((d : DefaultAttribute) → g (f d) ≡ Some d) → (ts : List Lexeme) (a : Attribute) (d : DefaultAttribute) → g a ≡ Some d → default_line f ts ≡ Ok (attribute a) → (x : ParsedExpr) × (leading_expr ts ≡ Ok x) × (x.expr ≡ d.value)
 default_value f g same ts a d e h =
-    let x = bind_ok (expr_at ts) _ (attribute a) h in
+    let x = bind_ok (leading_expr ts) _ (attribute a) h in
     let c = bind_ok (optional_if x.0.rest) _ (attribute a) x.2 in
     let made : f (record { value = x.0.expr; single = x.0.single; condition = c.0 }) ≡ a = attribute_same (f (record { value = x.0.expr; single = x.0.single; condition = c.0 })) a (Ok (attribute (f (record { value = x.0.expr; single = x.0.single; condition = c.0 })))) refl c.2 in
     let told : Some (record { value = x.0.expr; single = x.0.single; condition = c.0 }) ≡ Some d = sym (same (record { value = x.0.expr; single = x.0.single; condition = c.0 })) ∙ ap g made ∙ e in
     (x.0, x.1, valued_same (record { value = x.0.expr; single = x.0.single; condition = c.0 }) d told)
 
-default_said : (k : Keyword) (ts : List Piece) (a : Attribute) (d : Valued) → default_sort ≡ sort_of_word k → default_of a ≡ Some d → statement_of k ts ≡ Ok (attribute a) → (x : Taken) × (expr_at ts ≡ Ok x) × (x.expr ≡ d.value)
+default_said : (k : Keyword) (ts : List Lexeme) (a : Attribute) (d : DefaultAttribute) → default_sort ≡ sort_of_word k → default_of a ≡ Some d → statement_of k ts ≡ Ok (attribute a) → (x : ParsedExpr) × (leading_expr ts ≡ Ok x) × (x.expr ≡ d.value)
 default_said default_word ts a d e m h = default_value default default_of (λ d. refl) ts a d m h
 default_said (default_type_word k) ts a d e m h = default_value (typed_default k) default_of (λ d. refl) ts a d m h
 default_said k ts a d e m h = cc
 
-sorted_default : (a : Attribute) (d : Valued) → default_of a ≡ Some d → sort_of_attribute a ≡ default_sort
+sorted_default : (a : Attribute) (d : DefaultAttribute) → default_of a ≡ Some d → sort_of_attribute a ≡ default_sort
 sorted_default (default x) d h = refl
 sorted_default (typed_default k x) d h = refl
 sorted_default a d h = cc
 
-pub line_values : (read : List Group) (l : Logical) (a : Attribute) (d : Valued) → default_of a ≡ Some d → line_says read l ≡ Ok (Some (attribute a)) → IsValueOf (lexed 0 0 l.text) d.value
+pub line_values : (read : List Group) (l : LogicalLine) (a : Attribute) (d : DefaultAttribute) → default_of a ≡ Some d → statement_on_line read l ≡ Ok (Some (attribute a)) → IsValueOf (lexemes_from 0 0 l.text) d.value
 line_values read l a d m h =
     let s = line_said read l (Some (attribute a)) h in
     let x = default_said s.keyword s.rest a d (sym (sorted_default a d m) ∙ s.sort) m s.form in
@@ -333,6 +333,6 @@ test_passed : (b : Bool) (e : TreeKind) (r : Result (Option Statement) TreeKind)
 test_passed true e r o h = cc
 test_passed false e r o h = refl
 
-pub line_utf8 : (read : List Group) (l : Logical) (o : Option Statement) → line_says read l ≡ Ok o → IsUtf8 l.text
-unfolding line_says
-line_utf8 read l o h = IsUtf8-from_is_utf8 l.text (not_false (is_utf8 l.text) (test_passed (not (is_utf8 l.text)) NotUtf8 _ o (past_test (nat_lt most_line_bytes (length l.text)) LineTooLong _ o h)))
+pub line_utf8 : (read : List Group) (l : LogicalLine) (o : Option Statement) → statement_on_line read l ≡ Ok o → IsUtf8 l.text
+unfolding statement_on_line
+line_utf8 read l o h = IsUtf8-from_is_utf8 l.text (not_false (is_utf8 l.text) (test_passed (not (is_utf8 l.text)) NotUtf8 _ o (past_test (nat_lt max_line_bytes (length l.text)) LineTooLong _ o h)))

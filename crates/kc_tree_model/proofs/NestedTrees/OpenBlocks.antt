@@ -1,38 +1,38 @@
 -- The open blocks as a stack: an opening pushes, and a closing pops.
 use Rattle.std.proofs.Common.{◌≡◌, ℕ, suc, zero, true, false, List, [], ◌∷◌, Option, None, refl, ap, sym, ◌∙◌, drop, drop-drop, arith, ◌+◌}
 use Rattle.kc_tree_model.specs.Statements.{Block, config, choice, menu, condition, comment, source, mainmenu, ends, block_of_head}
-use Rattle.kc_tree_model.specs.Blocks.{Group, What, said, file_end, Side, side_of, opening, closing, inside, open_blocks}
+use Rattle.kc_tree_model.specs.Blocks.{Group, GroupHead, of_head, file_end, Side, side_of, opening, closing, inside, open_blocks}
 use Rattle.kc_tree_model.specs.NestedTrees.{is_ended_by, ends_block, is_file_end}
 
 -- what ends a block closes it, and what it ends opens it
-no_end : (e : What) → ends_block None e ≡ false
-no_end (said (ends c)) = refl
-no_end (said h) = refl
+no_end : (e : GroupHead) → ends_block None e ≡ false
+no_end (of_head (ends c)) = refl
+no_end (of_head h) = refl
 no_end file_end = refl
 
-closes : (b : Option Block) (e : What) → ends_block b e ≡ true → side_of e ≡ closing
-closes b (said (ends c)) h = refl
-closes b (said x) h = cc
+closes : (b : Option Block) (e : GroupHead) → ends_block b e ≡ true → side_of e ≡ closing
+closes b (of_head (ends c)) h = refl
+closes b (of_head x) h = cc
 closes b file_end h = cc
 
-closes_file : (e : What) → is_file_end e ≡ true → side_of e ≡ closing
-closes_file (said x) h = cc
+closes_file : (e : GroupHead) → is_file_end e ≡ true → side_of e ≡ closing
+closes_file (of_head x) h = cc
 closes_file file_end h = refl
 
-pub ends_closing : (b e : What) → is_ended_by b e ≡ true → side_of e ≡ closing
-ends_closing (said (source path)) e h = closes_file e h
-ends_closing (said x) e h = closes (block_of_head x) e h
+pub ends_closing : (b e : GroupHead) → is_ended_by b e ≡ true → side_of e ≡ closing
+ends_closing (of_head (source path)) e h = closes_file e h
+ends_closing (of_head x) e h = closes (block_of_head x) e h
 ends_closing file_end e h = cc
 
-pub ends_opening : (b e : What) → is_ended_by b e ≡ true → side_of b ≡ opening
-ends_opening (said (config name)) e h = let k : ends_block None e ≡ false = no_end e in cc
-ends_opening (said choice) e h = refl
-ends_opening (said (menu title)) e h = refl
-ends_opening (said (condition c)) e h = refl
-ends_opening (said (comment title)) e h = let k : ends_block None e ≡ false = no_end e in cc
-ends_opening (said (source path)) e h = refl
-ends_opening (said mainmenu) e h = let k : ends_block None e ≡ false = no_end e in cc
-ends_opening (said (ends b)) e h = let k : ends_block None e ≡ false = no_end e in cc
+pub ends_opening : (b e : GroupHead) → is_ended_by b e ≡ true → side_of b ≡ opening
+ends_opening (of_head (config name)) e h = let k : ends_block None e ≡ false = no_end e in cc
+ends_opening (of_head choice) e h = refl
+ends_opening (of_head (menu title)) e h = refl
+ends_opening (of_head (condition c)) e h = refl
+ends_opening (of_head (comment title)) e h = let k : ends_block None e ≡ false = no_end e in cc
+ends_opening (of_head (source path)) e h = refl
+ends_opening (of_head mainmenu) e h = let k : ends_block None e ≡ false = no_end e in cc
+ends_opening (of_head (ends b)) e h = let k : ends_block None e ≡ false = no_end e in cc
 ends_opening file_end e h = cc
 
 pub open_inside : (n : ℕ) (g : Group) (gs : List Group) → side_of g.what ≡ inside → open_blocks n (g ∷ gs) ≡ open_blocks n gs

@@ -2,22 +2,22 @@
 use Rattle.std.proofs.Common.{◌≡◌, ℕ, suc, List, [], ◌∷◌, ◌++◌, reverse, refl, ap, sym, ◌∙◌, append_assoc, append-nil}
 use Rattle.std.proofs.lemmas.List.{reverse-append, reverse-reverse}
 use Rattle.kc_tree_model.specs.Blocks.{Group, side_of, opening, closing, open_blocks}
-use Rattle.kc_tree_model.specs.Conditions.{Placed, place, placed}
+use Rattle.kc_tree_model.specs.Conditions.{GroupInContext, group_in_context, groups_in_context}
 use Rattle.kc_tree_model.specs.NestedTrees.{Items, none, entry, block, listing, IsNested, walk}
 use Rattle.kc_tree_model.proofs.NestedTrees.OpenBlocks.{open_inside, open_closing, open_opening, pushed, ends_closing, ends_opening}
 
--- groups in reading order, behind what was read
+-- groups in reading order, after what was read
 abbrev pub onto : List Group → List Group → List Group
 onto [] before = before
 onto (g ∷ gs) before = onto gs (g ∷ before)
 
-abbrev pub behind : List Group → List Group → List Placed
+abbrev pub behind : List Group → List Group → List GroupInContext
 behind before [] = []
-behind before (g ∷ gs) = place (open_blocks 0 before) g ∷ behind (g ∷ before) gs
+behind before (g ∷ gs) = group_in_context (open_blocks 0 before) g ∷ behind (g ∷ before) gs
 
-pub placed-onto : (gs before : List Group) → placed (onto gs before) ≡ placed before ++ behind before gs
-placed-onto [] before = sym (append-nil (placed before))
-placed-onto (g ∷ gs) before = placed-onto gs (g ∷ before) ∙ append_assoc (placed before) (place (open_blocks 0 before) g ∷ []) (behind (g ∷ before) gs)
+pub placed-onto : (gs before : List Group) → groups_in_context (onto gs before) ≡ groups_in_context before ++ behind before gs
+placed-onto [] before = sym (append-nil (groups_in_context before))
+placed-onto (g ∷ gs) before = placed-onto gs (g ∷ before) ∙ append_assoc (groups_in_context before) (group_in_context (open_blocks 0 before) g ∷ []) (behind (g ∷ before) gs)
 
 pub onto-append : (gs hs before : List Group) → onto (gs ++ hs) before ≡ onto hs (onto gs before)
 onto-append [] hs before = refl
@@ -33,7 +33,7 @@ listed_of gs read e = sym (reverse-reverse gs) ∙ ap reverse (sym (append-nil (
 
 behind-append : (gs hs before : List Group) → behind before (gs ++ hs) ≡ behind before gs ++ behind (onto gs before) hs
 behind-append [] hs before = refl
-behind-append (g ∷ gs) hs before = ap (λ ps. place (open_blocks 0 before) g ∷ ps) (behind-append gs hs (g ∷ before))
+behind-append (g ∷ gs) hs before = ap (λ ps. group_in_context (open_blocks 0 before) g ∷ ps) (behind-append gs hs (g ∷ before))
 
 -- a whole nested tree leaves the open blocks as they are
 pub open-listing : (t : Items) (n : ℕ) (before : List Group) → IsNested t → open_blocks n (onto (listing t) before) ≡ open_blocks n before
@@ -50,7 +50,7 @@ open-listing (block g w e rest) n before h =
 walk-listing : (t : Items) (before : List Group) → IsNested t → behind before (listing t) ≡ walk (open_blocks 0 before) t
 walk-listing none before h = refl
 walk-listing (entry g rest) before h =
-    ap (λ ps. place (open_blocks 0 before) g ∷ ps) (walk-listing rest (g ∷ before) h.1 ∙ ap (λ os. walk os rest) (open_inside 0 g before h.0))
+    ap (λ ps. group_in_context (open_blocks 0 before) g ∷ ps) (walk-listing rest (g ∷ before) h.1 ∙ ap (λ os. walk os rest) (open_inside 0 g before h.0))
 walk-listing (block g w e rest) before h =
     let after : List Group = onto (listing w) (g ∷ before) in
     let path : List Group = open_blocks 0 before in
@@ -58,11 +58,11 @@ walk-listing (block g w e rest) before h =
     let closes : side_of e.what ≡ closing = ends_closing g.what e.what h.0 in
     let there : open_blocks 0 after ≡ g ∷ path = open-listing w 0 (g ∷ before) h.1 ∙ pushed g before opens in
     let back : open_blocks 0 (e ∷ after) ≡ path = open_closing 0 e after closes ∙ open-listing w 1 (g ∷ before) h.1 ∙ open_opening 0 g before opens in
-    ap (λ ps. place path g ∷ ps)
+    ap (λ ps. group_in_context path g ∷ ps)
     (behind-append (listing w) (e ∷ listing rest) (g ∷ before)
     ∙ ap (λ ps. ps ++ behind after (e ∷ listing rest)) (walk-listing w (g ∷ before) h.1 ∙ ap (λ os. walk os w) (pushed g before opens))
-    ∙ ap (λ os. walk (g ∷ path) w ++ place os e ∷ behind (e ∷ after) (listing rest)) there
-    ∙ ap (λ ps. walk (g ∷ path) w ++ place (g ∷ path) e ∷ ps) (walk-listing rest (e ∷ after) h.2 ∙ ap (λ os. walk os rest) back))
+    ∙ ap (λ os. walk (g ∷ path) w ++ group_in_context os e ∷ behind (e ∷ after) (listing rest)) there
+    ∙ ap (λ ps. walk (g ∷ path) w ++ group_in_context (g ∷ path) e ∷ ps) (walk-listing rest (e ∷ after) h.2 ∙ ap (λ os. walk os rest) back))
 
-pub placed-listing : (t : Items) → IsNested t → placed (onto (listing t) []) ≡ walk [] t
+pub placed-listing : (t : Items) → IsNested t → groups_in_context (onto (listing t) []) ≡ walk [] t
 placed-listing t h = placed-onto (listing t) [] ∙ walk-listing t [] h

@@ -2,61 +2,61 @@
 use Rattle.std.proofs.Common.{true, false, ◌≡◌, ℕ, zero, suc, ◌+◌, ◌/◌, ◌%◌, List, [], ◌∷◌, ◌++◌, Some, None, refl}
 use Rattle.std.specs.Prelude.{codes, replicate}
 use Rattle.std.specs.Str.{is_utf8, chars}
-use Rattle.kc_expr.specs.Token.{lead_of}
+use Rattle.kc_expr.specs.Token.{next_token}
 use Rattle.kc_expr.specs.Grammar.{read_expr}
 use Rattle.kc_tree_model.specs.declared.fault.TreeKind.TheVariants.{LineTooLong, Malformed, TooDeep, TooMany}
-use Rattle.kc_tree_model.specs.Lines.{lines_of}
+use Rattle.kc_tree_model.specs.LogicalLines.{lines_of}
 use Rattle.kc_tree_model.specs.Statements.{source, choice, head}
-use Rattle.kc_tree_model.specs.Blocks.{Group, What, said, file_end}
-use Rattle.kc_tree_model.specs.Limits.{Origin, source_fault, is_too_many}
-use Rattle.kc_tree_model.specs.Reading.{line_says, reading}
-use Rattle.kc_tree_model.specs.TreeFaults.{tree_faults, fault_told}
-use Rattle.kc_tree_model.specs.Files.{Files}
+use Rattle.kc_tree_model.specs.Blocks.{Group, GroupHead, of_head, file_end}
+use Rattle.kc_tree_model.specs.Limits.{FileSource, source_fault, is_too_many}
+use Rattle.kc_tree_model.specs.Reading.{statement_on_line, reading}
+use Rattle.kc_tree_model.specs.TreeFaults.{tree_faults, first_tree_fault}
+use Rattle.kc_tree_model.specs.TreeFiles.{Files}
 use Rattle.kc_tree_model.proofs.Rows.Trees.{fault}
 
--- a default that stands behind so many bytes, and before others
+-- a default that stands after so many bytes, and before others
 abbrev nested_default : List ℕ → List ℕ → List ℕ
 nested_default before after = codes "config A\n\tbool\n\tdefault " ++ (before ++ (codes "y" ++ after))
 
 negations_64 : fault (nested_default (replicate 64 33) []) ≡ None
-unfolding lead_of is_utf8 chars read_expr lines_of source_fault line_says reading tree_faults fault_told lib.Utf8.encode
+unfolding next_token is_utf8 chars read_expr lines_of source_fault statement_on_line reading tree_faults first_tree_fault lib.Utf8.encode
 negations_64 = refl
 
 negations_65 : fault (nested_default (replicate 65 33) []) ≡ Some (3, TooDeep)
-unfolding lead_of is_utf8 chars read_expr lines_of source_fault line_says reading tree_faults fault_told lib.Utf8.encode
+unfolding next_token is_utf8 chars read_expr lines_of source_fault statement_on_line reading tree_faults first_tree_fault lib.Utf8.encode
 negations_65 = refl
 
 parentheses_64 : fault (nested_default (replicate 64 40) (replicate 64 41)) ≡ None
-unfolding lead_of is_utf8 chars read_expr lines_of source_fault line_says reading tree_faults fault_told lib.Utf8.encode
+unfolding next_token is_utf8 chars read_expr lines_of source_fault statement_on_line reading tree_faults first_tree_fault lib.Utf8.encode
 parentheses_64 = refl
 
 parentheses_65 : fault (nested_default (replicate 65 40) (replicate 65 41)) ≡ Some (3, TooDeep)
-unfolding lead_of is_utf8 chars read_expr lines_of source_fault line_says reading tree_faults fault_told lib.Utf8.encode
+unfolding next_token is_utf8 chars read_expr lines_of source_fault statement_on_line reading tree_faults first_tree_fault lib.Utf8.encode
 parentheses_65 = refl
 
 -- too deep stands at the symbol: without one the expression only ends too early
 negations_of_nothing : fault (codes "config A\n\tbool\n\tdefault " ++ replicate 65 33) ≡ Some (3, Malformed)
-unfolding lead_of is_utf8 chars read_expr lines_of source_fault line_says reading tree_faults fault_told lib.Utf8.encode
+unfolding next_token is_utf8 chars read_expr lines_of source_fault statement_on_line reading tree_faults first_tree_fault lib.Utf8.encode
 negations_of_nothing = refl
 
 open_parentheses_65 : fault (nested_default (replicate 65 40) []) ≡ Some (3, TooDeep)
-unfolding lead_of is_utf8 chars read_expr lines_of source_fault line_says reading tree_faults fault_told lib.Utf8.encode
+unfolding next_token is_utf8 chars read_expr lines_of source_fault statement_on_line reading tree_faults first_tree_fault lib.Utf8.encode
 open_parentheses_65 = refl
 
 name_of_256_bytes : fault (codes "config " ++ (replicate 256 65 ++ codes "\n\tbool")) ≡ None
-unfolding lead_of is_utf8 chars read_expr lines_of source_fault line_says reading tree_faults fault_told lib.Utf8.encode
+unfolding next_token is_utf8 chars read_expr lines_of source_fault statement_on_line reading tree_faults first_tree_fault lib.Utf8.encode
 name_of_256_bytes = refl
 
 name_of_257_bytes : fault (codes "config " ++ replicate 257 65) ≡ Some (1, TooMany)
-unfolding lead_of is_utf8 chars read_expr lines_of source_fault line_says reading tree_faults fault_told lib.Utf8.encode
+unfolding next_token is_utf8 chars read_expr lines_of source_fault statement_on_line reading tree_faults first_tree_fault lib.Utf8.encode
 name_of_257_bytes = refl
 
 long_name_in_a_malformed_line : fault (codes "config A\n\tbool\n\tselect " ++ (replicate 257 65 ++ codes " if")) ≡ Some (3, Malformed)
-unfolding lead_of is_utf8 chars read_expr lines_of source_fault line_says reading tree_faults fault_told lib.Utf8.encode
+unfolding next_token is_utf8 chars read_expr lines_of source_fault statement_on_line reading tree_faults first_tree_fault lib.Utf8.encode
 long_name_in_a_malformed_line = refl
 
 long_selected_name : fault (codes "config A\n\tbool\n\tselect " ++ replicate 257 65) ≡ Some (3, TooMany)
-unfolding lead_of is_utf8 chars read_expr lines_of source_fault line_says reading tree_faults fault_told lib.Utf8.encode
+unfolding next_token is_utf8 chars read_expr lines_of source_fault statement_on_line reading tree_faults first_tree_fault lib.Utf8.encode
 long_selected_name = refl
 
 abbrev lines_again : ℕ → List ℕ → List ℕ
@@ -64,11 +64,11 @@ lines_again zero line = []
 lines_again (suc n) line = line ++ lines_again n line
 
 blocks_64 : fault (lines_again 64 (codes "if y\n") ++ lines_again 64 (codes "endif\n")) ≡ None
-unfolding lead_of is_utf8 chars read_expr lines_of source_fault line_says reading tree_faults fault_told lib.Utf8.encode
+unfolding next_token is_utf8 chars read_expr lines_of source_fault statement_on_line reading tree_faults first_tree_fault lib.Utf8.encode
 blocks_64 = refl
 
 blocks_65 : fault (lines_again 65 (codes "if y\n") ++ lines_again 65 (codes "endif\n")) ≡ Some (65, TooDeep)
-unfolding lead_of is_utf8 chars read_expr lines_of source_fault line_says reading tree_faults fault_told lib.Utf8.encode
+unfolding next_token is_utf8 chars read_expr lines_of source_fault statement_on_line reading tree_faults first_tree_fault lib.Utf8.encode
 blocks_65 = refl
 
 -- files `f00`, `f01` and so on, each of which sources the next, and the last of which is empty
@@ -79,39 +79,39 @@ abbrev sourced_in_a_row : ℕ → ℕ → Files
 sourced_in_a_row zero n = (path_of_number n, []) ∷ []
 sourced_in_a_row (suc more) n = (path_of_number n, codes "source " ++ path_of_number (n + 1)) ∷ sourced_in_a_row more (n + 1)
 
-files_open_32 : fault_told (sourced_in_a_row 31 0) (codes "f00") ≡ None
-unfolding lead_of is_utf8 chars read_expr lines_of source_fault line_says reading tree_faults fault_told lib.Utf8.encode
+files_open_32 : first_tree_fault (sourced_in_a_row 31 0) (codes "f00") ≡ None
+unfolding next_token is_utf8 chars read_expr lines_of source_fault statement_on_line reading tree_faults first_tree_fault lib.Utf8.encode
 files_open_32 = refl
 
-files_open_33 : fault_told (sourced_in_a_row 32 0) (codes "f00") ≡ Some (record { file = Some 31; line = 1; kind = TooDeep })
-unfolding lead_of is_utf8 chars read_expr lines_of source_fault line_says reading tree_faults fault_told lib.Utf8.encode
+files_open_33 : first_tree_fault (sourced_in_a_row 32 0) (codes "f00") ≡ Some (record { file = Some 31; line = 1; kind = TooDeep })
+unfolding next_token is_utf8 chars read_expr lines_of source_fault statement_on_line reading tree_faults first_tree_fault lib.Utf8.encode
 files_open_33 = refl
 
 -- a root that sources an empty file so many times
 abbrev sources_of_empty : ℕ → Files
 sources_of_empty n = (codes "Kconfig", lines_again n (codes "source e\n")) ∷ (codes "e", []) ∷ []
 
-files_read_101 : fault_told (sources_of_empty 100) (codes "Kconfig") ≡ None
-unfolding lead_of is_utf8 chars read_expr lines_of source_fault line_says reading tree_faults fault_told lib.Utf8.encode
+files_read_101 : first_tree_fault (sources_of_empty 100) (codes "Kconfig") ≡ None
+unfolding next_token is_utf8 chars read_expr lines_of source_fault statement_on_line reading tree_faults first_tree_fault lib.Utf8.encode
 files_read_101 = refl
 
 line_of_65536_bytes : fault (35 ∷ replicate 65535 120) ≡ None
-unfolding lead_of is_utf8 chars read_expr lines_of source_fault line_says reading tree_faults fault_told lib.Utf8.encode
+unfolding next_token is_utf8 chars read_expr lines_of source_fault statement_on_line reading tree_faults first_tree_fault lib.Utf8.encode
 line_of_65536_bytes = refl
 
 line_of_65537_bytes : fault (35 ∷ replicate 65536 120) ≡ Some (1, LineTooLong)
-unfolding lead_of is_utf8 chars read_expr lines_of source_fault line_says reading tree_faults fault_told lib.Utf8.encode
+unfolding next_token is_utf8 chars read_expr lines_of source_fault statement_on_line reading tree_faults first_tree_fault lib.Utf8.encode
 line_of_65537_bytes = refl
 
 -- what was read of a root that sources one file, or holds one choice, so many times
-abbrev here : What → Group
+abbrev here : GroupHead → Group
 here what = record { number = 0; at = record { file = 0; line = 1 }; what = what; attributes = [] }
 
 abbrev sourced_again : ℕ → List Group
 sourced_again zero = []
-sourced_again (suc n) = here file_end ∷ here (said (source (codes "e"))) ∷ sourced_again n
+sourced_again (suc n) = here file_end ∷ here (of_head (source (codes "e"))) ∷ sourced_again n
 
-abbrev empty_files : Origin
+abbrev empty_files : FileSource
 empty_files = record { bytes = λ path. Some []; number = λ path. 0; root = codes "Kconfig" }
 
 files_4096 : source_fault empty_files (sourced_again 4094) (codes "e") ≡ None
@@ -122,8 +122,8 @@ files_4097 : source_fault empty_files (sourced_again 4095) (codes "e") ≡ Some 
 unfolding source_fault
 files_4097 = refl
 
-choices_4096 : is_too_many (replicate 4095 (here (said choice))) (head choice) ≡ false
+choices_4096 : is_too_many (replicate 4095 (here (of_head choice))) (head choice) ≡ false
 choices_4096 = refl
 
-choices_4097 : is_too_many (replicate 4096 (here (said choice))) (head choice) ≡ true
+choices_4097 : is_too_many (replicate 4096 (here (of_head choice))) (head choice) ≡ true
 choices_4097 = refl

@@ -3,18 +3,18 @@ use Rattle.std.proofs.Common.{false, ◌≡◌, ℕ, zero, suc, List, [], ◌∷
 use Rattle.std.specs.Prelude.{codes, replicate}
 use Rattle.std.specs.Str.{is_utf8, chars}
 use Rattle.kc_value.specs.declared.tri.Tri.TheVariants.{M, Y}
-use Rattle.kc_expr.specs.Token.{lead_of}
+use Rattle.kc_expr.specs.Token.{next_token}
 use Rattle.kc_expr.specs.Grammar.{read_expr}
 use Rattle.kc_expr.specs.Expr.{alone, both, shown, constant, named}
 use Rattle.kc_tree_model.specs.declared.fault.TreeKind.TheVariants.{ChoiceMember, DefaultShape, LeftOut, LineTooLong, Malformed, Misplaced, MissingFile, NoType, NotUtf8, SecondPrompt, SelectType, TooDeep, TooMany, TypeConflict, Unclosed, UnknownStatement}
-use Rattle.kc_tree_model.specs.Lines.{lines_of}
+use Rattle.kc_tree_model.specs.LogicalLines.{lines_of}
 use Rattle.kc_tree_model.specs.Statements.{source, choice, condition, ends, choice_block}
-use Rattle.kc_tree_model.specs.Blocks.{Group, What, said, file_end}
-use Rattle.kc_tree_model.specs.Limits.{Origin, source_fault, most_symbols, most_choices, most_files, most_bytes, most_line_bytes, most_name_bytes, most_open_files, most_open_blocks}
-use Rattle.kc_tree_model.specs.Reading.{line_says, reading}
-use Rattle.kc_tree_model.specs.TreeFaults.{tree_faults, fault_told}
+use Rattle.kc_tree_model.specs.Blocks.{Group, GroupHead, of_head, file_end}
+use Rattle.kc_tree_model.specs.Limits.{FileSource, source_fault, max_symbols, max_choices, max_files, max_bytes, max_line_bytes, max_name_bytes, max_open_files, max_open_blocks}
+use Rattle.kc_tree_model.specs.Reading.{statement_on_line, reading}
+use Rattle.kc_tree_model.specs.TreeFaults.{tree_faults, first_tree_fault}
 use Rattle.kc_tree_model.specs.Trees.{Symbol, menu_begins, menu_ends, comment, of_symbol, of_choice}
-use Rattle.kc_tree_model.specs.Contents.{whole_of}
+use Rattle.kc_tree_model.specs.Contents.{tree_of_groups}
 use Rattle.kc_tree_model.proofs.Rows.Trees.{fault, whole, yes}
 
 abbrev lines_again : ℕ → List ℕ → List ℕ
@@ -22,144 +22,144 @@ lines_again zero line = []
 lines_again (suc n) line = line ++ lines_again n line
 
 -- a group that stands nowhere
-abbrev here : What → Group
+abbrev here : GroupHead → Group
 here what = record { number = 0; at = record { file = 0; line = 1 }; what = what; attributes = [] }
 
 abbrev sourced_again : ℕ → List Group
 sourced_again zero = []
-sourced_again (suc n) = here file_end ∷ here (said (source (codes "e"))) ∷ sourced_again n
+sourced_again (suc n) = here file_end ∷ here (of_head (source (codes "e"))) ∷ sourced_again n
 
 abbrev closed_choices : ℕ → List Group
 closed_choices zero = []
-closed_choices (suc n) = here (said (ends choice_block)) ∷ here (said choice) ∷ closed_choices n
+closed_choices (suc n) = here (of_head (ends choice_block)) ∷ here (of_head choice) ∷ closed_choices n
 
-abbrev empty_files : Origin
+abbrev empty_files : FileSource
 empty_files = record { bytes = λ path. Some []; number = λ path. 0; root = codes "Kconfig" }
 
-abbrev no_files : Origin
+abbrev no_files : FileSource
 no_files = record { bytes = λ path. None; number = λ path. 0; root = codes "Kconfig" }
 
 tab_behind_spaces_of_a_help_text : fault (codes "config A\n\tbool\n\thelp\n    \tx\n        $\n") ≡ None
-unfolding lead_of is_utf8 chars read_expr lines_of source_fault line_says reading tree_faults fault_told lib.Utf8.encode
+unfolding next_token is_utf8 chars read_expr lines_of source_fault statement_on_line reading tree_faults first_tree_fault lib.Utf8.encode
 tab_behind_spaces_of_a_help_text = refl
 
 end_of_a_help_text_behind_spaces_and_a_tab : fault (codes "config A\n\tbool\n\thelp\n    \tx\n       $\n") ≡ Some (5, LeftOut)
-unfolding lead_of is_utf8 chars read_expr lines_of source_fault line_says reading tree_faults fault_told lib.Utf8.encode
+unfolding next_token is_utf8 chars read_expr lines_of source_fault statement_on_line reading tree_faults first_tree_fault lib.Utf8.encode
 end_of_a_help_text_behind_spaces_and_a_tab = refl
 
 help_line_that_is_joined : fault (codes "config A\n\tbool\n\thelp \\\n\n  $\n") ≡ None
-unfolding lead_of is_utf8 chars read_expr lines_of source_fault line_says reading tree_faults fault_told lib.Utf8.encode
+unfolding next_token is_utf8 chars read_expr lines_of source_fault statement_on_line reading tree_faults first_tree_fault lib.Utf8.encode
 help_line_that_is_joined = refl
 
 line_behind_the_text_of_a_joined_help_line : fault (codes "config A\n\tbool\n\thelp \\\n\n  $\nfoo\n") ≡ Some (6, UnknownStatement)
-unfolding lead_of is_utf8 chars read_expr lines_of source_fault line_says reading tree_faults fault_told lib.Utf8.encode
+unfolding next_token is_utf8 chars read_expr lines_of source_fault statement_on_line reading tree_faults first_tree_fault lib.Utf8.encode
 line_behind_the_text_of_a_joined_help_line = refl
 
 help_text_that_is_not_utf8 : fault (codes "config A\n\tbool\n\thelp\n\t\t" ++ ((255 ∷ []) ++ (codes "\n"))) ≡ Some (4, NotUtf8)
-unfolding lead_of is_utf8 chars read_expr lines_of source_fault line_says reading tree_faults fault_told lib.Utf8.encode
+unfolding next_token is_utf8 chars read_expr lines_of source_fault statement_on_line reading tree_faults first_tree_fault lib.Utf8.encode
 help_text_that_is_not_utf8 = refl
 
 too_long_before_not_utf8 : fault (35 ∷ replicate 65536 255) ≡ Some (1, LineTooLong)
-unfolding lead_of is_utf8 chars read_expr lines_of source_fault line_says reading tree_faults fault_told lib.Utf8.encode
+unfolding next_token is_utf8 chars read_expr lines_of source_fault statement_on_line reading tree_faults first_tree_fault lib.Utf8.encode
 too_long_before_not_utf8 = refl
 
 other_help_word : fault (codes "config A\n\tbool\n\t---help---\n\t\t$\n") ≡ None
-unfolding lead_of is_utf8 chars read_expr lines_of source_fault line_says reading tree_faults fault_told lib.Utf8.encode
+unfolding next_token is_utf8 chars read_expr lines_of source_fault statement_on_line reading tree_faults first_tree_fault lib.Utf8.encode
 other_help_word = refl
 
 menu_in_an_if_in_a_choice : fault (codes "choice\nif A\nmenu \"m\"\n") ≡ Some (3, Misplaced)
-unfolding lead_of is_utf8 chars read_expr lines_of source_fault line_says reading tree_faults fault_told lib.Utf8.encode
+unfolding next_token is_utf8 chars read_expr lines_of source_fault statement_on_line reading tree_faults first_tree_fault lib.Utf8.encode
 menu_in_an_if_in_a_choice = refl
 
 choice_in_a_choice : fault (codes "choice\nchoice\n") ≡ Some (2, Misplaced)
-unfolding lead_of is_utf8 chars read_expr lines_of source_fault line_says reading tree_faults fault_told lib.Utf8.encode
+unfolding next_token is_utf8 chars read_expr lines_of source_fault statement_on_line reading tree_faults first_tree_fault lib.Utf8.encode
 choice_in_a_choice = refl
 
-choice_in_a_file_sourced_in_a_choice : fault_told (((codes "Kconfig"), (codes "choice\nsource a\nendchoice\n")) ∷ ((codes "a"), (codes "choice\nendchoice\n")) ∷ []) (codes "Kconfig") ≡ Some (record { file = Some 1; line = 1; kind = Misplaced })
-unfolding lead_of is_utf8 chars read_expr lines_of source_fault line_says reading tree_faults fault_told lib.Utf8.encode
+choice_in_a_file_sourced_in_a_choice : first_tree_fault (((codes "Kconfig"), (codes "choice\nsource a\nendchoice\n")) ∷ ((codes "a"), (codes "choice\nendchoice\n")) ∷ []) (codes "Kconfig") ≡ Some (record { file = Some 1; line = 1; kind = Misplaced })
+unfolding next_token is_utf8 chars read_expr lines_of source_fault statement_on_line reading tree_faults first_tree_fault lib.Utf8.encode
 choice_in_a_file_sourced_in_a_choice = refl
 
-mainmenu_in_a_file_sourced_in_a_block : fault_told (((codes "Kconfig"), (codes "if A\nsource a\nendif\n")) ∷ ((codes "a"), (codes "mainmenu \"m\"\n")) ∷ []) (codes "Kconfig") ≡ Some (record { file = Some 1; line = 1; kind = Misplaced })
-unfolding lead_of is_utf8 chars read_expr lines_of source_fault line_says reading tree_faults fault_told lib.Utf8.encode
+mainmenu_in_a_file_sourced_in_a_block : first_tree_fault (((codes "Kconfig"), (codes "if A\nsource a\nendif\n")) ∷ ((codes "a"), (codes "mainmenu \"m\"\n")) ∷ []) (codes "Kconfig") ≡ Some (record { file = Some 1; line = 1; kind = Misplaced })
+unfolding next_token is_utf8 chars read_expr lines_of source_fault statement_on_line reading tree_faults first_tree_fault lib.Utf8.encode
 mainmenu_in_a_file_sourced_in_a_block = refl
 
 depends_of_a_comment : fault (codes "comment \"c\"\n\tdepends on A\n") ≡ None
-unfolding lead_of is_utf8 chars read_expr lines_of source_fault line_says reading tree_faults fault_told lib.Utf8.encode
+unfolding next_token is_utf8 chars read_expr lines_of source_fault statement_on_line reading tree_faults first_tree_fault lib.Utf8.encode
 depends_of_a_comment = refl
 
 help_of_a_choice : fault (codes "choice\n\thelp\n\t\t$\nendchoice\n") ≡ None
-unfolding lead_of is_utf8 chars read_expr lines_of source_fault line_says reading tree_faults fault_told lib.Utf8.encode
+unfolding next_token is_utf8 chars read_expr lines_of source_fault statement_on_line reading tree_faults first_tree_fault lib.Utf8.encode
 help_of_a_choice = refl
 
 constant_as_a_name : fault (codes "config n\n") ≡ Some (1, Malformed)
-unfolding lead_of is_utf8 chars read_expr lines_of source_fault line_says reading tree_faults fault_told lib.Utf8.encode
+unfolding next_token is_utf8 chars read_expr lines_of source_fault statement_on_line reading tree_faults first_tree_fault lib.Utf8.encode
 constant_as_a_name = refl
 
 word_behind_a_name : fault (codes "config A B\n") ≡ Some (1, Malformed)
-unfolding lead_of is_utf8 chars read_expr lines_of source_fault line_says reading tree_faults fault_told lib.Utf8.encode
+unfolding next_token is_utf8 chars read_expr lines_of source_fault statement_on_line reading tree_faults first_tree_fault lib.Utf8.encode
 word_behind_a_name = refl
 
 innermost_open_block_is_told : fault (codes "if A\nmenu \"m\"\nendmenu\nif B\n") ≡ Some (4, Unclosed)
-unfolding lead_of is_utf8 chars read_expr lines_of source_fault line_says reading tree_faults fault_told lib.Utf8.encode
+unfolding next_token is_utf8 chars read_expr lines_of source_fault statement_on_line reading tree_faults first_tree_fault lib.Utf8.encode
 innermost_open_block_is_told = refl
 
 def_tristate_is_a_tristate : fault (codes "config A\n\tdef_bool y\n\tdef_tristate y\n") ≡ Some (3, TypeConflict)
-unfolding lead_of is_utf8 chars read_expr lines_of source_fault line_says reading tree_faults fault_told lib.Utf8.encode
+unfolding next_token is_utf8 chars read_expr lines_of source_fault statement_on_line reading tree_faults first_tree_fault lib.Utf8.encode
 def_tristate_is_a_tristate = refl
 
 second_prompt_in_another_definition : fault (codes "config A\n\tbool \"a\"\nconfig A\n\tprompt \"b\"\n") ≡ None
-unfolding lead_of is_utf8 chars read_expr lines_of source_fault line_says reading tree_faults fault_told lib.Utf8.encode
+unfolding next_token is_utf8 chars read_expr lines_of source_fault statement_on_line reading tree_faults first_tree_fault lib.Utf8.encode
 second_prompt_in_another_definition = refl
 
 untyped_symbol_is_selected : fault (codes "config A\n\tbool\n\tselect B\nconfig B\n") ≡ Some (4, NoType)
-unfolding lead_of is_utf8 chars read_expr lines_of source_fault line_says reading tree_faults fault_told lib.Utf8.encode
+unfolding next_token is_utf8 chars read_expr lines_of source_fault statement_on_line reading tree_faults first_tree_fault lib.Utf8.encode
 untyped_symbol_is_selected = refl
 
 imply_of_an_int : fault (codes "config A\n\tbool\n\timply N\nconfig N\n\tint\n") ≡ Some (3, SelectType)
-unfolding lead_of is_utf8 chars read_expr lines_of source_fault line_says reading tree_faults fault_told lib.Utf8.encode
+unfolding next_token is_utf8 chars read_expr lines_of source_fault statement_on_line reading tree_faults first_tree_fault lib.Utf8.encode
 imply_of_an_int = refl
 
 second_definition_of_a_member_in_its_choice : fault (codes "choice\nconfig A\nconfig A\nendchoice\n") ≡ Some (3, ChoiceMember)
-unfolding lead_of is_utf8 chars read_expr lines_of source_fault line_says reading tree_faults fault_told lib.Utf8.encode
+unfolding next_token is_utf8 chars read_expr lines_of source_fault statement_on_line reading tree_faults first_tree_fault lib.Utf8.encode
 second_definition_of_a_member_in_its_choice = refl
 
 second_prompt_of_an_untyped_symbol_behind_others : fault (codes "config B\n\tbool\n\tprompt \"b\"\n\tprompt \"c\"\nconfig A\n") ≡ Some (4, SecondPrompt)
-unfolding lead_of is_utf8 chars read_expr lines_of source_fault line_says reading tree_faults fault_told lib.Utf8.encode
+unfolding next_token is_utf8 chars read_expr lines_of source_fault statement_on_line reading tree_faults first_tree_fault lib.Utf8.encode
 second_prompt_of_an_untyped_symbol_behind_others = refl
 
 hex_default_of_two_operands : fault (codes "config H\n\thex\n\tdefault A && B\n") ≡ Some (3, DefaultShape)
-unfolding lead_of is_utf8 chars read_expr lines_of source_fault line_says reading tree_faults fault_told lib.Utf8.encode
+unfolding next_token is_utf8 chars read_expr lines_of source_fault statement_on_line reading tree_faults first_tree_fault lib.Utf8.encode
 hex_default_of_two_operands = refl
 
 second_prompt_of_a_choice : fault (codes "choice\n\tprompt \"p\"\n\tbool \"q\"\nendchoice\n") ≡ Some (3, SecondPrompt)
-unfolding lead_of is_utf8 chars read_expr lines_of source_fault line_says reading tree_faults fault_told lib.Utf8.encode
+unfolding next_token is_utf8 chars read_expr lines_of source_fault statement_on_line reading tree_faults first_tree_fault lib.Utf8.encode
 second_prompt_of_a_choice = refl
 
 bare_bools_of_a_choice : fault (codes "choice\n\tbool\n\tbool\nendchoice\n") ≡ None
-unfolding lead_of is_utf8 chars read_expr lines_of source_fault line_says reading tree_faults fault_told lib.Utf8.encode
+unfolding next_token is_utf8 chars read_expr lines_of source_fault statement_on_line reading tree_faults first_tree_fault lib.Utf8.encode
 bare_bools_of_a_choice = refl
 
 untyped_modules : fault (codes "config MODULES\n\tmodules\n") ≡ Some (1, NoType)
-unfolding lead_of is_utf8 chars read_expr lines_of source_fault line_says reading tree_faults fault_told lib.Utf8.encode
+unfolding next_token is_utf8 chars read_expr lines_of source_fault statement_on_line reading tree_faults first_tree_fault lib.Utf8.encode
 untyped_modules = refl
 
 long_implied_name : fault (codes "config A\n\tbool\n\timply AAAAAAAAAAAAAAAAAAAAAAAAAAAAAAAAAAAAAAAAAAAAAAAAAAAAAAAAAAAAAAAAAAAAAAAAAAAAAAAAAAAAAAAAAAAAAAAAAAAAAAAAAAAAAAAAAAAAAAAAAAAAAAAAAAAAAAAAAAAAAAAAAAAAAAAAAAAAAAAAAAAAAAAAAAAAAAAAAAAAAAAAAAAAAAAAAAAAAAAAAAAAAAAAAAAAAAAAAAAAAAAAAAAAAAAAAAAAAAAAAAAAAAAAAAAAAAAAA") ≡ Some (3, TooMany)
-unfolding lead_of is_utf8 chars read_expr lines_of source_fault line_says reading tree_faults fault_told lib.Utf8.encode
+unfolding next_token is_utf8 chars read_expr lines_of source_fault statement_on_line reading tree_faults first_tree_fault lib.Utf8.encode
 long_implied_name = refl
 
-blocks_over_open_files : fault_told ((codes "Kconfig", lines_again 40 (codes "if y\n") ++ codes "source a") ∷ (codes "a", lines_again 25 (codes "if y\n")) ∷ []) (codes "Kconfig") ≡ Some (record { file = Some 1; line = 25; kind = TooDeep })
-unfolding lead_of is_utf8 chars read_expr lines_of source_fault line_says reading tree_faults fault_told lib.Utf8.encode
+blocks_over_open_files : first_tree_fault ((codes "Kconfig", lines_again 40 (codes "if y\n") ++ codes "source a") ∷ (codes "a", lines_again 25 (codes "if y\n")) ∷ []) (codes "Kconfig") ≡ Some (record { file = Some 1; line = 25; kind = TooDeep })
+unfolding next_token is_utf8 chars read_expr lines_of source_fault statement_on_line reading tree_faults first_tree_fault lib.Utf8.encode
 blocks_over_open_files = refl
 
-too_deep_before_too_many : line_says (replicate 64 (here (said (condition yes))) ++ closed_choices 4096) (record { number = 1; text = codes "choice"; help = false }) ≡ Err TooDeep
-unfolding lead_of is_utf8 chars line_says lib.Utf8.encode
+too_deep_before_too_many : statement_on_line (replicate 64 (here (of_head (condition yes))) ++ closed_choices 4096) (record { number = 1; text = codes "choice"; help = false }) ≡ Err TooDeep
+unfolding next_token is_utf8 chars statement_on_line lib.Utf8.encode
 too_deep_before_too_many = refl
 
-too_many_choices : line_says (replicate 63 (here (said (condition yes))) ++ closed_choices 4096) (record { number = 1; text = codes "choice"; help = false }) ≡ Err TooMany
-unfolding lead_of is_utf8 chars line_says lib.Utf8.encode
+too_many_choices : statement_on_line (replicate 63 (here (of_head (condition yes))) ++ closed_choices 4096) (record { number = 1; text = codes "choice"; help = false }) ≡ Err TooMany
+unfolding next_token is_utf8 chars statement_on_line lib.Utf8.encode
 too_many_choices = refl
 
-missing_before_too_deep : source_fault no_files (replicate 31 (here (said (source (codes "e"))))) (codes "x") ≡ Some MissingFile
+missing_before_too_deep : source_fault no_files (replicate 31 (here (of_head (source (codes "e"))))) (codes "x") ≡ Some MissingFile
 unfolding source_fault
 missing_before_too_deep = refl
 
@@ -167,41 +167,41 @@ missing_before_too_many : source_fault no_files (sourced_again 4095) (codes "x")
 unfolding source_fault
 missing_before_too_many = refl
 
-too_many_open_files_before_too_many_files : source_fault empty_files (replicate 31 (here (said (source (codes "e")))) ++ sourced_again 4095) (codes "x") ≡ Some TooDeep
+too_many_open_files_before_too_many_files : source_fault empty_files (replicate 31 (here (of_head (source (codes "e")))) ++ sourced_again 4095) (codes "x") ≡ Some TooDeep
 unfolding source_fault
 too_many_open_files_before_too_many_files = refl
 
-limits : (most_symbols ≡ 1000000) × (most_choices ≡ 4096) × (most_files ≡ 4096) × (most_bytes ≡ 67108864) × (most_line_bytes ≡ 65536) × (most_name_bytes ≡ 256) × (most_open_files ≡ 32) × (most_open_blocks ≡ 64)
+limits : (max_symbols ≡ 1000000) × (max_choices ≡ 4096) × (max_files ≡ 4096) × (max_bytes ≡ 67108864) × (max_line_bytes ≡ 65536) × (max_name_bytes ≡ 256) × (max_open_files ≡ 32) × (max_open_blocks ≡ 64)
 limits = (refl, refl, refl, refl, refl, refl, refl, refl)
 
 visible_if_round_a_choice : map (λ (s : Symbol). s.prompts) (whole (codes "menu \"m\"\n\tvisible if V\nchoice\n\tprompt \"p\"\nconfig A\n\tbool \"a\"\nendchoice\nendmenu\n")).symbols ≡ (((shown (alone (named (codes "V")))) ∷ []) ∷ [])
-unfolding lead_of is_utf8 chars read_expr lines_of source_fault line_says reading tree_faults fault_told lib.Utf8.encode whole_of
+unfolding next_token is_utf8 chars read_expr lines_of source_fault statement_on_line reading tree_faults first_tree_fault lib.Utf8.encode tree_of_groups
 visible_if_round_a_choice = refl
 
 member_in_an_if : map (λ (s : Symbol). s.choice) (whole (codes "choice\nif A\nconfig B\nendif\nendchoice\n")).symbols ≡ ((Some 0) ∷ [])
-unfolding lead_of is_utf8 chars read_expr lines_of source_fault line_says reading tree_faults fault_told lib.Utf8.encode whole_of
+unfolding next_token is_utf8 chars read_expr lines_of source_fault statement_on_line reading tree_faults first_tree_fault lib.Utf8.encode tree_of_groups
 member_in_an_if = refl
 
 if_within_a_menu_with_visible_if : map (λ (s : Symbol). s.prompts) (whole (codes "menu \"m\"\n\tvisible if V\nif A\nconfig B\n\tbool \"b\"\nendif\nendmenu\n")).symbols ≡ (((both (alone (named (codes "A"))) (alone (named (codes "V")))) ∷ []) ∷ [])
-unfolding lead_of is_utf8 chars read_expr lines_of source_fault line_says reading tree_faults fault_told lib.Utf8.encode whole_of
+unfolding next_token is_utf8 chars read_expr lines_of source_fault statement_on_line reading tree_faults first_tree_fault lib.Utf8.encode tree_of_groups
 if_within_a_menu_with_visible_if = refl
 
 visible_ifs_of_menus_in_each_other : map (λ (s : Symbol). s.prompts) (whole (codes "menu \"m\"\n\tvisible if V\nmenu \"n\"\n\tvisible if W\nconfig B\n\tbool \"b\" if X\n\tdepends on Y\nendmenu\nendmenu\n")).symbols ≡ (((both (both (alone (named (codes "Y"))) (both (alone (named (codes "V"))) (alone (named (codes "W"))))) (alone (named (codes "X")))) ∷ []) ∷ [])
-unfolding lead_of is_utf8 chars read_expr lines_of source_fault line_says reading tree_faults fault_told lib.Utf8.encode whole_of
+unfolding next_token is_utf8 chars read_expr lines_of source_fault statement_on_line reading tree_faults first_tree_fault lib.Utf8.encode tree_of_groups
 visible_ifs_of_menus_in_each_other = refl
 
 visible_if_hides_no_default : map (λ (s : Symbol). s.defaults) (whole (codes "menu \"m\"\n\tvisible if V\nconfig B\n\tbool \"b\"\n\tdefault y if X\nendmenu\n")).symbols ≡ ((record { value = (alone (constant Y)); condition = (alone (named (codes "X"))) } ∷ []) ∷ [])
-unfolding lead_of is_utf8 chars read_expr lines_of source_fault line_says reading tree_faults fault_told lib.Utf8.encode whole_of
+unfolding next_token is_utf8 chars read_expr lines_of source_fault statement_on_line reading tree_faults first_tree_fault lib.Utf8.encode tree_of_groups
 visible_if_hides_no_default = refl
 
 imply_in_a_definition_of_two : map (λ (s : Symbol). s.impliers) (whole (codes "config A\n\tbool\n\timply B\nconfig B\n\tbool\nconfig A\n\tdepends on X\n\timply B if m\n\tselect B\n")).symbols ≡ ([] ∷ (record { by = 0; condition = (alone (constant Y)) } ∷ record { by = 0; condition = (both (alone (named (codes "X"))) (both (alone (constant M)) (alone (named (codes "MODULES"))))) } ∷ []) ∷ [])
-unfolding lead_of is_utf8 chars read_expr lines_of source_fault line_says reading tree_faults fault_told lib.Utf8.encode whole_of
+unfolding next_token is_utf8 chars read_expr lines_of source_fault statement_on_line reading tree_faults first_tree_fault lib.Utf8.encode tree_of_groups
 imply_in_a_definition_of_two = refl
 
 comment_in_a_menu : (whole (codes "menu \"m\"\n\tdepends on D\ncomment \"c\"\n\tdepends on E\nendmenu\n")).entries ≡ (menu_begins (codes "m") (alone (named (codes "D"))) (alone (constant Y)) ∷ comment (codes "c") (both (alone (named (codes "D"))) (alone (named (codes "E")))) ∷ menu_ends (codes "m") (alone (named (codes "D"))) (alone (constant Y)) ∷ [])
-unfolding lead_of is_utf8 chars read_expr lines_of source_fault line_says reading tree_faults fault_told lib.Utf8.encode whole_of
+unfolding next_token is_utf8 chars read_expr lines_of source_fault statement_on_line reading tree_faults first_tree_fault lib.Utf8.encode tree_of_groups
 comment_in_a_menu = refl
 
 units_of_members_and_later_definitions : (whole (codes "choice\nconfig A\nendchoice\nconfig B\n\tbool\nconfig B\nchoice\nendchoice\n")).units ≡ (of_choice 0 ∷ of_symbol 1 ∷ of_choice 1 ∷ [])
-unfolding lead_of is_utf8 chars read_expr lines_of source_fault line_says reading tree_faults fault_told lib.Utf8.encode whole_of
+unfolding next_token is_utf8 chars read_expr lines_of source_fault statement_on_line reading tree_faults first_tree_fault lib.Utf8.encode tree_of_groups
 units_of_members_and_later_definitions = refl

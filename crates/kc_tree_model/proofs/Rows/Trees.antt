@@ -5,11 +5,11 @@ use Rattle.kc_value.specs.declared.tri.Tri.TheVariants.{Y}
 use Rattle.kc_expr.specs.Expr.{Expr, alone, named, constant}
 use Rattle.kc_tree_model.specs.declared.fault.TreeKind.{TreeKind}
 use Rattle.kc_tree_model.specs.declared.fault.TreeFault.{TreeFault}
-use Rattle.kc_tree_model.specs.Files.{Files}
-use Rattle.kc_tree_model.specs.Trees.{Whole}
+use Rattle.kc_tree_model.specs.TreeFiles.{Files}
+use Rattle.kc_tree_model.specs.Trees.{Tree}
 use Rattle.kc_tree_model.specs.Reading.{reading}
-use Rattle.kc_tree_model.specs.Contents.{whole_of}
-use Rattle.kc_tree_model.specs.TreeFaults.{fault_told}
+use Rattle.kc_tree_model.specs.Contents.{tree_of_groups}
+use Rattle.kc_tree_model.specs.TreeFaults.{first_tree_fault}
 
 abbrev pub one_file : List ℕ → Files
 one_file text = (codes "Kconfig", text) ∷ []
@@ -19,11 +19,11 @@ line_and_kind f = (f.line, f.kind)
 
 -- the line and the kind of the fault that is told of a tree of one file
 abbrev pub fault : List ℕ → Option (ℕ × TreeKind)
-fault text = option_map line_and_kind (fault_told (one_file text) (codes "Kconfig"))
+fault text = option_map line_and_kind (first_tree_fault (one_file text) (codes "Kconfig"))
 
 -- what a tree of one file holds
-abbrev pub whole : List ℕ → Whole
-whole text = whole_of (reading (one_file text) (codes "Kconfig")).read
+abbrev pub whole : List ℕ → Tree
+whole text = tree_of_groups (reading (one_file text) (codes "Kconfig")).read
 
 abbrev pub word : List ℕ → Expr
 word x = alone (named x)

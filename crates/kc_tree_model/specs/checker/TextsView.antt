@@ -1,4 +1,4 @@
--- What the entries of the map behind `Texts` stand for.
+-- The view of the map's entries in `Texts`.
 use Rattle.std.specs.Prelude.{ℕ, List, String, Vec, string_bytes}
 use Rattle.std.specs.declared.alloc.Global.{Global}
 

@@ -1,4 +1,4 @@
--- What stands between the quotes of a text.
+-- The text between quotes.
 use Rattle.std.specs.Prelude.{◌≡◌, ℕ, List, [], ◌∷◌, ◌++◌, false}
 use Rattle.kc_value.specs.Quoted.{IsBody, unescaped}
 

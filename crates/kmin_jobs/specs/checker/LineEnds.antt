@@ -6,6 +6,6 @@ abbrev pub is_inline : ℕ → Bool
 is_inline c = not (c == 10)
 
 -- a newline comes first, or nothing
-abbrev pub begins_behind_line : List ℕ → Bool
-begins_behind_line [] = true
-begins_behind_line (c ∷ cs) = not (is_inline c)
+abbrev pub begins_after_line : List ℕ → Bool
+begins_after_line [] = true
+begins_after_line (c ∷ cs) = not (is_inline c)

@@ -1,13 +1,13 @@
--- What the reading of a tree answers.
+-- The result of reading a tree.
 use Rattle.std.specs.Prelude.{◌≡◌, ◌≢◌, ℕ, List, Some, None, Result, Ok, Err}
-use Rattle.kc_tree.specs.Held.{Held}
-use Rattle.kc_tree_model.specs.Files.{Files}
-use Rattle.kc_tree_model.specs.TreeFaults.{fault_told}
+use Rattle.kc_tree.specs.TreeModel.{TreeModel}
+use Rattle.kc_tree_model.specs.TreeFiles.{Files}
+use Rattle.kc_tree_model.specs.TreeFaults.{first_tree_fault}
 use Rattle.kc_tree_model.specs.Contents.{tree_of_files}
 use Rattle.kc_tree_model.specs.declared.fault.TreeFault.{TreeFault}
 use Rattle.kc_tree_model.specs.declared.fault.TreeKind.TheVariants.{OutOfMemory}
 
--- the tree of the files, over which no fault is told, or the fault that is told, or want of memory
-abbrev pub IsRead : Files → List ℕ → Result Held TreeFault → Type 0
-IsRead files first (Ok tree) = (fault_told files first ≡ None) × (tree.whole ≡ tree_of_files files first)
-IsRead files first (Err fault) = fault.kind ≢ OutOfMemory → fault_told files first ≡ Some fault
+-- the tree of the files, if they have no fault, or the reported fault, or out of memory
+abbrev pub IsRead : Files → List ℕ → Result TreeModel TreeFault → Type 0
+IsRead files first (Ok tree) = (first_tree_fault files first ≡ None) × (tree.whole ≡ tree_of_files files first)
+IsRead files first (Err fault) = fault.kind ≢ OutOfMemory → first_tree_fault files first ≡ Some fault

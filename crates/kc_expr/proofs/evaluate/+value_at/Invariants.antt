@@ -1,9 +1,9 @@
 use Rattle.std.proofs.Common.{◌≡◌, ◌<◌}
 use Rattle.kc_value.specs.Tri.{tri_and, tri_or}
-use Rattle.kc_expr.specs.Arena.{stands_for}
+use Rattle.kc_expr.specs.Arena.{node_expr}
 use Rattle.kc_expr.specs.Expr.{value}
-use Rattle.kc_expr.specs.Lookup.{names_seen}
-use Rattle.kc_expr.specs.checker.Store.{names_held, exprs_in}
+use Rattle.kc_expr.specs.Lookup.{environment_of}
+use Rattle.kc_expr.specs.checker.Store.{stored_names, exprs_in}
 use Rattle.kc_expr.proofs.evaluate.+value_at.Given as goal
 
 abbrev pub decreases-value_at : goal.decreases-value_at
@@ -11,10 +11,10 @@ decreases-value_at g l = l.index
 
 abbrev pub invariant-ands : goal.invariant-ands
 invariant-ands g l =
-    let names = names_seen (names_held l.store) (g.L.Lookup.sees l.lookup) in
+    let names = environment_of (stored_names l.store) (g.L.Lookup.symbol_values l.lookup) in
     record {
       below : l.at < l.index;
-      chain : tri_and l.least (value names (stands_for (exprs_in l.store) l.at)) ≡ value names (stands_for (exprs_in l.store) l.index);
+      chain : tri_and l.least (value names (node_expr (exprs_in l.store) l.at)) ≡ value names (node_expr (exprs_in l.store) l.index);
     }
 
 abbrev pub decreases-ands : goal.decreases-ands
@@ -22,10 +22,10 @@ decreases-ands g l = l.at
 
 abbrev pub invariant-ors : goal.invariant-ors
 invariant-ors g l =
-    let names = names_seen (names_held l.store) (g.L.Lookup.sees l.lookup) in
+    let names = environment_of (stored_names l.store) (g.L.Lookup.symbol_values l.lookup) in
     record {
       below : l.next < l.index;
-      chain : tri_or l.greatest (value names (stands_for (exprs_in l.store) l.next)) ≡ value names (stands_for (exprs_in l.store) l.index);
+      chain : tri_or l.greatest (value names (node_expr (exprs_in l.store) l.next)) ≡ value names (node_expr (exprs_in l.store) l.index);
     }
 
 abbrev pub decreases-ors : goal.decreases-ors

@@ -1,7 +1,7 @@
 use Rattle.std.proofs.Common.{◌≡◌, ◌+◌, ◌-◌, length, drop}
 use Rattle.kc_expr.specs.Grammar.{extent}
-use Rattle.kc_expr.specs.Token.{pieces_of}
+use Rattle.kc_expr.specs.Token.{lexemes_of}
 use Rattle.kc_expr.proofs.parse.extent_len.Given as goal
 
 abbrev pub invariant-loop-i : goal.invariant-loop-i
-invariant-loop-i l = length (extent (pieces_of l.tokens)) + 1 ≡ l.i + length (extent (drop (l.i - 1) (pieces_of l.tokens)))
+invariant-loop-i l = length (extent (lexemes_of l.tokens)) + 1 ≡ l.i + length (extent (drop (l.i - 1) (lexemes_of l.tokens)))

@@ -1,5 +1,5 @@
 use Rattle.std.proofs.Common.{◌≡◌, ◌≤◌, ◌*◌, drop}
-use Rattle.kc_tree_model.specs.Lines.{column_from}
+use Rattle.kc_tree_model.specs.LogicalLines.{column_from}
 use Rattle.kc_listing.proofs.lines.columns_of.Given as goal
 
 abbrev pub invariant-loop-b : goal.invariant-loop-b

@@ -1,5 +1,5 @@
 use Rattle.std.proofs.Common.{◌≡◌, ◌≤◌, ◌-◌, drop, length}
-use Rattle.kc_tree_model.specs.Lines.{first_indentation, physical_lines}
+use Rattle.kc_tree_model.specs.LogicalLines.{first_indentation, physical_lines}
 use Rattle.kc_listing.proofs.lines.first_columns.Given as goal
 
 abbrev pub invariant-loop-begin : goal.invariant-loop-begin

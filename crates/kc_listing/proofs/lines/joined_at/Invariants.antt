@@ -1,5 +1,5 @@
 use Rattle.std.proofs.Common.{◌-◌, length}
-use Rattle.kc_listing.specs.checker.Cut.{AreJoined}
+use Rattle.kc_listing.specs.checker.LinePlaces.{AreJoined}
 use Rattle.kc_listing.proofs.lines.joined_at.Given as goal
 
 abbrev pub invariant-loop-begin : goal.invariant-loop-begin

@@ -1,48 +1,48 @@
 use Rattle.std.proofs.Common.{arith, refl, sym, ◌-◌, ◌∙◌}
 use Rattle.std.proofs.lemmas.Grind.{common_steps, elements}
 use Rattle.std.proofs.lemmas.Result.{err_from_is_err_and}
-use Rattle.kc_listing.specs.checker.Progress.{origin_of}
+use Rattle.kc_listing.specs.checker.StateViews.{file_source_of}
 use Rattle.kc_tree_model.specs.Reading.{read_file}
 use Rattle.kc_listing.proofs.ReaderSteps.{one_faulty, one_next, one_help, one_help_faulty, one_source, one_source_faulty, all_left, file_ended, file_lines, not_sourced}
 use Rattle.kc_listing.proofs.reader.+files.Goals as goal
 
-pub read_one-returns-in-Err-clause-read : goal.read_one-returns-in-Err-clause-read
-read_one-returns-in-Err-clause-read t c = λ before d.
-    one_faulty (origin_of c.args.from) (read_file c.args.depth (origin_of c.args.from)) c.args.file.number c.args.file.bytes.now c.args.at c.args.number before _ _ _ c.requires.here c.in-Ok.ensures c.read_logical.new.read c.in-Err.kind _ (c.in-Err.ensures before d) c.told_at.ensures.memory c.told_at.ensures.told
+pub read_statement-returns-in-Err-clause-read : goal.read_statement-returns-in-Err-clause-read
+read_statement-returns-in-Err-clause-read t c = λ before d.
+    one_faulty (file_source_of c.args.from) (read_file c.args.depth (file_source_of c.args.from)) c.args.file.number c.args.file.bytes.now c.args.at c.args.number before _ _ _ c.requires.here c.in-Ok.ensures c.read_logical.new.read c.in-Err.kind _ (c.in-Err.ensures before d) c.fault_or_out_of_memory.ensures.memory c.fault_or_out_of_memory.ensures.told
 
-pub read_one-returns-in-Ok-Next-clause-read : goal.read_one-returns-in-Ok-Next-clause-read
-read_one-returns-in-Ok-Next-clause-read t c = λ before d.
-    one_next (origin_of c.args.from) (read_file c.args.depth (origin_of c.args.from)) c.args.file.number c.args.file.bytes.now c.args.at c.args.number before _ _ _ c.requires.here c.in-Ok.ensures c.read_logical.new.read (rw c.in-Ok-Next.field-0-is at (c.in-Ok-Next.ensures before d))
+pub read_statement-returns-in-Ok-Next-clause-read : goal.read_statement-returns-in-Ok-Next-clause-read
+read_statement-returns-in-Ok-Next-clause-read t c = λ before d.
+    one_next (file_source_of c.args.from) (read_file c.args.depth (file_source_of c.args.from)) c.args.file.number c.args.file.bytes.now c.args.at c.args.number before _ _ _ c.requires.here c.in-Ok.ensures c.read_logical.new.read (rw c.in-Ok-Next.field-0-is at (c.in-Ok-Next.ensures before d))
 
-pub read_one-returns-in_err-behind-in-Ok-Help-clause-read : goal.read_one-returns-in_err-behind-in-Ok-Help-clause-read
-read_one-returns-in_err-behind-in-Ok-Help-clause-read t c = λ before d.
+pub read_statement-returns-in_err-behind-in-Ok-Help-clause-read : goal.read_statement-returns-in_err-behind-in-Ok-Help-clause-read
+read_statement-returns-in_err-behind-in-Ok-Help-clause-read t c = λ before d.
     let p = err_from_is_err_and c.from_residual.result c.from_residual.ensures.1 in
-    rw (p.1, p.2) (one_help_faulty (origin_of c.args.from) (read_file c.args.depth (origin_of c.args.from)) c.args.file.number c.args.file.bytes.now c.args.at c.args.number before _ _ _ c.requires.here c.in-Ok.ensures c.read_logical.new.read _ _ (rw c.in-Ok-Help.field-0-is at (c.in-Ok-Help.ensures before d)) refl c.in_err-behind-in-Ok-Help.ensures)
+    rw (p.1, p.2) (one_help_faulty (file_source_of c.args.from) (read_file c.args.depth (file_source_of c.args.from)) c.args.file.number c.args.file.bytes.now c.args.at c.args.number before _ _ _ c.requires.here c.in-Ok.ensures c.read_logical.new.read _ _ (rw c.in-Ok-Help.field-0-is at (c.in-Ok-Help.ensures before d)) refl c.in_err-behind-in-Ok-Help.ensures)
 
-pub read_one-returns-in-Ok-Help-clause-read : goal.read_one-returns-in-Ok-Help-clause-read
-read_one-returns-in-Ok-Help-clause-read t c = λ before d.
-    one_help (origin_of c.args.from) (read_file c.args.depth (origin_of c.args.from)) c.args.file.number c.args.file.bytes.now c.args.at c.args.number before _ _ _ c.requires.here c.in-Ok.ensures c.read_logical.new.read _ _ (rw c.in-Ok-Help.field-0-is at (c.in-Ok-Help.ensures before d)) refl c.in_ok-behind-in-Ok-Help.ensures
+pub read_statement-returns-in-Ok-Help-clause-read : goal.read_statement-returns-in-Ok-Help-clause-read
+read_statement-returns-in-Ok-Help-clause-read t c = λ before d.
+    one_help (file_source_of c.args.from) (read_file c.args.depth (file_source_of c.args.from)) c.args.file.number c.args.file.bytes.now c.args.at c.args.number before _ _ _ c.requires.here c.in-Ok.ensures c.read_logical.new.read _ _ (rw c.in-Ok-Help.field-0-is at (c.in-Ok-Help.ensures before d)) refl c.in_ok-behind-in-Ok-Help.ensures
 
-pub read_one-returns-in_err-read_sourced-in-Ok-Source-clause-read : goal.read_one-returns-in_err-read_sourced-in-Ok-Source-clause-read
-read_one-returns-in_err-read_sourced-in-Ok-Source-clause-read t c = λ before d.
+pub read_statement-returns-in_err-read_sourced-in-Ok-Source-clause-read : goal.read_statement-returns-in_err-read_sourced-in-Ok-Source-clause-read
+read_statement-returns-in_err-read_sourced-in-Ok-Source-clause-read t c = λ before d.
     let s = rw c.in-Ok-Source.field-0-is at (c.in-Ok-Source.ensures before d) in
     let p = err_from_is_err_and c.from_residual-in_err-read_sourced-in-Ok-Source.result c.from_residual-in_err-read_sourced-in-Ok-Source.ensures.1 in
-    rw (p.1, p.2) (one_source_faulty (origin_of c.args.from) (read_file c.args.depth (origin_of c.args.from)) c.args.file.number c.args.file.bytes.now c.args.at c.args.number before _ _ _ c.requires.here c.in-Ok.ensures c.in-Ok-Source.path c.read_logical.new.read c.read_sourced.new.read _ s (c.in_err-read_sourced-in-Ok-Source.ensures before s.describes))
+    rw (p.1, p.2) (one_source_faulty (file_source_of c.args.from) (read_file c.args.depth (file_source_of c.args.from)) c.args.file.number c.args.file.bytes.now c.args.at c.args.number before _ _ _ c.requires.here c.in-Ok.ensures c.in-Ok-Source.path c.read_logical.new.read c.read_sourced.new.read _ s (c.in_err-read_sourced-in-Ok-Source.ensures before s.describes))
 
-pub read_one-returns-clause-read : goal.read_one-returns-clause-read
-read_one-returns-clause-read t c = λ before d.
+pub read_statement-returns-clause-read : goal.read_statement-returns-clause-read
+read_statement-returns-clause-read t c = λ before d.
     let s = rw c.in-Ok-Source.field-0-is at (c.in-Ok-Source.ensures before d) in
-    one_source (origin_of c.args.from) (read_file c.args.depth (origin_of c.args.from)) c.args.file.number c.args.file.bytes.now c.args.at c.args.number before _ _ _ c.requires.here c.in-Ok.ensures c.in-Ok-Source.path c.read_logical.new.read c.read_sourced.new.read s (c.in_ok-read_sourced-in-Ok-Source.ensures before s.describes)
+    one_source (file_source_of c.args.from) (read_file c.args.depth (file_source_of c.args.from)) c.args.file.number c.args.file.bytes.now c.args.at c.args.number before _ _ _ c.requires.here c.in-Ok.ensures c.in-Ok-Source.path c.read_logical.new.read c.read_sourced.new.read s (c.in_ok-read_sourced-in-Ok-Source.ensures before s.describes)
 
-pub read_opened-lines-init : goal.read_opened-lines-init
-read_opened-lines-init t c = record {
-  left = λ before d. all_left (origin_of c.args.from) (read_file (c.args.depth - 1) (origin_of c.args.from)) c.args.file.number c.args.file.bytes.now before c.args.read.now d;
+pub read_open_file-lines-init : goal.read_open_file-lines-init
+read_open_file-lines-init t c = record {
+  left = λ before d. all_left (file_source_of c.args.from) (read_file (c.args.depth - 1) (file_source_of c.args.from)) c.args.file.number c.args.file.bytes.now before c.args.read.now d;
   within = omega arith;
   few = omega arith;
 }
 
-pub read_opened-lines-preserved : goal.read_opened-lines-preserved
-read_opened-lines-preserved t c = record {
+pub read_open_file-lines-preserved : goal.read_open_file-lines-preserved
+read_open_file-lines-preserved t c = record {
   left = λ before d.
       let l = c.lines.invariant.left before d in
       let o = c.in_ok-next.ensures.read l.now l.describes in
@@ -51,61 +51,61 @@ read_opened-lines-preserved t c = record {
   few = let n = c.lines.invariant.few in let f = c.in_ok-next.ensures.bounds.few in omega arith;
 }
 
-pub read_opened-returns : goal.read_opened-returns
-read_opened-returns t c = λ before d path n b.
+pub read_open_file-returns : goal.read_open_file-returns
+read_open_file-returns t c = λ before d path n b.
     let l = c.lines.invariant.left before d in
-    let e = file_lines c.args.depth (origin_of c.args.from) path before (omega arith) in
-    rw (e, ← n, ← b) (file_ended (origin_of c.args.from) (read_file (c.args.depth - 1) (origin_of c.args.from)) c.args.file.number c.args.file.bytes.now before c.lines.read c.lines.at c.lines.number c.end_of_file.result (omega arith) c.lines.invariant.within l (c.end_of_file.ensures l.now l.describes))
+    let e = file_lines c.args.depth (file_source_of c.args.from) path before (omega arith) in
+    rw (e, ← n, ← b) (file_ended (file_source_of c.args.from) (read_file (c.args.depth - 1) (file_source_of c.args.from)) c.args.file.number c.args.file.bytes.now before c.lines.read c.lines.at c.lines.number c.end_of_file.result (omega arith) c.lines.invariant.within l (c.end_of_file.ensures l.now l.describes))
 
 pub read_sourced-returns-in_err-sourced : goal.read_sourced-returns-in_err-sourced
 read_sourced-returns-in_err-sourced t c = λ before d.
     let p = err_from_is_err_and c.from_residual.result c.from_residual.ensures.1 in
-    rw (p.1, p.2) (not_sourced (origin_of c.args.from) (read_file c.args.depth (origin_of c.args.from)) c.args.file c.args.line c.args.path before c.open_source.new.read _ (c.in_err-sourced.ensures.sourced before d))
+    rw (p.1, p.2) (not_sourced (file_source_of c.args.from) (read_file c.args.depth (file_source_of c.args.from)) c.args.file c.args.line c.args.path before c.open_source.new.read _ (c.in_err-sourced.ensures.sourced before d))
 
-pub read_opened-overflow_add-number : goal.read_opened-overflow_add-number
-read_opened-overflow_add-number t c = grind (arith, common_steps)
+pub read_open_file-overflow_add-number : goal.read_open_file-overflow_add-number
+read_open_file-overflow_add-number t c = grind (arith, common_steps)
 
-pub read_one-returns-in_default-clause-bounds : goal.read_one-returns-in_default-clause-bounds
-read_one-returns-in_default-clause-bounds t c = omega arith
+pub read_statement-returns-in_default-clause-bounds : goal.read_statement-returns-in_default-clause-bounds
+read_statement-returns-in_default-clause-bounds t c = omega arith
 
-pub read_opened-returns-then-depth-eq0 : goal.read_opened-returns-then-depth-eq0
-read_opened-returns-then-depth-eq0 t c = grind (arith, common_steps)
+pub read_open_file-returns-then-depth-eq0 : goal.read_open_file-returns-then-depth-eq0
+read_open_file-returns-then-depth-eq0 t c = grind (arith, common_steps)
 
-pub read_one-read_help-requires-clause-within : goal.read_one-read_help-requires-clause-within
-read_one-read_help-requires-clause-within t c = grind (arith, common_steps)
+pub read_statement-read_help-requires-clause-within : goal.read_statement-read_help-requires-clause-within
+read_statement-read_help-requires-clause-within t c = grind (arith, common_steps)
 
-pub read_opened-overflow_sub-depth : goal.read_opened-overflow_sub-depth
-read_opened-overflow_sub-depth t c = grind (arith, common_steps)
+pub read_open_file-overflow_sub-depth : goal.read_open_file-overflow_sub-depth
+read_open_file-overflow_sub-depth t c = grind (arith, common_steps)
 
-pub read_one-returns-clause-bounds : goal.read_one-returns-clause-bounds
-read_one-returns-clause-bounds t c = grind (arith, common_steps)
+pub read_statement-returns-clause-bounds : goal.read_statement-returns-clause-bounds
+read_statement-returns-clause-bounds t c = grind (arith, common_steps)
 
-pub read_one-returns-in_default-clause-read : goal.read_one-returns-in_default-clause-read
-read_one-returns-in_default-clause-read t c = grind (arith, elements)
+pub read_statement-returns-in_default-clause-read : goal.read_statement-returns-in_default-clause-read
+read_statement-returns-in_default-clause-read t c = grind (arith, elements)
 
-pub read_one-returns-in-Err-clause-bounds : goal.read_one-returns-in-Err-clause-bounds
-read_one-returns-in-Err-clause-bounds t c = grind (arith, common_steps)
+pub read_statement-returns-in-Err-clause-bounds : goal.read_statement-returns-in-Err-clause-bounds
+read_statement-returns-in-Err-clause-bounds t c = grind (arith, common_steps)
 
-pub read_one-overflow_add-number : goal.read_one-overflow_add-number
-read_one-overflow_add-number t c = grind (arith, common_steps)
+pub read_statement-overflow_add-number : goal.read_statement-overflow_add-number
+read_statement-overflow_add-number t c = grind (arith, common_steps)
 
 pub read_sourced-returns : goal.read_sourced-returns
 read_sourced-returns t c = grind (arith, common_steps)
 
-pub read_one-read_help-requires-clause-small : goal.read_one-read_help-requires-clause-small
-read_one-read_help-requires-clause-small t c = omega arith
+pub read_statement-read_help-requires-clause-small : goal.read_statement-read_help-requires-clause-small
+read_statement-read_help-requires-clause-small t c = omega arith
 
-pub read_one-read_help-requires-clause-few : goal.read_one-read_help-requires-clause-few
-read_one-read_help-requires-clause-few t c = grind (arith, common_steps)
+pub read_statement-read_help-requires-clause-few : goal.read_statement-read_help-requires-clause-few
+read_statement-read_help-requires-clause-few t c = grind (arith, common_steps)
 
-pub read_opened-lines-smaller : goal.read_opened-lines-smaller
-read_opened-lines-smaller t c = grind (arith, common_steps)
+pub read_open_file-lines-smaller : goal.read_open_file-lines-smaller
+read_open_file-lines-smaller t c = grind (arith, common_steps)
 
-pub read_one-returns-in-Ok-Next-clause-bounds : goal.read_one-returns-in-Ok-Next-clause-bounds
-read_one-returns-in-Ok-Next-clause-bounds t c = grind (arith, common_steps)
+pub read_statement-returns-in-Ok-Next-clause-bounds : goal.read_statement-returns-in-Ok-Next-clause-bounds
+read_statement-returns-in-Ok-Next-clause-bounds t c = grind (arith, common_steps)
 
-pub read_sourced-read_opened-requires : goal.read_sourced-read_opened-requires
-read_sourced-read_opened-requires t c = grind (arith, common_steps)
+pub read_sourced-read_open_file-requires : goal.read_sourced-read_open_file-requires
+read_sourced-read_open_file-requires t c = grind (arith, common_steps)
 
-pub read_one-logical_at-requires : goal.read_one-logical_at-requires
-read_one-logical_at-requires t c = grind (arith, common_steps)
+pub read_statement-logical_at-requires : goal.read_statement-logical_at-requires
+read_statement-logical_at-requires t c = grind (arith, common_steps)

@@ -1,21 +1,21 @@
 use Rattle.std.proofs.Common.{◌≡◌, rules, refl, sym, inr, arith}
 use Rattle.std.proofs.lemmas.Grind.{common_steps}
-use Rattle.kc_tree_model.specs.Files.{number_of_file}
-use Rattle.kc_listing.specs.checker.Progress.{origin_of}
+use Rattle.kc_tree_model.specs.TreeFiles.{index_of_file}
+use Rattle.kc_listing.specs.checker.StateViews.{file_source_of}
 use Rattle.kc_listing.proofs.FileSteps.{file_there, file_empty, file_absent}
 use Rattle.kc_listing.proofs.sources.file_of.Goals as goal
 
 pub returns-in-Some : goal.returns-in-Some
-unfolding origin_of
+unfolding file_source_of
 returns-in-Some c =
-    let n : c.in-Ok.number ≡ number_of_file c.args.from.texts.now c.args.path.now = search rules in
+    let n : c.in-Ok.number ≡ index_of_file c.args.from.texts.now c.args.path.now = search rules in
     let t = file_there c.args.from c.args.path.now c.in-Some.bytes.now c.in-Some.ensures in
     (t.0, n, t.1)
 
 pub returns-in-None : goal.returns-in-None
-unfolding origin_of
+unfolding file_source_of
 returns-in-None c =
-    let n : c.in-Ok.number ≡ number_of_file c.args.from.texts.now c.args.path.now = search rules in
+    let n : c.in-Ok.number ≡ index_of_file c.args.from.texts.now c.args.path.now = search rules in
     let t = file_empty c.args.from c.args.path.now (sym c.in-None.ensures) c.if-from.true in
     (t.0, n, t.1)
 

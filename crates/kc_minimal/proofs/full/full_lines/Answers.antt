@@ -2,9 +2,9 @@ use Rattle.std.proofs.Common.{◌≡◌, ◌<◌, ◌≤◌, ◌+◌, ◌∙◌,
 use Rattle.std.proofs.Math.ListN.{drop_of_length-le}
 use Rattle.std.proofs.lemmas.List.{length-replicate}
 use Rattle.std.proofs.lemmas.Result.{IfOk-from_err}
-use Rattle.kc_tree.specs.Told.{entry_of}
-use Rattle.kc_rules.specs.Told.{whole_of, tree_of}
-use Rattle.kc_dotconfig_model.specs.Prefixes.{text_of}
+use Rattle.kc_tree.specs.Views.{entry_view}
+use Rattle.kc_rules.specs.SettledViews.{tree_of_settled, tree_model_of}
+use Rattle.kc_dotconfig_model.specs.Prefixes.{prefix_bytes}
 use Rattle.kc_minimal.specs.declared.full.Draft.{Draft}
 use Rattle.kc_minimal.specs.checker.Drafts.{IsDraft}
 use Rattle.kc_minimal.proofs.DraftSteps.{next_left, begun, written}
@@ -12,24 +12,24 @@ use Rattle.kc_minimal.proofs.full.full_lines.Goals as goal
 
 pub loop-i-preserved : goal.loop-i-preserved
 loop-i-preserved c =
-    let held = tree_of c.args.settled.now in
-    let tree = whole_of c.args.settled.now in
-    let entry = entry_of held.exprs c.entry.result in
+    let held = tree_model_of c.args.settled.now in
+    let tree = tree_of_settled c.args.settled.now in
+    let entry = entry_view held.exprs c.entry.result in
     let next = next_left tree.entries c.loop-i.i entry (rw c.tree-tree.ensures.tree at c.entry.ensures.entry) in
     record {
       marks = c.push_entry.ensures.marks ∙ c.loop-i.invariant.marks;
-      draft = c.in_ok-push_entry.ensures.goes (drop (c.loop-i.i + 1) tree.entries) (subst (λ l. IsDraft (text_of c.args.prefix.now) tree c.args.values.now l c.loop-i.draft) next c.loop-i.invariant.draft);
+      draft = c.in_ok-push_entry.ensures.goes (drop (c.loop-i.i + 1) tree.entries) (subst (λ l. IsDraft (prefix_bytes c.args.prefix.now) tree c.args.values.now l c.loop-i.draft) next c.loop-i.invariant.draft);
     }
 
 pub loop-i-init : goal.loop-i-init
 loop-i-init c =
-    let tree = whole_of c.args.settled.now in
+    let tree = tree_of_settled c.args.settled.now in
     let draft : Draft = record { text = c.new.result; defined = c.in_ok-defined.defined; gap = false } in
     let count : c.symbol_count.result ≡ length tree.symbols = c.symbol_count.ensures ∙ ap (λ t. length t.whole.symbols) c.tree-tree.ensures.tree in
     let unmarked : draft.defined.items ≡ replicate (length tree.symbols) false = c.in_ok-defined.ensures.items_if_clones_equal (λ y e. e) ∙ ap (λ n. replicate n false) count in
     record {
       marks = ap length unmarked ∙ length-replicate (length tree.symbols) false;
-      draft = begun (text_of c.args.prefix.now) tree c.args.values.now draft c.new.ensures.items unmarked refl;
+      draft = begun (prefix_bytes c.args.prefix.now) tree c.args.values.now draft c.new.ensures.items unmarked refl;
     }
 
 pub entry-requires : goal.entry-requires
@@ -49,7 +49,7 @@ returns-in_err-push_entry c = IfOk-from_err c.from_residual-in_err-push_entry.re
 
 pub returns : goal.returns
 returns c =
-    let tree = whole_of c.args.settled.now in
+    let tree = tree_of_settled c.args.settled.now in
     let count : c.entry_count-i-end.result ≡ length tree.entries = c.entry_count-i-end.ensures ∙ ap (λ t. length t.whole.entries) c.tree-tree.ensures.tree in
     let over : length tree.entries ≤ c.loop-i.i = omega (arith, c.loop-i-test.false, count) in
-    written (text_of c.args.prefix.now) tree c.args.values.now c.loop-i.draft (drop c.loop-i.i tree.entries) (drop_of_length-le tree.entries over) c.loop-i.invariant.draft
+    written (prefix_bytes c.args.prefix.now) tree c.args.values.now c.loop-i.draft (drop c.loop-i.i tree.entries) (drop_of_length-le tree.entries over) c.loop-i.invariant.draft

@@ -11,5 +11,5 @@ is_kept-requires-clause-unit c = grind (arith, common_steps)
 pub symbol-symbol-requires : goal.symbol-symbol-requires
 symbol-symbol-requires c = grind (arith, common_steps)
 
-pub symbol_seen-requires : goal.symbol_seen-requires
-symbol_seen-requires c = grind (arith, common_steps)
+pub value_of_symbol-requires : goal.value_of_symbol-requires
+value_of_symbol-requires c = grind (arith, common_steps)

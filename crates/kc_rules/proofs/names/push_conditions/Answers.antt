@@ -1,14 +1,14 @@
 use Rattle.std.proofs.Common.{arith}
 use Rattle.std.proofs.lemmas.Grind.{common_steps, elements}
-use Rattle.kc_expr.specs.Arena.{stands_for}
-use Rattle.kc_tree.specs.declared.symbol.Force.{Force}
-use Rattle.kc_expr.specs.Walked.{mentions}
+use Rattle.kc_expr.specs.Arena.{node_expr}
+use Rattle.kc_tree.specs.declared.symbol.ReverseDependency.{ReverseDependency}
+use Rattle.kc_expr.specs.Visits.{mentions}
 use Rattle.kc_rules.proofs.Pushes.{any_pushed}
 use Rattle.kc_rules.proofs.names.push_conditions.Goals as goal
 
 pub loop-force-preserved : goal.loop-force-preserved
 loop-force-preserved c = record {
-  names = λ p. any_pushed (λ (f : Force). mentions p (stands_for c.args.tree.now.exprs f.condition)) c.args.all.now c.loop-force.force-index c.force-item.result _ _ _ (omega arith) c.force-item.is (c.in_ok-push_expr.ensures.names p) (c.loop-force.invariant.names p);
+  names = λ p. any_pushed (λ (f : ReverseDependency). mentions p (node_expr c.args.tree.now.exprs f.condition)) c.args.all.now c.loop-force.force-index c.force-item.result _ _ _ (omega arith) c.force-item.is (c.in_ok-push_expr.ensures.names p) (c.loop-force.invariant.names p);
   found = c.in_ok-push_expr.ensures.found;
 }
 

@@ -1,13 +1,13 @@
 use Rattle.std.proofs.Common.{ℕ, arith}
 use Rattle.std.proofs.lemmas.Grind.{common_steps}
-use Rattle.kc_expr.specs.Arena.{stands_for}
-use Rattle.kc_expr.specs.Walked.{mentions}
+use Rattle.kc_expr.specs.Arena.{node_expr}
+use Rattle.kc_expr.specs.Visits.{mentions}
 use Rattle.kc_rules.proofs.Pushes.{any_pushed}
 use Rattle.kc_rules.proofs.names.push_exprs.Goals as goal
 
 pub loop-id-preserved : goal.loop-id-preserved
 loop-id-preserved c = record {
-  names = λ p. any_pushed (λ (i : ℕ). mentions p (stands_for c.args.tree.now.exprs i)) c.args.ids.now c.loop-id.id-index c.id-item.result _ _ _ (omega arith) c.id-item.is (c.in_ok-push_expr.ensures.names p) (c.loop-id.invariant.names p);
+  names = λ p. any_pushed (λ (i : ℕ). mentions p (node_expr c.args.tree.now.exprs i)) c.args.ids.now c.loop-id.id-index c.id-item.result _ _ _ (omega arith) c.id-item.is (c.in_ok-push_expr.ensures.names p) (c.loop-id.invariant.names p);
   found = c.in_ok-push_expr.ensures.found;
 }
 

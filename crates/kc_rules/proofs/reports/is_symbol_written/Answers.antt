@@ -5,8 +5,8 @@ use Rattle.kc_rules.proofs.reports.is_symbol_written.Goals as goal
 pub largest-requires : goal.largest-requires
 largest-requires c = grind (arith, common_steps)
 
-pub forced-requires : goal.forced-requires
-forced-requires c = grind (arith, common_steps)
+pub reverse_limit-requires : goal.reverse_limit-requires
+reverse_limit-requires c = grind (arith, common_steps)
 
-pub forced-requires-else-not-is_n : goal.forced-requires-else-not-is_n
-forced-requires-else-not-is_n c = grind (arith, elements)
+pub reverse_limit-requires-else-not-is_n : goal.reverse_limit-requires-else-not-is_n
+reverse_limit-requires-else-not-is_n c = grind (arith, elements)

@@ -1,9 +1,9 @@
 use Rattle.std.proofs.Common.{inr, sym, ◌∙◌, length, drop, arith}
 use Rattle.std.proofs.lemmas.Grind.{common_steps, elements}
-use Rattle.kc_expr.specs.Token.{pieces_of}
+use Rattle.kc_expr.specs.Token.{lexemes_of}
 use Rattle.kc_tree_model.specs.Forms.{prompt_line, optional_if}
 use Rattle.kc_tree_model.specs.Statements.{attribute}
-use Rattle.kc_statements.specs.Said.{if_in}
+use Rattle.kc_statements.specs.StatementViews.{if_in}
 use Rattle.kc_statements.proofs.FormLemmas.{along, given_on, there, stepped}
 use Rattle.kc_statements.proofs.Growing.{grows_none}
 use Rattle.kc_statements.proofs.LineLemmas.{prompt_is, prompt_other}
@@ -24,8 +24,8 @@ pub returns-clause-gives : goal.returns-clause-gives
 returns-clause-gives c =
     let some = there (length c.args.tokens.now) c.is_empty.result c.is_empty.ensures c.if-is_empty.false in
     let e = c.optional_if.new.arena in
-    let ps = drop 1 (pieces_of c.args.tokens.now) in
-    λ f. along (λ d. attribute (f (if_in e d))) c.optional_if.result (prompt_line f (pieces_of c.args.tokens.now)) (stepped (λ x. attribute (f x)) (optional_if ps))
+    let ps = drop 1 (lexemes_of c.args.tokens.now) in
+    λ f. along (λ d. attribute (f (if_in e d))) c.optional_if.result (prompt_line f (lexemes_of c.args.tokens.now)) (stepped (λ x. attribute (f x)) (optional_if ps))
     (prompt_is f c.args.tokens.now some (sym c.is_quoted.ensures ∙ c.if-not-is_quoted.false))
     (given_on (if_in e) (λ x. attribute (f x)) c.optional_if.result (optional_if ps) c.optional_if.ensures.gives)
 

@@ -3,7 +3,7 @@ use Rattle.std.proofs.lemmas.Grind.{common_steps}
 use Rattle.kc_tree_model.specs.Statements.{typed_prompt}
 use Rattle.kc_statements.proofs.FormLemmas.{there, none_there}
 use Rattle.kc_statements.proofs.AttributeLemmas.{type_is}
-use Rattle.kc_expr.specs.Token.{pieces_of}
+use Rattle.kc_expr.specs.Token.{lexemes_of}
 use Rattle.kc_tree_model.specs.Forms.{type_line}
 use Rattle.kc_statements.proofs.Growing.{grows_none}
 use Rattle.kc_statements.proofs.attributes.type_line.Goals as goal
@@ -22,7 +22,7 @@ pub returns-then-is_empty-clause-grows : goal.returns-then-is_empty-clause-grows
 returns-then-is_empty-clause-grows c = grows_none c.args.arena.now
 
 pub returns-then-is_empty-clause-gives : goal.returns-then-is_empty-clause-gives
-returns-then-is_empty-clause-gives c = ap (λ ts. type_line c.args.kind (pieces_of ts)) (none_there c.args.tokens.now c.is_empty.result c.is_empty.ensures c.if-is_empty.true)
+returns-then-is_empty-clause-gives c = ap (λ ts. type_line c.args.kind (lexemes_of ts)) (none_there c.args.tokens.now c.is_empty.result c.is_empty.ensures c.if-is_empty.true)
 
 pub returns-in-Ok-clause-held : goal.returns-in-Ok-clause-held
 returns-in-Ok-clause-held c = grind (arith, common_steps)

@@ -1,6 +1,6 @@
 use Rattle.std.proofs.Common.{arith, inr, drop, length-drop, ap, sym, ◌∙◌, Ok}
 use Rattle.std.proofs.lemmas.List.{length-map}
-use Rattle.kc_expr.specs.Token.{pieces_of, piece_of}
+use Rattle.kc_expr.specs.Token.{lexemes_of, lexeme_of}
 use Rattle.kc_statements.proofs.FormLemmas.{condition_behind, condition_last, condition_unread, unread}
 use Rattle.kc_tree_model.specs.Forms.{last_condition}
 use Rattle.kc_statements.proofs.condition.last_condition.Goals as goal
@@ -8,14 +8,14 @@ use Rattle.kc_statements.proofs.condition.last_condition.Goals as goal
 pub returns-then-next-tokens-clause-gives : goal.returns-then-next-tokens-clause-gives
 returns-then-next-tokens-clause-gives c =
     let r = c.in-Ok.ensures.ok in
-    inr (condition_behind (drop c.args.at (pieces_of c.args.tokens.now)) r.expr r.reads (omega (arith, c.in-Ok.ensures.end, c.if-next-tokens.true, length-drop c.args.at (pieces_of c.args.tokens.now), length-map c.args.tokens.now piece_of)))
+    inr (condition_behind (drop c.args.at (lexemes_of c.args.tokens.now)) r.expr r.reads (omega (arith, c.in-Ok.ensures.end, c.if-next-tokens.true, length-drop c.args.at (lexemes_of c.args.tokens.now), length-map c.args.tokens.now lexeme_of)))
 
 pub returns-clause-gives : goal.returns-clause-gives
 returns-clause-gives c =
     let r = c.in-Ok.ensures.ok in
-    condition_last (drop c.args.at (pieces_of c.args.tokens.now)) r.expr r.reads (omega (arith, c.in-Ok.ensures.end, c.if-next-tokens.false, length-drop c.args.at (pieces_of c.args.tokens.now), length-map c.args.tokens.now piece_of)) ∙ ap Ok (sym r.stands.is)
+    condition_last (drop c.args.at (lexemes_of c.args.tokens.now)) r.expr r.reads (omega (arith, c.in-Ok.ensures.end, c.if-next-tokens.false, length-drop c.args.at (lexemes_of c.args.tokens.now), length-map c.args.tokens.now lexeme_of)) ∙ ap Ok (sym r.stands.is)
 
 pub returns-in-Err-clause-gives : goal.returns-in-Err-clause-gives
 returns-in-Err-clause-gives c =
-    let ps = drop c.args.at (pieces_of c.args.tokens.now) in
-    unread (pieces_of c.args.tokens.now) c.args.at c.in-Err.fault c.kind_of.result (last_condition ps) c.in-Err.ensures.fault c.kind_of.ensures (condition_unread ps)
+    let ps = drop c.args.at (lexemes_of c.args.tokens.now) in
+    unread (lexemes_of c.args.tokens.now) c.args.at c.in-Err.fault c.tree_kind_of.result (last_condition ps) c.in-Err.ensures.fault c.tree_kind_of.ensures (condition_unread ps)

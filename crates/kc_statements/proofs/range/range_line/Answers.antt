@@ -1,6 +1,6 @@
 use Rattle.std.proofs.Common.{inl, inr, sym, ap, ◌∙◌, Some, arith}
 use Rattle.std.proofs.lemmas.Grind.{common_steps, elements}
-use Rattle.kc_statements.specs.Said.{if_in, operand_in}
+use Rattle.kc_statements.specs.StatementViews.{if_in, operand_or_n}
 use Rattle.kc_statements.proofs.Growing.{grows_on, grows_none}
 use Rattle.kc_statements.proofs.Later.{operand_held, operand_same}
 use Rattle.kc_statements.proofs.RangeLemmas.{first_refused, second_refused, operands_given, operands_refused}
@@ -47,13 +47,13 @@ returns-in-Ok-optional_if-clause-gives c =
     let g = c.optional_if.ensures.grows in
     let low_same = operand_same c.operand.new.arena new c.in-Ok.id (grows_on c.operand.new.arena high new c.operand-2.ensures.grows g) c.in-Ok.ensures.held in
     let high_same = operand_same high new c.in-Ok-operand.id g c.in-Ok-operand.ensures.held in
-    operands_given c.args.tokens.now (operand_in new c.in-Ok.id) (operand_in new c.in-Ok-operand.id) (if_in new c.in-Ok-optional_if.condition) c.if-tokens-lt2.false (c.in-Ok.ensures.operand ∙ ap Some (sym low_same)) (c.in-Ok-operand.ensures.operand ∙ ap Some (sym high_same)) c.in-Ok-optional_if.ensures.gives
+    operands_given c.args.tokens.now (operand_or_n new c.in-Ok.id) (operand_or_n new c.in-Ok-operand.id) (if_in new c.in-Ok-optional_if.condition) c.if-tokens-lt2.false (c.in-Ok.ensures.operand ∙ ap Some (sym low_same)) (c.in-Ok-operand.ensures.operand ∙ ap Some (sym high_same)) c.in-Ok-optional_if.ensures.gives
 
 pub returns-in-Err-optional_if-clause-gives : goal.returns-in-Err-optional_if-clause-gives
 returns-in-Err-optional_if-clause-gives c =
     elim c.in-Err-optional_if.ensures.gives [
       | inl m ↦ inl m
-      | inr e ↦ inr (operands_refused c.args.tokens.now (operand_in c.operand.new.arena c.in-Ok.id) (operand_in c.operand-2.new.arena c.in-Ok-operand.id) c.in-Err-optional_if.kind c.if-tokens-lt2.false c.in-Ok.ensures.operand c.in-Ok-operand.ensures.operand e)
+      | inr e ↦ inr (operands_refused c.args.tokens.now (operand_or_n c.operand.new.arena c.in-Ok.id) (operand_or_n c.operand-2.new.arena c.in-Ok-operand.id) c.in-Err-optional_if.kind c.if-tokens-lt2.false c.in-Ok.ensures.operand c.in-Ok-operand.ensures.operand e)
     ]
 
 pub returns-then-not-is_operand-clause-grows : goal.returns-then-not-is_operand-clause-grows

@@ -5,13 +5,13 @@ use Rattle.kc_system.proofs.ordering.order.Goals as goal
 
 pub order_or_cycle-requires-clause-taking : goal.order_or_cycle-requires-clause-taking
 order_or_cycle-requires-clause-taking g c =
-    let flags = with_items_is c.in_ok-flags.flags c.take_all.new.flags (omega (arith, c.take_all.auto.flags, ap length c.deref_mut.ensures.value, c.in_ok-flags.flags.ok.0)) in
-    rw (c.deref.ensures.value, flags) c.in_ok-take_all.ensures.taking
+    let flags = with_items_is c.in_ok-flags.flags c.eliminate_all.new.flags (omega (arith, c.eliminate_all.auto.flags, ap length c.deref_mut.ensures.value, c.in_ok-flags.flags.ok.0)) in
+    rw (c.deref.ensures.value, flags) c.in_ok-eliminate_all.ensures.taking
 
 pub order_or_cycle-requires-clause-left : goal.order_or_cycle-requires-clause-left
 order_or_cycle-requires-clause-left g c =
-    let flags = with_items_is c.in_ok-flags.flags c.take_all.new.flags (omega (arith, c.take_all.auto.flags, ap length c.deref_mut.ensures.value, c.in_ok-flags.flags.ok.0)) in
-    rw (c.deref.ensures.value, flags) c.in_ok-take_all.ensures.left
+    let flags = with_items_is c.in_ok-flags.flags c.eliminate_all.new.flags (omega (arith, c.eliminate_all.auto.flags, ap length c.deref_mut.ensures.value, c.in_ok-flags.flags.ok.0)) in
+    rw (c.deref.ensures.value, flags) c.in_ok-eliminate_all.ensures.left
 
 pub order_or_cycle-requires-clause-few : goal.order_or_cycle-requires-clause-few
 order_or_cycle-requires-clause-few g c = omega arith

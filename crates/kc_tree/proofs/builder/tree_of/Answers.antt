@@ -3,8 +3,8 @@ use Rattle.std.proofs.lemmas.Grind.{elements}
 use Rattle.std.proofs.lemmas.Result.{IfOk-weaker}
 use Rattle.kc_tree_model.specs.Contents.{tree_of_files}
 use Rattle.kc_tree_model.specs.Reading.{reading}
-use Rattle.kc_tree.specs.Held.{Held}
-use Rattle.kc_tree.specs.checker.GatheredView.{whole_gathered}
+use Rattle.kc_tree.specs.TreeModel.{TreeModel}
+use Rattle.kc_tree.specs.checker.GatheredView.{gathered_tree}
 use Rattle.kc_tree.proofs.AssemblySteps.{consistent_of, whole_is}
 use Rattle.kc_tree.proofs.builder.tree_of.Goals as goal
 
@@ -25,7 +25,7 @@ pub returns : goal.returns
 returns c = λ files root untold shows.
     let read = (reading files root).read in
     let k = c.in_ok-gathered.ensures files root (record { walk = record { shows = c.in-Ok.ensures.shows read shows; shown = c.in-Ok.ensures.walked read shows }; untold = untold }) in
-    IfOk-weaker c.into_tree.result (λ (t : Held). t ≡ record { exprs = c.in_ok-gathered.gathered.arena; whole = whole_gathered c.in_ok-gathered.gathered }) (λ (t : Held). t.whole ≡ tree_of_files files root)
+    IfOk-weaker c.into_tree.result (λ (t : TreeModel). t ≡ record { exprs = c.in_ok-gathered.gathered.arena; whole = gathered_tree c.in_ok-gathered.gathered }) (λ (t : TreeModel). t.whole ≡ tree_of_files files root)
     (λ t e. whole_is files root c.in_ok-gathered.gathered t k e) c.into_tree.ensures
 
 pub into_tree-requires-clause-distinct : goal.into_tree-requires-clause-distinct

@@ -2,9 +2,9 @@ use Rattle.std.proofs.Common.{◌≡◌, ◌<◌, length, ap, sym, ◌∙◌, ar
 use Rattle.std.proofs.lemmas.Grind.{elements}
 use Rattle.std.proofs.lemmas.List.{get_or_read}
 use Rattle.kc_tree_model.specs.Limits.{names_defined}
-use Rattle.kc_listing.specs.Shown.{Shows}
+use Rattle.kc_listing.specs.ListingView.{RepresentsListing}
 use Rattle.kc_tree.specs.checker.Summaries.{no_group}
-use Rattle.kc_tree.specs.checker.Entries.{choices_behind}
+use Rattle.kc_tree.specs.checker.Entries.{choices_after}
 use Rattle.kc_tree.proofs.Rounds.{none_counted, one_counted}
 use Rattle.kc_tree.proofs.ChoiceDefaultSteps.{as_many, as_long_own, no_defaults, one_more, all_gathered, choices_by, choices_few}
 use Rattle.kc_tree.proofs.choice_defaults.member_defaults.Goals as goal
@@ -14,8 +14,8 @@ conditions_of-own-requires-clause-here c =
     let k = c.requires.walked in
     omega (arith, as_many c.args.listing.now c.args.groups.now c.args.conditions.now k.0 k.1, c.loop-i-test.true, c.len-i-end.ensures)
 
-pub put_defaults-requires-clause-many : goal.put_defaults-requires-clause-many
-put_defaults-requires-clause-many c =
+pub push_group_defaults-requires-clause-many : goal.push_group_defaults-requires-clause-many
+push_group_defaults-requires-clause-many c =
     let k = c.requires.walked in
     ap length c.conditions_of-own.ensures ∙ as_long_own c.args.listing.now c.args.groups.now c.args.conditions.now k.0 k.1 c.loop-i.i (omega (arith, c.loop-i-test.true, c.len-i-end.ensures)) ∙ ap length (sym c.lines_of-lines.ensures.lines)
 
@@ -27,28 +27,28 @@ loop-i-init c = record {
 }
 
 pub loop-i-preserved : goal.loop-i-preserved
-unfolding Shows
+unfolding RepresentsListing
 loop-i-preserved c =
     let l = c.args.listing.now in
     let within : c.loop-i.i < length l.groups.items = omega (arith, c.loop-i-test.true, c.len-i-end.ensures) in
     let what = ap (λ g. g.what) (get_or_read l.groups.items _ _ within c.index.ensures no_group) in
-    let count : c.count_choices-choices.result ≡ choices_behind c.index.result.now.what c.loop-i.choices = c.count_choices-choices.ensures in
+    let count : c.count_choices-choices.result ≡ choices_after c.index.result.now.what c.loop-i.choices = c.count_choices-choices.ensures in
     record {
       few = omega (arith, count, choices_few c.index.result.now.what c.loop-i.choices, c.loop-i.invariant.few);
       counted = λ read w.
           one_counted l.names.arena (names_defined read) l.texts.items l.lines.items l.groups.items read w.shows.groups_are c.loop-i.i c.loop-i.choices c.count_choices-choices.result c.index.result.now.what within what (c.loop-i.invariant.counted read w)
           (count ∙ choices_by c.index.result.now.what c.loop-i.choices);
       defaults = λ read w f.
-          one_more l c.args.groups.now c.args.conditions.now read w c.loop-i.i c.loop-i.choices c.count_choices-choices.result c.index.result.now.what c.loop-i.found c.put_defaults.new.found within what (c.loop-i.invariant.counted read w) count f
-          (rw (c.lines_of-lines.ensures.lines, c.conditions_of-own.ensures) at c.in_ok-put_defaults.ensures.keys) (rw (c.lines_of-lines.ensures.lines, c.conditions_of-own.ensures) at c.in_ok-put_defaults.ensures.items) (c.loop-i.invariant.defaults read w f);
+          one_more l c.args.groups.now c.args.conditions.now read w c.loop-i.i c.loop-i.choices c.count_choices-choices.result c.index.result.now.what c.loop-i.found c.push_group_defaults.new.found within what (c.loop-i.invariant.counted read w) count f
+          (rw (c.lines_of-lines.ensures.lines, c.conditions_of-own.ensures) at c.in_ok-push_group_defaults.ensures.keys) (rw (c.lines_of-lines.ensures.lines, c.conditions_of-own.ensures) at c.in_ok-push_group_defaults.ensures.items) (c.loop-i.invariant.defaults read w f);
     }
 
 pub returns : goal.returns
 returns c = λ read w f.
     all_gathered c.args.listing.now c.args.groups.now c.args.conditions.now read w c.loop-i.i c.loop-i.choices c.loop-i.found (omega (arith, c.loop-i-test.false, c.loop-i.auto.i-end, c.len-i-end.ensures)) (c.loop-i.invariant.counted read w) (c.loop-i.invariant.defaults read w f)
 
-pub put_defaults-requires-clause-held : goal.put_defaults-requires-clause-held
-put_defaults-requires-clause-held c = grind (arith, elements)
+pub push_group_defaults-requires-clause-held : goal.push_group_defaults-requires-clause-held
+push_group_defaults-requires-clause-held c = grind (arith, elements)
 
 pub conditions_of-own-requires-clause-conditioned : goal.conditions_of-own-requires-clause-conditioned
 conditions_of-own-requires-clause-conditioned c = grind (arith, elements)

@@ -1,6 +1,6 @@
 use Rattle.std.proofs.Common.{get_or, ap, ◌∙◌, arith}
 use Rattle.std.proofs.lemmas.Grind.{common_steps, elements}
-use Rattle.kc_tree.specs.checker.ChoiceDefaults.{member_kept}
+use Rattle.kc_tree.specs.checker.ChoiceDefaults.{member_default_row}
 use Rattle.kc_tree.proofs.ChoiceDefaultSteps.{items_more, keys_more}
 use Rattle.kc_tree.proofs.choice_defaults.push_defaults.Goals as goal
 
@@ -10,7 +10,7 @@ loop-i-preserved c =
     let ls = c.args.lines.now in
     let cs = c.args.conditions.now in
     let i = c.loop-i.i in
-    let e = c.member_default.ensures ∙ ap (λ l. member_kept n l c.index-conditions-i.result) c.index-lines-i.is ∙ ap (member_kept n (get_or ls i c.index-lines-i.result)) c.index-conditions-i.is in
+    let e = c.member_default.ensures ∙ ap (λ l. member_default_row n l c.index-conditions-i.result) c.index-lines-i.is ∙ ap (member_default_row n (get_or ls i c.index-lines-i.result)) c.index-conditions-i.is in
     record {
       keys = keys_more n c.args.choice ls cs i c.index-lines-i.result c.index-conditions-i.result _ _ _ c.member_default.result c.loop-i-test.true c.requires.many e c.loop-i.invariant.keys c.in_ok-push_default.ensures.keys;
       items = items_more n ls cs i c.index-lines-i.result c.index-conditions-i.result _ _ _ c.member_default.result c.loop-i-test.true c.requires.many e c.loop-i.invariant.items c.in_ok-push_default.ensures.items;

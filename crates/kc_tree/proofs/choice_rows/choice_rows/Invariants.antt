@@ -1,12 +1,12 @@
 use Rattle.std.proofs.Common.{List, length, reverse}
 use Rattle.kc_expr.specs.Arena.{Exprs}
 use Rattle.kc_tree_model.specs.Blocks.{Group as Read}
-use Rattle.kc_listing.specs.Shown.{Shows}
-use Rattle.kc_tree.specs.checker.Walked.{AllConditionsShown}
+use Rattle.kc_listing.specs.ListingView.{RepresentsListing}
+use Rattle.kc_tree.specs.checker.Walks.{RepresentsAllConditions}
 use Rattle.kc_tree.proofs.ChoiceRowSteps.{AreRowsTo}
 use Rattle.kc_tree.proofs.choice_rows.choice_rows.Given as goal
 
 abbrev pub invariant-loop-i : goal.invariant-loop-i
 invariant-loop-i l =
-    (exprs : Exprs) (read : List Read) (s : Shows l.listing read) (k : AllConditionsShown exprs l.listing.texts.items l.conditions (length l.conditions) (reverse l.groups) read)
+    (exprs : Exprs) (read : List Read) (s : RepresentsListing l.listing read) (k : RepresentsAllConditions exprs l.listing.texts.items l.conditions (length l.conditions) (reverse l.groups) read)
     → AreRowsTo l.listing exprs l.groups l.conditions read s k l.i l.rows.items

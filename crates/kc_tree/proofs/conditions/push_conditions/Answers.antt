@@ -1,20 +1,20 @@
 use Rattle.std.proofs.Common.{◌≡◌, ◌<◌, ℕ, List, All, get_or, subst, sym, ap, arith, length, length-append, [], ◌∷◌}
 use Rattle.std.proofs.lemmas.Grind.{common_steps}
 use Rattle.std.proofs.lemmas.List.{take_all}
-use Rattle.kc_tree.specs.checker.Conjuncts.{AreBehind}
+use Rattle.kc_tree.specs.checker.Conjuncts.{AreAppended}
 use Rattle.kc_statements.proofs.Growing.{grows_on}
 use Rattle.kc_tree.proofs.Growth.{joined_on, behind_more, none_behind, there_on}
 use Rattle.kc_expr.specs.Arena.{Exprs, Grows}
-use Rattle.kc_listing.proofs.PutSteps.{grows_same}
-use Rattle.kc_listing.specs.Shown.{LineHeld}
+use Rattle.kc_listing.proofs.AppendSteps.{grows_same}
+use Rattle.kc_listing.specs.ListingView.{LineNodesExist}
 use Rattle.kc_listing.specs.declared.listing.Line.{Line as CodeLine}
-use Rattle.kc_statements.specs.Said.{AttributeHeld}
+use Rattle.kc_statements.specs.StatementViews.{AttributeNodesExist}
 use Rattle.kc_statements.proofs.Later.{attribute_held}
 use Rattle.kc_expr.proofs.StoreLemmas.{stands_on}
 use Rattle.kc_tree.proofs.conditions.push_conditions.Goals as goal
 
-line_held : (old mid : Exprs) (lines : List CodeLine) (k : ℕ) (d : CodeLine) → Grows old mid → All (LineHeld old) lines → k < length lines → d ≡ get_or lines k d → AttributeHeld mid d.attribute
-line_held old mid lines k d g held h e = subst (λ (l : CodeLine). AttributeHeld mid l.attribute) (sym e) (attribute_held old mid (get_or lines k d).attribute g (held k d h))
+line_held : (old mid : Exprs) (lines : List CodeLine) (k : ℕ) (d : CodeLine) → Grows old mid → All (LineNodesExist old) lines → k < length lines → d ≡ get_or lines k d → AttributeNodesExist mid d.attribute
+line_held old mid lines k d g held h e = subst (λ (l : CodeLine). AttributeNodesExist mid l.attribute) (sym e) (attribute_held old mid (get_or lines k d).attribute g (held k d h))
 
 pub loop-line-init : goal.loop-line-init
 loop-line-init c = record {
@@ -50,7 +50,7 @@ loop-line-preserved c =
 
 pub returns-clause-stand : goal.returns-clause-stand
 returns-clause-stand c = λ ds vs own j y.
-    subst (λ ls. AreBehind c.args.arena.now c.loop-line.arena c.args.conditions.now.items c.loop-line.conditions.items ds vs ls)
+    subst (λ ls. AreAppended c.args.arena.now c.loop-line.arena c.args.conditions.now.items c.loop-line.conditions.items ds vs ls)
     (take_all c.loop-line.line-index c.args.lines.now c.loop-line-test.false) (c.loop-line.invariant.stand ds vs own j y)
 
 pub returns-in_err-condition-clause-grows : goal.returns-in_err-condition-clause-grows

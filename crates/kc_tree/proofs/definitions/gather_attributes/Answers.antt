@@ -3,7 +3,7 @@ use Rattle.std.proofs.lemmas.Grind.{common_steps, elements}
 use Rattle.std.specs.Prelude.{All}
 use Rattle.std.proofs.lemmas.List.{get_or_read}
 use Rattle.kc_tree_model.specs.Limits.{names_defined}
-use Rattle.kc_listing.specs.Shown.{Shows, LineHeld}
+use Rattle.kc_listing.specs.ListingView.{RepresentsListing, LineNodesExist}
 use Rattle.kc_tree.specs.checker.Summaries.{no_group}
 use Rattle.kc_tree.proofs.Aligned.{count_is}
 use Rattle.kc_tree.proofs.GatherAll.{gathered_definition, gathered_other, gathered_whole, definition_many, group_count}
@@ -17,7 +17,7 @@ pub dependency_of-dependency-requires : goal.dependency_of-dependency-requires
 dependency_of-dependency-requires c = let n = group_count c.args.listing.now c.args.groups.now c.args.conditions.now c.requires.walked.0 c.requires.walked.1 in omega arith
 
 pub push_definition-requires-clause-many : goal.push_definition-requires-clause-many
-unfolding Shows
+unfolding RepresentsListing
 push_definition-requires-clause-many c =
     let l = c.args.listing.now in
     let s = c.requires.walked.1 in
@@ -27,7 +27,7 @@ push_definition-requires-clause-many c =
     ∙ sym (ap length c.lines_of-lines.ensures.lines)
 
 pub loop-i-preserved : goal.loop-i-preserved
-unfolding Shows
+unfolding RepresentsListing
 loop-i-preserved c = λ read k.
     let h = k.shows in
     let l = c.args.listing.now in
@@ -38,7 +38,7 @@ loop-i-preserved c = λ read k.
     elim c.match-index.branch [
       | in-Config+in_ok-push_definition w ↦ (
           let more = rw (w.lines_of-lines.ensures.lines, w.conditions_of-own.ensures, w.dependency_of-dependency.ensures) at w.in_ok-push_definition.ensures in
-          let held = subst (All (LineHeld l.names.arena)) w.lines_of-lines.ensures.lines w.lines_of-lines.ensures.held in
+          let held = subst (All (LineNodesExist l.names.arena)) w.lines_of-lines.ensures.lines w.lines_of-lines.ensures.held in
           rw w.found-is (gathered_definition l.names read h.names l.texts.items l.lines.items l.groups.items c.args.groups.now c.args.conditions.now h.groups_are walked c.loop-i.i w.in-Config.s c.loop-i.found w.push_definition.new.found
           within (omega arith) (sym group ∙ w.in-Config.is) held (c.loop-i.invariant read k) more)
           )
@@ -47,7 +47,7 @@ loop-i-preserved c = λ read k.
     ]
 
 pub returns : goal.returns
-unfolding Shows
+unfolding RepresentsListing
 returns c = λ read k.
     let h = k.shows in
     let l = c.args.listing.now in

@@ -3,12 +3,12 @@ use Rattle.std.proofs.lemmas.Grind.{common_steps, elements}
 use Rattle.std.proofs.lemmas.List.{get_or_read}
 use Rattle.kc_tree_model.specs.Limits.{names_defined}
 use Rattle.kc_tree_model.specs.TreeFaults.{tree_faults}
-use Rattle.kc_listing.specs.Shown.{Shows}
-use Rattle.kc_tree.specs.checker.Searching.{AreSmall}
+use Rattle.kc_listing.specs.ListingView.{RepresentsListing}
+use Rattle.kc_tree.specs.checker.FaultSearch.{AreSmall}
 use Rattle.kc_tree.specs.checker.Summaries.{IsSummary, is_choice_code, no_group}
 use Rattle.kc_tree.proofs.Aligned.{count_is}
 use Rattle.kc_tree.proofs.Rounds.{one_counted}
-use Rattle.kc_tree.proofs.Searching.{fault_all, fault_here, fault_none, few_choices, keys_fit, told_none, told_some}
+use Rattle.kc_tree.proofs.FaultSearch.{fault_all, fault_here, fault_none, few_choices, keys_fit, told_none, told_some}
 use Rattle.kc_tree.proofs.search.first_fault.Goals as goal
 use Rattle.kc_tree.proofs.search.first_fault.Goals.{then-begins_choice, else-begins_choice}
 
@@ -17,7 +17,7 @@ unfolding IsSummary
 grouped-requires-clause-keys c = keys_fit c.requires.read c.in_ok-summary.summary (c.in_ok-summary.ensures.summary c.requires.read c.requires.shows)
 
 pub grouped-requires-clause-few : goal.grouped-requires-clause-few
-unfolding IsSummary Shows
+unfolding IsSummary RepresentsListing
 grouped-requires-clause-few c =
     let l = c.args.listing.now in
     let read = c.requires.read in
@@ -29,16 +29,16 @@ grouped-requires-clause-few c =
     omega arith
 
 pub returns-then-is_some : goal.returns-then-is_some
-unfolding Shows tree_faults
+unfolding RepresentsListing tree_faults
 returns-then-is_some c = λ read h.
     let l = c.args.listing.now in
     let within : c.loop-i.i < length l.groups.items = omega arith in
-    let here = fault_here l.names.arena l.texts.items l.lines.items l.groups.items read h.groups_are c.loop-i.i c.of_group-fault.result within (c.loop-i.invariant.none read h) (λ p at. c.of_group-fault.ensures.fault read p h at) in
-    let t = told_some c.of_group-fault.result (sym c.is_some.ensures ∙ c.if-is_some.true) in
+    let here = fault_here l.names.arena l.texts.items l.lines.items l.groups.items read h.groups_are c.loop-i.i c.group_fault-fault.result within (c.loop-i.invariant.none read h) (λ p at. c.group_fault-fault.ensures.fault read p h at) in
+    let t = told_some c.group_fault-fault.result (sym c.is_some.ensures ∙ c.if-is_some.true) in
     t.1 ∙ sym (fault_all read (c.loop-i.i + 1) t.0 (sym here ∙ t.1))
 
 pub loop-i-preserved : goal.loop-i-preserved
-unfolding Shows
+unfolding RepresentsListing
 loop-i-preserved c =
     let l = c.args.listing.now in
     let within : c.loop-i.i < length l.groups.items = omega arith in
@@ -50,16 +50,16 @@ loop-i-preserved c =
     ] in
     record {
       few = elim c.if-begins_choice.branch [ then-begins_choice w ↦ omega arith | else-begins_choice w ↦ omega arith ];
-      many = c.of_group-fault.ensures.many;
-      small = subst (AreSmall c.of_group-fault.new.marks.items) (ap (λ w. cond (is_choice_code w) (c.loop-i.choices + 1) c.loop-i.choices) (sym what) ∙ sym count) c.of_group-fault.ensures.marks;
+      many = c.group_fault-fault.ensures.many;
+      small = subst (AreSmall c.group_fault-fault.new.marks.items) (ap (λ w. cond (is_choice_code w) (c.loop-i.choices + 1) c.loop-i.choices) (sym what) ∙ sym count) c.group_fault-fault.ensures.marks;
       counted = λ read h. one_counted l.names.arena (names_defined read) l.texts.items l.lines.items l.groups.items read h.groups_are c.loop-i.i c.loop-i.choices c.if-begins_choice.choices c.index.result.now.what within what (c.loop-i.invariant.counted read h) count;
       none = λ read h.
-          let here = fault_here l.names.arena l.texts.items l.lines.items l.groups.items read h.groups_are c.loop-i.i c.of_group-fault.result within (c.loop-i.invariant.none read h) (λ p at. c.of_group-fault.ensures.fault read p h at) in
-          sym here ∙ told_none c.of_group-fault.result (sym c.is_some.ensures ∙ c.if-is_some.false);
+          let here = fault_here l.names.arena l.texts.items l.lines.items l.groups.items read h.groups_are c.loop-i.i c.group_fault-fault.result within (c.loop-i.invariant.none read h) (λ p at. c.group_fault-fault.ensures.fault read p h at) in
+          sym here ∙ told_none c.group_fault-fault.result (sym c.is_some.ensures ∙ c.if-is_some.false);
     }
 
 pub returns : goal.returns
-unfolding Shows tree_faults
+unfolding RepresentsListing tree_faults
 returns c = λ read h.
     let l = c.args.listing.now in
     let n = count_is l.names.arena (names_defined read) l.texts.items l.lines.items l.groups.items read h.groups_are in
@@ -68,23 +68,23 @@ returns c = λ read h.
 pub loop-i-init : goal.loop-i-init
 loop-i-init c = grind (arith, common_steps)
 
-pub of_group-fault-requires-clause-few : goal.of_group-fault-requires-clause-few
-of_group-fault-requires-clause-few c = grind (arith, common_steps)
+pub group_fault-fault-requires-clause-few : goal.group_fault-fault-requires-clause-few
+group_fault-fault-requires-clause-few c = grind (arith, common_steps)
 
-pub of_group-fault-requires-clause-here : goal.of_group-fault-requires-clause-here
-of_group-fault-requires-clause-here c = grind (arith, common_steps)
+pub group_fault-fault-requires-clause-here : goal.group_fault-fault-requires-clause-here
+group_fault-fault-requires-clause-here c = grind (arith, common_steps)
 
-pub of_group-fault-requires-clause-small : goal.of_group-fault-requires-clause-small
-of_group-fault-requires-clause-small c = grind (arith, elements)
+pub group_fault-fault-requires-clause-small : goal.group_fault-fault-requires-clause-small
+group_fault-fault-requires-clause-small c = grind (arith, elements)
 
 pub overflow_add-choices : goal.overflow_add-choices
 overflow_add-choices c = grind (arith, common_steps)
 
-pub of_group-fault-requires-clause-counted : goal.of_group-fault-requires-clause-counted
-of_group-fault-requires-clause-counted c = grind (arith, elements)
+pub group_fault-fault-requires-clause-counted : goal.group_fault-fault-requires-clause-counted
+group_fault-fault-requires-clause-counted c = grind (arith, elements)
 
-pub of_group-fault-requires-clause-many : goal.of_group-fault-requires-clause-many
-of_group-fault-requires-clause-many c = grind (arith, common_steps)
+pub group_fault-fault-requires-clause-many : goal.group_fault-fault-requires-clause-many
+group_fault-fault-requires-clause-many c = grind (arith, common_steps)
 
 pub index-requires : goal.index-requires
 index-requires c = grind (arith, common_steps)

@@ -1,5 +1,5 @@
 use Rattle.std.proofs.Common.{◌≡◌, ◌≤◌, length}
-use Rattle.kc_tree.specs.checker.Searching.{AreSmall, CountsChoices, HaveNoFault}
+use Rattle.kc_tree.specs.checker.FaultSearch.{AreSmall, CountsChoices, HaveNoFault}
 use Rattle.kc_tree.proofs.search.first_fault.Given as goal
 
 abbrev pub invariant-loop-i : goal.invariant-loop-i

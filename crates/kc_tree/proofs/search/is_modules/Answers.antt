@@ -3,13 +3,13 @@ use Rattle.std.specs.Prelude.{bytes_eq}
 use Rattle.std.proofs.lemmas.List.{get_or_read}
 use Rattle.kc_expr.specs.Expr.{modules as modules_name}
 use Rattle.kc_tree_model.specs.Limits.{names_defined}
-use Rattle.kc_listing.specs.Names.{word_in}
-use Rattle.kc_listing.specs.Shown.{Shows}
-use Rattle.kc_tree.proofs.Searching.{word_is}
+use Rattle.kc_listing.specs.SymbolTable.{text_of_name}
+use Rattle.kc_listing.specs.ListingView.{RepresentsListing}
+use Rattle.kc_tree.proofs.FaultSearch.{word_is}
 use Rattle.kc_tree.proofs.search.is_modules.Goals as goal
 
 pub name-requires : goal.name-requires
-unfolding Shows
+unfolding RepresentsListing
 name-requires c =
     let l = c.args.listing.now in
     let h = c.requires.shown.shows in
@@ -18,9 +18,9 @@ name-requires c =
     omega arith
 
 pub returns : goal.returns
-unfolding Shows
+unfolding RepresentsListing
 returns c = λ read name h at.
     let l = c.args.listing.now in
     let id = get_or_read l.names.symbols.items _ _ c.requires.here c.index-id.ensures 0 in
     let word = word_is l.names.arena l.names.symbols.items l.names.numbers.items (names_defined read) c.args.s name 0 h.names at in
-    c.eq.ensures ∙ ap (λ x. bytes_eq x modules_name) (c.name.ensures ∙ ap (word_in l.names.arena) id ∙ word)
+    c.eq.ensures ∙ ap (λ x. bytes_eq x modules_name) (c.name.ensures ∙ ap (text_of_name l.names.arena) id ∙ word)

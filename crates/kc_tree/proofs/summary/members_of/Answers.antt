@@ -1,28 +1,28 @@
 use Rattle.std.proofs.Common.{◌≡◌, ◌+◌, ◌<◌, [], ◌∷◌, ◌++◌, length, sym, ap, ◌∙◌, arith}
 use Rattle.std.proofs.lemmas.Grind.{common_steps}
 use Rattle.std.proofs.lemmas.List.{get_or_read, length-map}
-use Rattle.kc_tree_model.specs.Conditions.{placed}
+use Rattle.kc_tree_model.specs.Conditions.{groups_in_context}
 use Rattle.kc_tree_model.specs.Contents.{contents_of}
 use Rattle.kc_tree_model.specs.Limits.{names_defined}
-use Rattle.kc_listing.specs.Shown.{Shows}
-use Rattle.kc_tree.specs.checker.Summaries.{choice_round, no_group}
+use Rattle.kc_listing.specs.ListingView.{RepresentsListing}
+use Rattle.kc_tree.specs.checker.Summaries.{enclosing_choice, no_group}
 use Rattle.kc_tree.proofs.Aligned.{count_is, placed_count}
 use Rattle.kc_tree.proofs.Symbols.{all_members, member_more, members_same, nameless_more, outside_more}
 use Rattle.kc_tree.proofs.summary.members_of.Goals as goal
 use Rattle.kc_tree.proofs.summary.members_of.Goals.{in-Config+in-Some+in_ok-push, in-Config+in_default-choice, in_default}
 
-pub bounds-around-i : goal.bounds-around-i
-unfolding Shows
-bounds-around-i c =
+pub bounds-enclosing-i : goal.bounds-enclosing-i
+unfolding RepresentsListing
+bounds-enclosing-i c =
     let l = c.args.listing.now in
     let read = c.requires.shown.read in
     let h = c.requires.shown.shows in
     let n = count_is l.names.arena (names_defined read) l.texts.items l.lines.items l.groups.items read h.groups_are in
-    let m : length c.args.around.now ≡ length read = ap length (c.requires.around read h) ∙ length-map (placed read) (choice_round (contents_of read)) ∙ placed_count read in
+    let m : length c.args.enclosing.now ≡ length read = ap length (c.requires.enclosing read h) ∙ length-map (groups_in_context read) (enclosing_choice (contents_of read)) ∙ placed_count read in
     omega arith
 
 pub loop-i-preserved : goal.loop-i-preserved
-unfolding Shows
+unfolding RepresentsListing
 loop-i-preserved c = λ read h.
     let l = c.args.listing.now in
     let i = c.loop-i.i in
@@ -31,10 +31,10 @@ loop-i-preserved c = λ read h.
     let e = l.names.arena in
     elim c.match-index.branch [
       | in-Config+in-Some+in_ok-push w ↦ (
-          let more = member_more e l.texts.items l.lines.items l.groups.items read h.groups_are i w.in-Config.s w.in-Some.choice c.args.around.now c.loop-i.members.keys.items c.loop-i.members.items.items within (sym group ∙ w.in-Config.is) (c.requires.around read h) w.in-Some.is (c.loop-i.invariant read h) in
+          let more = member_more e l.texts.items l.lines.items l.groups.items read h.groups_are i w.in-Config.s w.in-Some.choice c.args.enclosing.now c.loop-i.members.keys.items c.loop-i.members.items.items within (sym group ∙ w.in-Config.is) (c.requires.enclosing read h) w.in-Some.is (c.loop-i.invariant read h) in
           members_same read (i + 1) _ _ _ _ (ap (λ m. m.keys.items) w.members-is ∙ w.in_ok-push.ensures.keys) (ap (λ m. m.items.items) w.members-is ∙ w.in_ok-push.ensures.items ∙ ap (λ s. c.loop-i.members.items.items ++ s ∷ []) w.at.ensures) more)
       | in-Config+in_default-choice w ↦ (
-          let more = outside_more e l.texts.items l.lines.items l.groups.items read h.groups_are i c.args.around.now c.loop-i.members.keys.items c.loop-i.members.items.items within (c.requires.around read h) w.in_default-choice.is (c.loop-i.invariant read h) in
+          let more = outside_more e l.texts.items l.lines.items l.groups.items read h.groups_are i c.args.enclosing.now c.loop-i.members.keys.items c.loop-i.members.items.items within (c.requires.enclosing read h) w.in_default-choice.is (c.loop-i.invariant read h) in
           members_same read (i + 1) _ _ _ _ (ap (λ m. m.keys.items) w.members-is) (ap (λ m. m.items.items) w.members-is) more)
       | in_default w ↦ (
           let more = nameless_more e l.texts.items l.lines.items l.groups.items read h.groups_are i c.loop-i.members.keys.items c.loop-i.members.items.items within (λ s a. w.in_default.not-Config s (group ∙ a)) (c.loop-i.invariant read h) in
@@ -42,14 +42,14 @@ loop-i-preserved c = λ read h.
     ]
 
 pub returns-clause-keys : goal.returns-clause-keys
-unfolding Shows
+unfolding RepresentsListing
 returns-clause-keys c = λ read h.
     let l = c.args.listing.now in
     let n = count_is l.names.arena (names_defined read) l.texts.items l.lines.items l.groups.items read h.groups_are in
     (all_members read c.loop-i.i _ _ (omega arith) (c.loop-i.invariant read h)).0
 
 pub returns-clause-members : goal.returns-clause-members
-unfolding Shows
+unfolding RepresentsListing
 returns-clause-members c = λ read h.
     let l = c.args.listing.now in
     let n = count_is l.names.arena (names_defined read) l.texts.items l.lines.items l.groups.items read h.groups_are in

@@ -2,16 +2,16 @@ use Rattle.std.proofs.Common.{◌≡◌, ◌+◌, ◌<◌, cond, ◌++◌, lengt
 use Rattle.std.proofs.lemmas.Grind.{common_steps}
 use Rattle.std.specs.Prelude.{option_to_list}
 use Rattle.std.proofs.lemmas.List.{get_or_read}
-use Rattle.kc_listing.specs.Shown.{Shows}
+use Rattle.kc_listing.specs.ListingView.{RepresentsListing}
 use Rattle.kc_tree.specs.checker.Summaries.{is_choice_code, no_group}
-use Rattle.kc_tree.specs.checker.UnitList.{unit_kept}
+use Rattle.kc_tree.specs.checker.UnitList.{unit_of_group}
 use Rattle.kc_tree.proofs.Aligned.{count_is}
 use Rattle.kc_tree.proofs.UnitSteps.{all_units, units_more}
 use Rattle.kc_tree.proofs.unit_list.units_of.Goals as goal
 use Rattle.kc_tree.proofs.unit_list.units_of.Goals.{then-begins_choice, else-begins_choice, in-Some+in_ok-push, in_default}
 
 pub loop-i-preserved : goal.loop-i-preserved
-unfolding Shows
+unfolding RepresentsListing
 loop-i-preserved c = record {
   few = elim c.if-begins_choice.branch [ then-begins_choice w ↦ omega arith | else-begins_choice w ↦ omega arith ];
   units = λ read h.
@@ -23,7 +23,7 @@ loop-i-preserved c = record {
         | then-begins_choice w ↦ w.choices-is ∙ sym (ap (λ b. cond b (c.loop-i.choices + 1) c.loop-i.choices) (sym c.begins_choice.ensures ∙ w.if-begins_choice.true))
         | else-begins_choice w ↦ w.choices-is ∙ sym (ap (λ b. cond b (c.loop-i.choices + 1) c.loop-i.choices) (sym c.begins_choice.ensures ∙ w.if-begins_choice.false))
       ] in
-      let more : c.match-unit_of.units.items ≡ c.loop-i.units.items ++ option_to_list (unit_kept c.args.symbols.now c.loop-i.i c.loop-i.choices c.index.result.now.what) =
+      let more : c.match-unit_of.units.items ≡ c.loop-i.units.items ++ option_to_list (unit_of_group c.args.symbols.now c.loop-i.i c.loop-i.choices c.index.result.now.what) =
       elim c.match-unit_of.branch [
         | in-Some+in_ok-push w ↦ ap (λ v. v.items) w.units-is ∙ w.in_ok-push.ensures.items ∙ ap (λ o. c.loop-i.units.items ++ option_to_list o) (sym w.in-Some.is ∙ c.unit_of.ensures)
         | in_default w ↦ ap (λ v. v.items) w.units-is ∙ sym (append-nil c.loop-i.units.items) ∙ ap (λ o. c.loop-i.units.items ++ option_to_list o) (sym w.in_default.is ∙ c.unit_of.ensures)
@@ -33,7 +33,7 @@ loop-i-preserved c = record {
 }
 
 pub returns : goal.returns
-unfolding Shows
+unfolding RepresentsListing
 returns c = λ read h.
     let l = c.args.listing.now in
     let n = count_is l.names.arena _ l.texts.items l.lines.items l.groups.items read h.groups_are in

@@ -2,8 +2,8 @@ use Rattle.std.proofs.Common.{rules, arith, ◌≡◌, ◌++◌, [], ℕ, List, 
 use Rattle.std.proofs.lemmas.Grind.{common_steps}
 use Rattle.std.specs.Borrow.{Bor}
 use Rattle.std.proofs.lemmas.List.{append-nil, append_assoc, take_all}
-use Rattle.kc_rules.specs.Told.{whole_of}
-use Rattle.kc_dotconfig_model.specs.Prefixes.{text_of}
+use Rattle.kc_rules.specs.SettledViews.{tree_of_settled}
+use Rattle.kc_dotconfig_model.specs.Prefixes.{prefix_bytes}
 use Rattle.kmin_jobs.specs.Answers.{Assign}
 use Rattle.kmin_jobs.proofs.Assigning.{assign_next, taken_next}
 use Rattle.kmin_jobs.proofs.loading.overlaid.Goals as goal
@@ -13,7 +13,7 @@ loop-path-init g c = record {
   same = λ other. refl;
   settled = c.requires.settled;
   solved = c.requires.solved;
-  assign = λ before a. subst (λ (ps : List (List ℕ)). Assign (g.F.Files.tells c.args.files.now) (text_of c.args.prefix.now) (whole_of c.args.settled.now) ps c.args.begun.users) (sym (append-nil before)) a;
+  assign = λ before a. subst (λ (ps : List (List ℕ)). Assign (g.F.Files.content_of c.args.files.now) (prefix_bytes c.args.prefix.now) (tree_of_settled c.args.settled.now) ps c.args.begun.users) (sym (append-nil before)) a;
 }
 
 pub loop-path-preserved : goal.loop-path-preserved
@@ -27,7 +27,7 @@ loop-path-preserved g c =
       settled = search rules;
       solved = search rules;
       assign = λ before a.
-          assign_next _ (g.F.Files.tells c.loop-path.files) _ _ _ _ _ _ _ _ (c.loop-path.invariant.assign before a) (λ path. sym (c.loop-path.invariant.same path)) ok
+          assign_next _ (g.F.Files.content_of c.loop-path.files) _ _ _ _ _ _ _ _ (c.loop-path.invariant.assign before a) (λ path. sym (c.loop-path.invariant.same path)) ok
           (ap (λ (ps : List (List ℕ)). before ++ ps) (taken_next paths i (record { ref_ptr = (0, 0); now = [] }) (search rules)) ∙ sym (append_assoc before (told (take i paths)) _)) (search rules);
     }
 

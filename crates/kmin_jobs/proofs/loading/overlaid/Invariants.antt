@@ -1,16 +1,16 @@
 use Rattle.std.proofs.Common.{◌≡◌, ◌++◌, ℕ, List, map, take}
 use Rattle.std.specs.Borrow.{Bor}
-use Rattle.kc_rules.specs.Told.{whole_of}
+use Rattle.kc_rules.specs.SettledViews.{tree_of_settled}
 use Rattle.kc_dotconfig.specs.Configured.{IsSolved}
-use Rattle.kc_dotconfig_model.specs.Prefixes.{text_of}
+use Rattle.kc_dotconfig_model.specs.Prefixes.{prefix_bytes}
 use Rattle.kmin_jobs.specs.Answers.{Assign}
 use Rattle.kmin_jobs.proofs.loading.overlaid.Given as goal
 
 abbrev pub invariant-loop-path : goal.invariant-loop-path
 invariant-loop-path g l = record {
-  same : (other : List ℕ) → g.F.Files.tells l.files other ≡ g.F.Files.tells l.fn.files other;
+  same : (other : List ℕ) → g.F.Files.content_of l.files other ≡ g.F.Files.content_of l.fn.files other;
   settled : l.config.system ≡ l.settled;
   solved : IsSolved l.config;
-  assign : (before : List (List ℕ)) → Assign (g.F.Files.tells l.fn.files) (text_of l.prefix) (whole_of l.settled) before l.fn.begun.users
-      → Assign (g.F.Files.tells l.fn.files) (text_of l.prefix) (whole_of l.settled) (before ++ map (λ (path : Bor (List ℕ)). path.now) (take l.path-index l.paths)) l.config.users;
+  assign : (before : List (List ℕ)) → Assign (g.F.Files.content_of l.fn.files) (prefix_bytes l.prefix) (tree_of_settled l.settled) before l.fn.begun.users
+      → Assign (g.F.Files.content_of l.fn.files) (prefix_bytes l.prefix) (tree_of_settled l.settled) (before ++ map (λ (path : Bor (List ℕ)). path.now) (take l.path-index l.paths)) l.config.users;
 }

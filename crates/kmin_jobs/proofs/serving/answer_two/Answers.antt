@@ -1,12 +1,12 @@
 use Rattle.std.proofs.Common.{rules, ◌≤◌, subst, sym, arith}
 use Rattle.std.proofs.lemmas.Grind.{common_steps}
-use Rattle.kmin_jobs.specs.Asked.{asked_of}
+use Rattle.kmin_jobs.specs.Requests.{request_of}
 use Rattle.kmin_jobs.proofs.Answering.{answers_two, status_at_most_one}
 use Rattle.kmin_jobs.proofs.serving.answer_two.Goals as goal
 
 pub returns-clause-answer : goal.returns-clause-answer
 returns-clause-answer g c = λ texts accepted.
-    answers_two (g.F.Files.tells c.args.files.now) (g.F.Files.tells c.configured.new.files) (asked_of c.args.job.now) texts c.args.job.now.files.items c.split_at.result.0.now c.split_at.result.1.now
+    answers_two (g.F.Files.content_of c.args.files.now) (g.F.Files.content_of c.configured.new.files) (request_of c.args.job.now) texts c.args.job.now.files.items c.split_at.result.0.now c.split_at.result.1.now
     c.in_ok-left.left c.in_ok-right.right c.args.settled.now _ _
     accepted c.requires.two c.requires.profile c.in_ok-left.ensures.settled c.in_ok-right.ensures.settled
     c.requires.files (search rules) (search rules) c.configured.ensures.same

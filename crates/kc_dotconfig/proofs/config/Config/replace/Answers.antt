@@ -8,7 +8,7 @@ use Rattle.kc_dotconfig.specs.Configured.{Configured, tree_in}
 use Rattle.kc_dotconfig.specs.Fragments.{FitsTree, changes_of, users_of}
 use Rattle.kc_dotconfig.specs.checker.Configs.{units_of, clears_of}
 use Rattle.kc_dotconfig.proofs.Holding.{fits_changes, fits_both}
-use Rattle.kc_dotconfig.proofs.ReadingWhole.{if_any_err}
+use Rattle.kc_dotconfig.proofs.WholeReads.{if_any_err}
 use Rattle.kc_dotconfig.proofs.Solving.{solved_by, replaced_kept, replaced_users}
 use Rattle.kc_dotconfig.proofs.config.Config.replace.Goals as goal
 

@@ -3,9 +3,9 @@ use Rattle.std.proofs.lemmas.Grind.{common_steps}
 use Rattle.kc_expr.specs.Arena.{Exprs}
 use Rattle.kc_expr.specs.Names.{name_of_operand}
 use Rattle.kc_expr.specs.checker.Nodes.{operand_of}
-use Rattle.kc_expr.specs.checker.Store.{names_held}
+use Rattle.kc_expr.specs.checker.Store.{stored_names}
 use Rattle.std.specs.Prelude.{option_and_then}
-use Rattle.kc_expr.proofs.MentionedLemmas.{operand_is, operand_none}
+use Rattle.kc_expr.proofs.NamesInLemmas.{operand_is, operand_none}
 use Rattle.kc_expr.proofs.StoreLemmas.{within_nodes}
 use Rattle.kc_expr.proofs.arena.Arena.bare_name.Goals as goal
 
@@ -17,17 +17,17 @@ returns-in_default-clause-name c = ap (option_and_then name_of_operand) (sym (op
 
 pub returns-in-Constant-clause-name : goal.returns-in-Constant-clause-name
 returns-in-Constant-clause-name c =
-    ap (option_and_then name_of_operand) (sym (operand_is c.args.self.now c.self.inside.store c.args.id c.index.result c.node.result c.self.view_is c.index.ensures c.self.invariant c.requires c.node.ensures c.in-Alone.leaf c.in-Alone.is ∙ ap (λ l. Some (operand_of (names_held c.self.inside.store) c.self.inside.store.texts.items l)) c.in-Constant.is))
+    ap (option_and_then name_of_operand) (sym (operand_is c.args.self.now c.self.inside.store c.args.id c.index.result c.node.result c.self.view_is c.index.ensures c.self.invariant c.requires c.node.ensures c.in-Alone.leaf c.in-Alone.is ∙ ap (λ l. Some (operand_of (stored_names c.self.inside.store) c.self.inside.store.texts.items l)) c.in-Constant.is))
 
 pub returns-in-Quoted-clause-name : goal.returns-in-Quoted-clause-name
 returns-in-Quoted-clause-name c =
-    ap (option_and_then name_of_operand) (sym (operand_is c.args.self.now c.self.inside.store c.args.id c.index.result c.node.result c.self.view_is c.index.ensures c.self.invariant c.requires c.node.ensures c.in-Alone.leaf c.in-Alone.is ∙ ap (λ l. Some (operand_of (names_held c.self.inside.store) c.self.inside.store.texts.items l)) c.in-Quoted.is))
+    ap (option_and_then name_of_operand) (sym (operand_is c.args.self.now c.self.inside.store c.args.id c.index.result c.node.result c.self.view_is c.index.ensures c.self.invariant c.requires c.node.ensures c.in-Alone.leaf c.in-Alone.is ∙ ap (λ l. Some (operand_of (stored_names c.self.inside.store) c.self.inside.store.texts.items l)) c.in-Quoted.is))
 
 pub returns-in-Name-clause-name : goal.returns-in-Name-clause-name
 returns-in-Name-clause-name c =
     ap (λ i. Some (get_or c.args.self.now.names i [])) c.at.ensures
     ∙ ap (λ (x : Exprs). Some (get_or x.names c.in-Name.index [])) (sym c.self.view_is)
-    ∙ ap (option_and_then name_of_operand) (sym (operand_is c.args.self.now c.self.inside.store c.args.id c.index.result c.node.result c.self.view_is c.index.ensures c.self.invariant c.requires c.node.ensures c.in-Alone.leaf c.in-Alone.is ∙ ap (λ l. Some (operand_of (names_held c.self.inside.store) c.self.inside.store.texts.items l)) c.in-Name.is))
+    ∙ ap (option_and_then name_of_operand) (sym (operand_is c.args.self.now c.self.inside.store c.args.id c.index.result c.node.result c.self.view_is c.index.ensures c.self.invariant c.requires c.node.ensures c.in-Alone.leaf c.in-Alone.is ∙ ap (λ l. Some (operand_of (stored_names c.self.inside.store) c.self.inside.store.texts.items l)) c.in-Name.is))
 
 pub returns-in-Name-clause-held : goal.returns-in-Name-clause-held
 returns-in-Name-clause-held c = grind (arith, common_steps)

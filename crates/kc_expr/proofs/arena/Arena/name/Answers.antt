@@ -1,13 +1,13 @@
 use Rattle.std.proofs.Common.{[], get_or, ap, ◌∙◌, arith}
 use Rattle.std.proofs.lemmas.Grind.{common_steps}
 use Rattle.kc_expr.specs.Arena.{Exprs}
-use Rattle.kc_expr.specs.checker.Store.{names_held}
+use Rattle.kc_expr.specs.checker.Store.{stored_names}
 use Rattle.kc_expr.proofs.arena.Arena.name.Goals as goal
 
 pub returns : goal.returns
 returns c =
     c.name.ensures
-    ∙ ap (λ i. get_or (names_held c.self.inside.store) i []) c.index.ensures
+    ∙ ap (λ i. get_or (stored_names c.self.inside.store) i []) c.index.ensures
     ∙ ap (λ (x : Exprs). get_or x.names c.args.id []) c.self.view_is
 
 pub name-requires : goal.name-requires

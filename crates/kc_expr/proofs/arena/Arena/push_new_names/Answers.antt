@@ -4,11 +4,11 @@ use Rattle.kc_expr.specs.Arena.{Exprs}
 use Rattle.kc_expr.proofs.StoreLemmas.{within_nodes, length-nodes}
 use Rattle.kc_expr.proofs.arena.Arena.push_new_names.Goals as goal
 
-pub push_unwalked-requires-clause-there : goal.push_unwalked-requires-clause-there
-push_unwalked-requires-clause-there c = rw c.index.ensures (within_nodes c.args.self.now c.self.inside.store c.args.id c.self.view_is c.requires.there)
+pub push_unvisited-requires-clause-there : goal.push_unvisited-requires-clause-there
+push_unvisited-requires-clause-there c = rw c.index.ensures (within_nodes c.args.self.now c.self.inside.store c.args.id c.self.view_is c.requires.there)
 
-pub push_unwalked-requires-clause-room : goal.push_unwalked-requires-clause-room
-push_unwalked-requires-clause-room c = omega (arith, c.requires.found.room, length-nodes c.self.inside.store, ap (λ (x : Exprs). length x.nodes) c.self.view_is)
+pub push_unvisited-requires-clause-room : goal.push_unvisited-requires-clause-room
+push_unvisited-requires-clause-room c = omega (arith, c.requires.found.room, length-nodes c.self.inside.store, ap (λ (x : Exprs). length x.nodes) c.self.view_is)
 
 pub returns-in-Err-clause-err : goal.returns-in-Err-clause-err
 returns-in-Err-clause-err c = search rules
@@ -16,5 +16,5 @@ returns-in-Err-clause-err c = search rules
 pub returns-in-Ok-clause-held : goal.returns-in-Ok-clause-held
 returns-in-Ok-clause-held c = grind (arith, common_steps)
 
-pub push_unwalked-requires-clause-found : goal.push_unwalked-requires-clause-found
-push_unwalked-requires-clause-found c = grind (arith, common_steps)
+pub push_unvisited-requires-clause-found : goal.push_unvisited-requires-clause-found
+push_unvisited-requires-clause-found c = grind (arith, common_steps)

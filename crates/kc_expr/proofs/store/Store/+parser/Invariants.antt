@@ -1,7 +1,7 @@
 use Rattle.std.proofs.Common.{◌+◌, ◌*◌, ◌-◌, length}
 use Rattle.kc_expr.specs.checker.Parsing.{ands_read, ors_read}
 use Rattle.kc_expr.specs.checker.Store.{IsSound, Extends, HasNamesOf}
-use Rattle.kc_expr.specs.Token.{pieces_of}
+use Rattle.kc_expr.specs.Token.{lexemes_of}
 use Rattle.kc_expr.proofs.ParseSteps.{IsChained}
 use Rattle.kc_expr.proofs.ReaderSteps.{ands_on, ors_on}
 use Rattle.kc_expr.proofs.store.Store.+parser.Given as goal
@@ -20,7 +20,7 @@ invariant-parse_ands-ands l = record {
   sound : IsSound l.self;
   extends : Extends l.fn.self l.self;
   names : HasNamesOf l.fn.self l.self l.left;
-  chained : IsChained ands_on ands_read l.self (pieces_of l.tokens) l.condition l.at l.depth l.left l.next;
+  chained : IsChained ands_on ands_read l.self (lexemes_of l.tokens) l.condition l.at l.depth l.left l.next;
 }
 
 abbrev pub decreases-parse_ands-ands : goal.decreases-parse_ands-ands
@@ -31,7 +31,7 @@ invariant-parse_ors-ors l = record {
   sound : IsSound l.self;
   extends : Extends l.fn.self l.self;
   names : HasNamesOf l.fn.self l.self l.left;
-  chained : IsChained ors_on ors_read l.self (pieces_of l.tokens) l.condition l.at l.depth l.left l.next;
+  chained : IsChained ors_on ors_read l.self (lexemes_of l.tokens) l.condition l.at l.depth l.left l.next;
 }
 
 abbrev pub decreases-parse_ors-ors : goal.decreases-parse_ors-ors

@@ -1,8 +1,8 @@
 use Rattle.std.proofs.Common.{sym, ◌∙◌, inl, arith}
 use Rattle.std.proofs.lemmas.Grind.{common_steps}
 use Rattle.kc_expr.specs.checker.Nodes.{operand_of}
-use Rattle.kc_expr.specs.checker.Store.{names_held}
-use Rattle.kc_expr.specs.Token.{pieces_of}
+use Rattle.kc_expr.specs.checker.Store.{stored_names}
+use Rattle.kc_expr.specs.Token.{lexemes_of}
 use Rattle.kc_expr.proofs.NamesRead.{read_alone, read_related}
 use Rattle.kc_expr.proofs.ParseSteps.{relation_missing, relation_alone, relation_unfinished, relation_whole}
 use Rattle.kc_expr.proofs.StoreLemmas.{operand_on, extends_on}
@@ -11,22 +11,22 @@ use Rattle.kc_expr.proofs.store.Store.parse_relation.Goals as goal
 
 pub returns-in_default-clause-parses : goal.returns-in_default-clause-parses
 returns-in_default-clause-parses c =
-    relation_missing (operand_of (names_held c.leaf_at.new.self) c.leaf_at.new.self.texts.items) _ (pieces_of c.args.tokens.now) c.args.at c.in_ok-left.ensures.operand _ c.in_default.is c.fault_at.ensures
+    relation_missing (operand_of (stored_names c.leaf_at.new.self) c.leaf_at.new.self.texts.items) _ (lexemes_of c.args.tokens.now) c.args.at c.in_ok-left.ensures.operand _ c.in_default.is c.fault_at.ensures
 
 pub returns-in_default-relation_at-clause-parses : goal.returns-in_default-relation_at-clause-parses
 returns-in_default-relation_at-clause-parses c =
-    relation_alone (operand_of (names_held c.leaf_at.new.self) c.leaf_at.new.self.texts.items) _ (pieces_of c.args.tokens.now) c.args.at c.in_ok-left.ensures.operand _ c.in-Some.is
+    relation_alone (operand_of (stored_names c.leaf_at.new.self) c.leaf_at.new.self.texts.items) _ (lexemes_of c.args.tokens.now) c.args.at c.in_ok-left.ensures.operand _ c.in-Some.is
     c.push_alone.new.self c.args.condition _ (sym c.relation_at.ensures ∙ c.in_default-relation_at.is) c.in_ok-push_alone.ensures.stands
 
 pub returns-in_default-2-clause-parses : goal.returns-in_default-2-clause-parses
 returns-in_default-2-clause-parses c =
-    relation_unfinished (operand_of (names_held c.leaf_at.new.self) c.leaf_at.new.self.texts.items) _ (pieces_of c.args.tokens.now) c.args.at c.in_ok-left.ensures.operand _ c.in-Some.is
-    _ (sym c.relation_at.ensures ∙ c.in-Some-relation_at.is) (operand_of (names_held c.leaf_at-2.new.self) c.leaf_at-2.new.self.texts.items) _ c.in_ok-right.ensures.operand _ c.in_default-2.is c.fault_at-in_default-2.ensures
+    relation_unfinished (operand_of (stored_names c.leaf_at.new.self) c.leaf_at.new.self.texts.items) _ (lexemes_of c.args.tokens.now) c.args.at c.in_ok-left.ensures.operand _ c.in-Some.is
+    _ (sym c.relation_at.ensures ∙ c.in-Some-relation_at.is) (operand_of (stored_names c.leaf_at-2.new.self) c.leaf_at-2.new.self.texts.items) _ c.in_ok-right.ensures.operand _ c.in_default-2.is c.fault_at-in_default-2.ensures
 
 pub returns-clause-parses : goal.returns-clause-parses
 returns-clause-parses c =
-    relation_whole (operand_of (names_held c.leaf_at.new.self) c.leaf_at.new.self.texts.items) _ (pieces_of c.args.tokens.now) c.args.at c.in_ok-left.ensures.operand _ c.in-Some.is
-    _ (sym c.relation_at.ensures ∙ c.in-Some-relation_at.is) (operand_of (names_held c.leaf_at-2.new.self) c.leaf_at-2.new.self.texts.items) _ c.in_ok-right.ensures.operand _ c.in-Some-2.is
+    relation_whole (operand_of (stored_names c.leaf_at.new.self) c.leaf_at.new.self.texts.items) _ (lexemes_of c.args.tokens.now) c.args.at c.in_ok-left.ensures.operand _ c.in-Some.is
+    _ (sym c.relation_at.ensures ∙ c.in-Some-relation_at.is) (operand_of (stored_names c.leaf_at-2.new.self) c.leaf_at-2.new.self.texts.items) _ c.in_ok-right.ensures.operand _ c.in-Some-2.is
     c.push.new.self c.args.condition _ _ (operand_on c.leaf_at.new.self c.leaf_at-2.new.self c.in-Some.left c.leaf_at-2.ensures.extends (rw c.in-Some.is at c.in_ok-left.ensures.fits)) c.in_ok-push.ensures.stands
 
 pub returns-in_default-relation_at-clause-names : goal.returns-in_default-relation_at-clause-names

@@ -4,7 +4,7 @@ use Rattle.kc_expr.proofs.StoreLemmas.{push_extends, push_sound, push_stands}
 use Rattle.kc_expr.proofs.store.Store.push.Goals as goal
 
 pub returns-clause-sound : goal.returns-clause-sound
-returns-clause-sound c = push_sound c.args.self.now (record c.args.self.now { nodes = c.push.new.self }) c.args.node c.requires.sound c.in_ok-push.ensures.items refl refl (omega (arith, c.number_at.ensures, c.in_ok-id.ensures.below)) c.requires.fits
+returns-clause-sound c = push_sound c.args.self.now (record c.args.self.now { nodes = c.push.new.self }) c.args.node c.requires.sound c.in_ok-push.ensures.items refl refl (omega (arith, c.index_of_32_bits.ensures, c.in_ok-id.ensures.below)) c.requires.fits
 
 pub returns-clause-extends : goal.returns-clause-extends
 returns-clause-extends c = push_extends c.args.self.now (record c.args.self.now { nodes = c.push.new.self }) c.args.node c.requires.sound c.in_ok-push.ensures.items refl refl

@@ -1,7 +1,7 @@
 use Rattle.std.proofs.Common.{sym, ap, subst}
 use Rattle.std.proofs.lemmas.Result.{IfOk-weaker}
-use Rattle.kc_system.specs.Held.{Held}
-use Rattle.kc_system.specs.Solutions.{Gives}
+use Rattle.kc_system.specs.SessionState.{SessionState}
+use Rattle.kc_system.specs.Solutions.{UniquelySolves}
 use Rattle.kc_system.proofs.sessions.Session.holding.Goals as goal
 
 pub solve-requires-clause-order : goal.solve-requires-clause-order
@@ -28,18 +28,18 @@ with_values-requires-clause-gives g c =
     }
 
 pub returns-clause-system : goal.returns-clause-system
-returns-clause-system g c = IfOk-weaker c.with_values.result _ _ (λ s e. ap (λ (h : Held _ _ _). h.system) e) c.with_values.ensures
+returns-clause-system g c = IfOk-weaker c.with_values.result _ _ (λ s e. ap (λ (h : SessionState _ _ _). h.system) e) c.with_values.ensures
 
 pub returns-clause-users : goal.returns-clause-users
-returns-clause-users g c = IfOk-weaker c.with_values.result _ _ (λ s e. ap (λ (h : Held _ _ _). h.users) e) c.with_values.ensures
+returns-clause-users g c = IfOk-weaker c.with_values.result _ _ (λ s e. ap (λ (h : SessionState _ _ _). h.users) e) c.with_values.ensures
 
 pub returns-clause-gives : goal.returns-clause-gives
 returns-clause-gives g c =
     let size = g.S.Graph.size c.args.system.now in
     let rule = g.S.System.rule c.args.system.now in
     let values = c.in_ok-values.values.items in
-    let gives : Gives size rule c.args.users.items values = record {
+    let gives : UniquelySolves size rule c.args.users.items values = record {
       solves = rw c.as_slice.ensures.value at c.in_ok-values.ensures.solves;
       only = λ w b. c.in_ok-values.ensures.unique w values (rw (← c.as_slice.ensures.value) at b) c.in_ok-values.ensures.solves;
     } in
-    IfOk-weaker c.with_values.result _ _ (λ s e. subst (λ (h : Held _ _ _). Gives size rule h.users h.values) (sym e) gives) c.with_values.ensures
+    IfOk-weaker c.with_values.result _ _ (λ s e. subst (λ (h : SessionState _ _ _). UniquelySolves size rule h.users h.values) (sym e) gives) c.with_values.ensures

@@ -1,10 +1,10 @@
 use Rattle.std.proofs.Common.{ap, ◌∙◌, arith}
 use Rattle.std.proofs.lemmas.Grind.{common_steps, elements}
-use Rattle.kc_system.specs.Held.{Held}
+use Rattle.kc_system.specs.SessionState.{SessionState}
 use Rattle.kc_system.proofs.sessions.Session.values.Goals as goal
 
 pub returns-clause-values : goal.returns-clause-values
-returns-clause-values g c = c.as_slice.ensures.value ∙ ap (λ (h : Held _ _ _). h.values) c.self.view_is
+returns-clause-values g c = c.as_slice.ensures.value ∙ ap (λ (h : SessionState _ _ _). h.values) c.self.view_is
 
 pub returns-clause-fits : goal.returns-clause-fits
 returns-clause-fits g c = grind (arith, elements)

@@ -1,12 +1,12 @@
 use Rattle.std.proofs.Common.{◌∙◌, ap, sym, subst, arith}
 use Rattle.std.proofs.lemmas.Grind.{common_steps}
-use Rattle.kc_tree_model.specs.Trees.{Whole}
-use Rattle.kc_tree.specs.Held.{Held}
+use Rattle.kc_tree_model.specs.Trees.{Tree}
+use Rattle.kc_tree.specs.TreeModel.{TreeModel}
 use Rattle.kc_tree.specs.checker.GatheredLists.{parts_made}
-use Rattle.kc_tree.specs.checker.Kept.{IsKept}
-use Rattle.kc_tree.specs.checker.PartsView.{whole_from}
+use Rattle.kc_tree.specs.checker.StoredParts.{AreSoundParts}
+use Rattle.kc_tree.specs.checker.PartsView.{tree_from_rows}
 use Rattle.kc_tree.specs.declared.parts.Parts.{Parts}
-use Rattle.kc_tree.proofs.Made.{kept, whole_same}
+use Rattle.kc_tree.proofs.FinishedTables.{kept, whole_same}
 use Rattle.kc_tree.proofs.gathered.Gathered.into_tree.Goals as goal
 
 pub of-requires : goal.of-requires
@@ -15,7 +15,7 @@ of-requires c =
     let l = c.in_ok-made.ensures.lists in
     let t = c.in_ok-made.ensures.tables in
     let p : Parts = parts_made g c.in_ok-made.made.lists c.in_ok-made.made.tables in
-    subst IsKept (sym c.into_parts.ensures)
+    subst AreSoundParts (sym c.into_parts.ensures)
     (kept p g.attributes g.members g.member_defaults l.attributes l.members l.member_defaults c.requires.fits c.requires.consistent t.units c.requires.distinct t.names)
 
 pub returns : goal.returns
@@ -23,8 +23,8 @@ returns c =
     let g = c.args.self in
     let l = c.in_ok-made.ensures.lists in
     let p : Parts = parts_made g c.in_ok-made.made.lists c.in_ok-made.made.tables in
-    let held : Whole → Held = λ w. record { exprs = g.arena; whole = w } in
-    let seen : Parts → Held = λ q. record { exprs = q.arena; whole = whole_from q } in
+    let held : Tree → TreeModel = λ w. record { exprs = g.arena; whole = w } in
+    let seen : Parts → TreeModel = λ q. record { exprs = q.arena; whole = tree_from_rows q } in
     c.of.ensures ∙ ap seen c.into_parts.ensures ∙ ap held (whole_same p g.attributes g.members g.member_defaults l.attributes l.members l.member_defaults)
 
 pub made-requires-clause-distinct : goal.made-requires-clause-distinct

@@ -1,4 +1,4 @@
-use Rattle.kc_tree.proofs.Made.{names_apart, name_at}
+use Rattle.kc_tree.proofs.FinishedTables.{names_apart, name_at}
 use Rattle.kc_tree.proofs.gathered.Gathered.tables.Goals as goal
 
 pub symbols_of_names-requires-clause-there : goal.symbols_of_names-requires-clause-there

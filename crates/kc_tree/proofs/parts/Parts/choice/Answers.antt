@@ -3,16 +3,16 @@ use Rattle.std.proofs.lemmas.Option.{slice_get_read}
 use Rattle.std.specs.Prelude.{◌<◌, length}
 use Rattle.std.specs.Prelude.{slice_index}
 use Rattle.std.proofs.lemmas.Grind.{get_or_default_zero}
-use Rattle.kc_tree.specs.Told.{MemberDefaultFits}
-use Rattle.kc_tree.specs.checker.PartsView.{choice_seen}
-use Rattle.kc_tree.proofs.Seen.{seen_get, all_at}
+use Rattle.kc_tree.specs.Views.{MemberDefaultFits}
+use Rattle.kc_tree.specs.checker.PartsView.{choice_from_row}
+use Rattle.kc_tree.proofs.RowViews.{seen_get, all_at}
 use Rattle.kc_tree.proofs.parts.Parts.choice.Goals as goal
 
 pub returns-clause-choice : goal.returns-clause-choice
 returns-clause-choice c =
     let p = c.args.self.now in
     rw (c.get.ensures, c.get-2.ensures)
-    (seen_get (choice_seen p) 0 p.choices.items c.args.c c.args.c c.index-row.result.now (omega arith) (slice_get_read p.choices.items _ c.args.c c.index-row.result.now refl c.requires.there c.index-row.ensures))
+    (seen_get (choice_from_row p) 0 p.choices.items c.args.c c.args.c c.index-row.result.now (omega arith) (slice_get_read p.choices.items _ c.args.c c.index-row.result.now refl c.requires.there c.index-row.ensures))
 
 pub returns-clause-fits : goal.returns-clause-fits
 returns-clause-fits c =

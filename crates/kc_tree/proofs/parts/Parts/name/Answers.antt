@@ -3,14 +3,14 @@ use Rattle.std.proofs.lemmas.Grind.{common_steps}
 use Rattle.std.proofs.lemmas.Option.{slice_get_read}
 use Rattle.std.specs.Prelude.{option_map}
 use Rattle.kc_tree_model.specs.Trees as tree
-use Rattle.kc_tree.specs.checker.PartsView.{symbol_seen}
-use Rattle.kc_tree.proofs.Seen.{seen_get}
+use Rattle.kc_tree.specs.checker.PartsView.{symbol_from_row}
+use Rattle.kc_tree.proofs.RowViews.{seen_get}
 use Rattle.kc_tree.proofs.parts.Parts.name.Goals as goal
 
 pub returns : goal.returns
 returns c =
     let p = c.args.self.now in
-    ap (option_map (λ (t : tree.Symbol). t.name)) (seen_get (symbol_seen p) 0 p.symbols.items c.args.s c.args.s c.index.result.now (omega arith) (slice_get_read p.symbols.items _ c.args.s c.index.result.now refl c.requires.there c.index.ensures))
+    ap (option_map (λ (t : tree.Symbol). t.name)) (seen_get (symbol_from_row p) 0 p.symbols.items c.args.s c.args.s c.index.result.now (omega arith) (slice_get_read p.symbols.items _ c.args.s c.index.result.now refl c.requires.there c.index.ensures))
     ∙ ap Some (sym c.name.ensures)
 
 pub name-requires : goal.name-requires

@@ -3,17 +3,17 @@ use Rattle.std.proofs.lemmas.Grind.{common_steps}
 use Rattle.std.proofs.lemmas.Option.{slice_get_read}
 use Rattle.std.proofs.lemmas.List.Elements.{All-get_or}
 use Rattle.std.specs.Prelude.{◌<◌, length}
-use Rattle.kc_tree.specs.Told.{DefaultFits, RangeFits, HasOperands, ForceFits}
-use Rattle.kc_tree.specs.checker.PartsView.{symbol_seen}
+use Rattle.kc_tree.specs.Views.{DefaultFits, RangeFits, HasOperands, ReverseDependencyFits}
+use Rattle.kc_tree.specs.checker.PartsView.{symbol_from_row}
 use Rattle.kc_tree.specs.declared.parts.SymbolRow.{SymbolRow}
-use Rattle.kc_tree.proofs.Seen.{seen_get, all_at}
+use Rattle.kc_tree.proofs.RowViews.{seen_get, all_at}
 use Rattle.kc_tree.proofs.parts.Parts.symbol.Goals as goal
 
 pub returns-clause-symbol : goal.returns-clause-symbol
 returns-clause-symbol c =
     let p = c.args.self.now in
     rw (c.get.ensures, c.get-2.ensures, c.get-3.ensures, c.get-4.ensures, c.get-5.ensures, c.get-6.ensures)
-    (seen_get (symbol_seen p) 0 p.symbols.items c.args.s c.args.s c.index-row.result.now (omega arith) (slice_get_read p.symbols.items _ c.args.s c.index-row.result.now refl c.requires.there c.index-row.ensures))
+    (seen_get (symbol_from_row p) 0 p.symbols.items c.args.s c.args.s c.index-row.result.now (omega arith) (slice_get_read p.symbols.items _ c.args.s c.index-row.result.now refl c.requires.there c.index-row.ensures))
 
 pub returns-clause-fits : goal.returns-clause-fits
 returns-clause-fits c =
@@ -25,8 +25,8 @@ returns-clause-fits c =
       defaults = rw c.get-2.ensures (all_at (DefaultFits (length p.arena.nodes)) p.defaults.starts.items p.defaults.items.items c.args.s f.defaults);
       ranges = rw c.get-3.ensures (all_at (RangeFits (length p.arena.nodes)) p.ranges.starts.items p.ranges.items.items c.args.s f.ranges);
       bounds = rw c.get-3.ensures (all_at (HasOperands p.arena) p.ranges.starts.items p.ranges.items.items c.args.s f.bounds);
-      selectors = rw c.get-4.ensures (all_at (ForceFits (length p.arena.nodes) (length p.symbols.items)) p.selectors.starts.items p.selectors.items.items c.args.s f.selectors);
-      impliers = rw c.get-5.ensures (all_at (ForceFits (length p.arena.nodes) (length p.symbols.items)) p.impliers.starts.items p.impliers.items.items c.args.s f.impliers);
+      selectors = rw c.get-4.ensures (all_at (ReverseDependencyFits (length p.arena.nodes) (length p.symbols.items)) p.selectors.starts.items p.selectors.items.items c.args.s f.selectors);
+      impliers = rw c.get-5.ensures (all_at (ReverseDependencyFits (length p.arena.nodes) (length p.symbols.items)) p.impliers.starts.items p.impliers.items.items c.args.s f.impliers);
       direct = rw c.get-6.ensures (all_at (λ i. i < length p.arena.nodes) p.direct.starts.items p.direct.items.items c.args.s f.direct);
     }
 

@@ -1,8 +1,8 @@
 use Rattle.std.proofs.Common.{ℕ, ap, ◌∙◌, List, map}
 use Rattle.std.specs.Prelude.{String, string_bytes}
 use Rattle.std.specs.declared.alloc.Global.{Global}
-use Rattle.kc_tree.specs.checker.Wanting.{with_path}
-use Rattle.kc_tree.proofs.Wanting.{paths_put}
+use Rattle.kc_tree.specs.checker.MissingPaths.{with_path}
+use Rattle.kc_tree.proofs.MissingPaths.{paths_put}
 use Rattle.kc_tree.proofs.paths.Paths.put.Goals as goal
 
 pub returns : goal.returns

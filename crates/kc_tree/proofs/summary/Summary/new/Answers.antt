@@ -7,7 +7,7 @@ pub returns-clause-summary : goal.returns-clause-summary
 unfolding IsSummary
 returns-clause-summary c = λ read h. record {
   symbols = c.in_ok-symbols.ensures read h;
-  around = c.in_ok-around.ensures read h;
+  enclosing = c.in_ok-enclosing.ensures read h;
   choices = c.choice_count.ensures read h;
   member_keys = c.in_ok-members.ensures.keys read h;
   members = c.in_ok-members.ensures.members read h;
@@ -16,5 +16,5 @@ returns-clause-summary c = λ read h. record {
 pub returns-clause-few : goal.returns-clause-few
 returns-clause-few c = grind (arith, common_steps)
 
-pub members_of-requires-clause-around : goal.members_of-requires-clause-around
-members_of-requires-clause-around c = grind (arith, common_steps)
+pub members_of-requires-clause-enclosing : goal.members_of-requires-clause-enclosing
+members_of-requires-clause-enclosing c = grind (arith, common_steps)

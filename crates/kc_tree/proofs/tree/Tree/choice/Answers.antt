@@ -1,11 +1,11 @@
 use Rattle.std.proofs.Common.{length, arith, ap}
-use Rattle.kc_tree.specs.Held.{Held}
-use Rattle.kc_tree.proofs.Seen.{symbols_length, choices_length, units_length}
+use Rattle.kc_tree.specs.TreeModel.{TreeModel}
+use Rattle.kc_tree.proofs.RowViews.{symbols_length, choices_length, units_length}
 use Rattle.kc_tree.proofs.tree.Tree.choice.Goals as goal
 
 pub choice-requires-clause-there : goal.choice-requires-clause-there
 choice-requires-clause-there c =
-    let v = ap (λ (h : Held). length h.whole.choices) c.self.view_is in
+    let v = ap (λ (h : TreeModel). length h.whole.choices) c.self.view_is in
     let l = choices_length c.self.inside.parts in
     omega arith
 

@@ -1,10 +1,10 @@
 use Rattle.std.proofs.Common.{length, arith, ap}
-use Rattle.kc_tree.specs.Held.{Held}
-use Rattle.kc_tree.proofs.Seen.{choices_length}
+use Rattle.kc_tree.specs.TreeModel.{TreeModel}
+use Rattle.kc_tree.proofs.RowViews.{choices_length}
 use Rattle.kc_tree.proofs.tree.Tree.choice_count.Goals as goal
 
 pub returns : goal.returns
 returns c =
-    let v = ap (λ (h : Held). length h.whole.choices) c.self.view_is in
+    let v = ap (λ (h : TreeModel). length h.whole.choices) c.self.view_is in
     let l = choices_length c.self.inside.parts in
     omega arith

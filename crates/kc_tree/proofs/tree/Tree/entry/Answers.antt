@@ -1,6 +1,6 @@
 use Rattle.std.proofs.Common.{arith}
 use Rattle.std.proofs.lemmas.Grind.{elements}
-use Rattle.kc_tree.proofs.Seen.{symbols_length, choices_length}
+use Rattle.kc_tree.proofs.RowViews.{symbols_length, choices_length}
 use Rattle.kc_tree.proofs.tree.Tree.entry.Goals as goal
 
 pub returns-clause-fits : goal.returns-clause-fits

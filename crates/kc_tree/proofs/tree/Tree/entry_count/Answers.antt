@@ -1,10 +1,10 @@
 use Rattle.std.proofs.Common.{length, arith, ap}
-use Rattle.kc_tree.specs.Held.{Held}
-use Rattle.kc_tree.proofs.Seen.{entries_length}
+use Rattle.kc_tree.specs.TreeModel.{TreeModel}
+use Rattle.kc_tree.proofs.RowViews.{entries_length}
 use Rattle.kc_tree.proofs.tree.Tree.entry_count.Goals as goal
 
 pub returns : goal.returns
 returns c =
-    let v = ap (λ (h : Held). length h.whole.entries) c.self.view_is in
+    let v = ap (λ (h : TreeModel). length h.whole.entries) c.self.view_is in
     let l = entries_length c.self.inside.parts in
     omega arith

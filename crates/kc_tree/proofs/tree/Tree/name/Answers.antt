@@ -1,11 +1,11 @@
 use Rattle.std.proofs.Common.{length, arith, ap}
-use Rattle.kc_tree.specs.Held.{Held}
-use Rattle.kc_tree.proofs.Seen.{symbols_length}
+use Rattle.kc_tree.specs.TreeModel.{TreeModel}
+use Rattle.kc_tree.proofs.RowViews.{symbols_length}
 use Rattle.kc_tree.proofs.tree.Tree.name.Goals as goal
 
 pub name-requires-clause-there : goal.name-requires-clause-there
 name-requires-clause-there c =
-    let v = ap (λ (h : Held). length h.whole.symbols) c.self.view_is in
+    let v = ap (λ (h : TreeModel). length h.whole.symbols) c.self.view_is in
     let l = symbols_length c.self.inside.parts in
     let e = c.number.ensures in
     omega arith

@@ -1,11 +1,11 @@
 use Rattle.std.proofs.Common.{length, arith, ap}
-use Rattle.kc_tree.specs.Held.{Held}
-use Rattle.kc_tree.proofs.Seen.{symbols_length, units_length}
+use Rattle.kc_tree.specs.TreeModel.{TreeModel}
+use Rattle.kc_tree.proofs.RowViews.{symbols_length, units_length}
 use Rattle.kc_tree.proofs.tree.Tree.unit_of.Goals as goal
 
 pub unit_of-requires-clause-there : goal.unit_of-requires-clause-there
 unit_of-requires-clause-there c =
-    let v = ap (λ (h : Held). length h.whole.symbols) c.self.view_is in
+    let v = ap (λ (h : TreeModel). length h.whole.symbols) c.self.view_is in
     let l = symbols_length c.self.inside.parts in
     let e = c.number.ensures in
     omega arith

@@ -1,7 +1,7 @@
 use Rattle.std.proofs.Common.{ap, ◌∙◌, map, arith}
 use Rattle.std.proofs.lemmas.Grind.{common_steps}
 use Rattle.kc_tree_model.specs.checker.TextsView.{file_of}
-use Rattle.kc_tree_model.specs.Files.{with_file}
+use Rattle.kc_tree_model.specs.TreeFiles.{with_file}
 use Rattle.kc_tree_model.proofs.TextsLemmas.{insert_files}
 use Rattle.kc_tree_model.proofs.texts.Texts.insert.Goals as goal
 

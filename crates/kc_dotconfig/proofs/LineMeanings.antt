@@ -1,0 +1,127 @@
+-- What the texts of strings say.
+use Rattle.std.proofs.Common.{◌≡◌, ◌<◌, ℕ, Bool, true, false, not, ◌==◌, cond, List, [], ◌∷◌, length, find, Option, Some, None, refl, sym, ◌∙◌, ap, subst, zero, suc, arith}
+use Rattle.std.specs.Prelude.{IfSome, IfNone, IfOk, Result, Ok, Err, slice_get, is_some, option_map, bytes_eq}
+use Rattle.std.proofs.lemmas.Bool.{eqb-true}
+use Rattle.std.proofs.lemmas.Slice.Eq.{bytes_eq-Decides}
+use Rattle.kc_expr.specs.Token.{is_white_byte}
+use Rattle.kc_value.specs.declared.tri.Tri.{Tri}
+use Rattle.kc_value.specs.declared.value.Kind.{Kind}
+use Rattle.kc_value.specs.declared.value.Kind.TheVariants.{Bool as Boolean, Tristate, Text, Int, Hex}
+use Rattle.kc_value.specs.Number.{number_of_text}
+use Rattle.kc_tree_model.specs.Trees.{Tree, Symbol}
+use Rattle.kc_tree_model.specs.TreeLookup.{IsConsistent, symbol_named}
+use Rattle.kc_tree_model.proofs.Lookups.{found_by_name}
+use Rattle.kc_rules_model.specs.Kinds.{is_y}
+use Rattle.kc_dotconfig.specs.declared.meanings.Meaning.{Meaning}
+use Rattle.kc_dotconfig.specs.checker.MeaningViews.{meaning_view, IsWithin}
+use Rattle.kc_value.specs.Quoted.{IsQuoted}
+use Rattle.kc_rules_model.specs.declared.values.UserValue.TheVariants.{Text as TextUser, Member as MemberUser}
+use Rattle.kc_dotconfig_model.specs.declared.notice.NoticeKind.TheVariants.{NotOfType}
+use Rattle.kc_dotconfig_model.specs.ConfigLines.{LineMeaning, assigns, notice, silent, tri_of_text, unset_meaning}
+use Rattle.kc_dotconfig_model.specs.checker.LineMeanings.{tri_meaning, string_meaning, number_meaning, without_number, meaning_of_kind, value_meaning, unquoted, value_parts, unset_name, of_symbol_at, of_named, is_hash, of_other, of_unset, of_value, line_meaning}
+use Rattle.kc_dotconfig_model.proofs.ValueLaws.{unquoted_means, means_unquoted}
+
+-- a fact of what is there, and of what is not
+pub some_is : {X : Type 0} (o : Option X) (P : X → Type 0) (x : X) → IfSome o P → o ≡ Some x → P x
+some_is o P x held is = subst (λ p. IfSome p P) is held
+
+pub none_is : {X : Type 0} (o : Option X) (P : Type 0) → IfNone o P → o ≡ None → P
+none_is o P held is = subst (λ p. IfNone p P) is held
+
+pub quoted_said : (unit : ℕ) (text means result : List ℕ) → result ≡ means → IsQuoted text means → assigns unit (TextUser result) ≡ string_meaning unit (unquoted text)
+quoted_said unit text means result same quoted = ap (λ t. assigns unit (TextUser t)) same ∙ sym (ap (string_meaning unit) (means_unquoted text means quoted))
+
+pub unquoted_said : (unit : ℕ) (text : List ℕ) → ((means : List ℕ) → IsQuoted text means → ⊥) → notice NotOfType ≡ string_meaning unit (unquoted text)
+unquoted_said unit text none = go (unquoted text) refl where
+  go : (o : Option (List ℕ)) → unquoted text ≡ o → notice NotOfType ≡ string_meaning unit (unquoted text)
+  go None e = sym (ap (string_meaning unit) e)
+  go (Some means) e = absurd (none means (unquoted_means text means e))
+
+-- what is assigned is assigned to the unit
+tri_within : (n u s : ℕ) (choice : Option ℕ) (o : Option Tri) → u < n → IsWithin n (tri_meaning u s choice o)
+tri_within n u s choice None h = tt
+tri_within n u s None (Some t) h = h
+tri_within n u s (Some c) (Some t) h = go (is_y t) where
+  go : (b : Bool) → IsWithin n (cond b (assigns u (MemberUser s)) silent)
+  go true = h
+  go false = tt
+
+string_within : (n u : ℕ) (o : Option (List ℕ)) → u < n → IsWithin n (string_meaning u o)
+string_within n u None h = tt
+string_within n u (Some text) h = h
+
+number_within : (n u : ℕ) (kind : Kind) (text : List ℕ) → u < n → IsWithin n (number_meaning u kind text)
+number_within n u kind text h = go (is_some (number_of_text kind text)) text where
+  go : (b : Bool) (rest : List ℕ) → IsWithin n (cond b (assigns u (TextUser text)) (without_number rest))
+  go true rest = h
+  go false [] = tt
+  go false (c ∷ rest) = tt
+
+kind_within : (n : ℕ) (kind : Kind) (u s : ℕ) (choice : Option ℕ) (text : List ℕ) → u < n → IsWithin n (meaning_of_kind kind u s choice text)
+kind_within n Boolean u s choice text h = tri_within n u s choice (tri_of_text Boolean text) h
+kind_within n Tristate u s choice text h = tri_within n u s choice (tri_of_text Tristate text) h
+kind_within n Text u s choice text h = string_within n u (unquoted text) h
+kind_within n Int u s choice text h = number_within n u Int text h
+kind_within n Hex u s choice text h = number_within n u Hex text h
+
+pub said_within : {E : Type 0} (r : Result Meaning E) (n : ℕ) (kind : Kind) (u s : ℕ) (choice : Option ℕ) (text : List ℕ) → u < n → IfOk r (λ said. meaning_view said ≡ meaning_of_kind kind u s choice text) → IfOk r (λ said. IsWithin n (meaning_view said))
+said_within (Ok said) n kind u s choice text h is = subst (IsWithin n) (sym is) (kind_within n kind u s choice text h)
+said_within (Err e) n kind u s choice text h is = tt
+
+slice_there : {X : Type 0} (xs : List X) (k : ℕ) → k < length xs → (x : X) × (slice_get xs k ≡ Some x)
+slice_there [] k h = absurd (omega (arith, h))
+slice_there (x ∷ xs) zero h = (x, refl)
+slice_there (x ∷ xs) (suc k) h = slice_there xs k (omega (arith, h))
+
+-- what is said of a symbol that is there
+pub named_at : (tree : Tree) (say : ℕ → Symbol → LineMeaning) (s : ℕ) (x : LineMeaning) → s < length tree.symbols → ((symbol : Symbol) → slice_get tree.symbols s ≡ Some symbol → x ≡ say s symbol) → x ≡ of_named tree say (Some s)
+named_at tree say s x h is = go (slice_get tree.symbols s) refl (slice_there tree.symbols s h) where
+  go : (o : Option Symbol) → slice_get tree.symbols s ≡ o → ((symbol : Symbol) × (slice_get tree.symbols s ≡ Some symbol)) → x ≡ of_symbol_at say s o
+  go None e there = let f = there.1 in cc
+  go (Some symbol) e there = is symbol e
+
+pub found_at_name : {E : Type 0} (r : Result Meaning E) (tree : Tree) (say : ℕ → Symbol → LineMeaning) (s : ℕ) (o : Option ℕ) → o ≡ Some s → s < length tree.symbols → IfOk r (λ said. (symbol : Symbol) → slice_get tree.symbols s ≡ Some symbol → meaning_view said ≡ say s symbol)
+    → IfOk r (λ said. meaning_view said ≡ of_named tree say o)
+found_at_name (Ok said) tree say s o e h is = named_at tree say s (meaning_view said) h is ∙ sym (ap (of_named tree say) e)
+found_at_name (Err x) tree say s o e h is = tt
+
+-- lines by their forms
+pub value_line_says : (prefix : List ℕ) (tree whole : Tree) (line text name rest : List ℕ) (x : LineMeaning) → whole ≡ tree → text ≡ line → value_parts prefix text ≡ Some (name, rest)
+    → x ≡ of_named whole (λ s symbol. value_meaning whole s symbol rest) (symbol_named whole name) → Some x ≡ line_meaning prefix tree line
+unfolding line_meaning
+value_line_says prefix tree whole line text name rest x same is parts says =
+    ap Some says ∙ sym (ap (of_value prefix whole text) parts) ∙ ap (λ l. line_meaning prefix whole l) is ∙ ap (λ t. line_meaning prefix t line) same
+
+pub unset_line_says : (prefix : List ℕ) (tree whole : Tree) (line text name : List ℕ) (x : LineMeaning) → whole ≡ tree → text ≡ line → value_parts prefix text ≡ None → unset_name prefix text ≡ Some name
+    → x ≡ of_named whole (λ s symbol. unset_meaning whole s symbol symbol.choice) (symbol_named whole name) → Some x ≡ line_meaning prefix tree line
+unfolding line_meaning
+unset_line_says prefix tree whole line text name x same is parts unset says =
+    ap Some says ∙ sym (ap (of_value prefix whole text) parts ∙ ap (of_unset whole text) unset) ∙ ap (λ l. line_meaning prefix whole l) is ∙ ap (λ t. line_meaning prefix t line) same
+
+pub other_line_says : (prefix : List ℕ) (tree whole : Tree) (line text : List ℕ) (o : Option LineMeaning) → whole ≡ tree → text ≡ line → value_parts prefix text ≡ None → unset_name prefix text ≡ None
+    → o ≡ of_other text → o ≡ line_meaning prefix tree line
+unfolding line_meaning
+other_line_says prefix tree whole line text o same is parts unset says =
+    says ∙ sym (ap (of_value prefix whole text) parts ∙ ap (of_unset whole text) unset) ∙ ap (λ l. line_meaning prefix whole l) is ∙ ap (λ t. line_meaning prefix t line) same
+
+pub hash_says : (line : List ℕ) → is_hash (find (λ b. not (is_white_byte b)) line) ≡ true → Some silent ≡ of_other line
+hash_says [] h = refl
+hash_says (b ∷ line) h = sym (ap (λ t. cond {A = Option LineMeaning} t (Some silent) None) h)
+
+pub empty_says : (line : List ℕ) → (length line == 0) ≡ true → Some silent ≡ of_other line
+empty_says [] h = refl
+empty_says (b ∷ line) h = let n = eqb-true (length (b ∷ line)) 0 h in absurd (omega arith)
+
+pub no_hash_says : (line : List ℕ) → (length line == 0) ≡ false → is_hash (find (λ b. not (is_white_byte b)) line) ≡ false → None ≡ of_other line
+no_hash_says [] some h = cc
+no_hash_says (b ∷ line) some h = sym (ap (λ t. cond {A = Option LineMeaning} t (Some silent) None) h)
+
+-- a symbol that has the name is the symbol of the name
+pub named_there : (tree : Tree) → IsConsistent tree → (s : ℕ) (found name : List ℕ) → option_map (λ (t : Symbol). t.name) (slice_get tree.symbols s) ≡ Some found → true ≡ bytes_eq found name → symbol_named tree name ≡ Some s
+named_there tree sound s found name at equal = go (slice_get tree.symbols s) refl at where
+  go : (o : Option Symbol) → slice_get tree.symbols s ≡ o → option_map (λ (t : Symbol). t.name) o ≡ Some found → symbol_named tree name ≡ Some s
+  go None e f = cc
+  go (Some symbol) e f =
+      let same = (bytes_eq-Decides found name).0 (sym equal) in
+      let n : symbol.name ≡ name = cc in
+      subst (λ x. symbol_named tree x ≡ Some s) n (found_by_name tree sound s symbol e)

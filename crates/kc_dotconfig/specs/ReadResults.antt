@@ -1,0 +1,53 @@
+-- The result of reading a configuration file, given the bytes that the reader supplied.
+use Rattle.std.specs.Prelude.{◌≡◌, ◌⊎◌, ℕ, ◌+◌, ◌-◌, ◌^◌, ◌<◌, ◌≤◌, List, ◌++◌, Option, length, map}
+use Rattle.std.specs.Io.KnownBytes.{Consumes, IsAtEnd}
+use Rattle.kc_tree_model.specs.Trees.{Tree}
+use Rattle.kc_dotconfig_model.specs.declared.fault.LoadKind.{LoadKind}
+use Rattle.kc_dotconfig_model.specs.declared.fault.LoadKind.TheVariants.{Malformed, NotUtf8, LineTooLong, TooManyLines, Read, OutOfMemory, TooLarge}
+use Rattle.kc_dotconfig_model.specs.ConfigLines.{LineMeaning}
+use Rattle.kc_dotconfig_model.specs.ConfigFiles.{FileMeans, file_assignment, notices_from}
+use Rattle.kc_dotconfig_model.specs.LoadFaults.{complete, cut_short, OccursAt, IsFirstFault, IsAccepted}
+use Rattle.kc_dotconfig.specs.declared.fragment.Fragment.{Fragment}
+use Rattle.kc_dotconfig.specs.Fragments.{users_of, notice_pair}
+
+-- the file was read to its end, it has no fault, and this is its assignment with its notices
+pub record IsReadAs (prefix : List ℕ) (tree : Tree) (before after : Option (List ℕ)) (f : Fragment) : Type 0 where
+  pub told : List ℕ
+  pub consumed : Consumes before after told
+  pub ended : IsAtEnd after
+  pub accepted : IsAccepted prefix tree told
+  pub sayings : List LineMeaning
+  pub says : FileMeans prefix tree told sayings
+  pub users : users_of tree f.assigns.items ≡ file_assignment tree sayings
+  pub noted : map notice_pair f.notices.items ≡ notices_from 1 sayings
+
+-- the most bytes that are read at once
+abbrev pub MAX_READ : ℕ
+MAX_READ = 4096
+
+-- the first fault of the bytes told: they are the whole file, or it is the first whatever follows them; no fault stands
+-- before the bytes that were read last
+pub record IsRefused (prefix : List ℕ) (tree : Tree) (before after : Option (List ℕ)) (kind : LoadKind) (number : ℕ) : Type 0 where
+  pub told : List ℕ
+  pub consumed : Consumes before after told
+  pub first : (IsAtEnd after × IsFirstFault prefix tree complete told kind number)
+      ⊎ ((rest : List ℕ) → IsFirstFault prefix tree complete (told ++ rest) kind number)
+  pub soon : (rest : List ℕ) (other : LoadKind) (byte n : ℕ) → OccursAt prefix tree (told ++ rest) other byte n
+      → length told ≤ byte + MAX_READ
+
+-- a read failed after the supplied bytes, which have no fault before it
+pub record IsCutShort (prefix : List ℕ) (tree : Tree) (before after : Option (List ℕ)) (number : ℕ) : Type 0 where
+  pub told : List ℕ
+  pub consumed : Consumes before after told
+  pub first : IsFirstFault prefix tree cut_short told Read number
+
+-- what a reported fault implies; for a failed read also that the reader's failures rose from `failed` to `failed_after`
+abbrev pub ReportsFault : List ℕ → Tree → (before after : Option (List ℕ)) → (failed failed_after : ℕ) → LoadKind → ℕ → Type 0
+ReportsFault prefix tree before after failed failed_after OutOfMemory number = Unit {0}
+ReportsFault prefix tree before after failed failed_after Read number = IsCutShort prefix tree before after number
+    × (failed < 2 ^ 64 - 1 → failed < failed_after)
+ReportsFault prefix tree before after failed failed_after Malformed number = IsRefused prefix tree before after Malformed number
+ReportsFault prefix tree before after failed failed_after NotUtf8 number = IsRefused prefix tree before after NotUtf8 number
+ReportsFault prefix tree before after failed failed_after LineTooLong number = IsRefused prefix tree before after LineTooLong number
+ReportsFault prefix tree before after failed failed_after TooManyLines number = IsRefused prefix tree before after TooManyLines number
+ReportsFault prefix tree before after failed failed_after TooLarge number = IsRefused prefix tree before after TooLarge number

@@ -1,0 +1,16 @@
+-- The meanings of lines as the code has them.
+use Rattle.std.specs.Prelude.{ℕ, ◌<◌}
+use Rattle.kc_dotconfig.specs.declared.meanings.Meaning.{Meaning}
+use Rattle.kc_dotconfig.specs.declared.meanings.Meaning.TheVariants.{Assigns, Noted, Nothing}
+use Rattle.kc_dotconfig_model.specs.ConfigLines.{LineMeaning, assigns, notice, silent}
+
+abbrev pub meaning_view : Meaning → LineMeaning
+meaning_view (Assigns u x) = assigns u x
+meaning_view (Noted kind) = notice kind
+meaning_view Nothing = silent
+
+-- an assignment is to a unit below this count
+abbrev pub IsWithin : ℕ → LineMeaning → Type 0
+IsWithin units (assigns u x) = u < units
+IsWithin units (notice kind) = Unit {0}
+IsWithin units silent = Unit {0}

@@ -1,0 +1,120 @@
+//! Accumulates the meanings of lines.
+ghost use Rattle.std.specs.Prelude.{◌≡◌, ◌⊎◌, ℕ, ◌+◌, ◌<◌, List, [], ◌∷◌, ◌++◌, length, IfOk, IfErr, OnOk, OnErr, map};
+ghost use Rattle.std.specs.Str.{IsUtf8};
+ghost use Rattle.kc_tree_model.specs.Trees.{Tree};
+ghost use Rattle.kc_rules.specs.SettledViews.{tree_of_settled};
+ghost use Rattle.kc_dotconfig_model.specs.ConfigLines.{LineMeaning, Means, IsMalformed, without_white_end};
+ghost use Rattle.kc_dotconfig_model.specs.Prefixes.{prefix_bytes};
+ghost use Rattle.std.specs.BTreeMap.{insert_entry};
+ghost use Rattle.std.specs.Ordering.{nat_cmp};
+ghost use Rattle.kc_dotconfig.specs.checker.MeaningViews.{meaning_view, IsWithin};
+ghost use Rattle.kc_dotconfig.specs.checker.Accumulation.{IsGathered};
+
+use super::accumulator::Accumulator;
+use super::assigned_values::AssignedValues;
+use super::fragment::Fragment;
+use super::meanings::{Meaning, read_line};
+use kc_dotconfig_model::{LoadKind, Notice, NoticeKind, Prefix};
+use kc_rules::Settled;
+use kc_rules_model::UserValue;
+use std::alloc::{AllocError, Global};
+
+/// An empty accumulator.
+pub(crate) fn empty_accumulator(alloc: Global) -> Accumulator
+    ensures { (tree : Tree) → IsGathered tree [] result }
+{
+    Accumulator {
+        assigns: AssignedValues::new(alloc),
+        notices: Vec::new(alloc),
+        lines: 0,
+        next: 0,
+    }
+}
+
+/// Takes a user value.
+fn take_assignment(gathered: &mut Accumulator, unit: u32, user: UserValue) -> Result<(), AllocError>
+    requires { gathered.old.lines < 1048576 }
+    ensures entries { OnOk result (gathered.new.assigns ≡ insert_entry nat_cmp gathered.old.assigns unit user) }
+    ensures notices { OnOk result (gathered.new.notices.items ≡ gathered.old.notices.items) }
+    ensures lines { OnOk result (gathered.new.lines ≡ gathered.old.lines + 1) }
+    ensures err { OnErr result (gathered.new.lines ≡ gathered.old.lines) }
+{
+    gathered.assigns.insert(unit, user)?;
+    gathered.lines += 1;
+    gathered.next = unit.saturating_add(1);
+    Ok(())
+}
+
+/// Takes a notice.
+fn take_notice(gathered: &mut Accumulator, kind: NoticeKind) -> Result<(), AllocError>
+    requires { gathered.old.lines < 1048576 }
+    ensures entries { OnOk result (gathered.new.assigns ≡ gathered.old.assigns) }
+    ensures notices { OnOk result (gathered.new.notices.items ≡ gathered.old.notices.items ++ record { line = gathered.old.lines + 1; kind = kind } ∷ []) }
+    ensures lines { OnOk result (gathered.new.lines ≡ gathered.old.lines + 1) }
+    ensures err { OnErr result (gathered.new.lines ≡ gathered.old.lines) }
+{
+    let line = gathered.lines + 1;
+    gathered.notices.push(Notice { line, kind })?;
+    gathered.lines = line;
+    Ok(())
+}
+
+/// Adds the meaning of the next line.
+fn take(gathered: &mut Accumulator, said: Meaning) -> Result<(), AllocError>
+    requires { gathered.old.lines < 1048576 }
+    ensures ok { OnOk result ((tree : Tree) (sayings : List LineMeaning) → IsWithin (length tree.units) (meaning_view said) → IsGathered tree sayings gathered.old → IsGathered tree (sayings ++ meaning_view said ∷ []) gathered.new) }
+    ensures lines { OnOk result (gathered.new.lines ≡ gathered.old.lines + 1) }
+    ensures err { OnErr result (gathered.new.lines ≡ gathered.old.lines) }
+{
+    match said {
+        Meaning::Assigns(unit, user) => take_assignment(gathered, unit, user),
+        Meaning::Noted(kind) => take_notice(gathered, kind),
+        Meaning::Nothing => {
+            gathered.lines += 1;
+            Ok(())
+        }
+    }
+}
+
+/// Takes the next line.
+pub(crate) fn take_line(
+    alloc: Global,
+    settled: &Settled,
+    prefix: &Prefix,
+    gathered: &mut Accumulator,
+    line: &[u8],
+) -> Result<(), LoadKind>
+    requires { gathered.old.lines < 1048576 }
+    ensures ok { OnOk result (IsUtf8 line.now × ((saying : LineMeaning) × Means (prefix_bytes prefix.now) (tree_of_settled settled.now) (without_white_end line.now) saying × ((sayings : List LineMeaning) → IsGathered (tree_of_settled settled.now) sayings gathered.old → IsGathered (tree_of_settled settled.now) (sayings ++ saying ∷ []) gathered.new))) }
+    ensures not_utf8 { result ≡ Err LoadKind.NotUtf8 → IsUtf8 line.now → ⊥ }
+    ensures malformed { result ≡ Err LoadKind.Malformed → IsUtf8 line.now × IsMalformed (prefix_bytes prefix.now) (tree_of_settled settled.now) line.now }
+    ensures kinds { IfErr result (λ kind. (kind ≡ LoadKind.NotUtf8) ⊎ (kind ≡ LoadKind.Malformed) ⊎ (kind ≡ LoadKind.OutOfMemory)) }
+    ensures lines { OnOk result (gathered.new.lines ≡ gathered.old.lines + 1) }
+    ensures err { OnErr result (gathered.new.lines ≡ gathered.old.lines) }
+{
+    let Ok(text) = std::str::from_utf8(line) else {
+        return Err(LoadKind::NotUtf8);
+    };
+    match read_line(alloc, settled, prefix, gathered.next, text) {
+        Ok(Some(said)) => match take(gathered, said) {
+            Ok(()) => Ok(()),
+            Err(_) => Err(LoadKind::OutOfMemory),
+        },
+        Ok(None) => Err(LoadKind::Malformed),
+        Err(_) => Err(LoadKind::OutOfMemory),
+    }
+}
+
+/// The assignment and the notices.
+pub(crate) fn fragment_of(gathered: Accumulator) -> Result<Fragment, AllocError>
+    ensures { IfOk result (λ f. (f.assigns.items ≡ gathered.assigns) × (f.notices.items ≡ gathered.notices.items)) }
+{
+    let Accumulator {
+        assigns,
+        notices,
+        lines: _,
+        next: _,
+    } = gathered;
+    let assigns = assigns.into_list()?;
+    Ok(Fragment { assigns, notices })
+}

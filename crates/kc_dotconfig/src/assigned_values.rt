@@ -1,0 +1,119 @@
+//! User values by their units.
+ghost use Rattle.std.specs.Prelude.{◌≡◌, ℕ, List, [], IfOk, OnOk, IsTrue};
+ghost use Rattle.std.specs.BTreeMap.{insert_entry};
+ghost use Rattle.std.specs.Ordering.{nat_cmp};
+ghost use Rattle.kc_dotconfig.specs.checker.Ascending.{Rises, Below};
+
+use kc_rules_model::UserValue;
+use std::alloc::{AllocError, Global};
+use std::collections::BTreeMap;
+use std::marker::Model;
+use std::mem;
+
+/// User values by their units, ascending. Most files assign units in this order: what they assign is kept as a list,
+/// and as a map from the first unit on that comes late.
+#[derive(Drop)]
+pub(crate) struct AssignedValues {
+    alloc: Global,
+    listed: Vec<(u32, UserValue)>,
+    mapped: BTreeMap<u32, UserValue>,
+}
+
+impl Model for AssignedValues {
+    ghost use Rattle.std.specs.Prelude.{◌≡◌, ◌⊎◌, ℕ, List, [], ◌++◌};
+    ghost use Rattle.kc_rules_model.specs.declared.values.UserValue.{UserValue};
+    ghost use Rattle.kc_dotconfig.specs.checker.Ascending.{Rises};
+
+    ghost Value = { List (ℕ × UserValue) };
+
+    ghost view = { λ a. a.listed.items ++ a.mapped.entries };
+
+    ghost invariant = { λ a. Rises a.listed.items × ((a.listed.items ≡ []) ⊎ (a.mapped.entries ≡ [])) };
+}
+
+/// Whether a unit is above all of a list.
+fn is_above(unit: u32, listed: &[(u32, UserValue)]) -> bool
+    requires { Rises listed.now }
+    ensures { IsTrue result → Below unit listed.now }
+{
+    match listed.last() {
+        Some((last, _user)) => *last < unit,
+        None => true,
+    }
+}
+
+/// A list as a map.
+fn map_of(
+    alloc: Global,
+    listed: Vec<(u32, UserValue)>,
+) -> Result<BTreeMap<u32, UserValue>, AllocError>
+    requires { Rises listed.items }
+    ensures { IfOk result (λ map. map.entries ≡ listed.items) }
+{
+    let mut map = BTreeMap::new(alloc);
+    for (unit, user) in listed {
+        match map.insert(unit, user) {
+            Ok(before) => drop(before),
+            Err(_) => return Err(AllocError),
+        }
+    }
+    Ok(map)
+}
+
+/// Gives a unit a user value in a map, in place of an earlier one.
+fn put(map: &mut BTreeMap<u32, UserValue>, unit: u32, user: UserValue) -> Result<(), AllocError>
+    ensures { OnOk result (map.new.entries ≡ insert_entry nat_cmp map.old.entries unit user) }
+{
+    match map.insert(unit, user) {
+        Ok(before) => {
+            drop(before);
+            Ok(())
+        }
+        Err(_) => Err(AllocError),
+    }
+}
+
+impl AssignedValues {
+    /// Nothing.
+    pub(crate) fn new(alloc: Global) -> AssignedValues
+        ensures { result ≡ [] }
+    {
+        AssignedValues {
+            alloc,
+            listed: Vec::new(alloc),
+            mapped: BTreeMap::new(alloc),
+        }
+    }
+
+    /// Gives a unit a user value in place of an earlier one.
+    #[tactic(auto, using(crate::proofs::AscendingUnits::put_mapped))]
+    pub(crate) fn insert(&mut self, unit: u32, user: UserValue) -> Result<(), AllocError>
+        ensures { OnOk result (self.new ≡ insert_entry nat_cmp self.old unit user) }
+    {
+        if !self.mapped.is_empty() {
+            return put(&mut self.mapped, unit, user);
+        }
+        if is_above(unit, &self.listed) {
+            self.listed.push((unit, user))?;
+            return Ok(());
+        }
+        let listed = mem::replace(&mut self.listed, Vec::new(self.alloc));
+        self.mapped = map_of(self.alloc, listed)?;
+        put(&mut self.mapped, unit, user)
+    }
+
+    /// The list.
+    pub(crate) fn into_list(self) -> Result<Vec<(u32, UserValue)>, AllocError>
+        ensures { IfOk result (λ list. list.items ≡ self) }
+    {
+        let AssignedValues {
+            alloc,
+            listed,
+            mapped,
+        } = self;
+        if mapped.is_empty() {
+            return Ok(listed);
+        }
+        mapped.into_iter().collect(alloc)
+    }
+}

@@ -1,0 +1,89 @@
+//! The parts of a line.
+ghost use Rattle.std.specs.Prelude.{◌≡◌, ◌<◌, not, Some, None, IfSome, IfNone, IsAscii};
+ghost use Rattle.std.specs.List.{find};
+ghost use Rattle.kc_expr.specs.Token.{is_white_byte};
+ghost use Rattle.kc_dotconfig_model.specs.ConfigLines.{without_white_end};
+ghost use Rattle.kc_dotconfig_model.specs.Prefixes.{prefix_bytes};
+ghost use Rattle.kc_dotconfig_model.specs.checker.LineMeanings.{after_front, named_before, value_parts, unset_name, is_hash};
+
+use kc_dotconfig_model::Prefix;
+
+/// A white byte: a tab, a vertical tab, a form feed, a carriage return or a space.
+fn is_white(byte: u8) -> bool
+    ensures { result ≡ is_white_byte byte }
+{
+    matches!(byte, 9 | 11 | 12 | 13 | 32)
+}
+
+/// A line without the white bytes at its end.
+pub(crate) fn trimmed(line: &str) -> &str
+    ensures { result.now ≡ without_white_end line.now }
+{
+    let bytes = line.as_bytes();
+    let mut end = bytes.len();
+    while end > 0 && is_white(bytes[end - 1]) {
+        end -= 1;
+    }
+    &line[..end]
+}
+
+/// The rest of a text after a prefix of ASCII.
+fn after_front<'a>(front: &[u8], line: &'a str) -> Option<&'a str>
+    requires { IsAscii front.now }
+    ensures some { IfSome result (λ rest. after_front front.now line.now ≡ Some rest.now) }
+    ensures none { IfNone result (after_front front.now line.now ≡ None) }
+{
+    if !line.as_bytes().starts_with(front) {
+        return None;
+    }
+    Some(&line[front.len()..])
+}
+
+/// The text before the first such ASCII character, if it isn't empty, and the text after it.
+fn named_before(end: char, text: &str) -> Option<(&str, &str)>
+    requires { end < 128 }
+    ensures some { IfSome result (λ parts. named_before end text.now ≡ Some (parts.0.now, parts.1.now)) }
+    ensures none { IfNone result (named_before end text.now ≡ None) }
+{
+    let (name, rest) = text.split_once(end)?;
+    if name.is_empty() {
+        return None;
+    }
+    Some((name, rest))
+}
+
+/// The name and the text of a line with `=`.
+pub(crate) fn value_parts<'a>(prefix: &Prefix, line: &'a str) -> Option<(&'a str, &'a str)>
+    ensures some { IfSome result (λ parts. value_parts (prefix_bytes prefix.now) line.now ≡ Some (parts.0.now, parts.1.now)) }
+    ensures none { IfNone result (value_parts (prefix_bytes prefix.now) line.now ≡ None) }
+{
+    let rest = after_front(prefix.as_bytes(), line)?;
+    named_before('=', rest)
+}
+
+/// The name of an unset line.
+pub(crate) fn unset_name<'a>(prefix: &Prefix, line: &'a str) -> Option<&'a str>
+    ensures some { IfSome result (λ name. unset_name (prefix_bytes prefix.now) line.now ≡ Some name.now) }
+    ensures none { IfNone result (unset_name (prefix_bytes prefix.now) line.now ≡ None) }
+{
+    let rest = after_front(b"# ", line)?;
+    let rest = after_front(prefix.as_bytes(), rest)?;
+    let (name, rest) = named_before(' ', rest)?;
+    if rest == "is not set" {
+        Some(name)
+    } else {
+        None
+    }
+}
+
+/// Whether a line's first byte that isn't white is `#`.
+pub(crate) fn is_comment(line: &[u8]) -> bool
+    ensures { result ≡ is_hash (find (λ b. not (is_white_byte b)) line.now) }
+{
+    for byte in line {
+        if !is_white(*byte) {
+            return *byte == b'#';
+        }
+    }
+    false
+}

@@ -1,0 +1,223 @@
+//! The meaning of a line.
+ghost use Rattle.std.specs.Prelude.{◌≡◌, ◌<◌, List, ℕ, IfOk, IfSome, Some, length, is_some, slice_get, option_map};
+ghost use Rattle.kc_tree_model.specs.Trees.{Symbol};
+ghost use Rattle.kc_tree_model.specs.TreeLookup.{symbol_named};
+ghost use Rattle.kc_value.specs.Number.{number_of_text};
+ghost use Rattle.kc_rules.specs.SettledViews.{tree_of_settled};
+ghost use Rattle.kc_dotconfig_model.specs.ConfigLines.{tri_of_text, unset_meaning, without_white_end};
+ghost use Rattle.kc_dotconfig_model.specs.Prefixes.{prefix_bytes};
+ghost use Rattle.kc_dotconfig_model.specs.checker.LineMeanings.{line_meaning, tri_meaning, string_meaning, number_meaning, meaning_of_kind, value_meaning, unquoted, of_named, of_other};
+ghost use Rattle.kc_dotconfig.specs.checker.MeaningViews.{meaning_view, IsWithin};
+
+use super::line_parts::{is_comment, trimmed, unset_name, value_parts};
+use kc_dotconfig_model::{NoticeKind, Prefix};
+use kc_rules::Settled;
+use kc_rules_model::UserValue;
+use kc_tree::{Sym, Tree, Unit};
+use kc_value::{Kind, Text, Tri, hex_of, int_of, read_quoted};
+use std::alloc::{AllocError, Global};
+
+/// The meaning of a line.
+#[derive(Drop)]
+pub(crate) enum Meaning {
+    /// A user value of a unit.
+    Assigns(u32, UserValue),
+    /// A notice.
+    Noted(NoticeKind),
+    /// Nothing.
+    Nothing,
+}
+
+/// The tristate that the text of a bool or tristate means.
+fn tri_of_text(kind: Kind, text: &str) -> Option<Tri>
+    ensures { result ≡ tri_of_text kind text.now }
+{
+    match (kind, text.as_bytes()) {
+        (Kind::Bool | Kind::Tristate, b"y") => Some(Tri::Y),
+        (Kind::Tristate, b"m") => Some(Tri::M),
+        (Kind::Bool | Kind::Tristate, b"n") => Some(Tri::N),
+        _ => None,
+    }
+}
+
+/// Interprets the value of a bool or tristate.
+fn read_tri(unit: u32, s: Sym, choice: Option<u32>, tri: Option<Tri>) -> Meaning
+    ensures { meaning_view result ≡ tri_meaning unit s choice tri }
+{
+    match (choice, tri) {
+        (_, None) => Meaning::Noted(NoticeKind::NotOfType),
+        (None, Some(tri)) => Meaning::Assigns(unit, UserValue::Tri(tri)),
+        (Some(_), Some(Tri::Y)) => Meaning::Assigns(unit, UserValue::Member(s)),
+        (Some(_), Some(_)) => Meaning::Nothing,
+    }
+}
+
+/// Interprets the value of a string.
+fn read_string(alloc: Global, unit: u32, text: &str) -> Result<Meaning, AllocError>
+    ensures { IfOk result (λ said. meaning_view said ≡ string_meaning unit (unquoted text.now)) }
+{
+    match read_quoted(alloc, text)? {
+        Some(text) => Ok(Meaning::Assigns(unit, UserValue::Text(Text::from_string(text)))),
+        None => Ok(Meaning::Noted(NoticeKind::NotOfType)),
+    }
+}
+
+/// Whether a text is a number of an int or hex.
+fn is_number(kind: Kind, text: &str) -> bool
+    ensures { result ≡ is_some (number_of_text kind text.now) }
+{
+    match kind {
+        Kind::Int => int_of(text.as_bytes()).is_some(),
+        Kind::Hex => hex_of(text.as_bytes()).is_some(),
+        Kind::Bool => false,
+        Kind::Tristate => false,
+        Kind::Text => false,
+    }
+}
+
+/// Interprets the value of an int or hex.
+fn read_number(alloc: Global, unit: u32, kind: Kind, text: &str) -> Result<Meaning, AllocError>
+    ensures { IfOk result (λ said. meaning_view said ≡ number_meaning unit kind text.now) }
+{
+    if is_number(kind, text) {
+        let text = Text::copied(alloc, text)?;
+        Ok(Meaning::Assigns(unit, UserValue::Text(text)))
+    } else if text.is_empty() {
+        Ok(Meaning::Nothing)
+    } else {
+        Ok(Meaning::Noted(NoticeKind::NotOfType))
+    }
+}
+
+/// Interprets the text after `=` for a unit of a type.
+fn read_text(
+    alloc: Global,
+    kind: Kind,
+    unit: u32,
+    s: Sym,
+    choice: Option<u32>,
+    text: &str,
+) -> Result<Meaning, AllocError>
+    ensures { IfOk result (λ said. meaning_view said ≡ meaning_of_kind kind unit s choice text.now) }
+{
+    match kind {
+        Kind::Text => read_string(alloc, unit, text),
+        Kind::Int => read_number(alloc, unit, kind, text),
+        Kind::Hex => read_number(alloc, unit, kind, text),
+        Kind::Bool => Ok(read_tri(unit, s, choice, tri_of_text(kind, text))),
+        Kind::Tristate => Ok(read_tri(unit, s, choice, tri_of_text(kind, text))),
+    }
+}
+
+/// Interprets the text after `=` for a symbol.
+fn read_value(alloc: Global, tree: &Tree, s: Sym, text: &str) -> Result<Meaning, AllocError>
+    requires { s < length tree.now.whole.symbols }
+    ensures said { IfOk result (λ said. (symbol : Symbol) → slice_get tree.now.whole.symbols s ≡ Some symbol → meaning_view said ≡ value_meaning tree.now.whole s symbol text.now) }
+    ensures within { IfOk result (λ said. IsWithin (length tree.now.whole.units) (meaning_view said)) }
+{
+    let symbol = tree.symbol(s);
+    read_text(alloc, symbol.kind, symbol.unit, s, symbol.choice, text)
+}
+
+/// Interprets an unset line for a symbol.
+fn read_unset(tree: &Tree, s: Sym) -> Meaning
+    requires { s < length tree.now.whole.symbols }
+    ensures said { (symbol : Symbol) → slice_get tree.now.whole.symbols s ≡ Some symbol → meaning_view result ≡ unset_meaning tree.now.whole s symbol symbol.choice }
+    ensures within { IsWithin (length tree.now.whole.units) (meaning_view result) }
+{
+    let symbol = tree.symbol(s);
+    match (symbol.choice, symbol.kind) {
+        (None, Kind::Bool) => Meaning::Assigns(symbol.unit, UserValue::Tri(Tri::N)),
+        (None, Kind::Tristate) => Meaning::Assigns(symbol.unit, UserValue::Tri(Tri::N)),
+        _ => Meaning::Nothing,
+    }
+}
+
+/// The symbol of a unit, if there is one of that name.
+fn symbol_of_unit(tree: &Tree, u: u32, name: &str) -> Option<Sym>
+    ensures symbol { IfSome result (λ s. symbol_named tree.now.whole name.now ≡ Some s) }
+    ensures there { IfSome result (λ s. s < length tree.now.whole.symbols) }
+{
+    let _ = tree.arena();
+    if u >= tree.len() {
+        return None;
+    }
+    match tree.unit(u) {
+        Unit::Symbol(s) if tree.name(s) == name => Some(s),
+        _ => None,
+    }
+}
+
+/// The symbol of a name. Most files are written in the order of the units, so the next unit is tried first.
+fn find_symbol(tree: &Tree, next: u32, name: &str) -> Option<Sym>
+    ensures symbol { result ≡ symbol_named tree.now.whole name.now }
+    ensures there { IfSome result (λ s. s < length tree.now.whole.symbols) }
+{
+    match symbol_of_unit(tree, next, name) {
+        Some(s) => Some(s),
+        None => tree.find(name),
+    }
+}
+
+/// Interprets a line `CONFIG_X=value`.
+fn read_value_line(
+    alloc: Global,
+    tree: &Tree,
+    next: u32,
+    name: &str,
+    text: &str,
+) -> Result<Meaning, AllocError>
+    ensures said { IfOk result (λ said. meaning_view said ≡ of_named tree.now.whole (λ s symbol. value_meaning tree.now.whole s symbol text.now) (symbol_named tree.now.whole name.now)) }
+    ensures within { IfOk result (λ said. IsWithin (length tree.now.whole.units) (meaning_view said)) }
+{
+    match find_symbol(tree, next, name) {
+        Some(s) => read_value(alloc, tree, s, text),
+        None => Ok(Meaning::Noted(NoticeKind::UnknownSymbol)),
+    }
+}
+
+/// Interprets a line `# CONFIG_X is not set`.
+fn read_unset_line(tree: &Tree, next: u32, name: &str) -> Meaning
+    ensures said { meaning_view result ≡ of_named tree.now.whole (λ s symbol. unset_meaning tree.now.whole s symbol symbol.choice) (symbol_named tree.now.whole name.now) }
+    ensures within { IsWithin (length tree.now.whole.units) (meaning_view result) }
+{
+    match find_symbol(tree, next, name) {
+        Some(s) => read_unset(tree, s),
+        None => Meaning::Noted(NoticeKind::UnknownSymbol),
+    }
+}
+
+/// Interprets any other line; `None` if it is malformed.
+fn read_other_line(line: &str) -> Option<Meaning>
+    ensures said { option_map meaning_view result ≡ of_other line.now }
+    ensures within { (n : ℕ) → IfSome result (λ said. IsWithin n (meaning_view said)) }
+{
+    if line.is_empty() || is_comment(line.as_bytes()) {
+        Some(Meaning::Nothing)
+    } else {
+        None
+    }
+}
+
+/// Interprets a line; `None` if it is malformed. Its name is probably that of the unit `next`, which is tried first.
+pub(crate) fn read_line(
+    alloc: Global,
+    settled: &Settled,
+    prefix: &Prefix,
+    next: u32,
+    line: &str,
+) -> Result<Option<Meaning>, AllocError>
+    ensures within { IfOk result (λ said. IfSome said (λ s. IsWithin (length (tree_of_settled settled.now).units) (meaning_view s))) }
+    ensures said { IfOk result (λ said. option_map meaning_view said ≡ line_meaning (prefix_bytes prefix.now) (tree_of_settled settled.now) (without_white_end line.now)) }
+{
+    let tree = settled.tree();
+    let line = trimmed(line);
+    if let Some((name, text)) = value_parts(prefix, line) {
+        let said = read_value_line(alloc, tree, next, name, text)?;
+        return Ok(Some(said));
+    }
+    if let Some(name) = unset_name(prefix, line) {
+        return Ok(Some(read_unset_line(tree, next, name)));
+    }
+    Ok(read_other_line(line))
+}

@@ -1,0 +1,15 @@
+-- The functions of `LineMeanings` give exactly the meanings of lines and files.
+use Rattle.std.specs.Prelude.{◌≡◌, ◌↔◌, ℕ, true, List, Some}
+use Rattle.kc_tree_model.specs.Trees.{Tree}
+use Rattle.kc_dotconfig_model.specs.PrefixGrammar.{is_prefix}
+use Rattle.kc_dotconfig_model.specs.ConfigLines.{LineMeaning, Means}
+use Rattle.kc_dotconfig_model.specs.ConfigFiles.{FileMeans}
+use Rattle.kc_dotconfig_model.specs.checker.LineMeanings.{line_meaning, file_meanings}
+
+abbrev pub LinesAreRead : Type 0
+LinesAreRead = (prefix : List ℕ) (tree : Tree) (line : List ℕ) (saying : LineMeaning) → is_prefix prefix ≡ true
+    → (line_meaning prefix tree line ≡ Some saying) ↔ Means prefix tree line saying
+
+abbrev pub FilesAreRead : Type 0
+FilesAreRead = (prefix : List ℕ) (tree : Tree) (bytes : List ℕ) (sayings : List LineMeaning) → is_prefix prefix ≡ true
+    → (file_meanings prefix tree bytes ≡ Some sayings) ↔ FileMeans prefix tree bytes sayings

@@ -1,0 +1,133 @@
+-- The meaning of a line as a function, `None` if it is malformed. `ConfigLines` has it as a relation.
+use Rattle.std.specs.Prelude.{ℕ, Bool, true, false, not, List, [], ◌∷◌, ◌++◌, Option, Some, None, is_some, length, nat_lt, ◌==◌, slice_get, codes, bytes_eq, option_map, if◌then◌else◌}
+use Rattle.std.specs.Option.{option_and_then}
+use Rattle.std.specs.List.{find}
+use Rattle.kc_value.specs.declared.tri.Tri.{Tri}
+use Rattle.kc_value.specs.declared.value.Kind.{Kind}
+use Rattle.kc_value.specs.declared.value.Kind.TheVariants.{Bool as Boolean, Tristate, Text, Int, Hex}
+use Rattle.kc_expr.specs.Token.{is_white_byte}
+use Rattle.kc_tree_model.specs.Trees.{Tree, Symbol}
+use Rattle.kc_tree_model.specs.TreeLookup.{symbol_named, unit_of}
+use Rattle.kc_rules_model.specs.Kinds.{is_y}
+use Rattle.kc_value.specs.Number.{number_of_text}
+use Rattle.kc_rules_model.specs.declared.values.UserValue.TheVariants.{Tri as TriUser, Text as TextUser, Member as MemberUser}
+use Rattle.kc_dotconfig_model.specs.declared.notice.NoticeKind.TheVariants.{UnknownSymbol, NotOfType}
+use Rattle.kc_dotconfig_model.specs.ConfigLines.{LineMeaning, assigns, notice, silent, tri_of_text, unset_meaning, without_white_end}
+use Rattle.kc_dotconfig_model.specs.ConfigFiles.{file_lines}
+
+abbrev pub ended : List ℕ → Option (List ℕ)
+ended [] = Some []
+ended (c ∷ rest) = None
+
+-- after an opening quote, up to the closing one
+abbrev pub unquoted_rest : Bool → List ℕ → Option (List ℕ)
+unquoted_rest escaped [] = None
+unquoted_rest true (c ∷ rest) = option_map (λ text. c ∷ text) (unquoted_rest false rest)
+unquoted_rest false (c ∷ rest) = if c == 34
+    then ended rest
+    else (if c == 92 then unquoted_rest true rest else option_map (λ text. c ∷ text) (unquoted_rest false rest))
+
+abbrev pub unquoted : List ℕ → Option (List ℕ)
+unquoted [] = None
+unquoted (c ∷ rest) = if c == 34 then unquoted_rest false rest else None
+
+abbrev pub tri_meaning : ℕ → ℕ → Option ℕ → Option Tri → LineMeaning
+tri_meaning u s choice None = notice NotOfType
+tri_meaning u s None (Some t) = assigns u (TriUser t)
+tri_meaning u s (Some c) (Some t) = if is_y t then assigns u (MemberUser s) else silent
+
+abbrev pub string_meaning : ℕ → Option (List ℕ) → LineMeaning
+string_meaning u None = notice NotOfType
+string_meaning u (Some text) = assigns u (TextUser text)
+
+abbrev pub without_number : List ℕ → LineMeaning
+without_number [] = silent
+without_number (b ∷ text) = notice NotOfType
+
+abbrev pub number_meaning : ℕ → Kind → List ℕ → LineMeaning
+number_meaning u kind text = if is_some (number_of_text kind text)
+    then assigns u (TextUser text)
+    else without_number text
+
+abbrev pub meaning_of_kind : Kind → ℕ → ℕ → Option ℕ → List ℕ → LineMeaning
+meaning_of_kind Boolean u s choice text = tri_meaning u s choice (tri_of_text Boolean text)
+meaning_of_kind Tristate u s choice text = tri_meaning u s choice (tri_of_text Tristate text)
+meaning_of_kind Text u s choice text = string_meaning u (unquoted text)
+meaning_of_kind Int u s choice text = number_meaning u Int text
+meaning_of_kind Hex u s choice text = number_meaning u Hex text
+
+-- the meaning of the text after `=`
+abbrev pub value_meaning : Tree → ℕ → Symbol → List ℕ → LineMeaning
+value_meaning tree s symbol text = meaning_of_kind symbol.kind (unit_of tree s) s symbol.choice text
+
+-- the rest of a text after its front
+abbrev pub after_front : List ℕ → List ℕ → Option (List ℕ)
+after_front [] text = Some text
+after_front (a ∷ front) [] = None
+after_front (a ∷ front) (b ∷ text) = if a == b then after_front front text else None
+
+-- the text before the first such byte, and after it
+abbrev pub split_at_byte : ℕ → List ℕ → Option (List ℕ × List ℕ)
+split_at_byte b [] = None
+split_at_byte b (c ∷ text) = if c == b then Some ([], text) else option_map (λ parts. (c ∷ parts.0, parts.1)) (split_at_byte b text)
+
+abbrev pub if_named : List ℕ × List ℕ → Option (List ℕ × List ℕ)
+if_named parts = if nat_lt 0 (length parts.0) then Some parts else None
+
+abbrev pub named_before : ℕ → List ℕ → Option (List ℕ × List ℕ)
+named_before b text = option_and_then if_named (split_at_byte b text)
+
+-- the name and the text of a line with `=`
+abbrev pub value_parts : List ℕ → List ℕ → Option (List ℕ × List ℕ)
+value_parts prefix line = option_and_then (named_before 61) (after_front prefix line)
+
+abbrev pub if_not_set : List ℕ × List ℕ → Option (List ℕ)
+if_not_set parts = if bytes_eq parts.1 (codes "is not set") then Some parts.0 else None
+
+-- the name of an unset line
+abbrev pub unset_name : List ℕ → List ℕ → Option (List ℕ)
+unset_name prefix line =
+    option_and_then if_not_set (option_and_then (named_before 32) (after_front (codes "# " ++ prefix) line))
+
+abbrev pub of_symbol_at : (ℕ → Symbol → LineMeaning) → ℕ → Option Symbol → LineMeaning
+of_symbol_at say s None = notice UnknownSymbol
+of_symbol_at say s (Some symbol) = say s symbol
+
+abbrev pub of_named : Tree → (ℕ → Symbol → LineMeaning) → Option ℕ → LineMeaning
+of_named tree say None = notice UnknownSymbol
+of_named tree say (Some s) = of_symbol_at say s (slice_get tree.symbols s)
+
+abbrev pub is_hash : Option ℕ → Bool
+is_hash None = false
+is_hash (Some b) = b == 35
+
+abbrev pub of_other : List ℕ → Option LineMeaning
+of_other [] = Some silent
+of_other (b ∷ line) = if is_hash (find (λ c. not (is_white_byte c)) (b ∷ line)) then Some silent else None
+
+abbrev pub of_unset : Tree → List ℕ → Option (List ℕ) → Option LineMeaning
+of_unset tree line None = of_other line
+of_unset tree line (Some name) =
+    Some (of_named tree (λ s symbol. unset_meaning tree s symbol symbol.choice) (symbol_named tree name))
+
+abbrev pub of_value : List ℕ → Tree → List ℕ → Option (List ℕ × List ℕ) → Option LineMeaning
+of_value prefix tree line None = of_unset tree line (unset_name prefix line)
+of_value prefix tree line (Some parts) =
+    Some (of_named tree (λ s symbol. value_meaning tree s symbol parts.1) (symbol_named tree parts.0))
+
+-- the meaning of a line without trailing white space
+unfoldable pub line_meaning : List ℕ → Tree → List ℕ → Option LineMeaning
+line_meaning prefix tree line = of_value prefix tree line (value_parts prefix line)
+
+abbrev pub with_rest : Option LineMeaning → Option (List LineMeaning) → Option (List LineMeaning)
+with_rest (Some saying) (Some sayings) = Some (saying ∷ sayings)
+with_rest _ _ = None
+
+abbrev pub meanings_of_lines : List ℕ → Tree → List (List ℕ) → Option (List LineMeaning)
+meanings_of_lines prefix tree [] = Some []
+meanings_of_lines prefix tree (line ∷ lines) =
+    with_rest (line_meaning prefix tree (without_white_end line)) (meanings_of_lines prefix tree lines)
+
+-- the meanings of the lines of a file, if none is malformed
+abbrev pub file_meanings : List ℕ → Tree → List ℕ → Option (List LineMeaning)
+file_meanings prefix tree bytes = meanings_of_lines prefix tree (file_lines bytes)

@@ -1,0 +1,115 @@
+use Rattle.std.proofs.Common.{◌++◌, [], map, ap, sym, ◌∙◌, append_assoc, arith}
+use Rattle.std.proofs.lemmas.Grind.{common_steps}
+use Rattle.std.proofs.lemmas.Result.{on_ok_weaker}
+use Rattle.std.specs.Prelude.{slice_index_or}
+use Rattle.kc_expr.specs.NamesIn.{operand_names}
+use Rattle.kc_expr.specs.checker.Nodes.{operand_of}
+use Rattle.kc_expr.specs.checker.Store.{stored_names}
+use Rattle.kc_expr.specs.ReverseNames.{names_in_reverse}
+use Rattle.kc_expr.proofs.KeptLists.{kept_through}
+use Rattle.kc_expr.proofs.NamesInLemmas.{met_both}
+use Rattle.kc_expr.proofs.StoreLemmas.{node_of, fits_at}
+use Rattle.kc_expr.proofs.names.+push_names.Goals as goal
+
+pub returns-in-Alone-clause-words : goal.returns-in-Alone-clause-words
+returns-in-Alone-clause-words t c =
+    let e = ap names_in_reverse (node_of c.args.store.now c.down.at _ _ c.requires.sound (omega arith) c.node.ensures c.in-Alone.is) in
+    on_ok_weaker c.push_name.result (λ w. w ∙ ap (λ ws. map (λ i. slice_index_or (stored_names c.args.store.now) i []) c.down.found.items ++ ws) (sym e) ∙ c.down.invariant.words) c.push_name.ensures.words
+
+pub returns-in-Alone-clause-held : goal.returns-in-Alone-clause-held
+returns-in-Alone-clause-held t c = on_ok_weaker c.push_name.result (λ h all. h (c.down.invariant.held all)) c.push_name.ensures.held
+
+pub returns-in-Related-clause-words : goal.returns-in-Related-clause-words
+returns-in-Related-clause-words t c =
+    let e = ap names_in_reverse (node_of c.args.store.now c.down.at _ _ c.requires.sound (omega arith) c.node.ensures c.in-Related.is) in
+    on_ok_weaker c.push_name-in-Related-2.result (λ w. w ∙ ap (λ xs. xs ++ operand_names (operand_of (stored_names c.args.store.now) c.args.store.now.texts.items c.in-Related.right)) c.in_ok-push_name-in-Related.ensures.words ∙ append_assoc (map (λ i. slice_index_or (stored_names c.args.store.now) i []) c.down.found.items) _ _ ∙ ap (λ ws. map (λ i. slice_index_or (stored_names c.args.store.now) i []) c.down.found.items ++ ws) (sym e) ∙ c.down.invariant.words) c.push_name-in-Related-2.ensures.words
+
+pub returns-in-Related-clause-held : goal.returns-in-Related-clause-held
+returns-in-Related-clause-held t c = on_ok_weaker c.push_name-in-Related-2.result (λ h all. h (c.in_ok-push_name-in-Related.ensures.held (c.down.invariant.held all))) c.push_name-in-Related-2.ensures.held
+
+pub down-preserved-in-Negated : goal.down-preserved-in-Negated
+down-preserved-in-Negated t c =
+    let e = ap names_in_reverse (node_of c.args.store.now c.down.at _ _ c.requires.sound (omega arith) c.node.ensures c.in-Negated.is) in
+    let f = fits_at c.args.store.now c.down.at _ _ c.requires.sound (omega arith) c.node.ensures c.in-Negated.is in
+    record { below = omega (arith, f); words = ap (λ ws. map (λ i. slice_index_or (stored_names c.args.store.now) i []) c.down.found.items ++ ws) (sym e) ∙ c.down.invariant.words; held = c.down.invariant.held; kept = c.down.invariant.kept }
+
+pub down-preserved-in-Shown : goal.down-preserved-in-Shown
+down-preserved-in-Shown t c =
+    let e = ap names_in_reverse (node_of c.args.store.now c.down.at _ _ c.requires.sound (omega arith) c.node.ensures c.in-Shown.is) in
+    let f = fits_at c.args.store.now c.down.at _ _ c.requires.sound (omega arith) c.node.ensures c.in-Shown.is in
+    record { below = omega (arith, f); words = ap (λ ws. map (λ i. slice_index_or (stored_names c.args.store.now) i []) c.down.found.items ++ ws) (sym e) ∙ c.down.invariant.words; held = c.down.invariant.held; kept = c.down.invariant.kept }
+
+pub down-preserved-in-Both : goal.down-preserved-in-Both
+down-preserved-in-Both t c =
+    let e = ap names_in_reverse (node_of c.args.store.now c.down.at _ _ c.requires.sound (omega arith) c.node.ensures c.in-Both.is) in
+    let f = fits_at c.args.store.now c.down.at _ _ c.requires.sound (omega arith) c.node.ensures c.in-Both.is in
+    record {
+      below = omega (arith, f);
+      words = met_both (map (λ i. slice_index_or (stored_names c.args.store.now) i []) c.down.found.items) _ _ _ _ c.in_ok-push_names-in-Both.ensures.words (ap (λ ws. map (λ i. slice_index_or (stored_names c.args.store.now) i []) c.down.found.items ++ ws) (sym e) ∙ c.down.invariant.words);
+      held = λ all. c.in_ok-push_names-in-Both.ensures.held (c.down.invariant.held all);
+      kept = kept_through c.args.found.now.items c.down.found.items _ c.down.invariant.kept c.in_ok-push_names-in-Both.ensures.kept;
+    }
+
+pub down-preserved : goal.down-preserved
+down-preserved t c =
+    let e = ap names_in_reverse (node_of c.args.store.now c.down.at _ _ c.requires.sound (omega arith) c.node.ensures c.in-Either.is) in
+    let f = fits_at c.args.store.now c.down.at _ _ c.requires.sound (omega arith) c.node.ensures c.in-Either.is in
+    record {
+      below = omega (arith, f);
+      words = met_both (map (λ i. slice_index_or (stored_names c.args.store.now) i []) c.down.found.items) _ _ _ _ c.in_ok-push_names-in-Either.ensures.words (ap (λ ws. map (λ i. slice_index_or (stored_names c.args.store.now) i []) c.down.found.items ++ ws) (sym e) ∙ c.down.invariant.words);
+      held = λ all. c.in_ok-push_names-in-Either.ensures.held (c.down.invariant.held all);
+      kept = kept_through c.args.found.now.items c.down.found.items _ c.down.invariant.kept c.in_ok-push_names-in-Either.ensures.kept;
+    }
+
+pub returns-in-Alone-clause-kept : goal.returns-in-Alone-clause-kept
+returns-in-Alone-clause-kept t c = kept_through c.args.found.now.items c.down.found.items _ c.down.invariant.kept c.push_name.ensures.kept
+
+pub returns-in-Related-clause-kept : goal.returns-in-Related-clause-kept
+returns-in-Related-clause-kept t c =
+    let first = kept_through c.args.found.now.items c.down.found.items _ c.down.invariant.kept c.push_name-in-Related.ensures.kept in
+    kept_through c.args.found.now.items c.push_name-in-Related.new.found.items _ first c.push_name-in-Related-2.ensures.kept
+
+pub returns-in_err-push_name-in-Related-clause-kept : goal.returns-in_err-push_name-in-Related-clause-kept
+returns-in_err-push_name-in-Related-clause-kept t c = grind (arith, common_steps)
+
+pub overflow_cast-at-in-Both : goal.overflow_cast-at-in-Both
+overflow_cast-at-in-Both t c = omega arith
+
+pub push_names-requires : goal.push_names-requires
+push_names-requires t c = grind (arith, common_steps)
+
+pub returns-in_err-push_names-in-Either-clause-kept : goal.returns-in_err-push_names-in-Either-clause-kept
+returns-in_err-push_names-in-Either-clause-kept t c = grind (arith, common_steps)
+
+pub returns-in_err-push_names-in-Both-clause-kept : goal.returns-in_err-push_names-in-Both-clause-kept
+returns-in_err-push_names-in-Both-clause-kept t c = grind (arith, common_steps)
+
+pub push_name-requires-in-Related : goal.push_name-requires-in-Related
+push_name-requires-in-Related t c = grind (arith, common_steps)
+
+pub push_name-requires-in-Related-2 : goal.push_name-requires-in-Related-2
+push_name-requires-in-Related-2 t c = grind (arith, common_steps)
+
+pub down-init : goal.down-init
+down-init t c = grind (arith, common_steps)
+
+pub down-smaller-in-Shown : goal.down-smaller-in-Shown
+down-smaller-in-Shown t c = grind (arith, common_steps)
+
+pub down-smaller : goal.down-smaller
+down-smaller t c = grind (arith, common_steps)
+
+pub push_name-requires : goal.push_name-requires
+push_name-requires t c = grind (arith, common_steps)
+
+pub push_names-requires-in-Either : goal.push_names-requires-in-Either
+push_names-requires-in-Either t c = grind (arith, common_steps)
+
+pub down-smaller-in-Both : goal.down-smaller-in-Both
+down-smaller-in-Both t c = grind (arith, common_steps)
+
+pub down-smaller-in-Negated : goal.down-smaller-in-Negated
+down-smaller-in-Negated t c = grind (arith, common_steps)
+
+pub overflow_cast-at-in-Either : goal.overflow_cast-at-in-Either
+overflow_cast-at-in-Either t c = omega arith

@@ -1,0 +1,135 @@
+//! The names in an expression.
+ghost use Rattle.std.specs.Prelude.{◌≡◌, ◌<◌, ◌++◌, [], All, length, map, take, OnOk, slice_index_or};
+ghost use Rattle.kc_expr.specs.Arena.{node_expr};
+ghost use Rattle.kc_expr.specs.NamesIn.{operand_names};
+ghost use Rattle.kc_expr.specs.checker.Nodes.{LeafFits, operand_of};
+ghost use Rattle.kc_expr.specs.checker.Store.{stored_names, exprs_in, IsSound};
+ghost use Rattle.kc_expr.specs.checker.Visiting.{HasFoundTo, HasVisited};
+ghost use Rattle.kc_expr.specs.ReverseNames.{names_in_reverse};
+
+use super::ids::NameId;
+use super::node::{Leaf, Node};
+use super::store::Store;
+use super::visited::VisitedSet;
+use std::alloc::AllocError;
+
+/// Appends the name of a leaf, if it is one.
+#[tactic(auto, using(crate::proofs::KeptLists::kept_behind))]
+fn push_name(store: &Store, leaf: Leaf, found: &mut Vec<NameId>) -> Result<(), AllocError>
+    requires { LeafFits (length (stored_names store.now)) (length store.now.texts.items) leaf }
+    ensures words { OnOk result (map (λ i. slice_index_or (stored_names store.now) i []) found.new.items
+        ≡ map (λ i. slice_index_or (stored_names store.now) i []) found.old.items ++ operand_names (operand_of (stored_names store.now) store.now.texts.items leaf)) }
+    ensures held { OnOk result (All (λ i. i < length (stored_names store.now)) found.old.items → All (λ i. i < length (stored_names store.now)) found.new.items) }
+    ensures kept { take (length found.old.items) found.new.items ≡ found.old.items }
+{
+    if let Leaf::Name(index) = leaf {
+        found.push(NameId::at(index))?;
+    }
+    Ok(())
+}
+
+/// Appends the names in the expression of a node.
+pub(crate) fn push_names(
+    store: &Store,
+    index: usize,
+    found: &mut Vec<NameId>,
+) -> Result<(), AllocError>
+    requires there { index < length store.now.nodes.items }
+    requires sound { IsSound store.now }
+    ensures words { OnOk result (map (λ i. slice_index_or (stored_names store.now) i []) found.new.items
+        ≡ map (λ i. slice_index_or (stored_names store.now) i []) found.old.items ++ names_in_reverse (node_expr (exprs_in store.now) index)) }
+    ensures held { OnOk result (All (λ i. i < length (stored_names store.now)) found.old.items → All (λ i. i < length (stored_names store.now)) found.new.items) }
+    ensures kept { take (length found.old.items) found.new.items ≡ found.old.items }
+{
+    let mut at = index;
+    'down: loop {
+        match store.node(at) {
+            Node::Alone(leaf) => return push_name(store, leaf, found),
+            Node::Related(_, left, right) => {
+                push_name(store, left, found)?;
+                return push_name(store, right, found);
+            }
+            Node::Negated(part) => at = part as usize,
+            Node::Shown(part) => at = part as usize,
+            Node::Both(left, right) => {
+                push_names(store, right as usize, found)?;
+                at = left as usize;
+            }
+            Node::Either(left, right) => {
+                push_names(store, right as usize, found)?;
+                at = left as usize;
+            }
+        }
+    }
+}
+
+/// Appends the names in the expression of a node, skipping visited nodes, and marks the node as visited. Most are
+/// leaves.
+#[inline(always)]
+pub(crate) fn push_unvisited(
+    store: &Store,
+    index: usize,
+    walk: &mut VisitedSet,
+    found: &mut Vec<NameId>,
+) -> Result<(), AllocError>
+    requires there { index < length store.now.nodes.items }
+    requires sound { IsSound store.now }
+    requires room { length walk.old ≡ length store.now.nodes.items }
+    requires found { HasFoundTo (exprs_in store.now) index walk.old found.old.items }
+    ensures walked { OnOk result (HasVisited (exprs_in store.now) index walk.old walk.new found.old.items found.new.items) }
+    ensures held { OnOk result (All (λ i. i < length (stored_names store.now)) found.old.items → All (λ i. i < length (stored_names store.now)) found.new.items) }
+    ensures kept { take (length found.old.items) found.new.items ≡ found.old.items }
+{
+    if walk.has(index) {
+        return Ok(());
+    }
+    if let Node::Alone(leaf) = store.node(index) {
+        walk.stamp(index);
+        return push_name(store, leaf, found);
+    }
+    push_new_names(store, index, walk, found)
+}
+
+/// Appends the names in the expression of a node, skipping visited nodes, and marks the node as visited. It is
+/// stamped before its names stand: a node below can't reach it.
+#[inline(never)]
+#[tactic(auto, using(crate::proofs::KeptLists::kept_through))]
+fn push_new_names(
+    store: &Store,
+    index: usize,
+    walk: &mut VisitedSet,
+    found: &mut Vec<NameId>,
+) -> Result<(), AllocError>
+    requires there { index < length store.now.nodes.items }
+    requires sound { IsSound store.now }
+    requires room { length walk.old ≡ length store.now.nodes.items }
+    requires found { HasFoundTo (exprs_in store.now) index walk.old found.old.items }
+    ensures walked { OnOk result (HasVisited (exprs_in store.now) index walk.old walk.new found.old.items found.new.items) }
+    ensures held { OnOk result (All (λ i. i < length (stored_names store.now)) found.old.items → All (λ i. i < length (stored_names store.now)) found.new.items) }
+    ensures kept { take (length found.old.items) found.new.items ≡ found.old.items }
+{
+    let mut at = index;
+    'down: loop {
+        if walk.has(at) {
+            return Ok(());
+        }
+        walk.stamp(at);
+        match store.node(at) {
+            Node::Alone(leaf) => return push_name(store, leaf, found),
+            Node::Related(_, left, right) => {
+                push_name(store, left, found)?;
+                return push_name(store, right, found);
+            }
+            Node::Negated(part) => at = part as usize,
+            Node::Shown(part) => at = part as usize,
+            Node::Both(left, right) => {
+                push_new_names(store, right as usize, walk, found)?;
+                at = left as usize;
+            }
+            Node::Either(left, right) => {
+                push_new_names(store, right as usize, walk, found)?;
+                at = left as usize;
+            }
+        }
+    }
+}

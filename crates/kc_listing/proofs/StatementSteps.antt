@@ -1,0 +1,198 @@
+-- What a line says, step by step.
+use Rattle.std.proofs.Common.{◌≡◌, ◌⊎◌, inl, inr, ℕ, Bool, true, false, not, cond, List, [], ◌∷◌, Option, Some, None, Result, Ok, Err, refl, ap, sym, ◌∙◌}
+use Rattle.std.proofs.lemmas.List.{append-nil}
+use Rattle.std.specs.Str.{is_utf8}
+use Rattle.std.specs.Prelude.{length, nat_lt}
+use Rattle.kc_expr.specs.Arena.{Exprs, Grows}
+use Rattle.kc_expr.specs.Results.{with_front}
+use Rattle.kc_expr.specs.Token.{Lexeme, lexemes_from}
+use Rattle.kc_expr.specs.declared.fault.ExprFault.{ExprFault}
+use Rattle.kc_expr.specs.declared.fault.ExprKind.TheVariants as expr_kinds
+use Rattle.kc_tree_model.specs.declared.fault.TreeKind.{TreeKind}
+use Rattle.kc_tree_model.specs.declared.fault.TreeKind.TheVariants.{OutOfMemory, UnknownStatement, LeftOut, Misplaced, StrayEnd, TooDeep, TooMany}
+use Rattle.kc_tree_model.specs.Keywords.{Keyword, help_word, keyword_of}
+use Rattle.kc_tree_model.specs.LogicalLines.{is_help, is_help_word, begins_help}
+use Rattle.kc_tree_model.specs.Statements.{Head, Attribute, Statement, head, attribute, source, path_of_head}
+use Rattle.kc_tree_model.specs.Forms.{statement_of, kind_of_fault, ◌>>=◌}
+use Rattle.kc_tree_model.specs.Placement.{is_allowed, is_left_out, is_stray_end}
+use Rattle.kc_tree_model.specs.Blocks.{Group}
+use Rattle.kc_tree_model.specs.Limits.{FileSource, max_line_bytes, is_too_deep, is_too_many, too_many_by_attribute}
+use Rattle.kc_tree_model.specs.Reading.{unless, statement_by_keyword, statement_of_tokens, statement_by_word, statement_or_fault, statement_on_line}
+use Rattle.kc_listing.specs.ListingView.{RepresentsListing}
+use Rattle.kc_listing.specs.declared.listing.Listing.{Listing}
+use Rattle.kc_listing.specs.declared.state.ReaderState.{ReaderState}
+use Rattle.kc_listing.specs.declared.state.Step.{Step}
+use Rattle.kc_listing.specs.declared.state.Step.TheVariants.{Next, Help, Source}
+use Rattle.kc_listing.specs.checker.LinePlacement.{fault_before}
+use Rattle.kc_listing.specs.checker.Steps.{line_here, limits, AppendsHead, AppendsAttribute, LineRead}
+use Rattle.kc_listing.proofs.AppendSteps.{lists_grown}
+use Rattle.kc_listing.specs.checker.StatementResults.{no_path, AppendsStatement, begins_with, IsGiven, IsSourceGiven, ReturnsStatementRead}
+
+-- an attribute's limit
+pub attribute_long : (before : List Group) (a : Attribute) → too_many_by_attribute a ≡ true → limits before (attribute a) ≡ Some TooMany
+attribute_long before a e = rw e refl
+
+pub attribute_fits : (before : List Group) (a : Attribute) → too_many_by_attribute a ≡ false → limits before (attribute a) ≡ None
+attribute_fits before a e = rw e refl
+
+-- what was put has no path
+pub head_said : (r : FileSource) (file line : ℕ) (before : List Group) (h : Head) (new : ReaderState) (put : Result (Unit {0}) TreeKind) → path_of_head h ≡ None → AppendsHead r file line before h new put
+    → AppendsStatement r file line before (head h) new (no_path put)
+head_said r file line before h new (Ok u) n p = (p.0, n, p.1)
+head_said r file line before h new (Err k) n p = p
+
+pub attribute_said : (r : FileSource) (file line : ℕ) (before : List Group) (a : Attribute) (new : ReaderState) (put : Result (Unit {0}) TreeKind) → AppendsAttribute r line before a new put
+    → AppendsStatement r file line before (attribute a) new (no_path put)
+attribute_said r file line before a new (Ok u) p = (p.0, refl, p.1)
+attribute_said r file line before a new (Err k) p = p
+
+-- more expressions
+pub shows_grown : (l : Listing) (arena : Exprs) (before : List Group) → Grows l.names.arena arena → RepresentsListing l before → RepresentsListing (record l { names = record l.names { arena = arena } }) before
+unfolding RepresentsListing
+shows_grown l arena before grows h = lists_grown _ arena _ _ _ [] _ _ _ before grows (sym (append-nil l.texts.items)) h
+
+-- the tests before a form
+early : (a b c : Bool) (kind : TreeKind) (rest : Result (Option Statement) TreeKind) → cond a (Some LeftOut) (cond b (Some Misplaced) (cond c (Some StrayEnd) None)) ≡ Some kind
+    → (unless a LeftOut >>= λ _. unless b Misplaced >>= λ _. unless c StrayEnd >>= λ _. rest) ≡ Err kind
+early true b c kind rest e = cc
+early false true c kind rest e = cc
+early false false true kind rest e = cc
+early false false false kind rest e = cc
+
+late : (a b c : Bool) (rest : Result (Option Statement) TreeKind) → cond a (Some LeftOut) (cond b (Some Misplaced) (cond c (Some StrayEnd) None)) ≡ None
+    → (unless a LeftOut >>= λ _. unless b Misplaced >>= λ _. unless c StrayEnd >>= λ _. rest) ≡ rest
+late true b c rest e = cc
+late false true c rest e = cc
+late false false true rest e = cc
+late false false false rest e = refl
+
+-- the limits after it
+limited : (a b : Bool) (s : Statement) (kind : TreeKind) → cond a (Some TooDeep) (cond b (Some TooMany) None) ≡ Some kind → (unless a TooDeep >>= λ _. unless b TooMany >>= λ _. Ok (Some s)) ≡ Err kind
+limited true b s kind e = cc
+limited false true s kind e = cc
+limited false false s kind e = cc
+
+unlimited : (a b : Bool) (s : Statement) → cond a (Some TooDeep) (cond b (Some TooMany) None) ≡ None → (unless a TooDeep >>= λ _. unless b TooMany >>= λ _. Ok (Some s)) ≡ Ok (Some s)
+unlimited true b s e = cc
+unlimited false true s e = cc
+unlimited false false s e = refl
+
+-- what is said once a form was read
+abbrev limited_by : List Group → Result Statement TreeKind → Result (Option Statement) TreeKind
+limited_by before given = given >>= λ s. unless (is_too_deep before s) TooDeep >>= λ _. unless (is_too_many before s) TooMany >>= λ _. Ok (Some s)
+
+module _ (before : List Group) (k : Keyword) (ts : List Lexeme) where
+  pub said_early : (kind : TreeKind) → fault_before before k ts ≡ Some kind → statement_by_keyword before k ts ≡ Err kind
+  said_early kind e = early (is_left_out before k ts) (not (is_allowed before k)) (is_stray_end before k) kind (limited_by before (statement_of k ts)) e
+
+  said_late : fault_before before k ts ≡ None → statement_by_keyword before k ts ≡ limited_by before (statement_of k ts)
+  said_late e = late (is_left_out before k ts) (not (is_allowed before k)) (is_stray_end before k) (limited_by before (statement_of k ts)) e
+
+  pub said_malformed : (kind : TreeKind) → fault_before before k ts ≡ None → statement_of k ts ≡ Err kind → statement_by_keyword before k ts ≡ Err kind
+  said_malformed kind e h = said_late e ∙ ap (limited_by before) h
+
+  said_limited : (s : Statement) (kind : TreeKind) → fault_before before k ts ≡ None → statement_of k ts ≡ Ok s → limits before s ≡ Some kind → statement_by_keyword before k ts ≡ Err kind
+  said_limited s kind e h l = said_late e ∙ ap (limited_by before) h ∙ limited (is_too_deep before s) (is_too_many before s) s kind l
+
+  said_well : (s : Statement) → fault_before before k ts ≡ None → statement_of k ts ≡ Ok s → limits before s ≡ None → statement_by_keyword before k ts ≡ Ok (Some s)
+  said_well s e h l = said_late e ∙ ap (limited_by before) h ∙ unlimited (is_too_deep before s) (is_too_many before s) s l
+
+-- whether a help text follows
+no_help : (k : Keyword) (ts : List Lexeme) → is_help_word (Some k) ≡ false → begins_with k ts ≡ false
+no_help k [] e = e
+no_help k (t ∷ ts) e = refl
+
+a_help : (k : Keyword) (ts : List Lexeme) (s : Statement) → is_help_word (Some k) ≡ true → statement_of k ts ≡ Ok s → begins_with k ts ≡ true
+a_help k [] s e h = e
+a_help help_word (t ∷ ts) s e h = cc
+a_help k (t ∷ ts) s e h = cc
+
+no_help_of_source : (k : Keyword) (ts : List Lexeme) (path : List ℕ) → statement_of k ts ≡ Ok (head (source path)) → begins_with k ts ≡ false
+no_help_of_source help_word [] path h = cc
+no_help_of_source k [] path h = refl
+no_help_of_source k (t ∷ ts) path h = refl
+
+-- what is given of a line whose form was read
+module _ (r : FileSource) (file line : ℕ) (before : List Group) (k : Keyword) (ts : List Lexeme) (s : Statement) (new : ReaderState) (early : fault_before before k ts ≡ None) (form : statement_of k ts ≡ Ok s) where
+  pub source_given : (path : List ℕ) → AppendsStatement r file line before s new (Ok (Some path)) → IsSourceGiven r (statement_by_keyword before k ts) (begins_with k ts) path before new
+  source_given path p = record {
+    says = said_well before k ts s early form p.0 ∙ ap (λ t. Ok (Some t)) p.1;
+    follows = no_help_of_source k ts path (form ∙ ap Ok p.1);
+    describes = p.2;
+  }
+
+  pub next_given : is_help_word (Some k) ≡ false → AppendsStatement r file line before s new (Ok None) → IsGiven r file line (statement_by_keyword before k ts) (begins_with k ts) before false new
+  next_given n p = record {
+    statement = Some s;
+    says = said_well before k ts s early form p.0;
+    without_path = p.1;
+    follows = no_help k ts n;
+    describes = p.2;
+  }
+
+  pub help_given : is_help_word (Some k) ≡ true → AppendsStatement r file line before s new (Ok None) → IsGiven r file line (statement_by_keyword before k ts) (begins_with k ts) before true new
+  help_given n p = record {
+    statement = Some s;
+    says = said_well before k ts s early form p.0;
+    without_path = p.1;
+    follows = a_help k ts s n form;
+    describes = p.2;
+  }
+
+  pub limit_given : (kind : TreeKind) → AppendsStatement r file line before s new (Err kind) → (kind ≡ OutOfMemory) ⊎ ((statement_by_keyword before k ts ≡ Err kind) × RepresentsListing new.listing before)
+  limit_given kind (inl m) = inl m
+  limit_given kind (inr h) = inr (said_limited before k ts s kind early form h.0, h.1)
+
+-- the tokens of a line
+pub word_unknown : (before : List Group) (t : Lexeme) (ts : List Lexeme) → keyword_of t ≡ None → statement_of_tokens before (t ∷ ts) ≡ Err UnknownStatement
+word_unknown before t ts e = ap (statement_by_word before ts) e
+
+word_known : (before : List Group) (t : Lexeme) (ts : List Lexeme) (k : Keyword) → keyword_of t ≡ Some k → statement_of_tokens before (t ∷ ts) ≡ statement_by_keyword before k ts
+word_known before t ts k e = ap (statement_by_word before ts) e
+
+help_known : (t : Lexeme) (ts : List Lexeme) (k : Keyword) → keyword_of t ≡ Some k → is_help (t ∷ ts) ≡ begins_with k ts
+help_known t [] k e = ap is_help_word e
+help_known t (u ∷ ts) k e = refl
+
+pub given_by_word : (r : FileSource) (file line : ℕ) (before : List Group) (t : Lexeme) (ts : List Lexeme) (k : Keyword) (new : ReaderState) (result : Result Step TreeKind) → keyword_of t ≡ Some k
+    → ReturnsStatementRead r file line (statement_by_keyword before k ts) (begins_with k ts) before new result → ReturnsStatementRead r file line (statement_of_tokens before (t ∷ ts)) (is_help (t ∷ ts)) before new result
+given_by_word r file line before t ts k new result e g = rw (word_known before t ts k e, help_known t ts k e) g
+
+-- tokens after none
+pub behind_none : {E : Type 0} (read : Result (List Lexeme) E) → with_front [] read ≡ read
+behind_none (Ok ts) = refl
+behind_none (Err e) = refl
+
+-- the line
+says_tokens : (before : List Group) (line : ℕ) (text : List ℕ) → nat_lt max_line_bytes (length text) ≡ false → is_utf8 text ≡ true → statement_on_line before (line_here line text) ≡ statement_or_fault before (lexemes_from 0 0 text)
+unfolding statement_on_line
+says_tokens before line text e u = rw (e, u) refl
+
+module _ (r : FileSource) (file line : ℕ) (before : List Group) (text : List ℕ) (new : ReaderState) (short : nat_lt max_line_bytes (length text) ≡ false) (utf8 : is_utf8 text ≡ true) where
+  pub line_of_tokens : (ts : List Lexeme) (result : Result Step TreeKind) → lexemes_from 0 0 text ≡ Ok ts → ReturnsStatementRead r file line (statement_of_tokens before ts) (is_help ts) before new result → LineRead r file line text before new result
+  line_of_tokens ts (Ok Next) e g = record {
+    statement = g.statement;
+    says = says_tokens before line text short utf8 ∙ ap (statement_or_fault before) e ∙ g.says;
+    no_path = g.without_path;
+    begins = rw (e, begins_help) g.follows;
+    describes = g.describes;
+  }
+  line_of_tokens ts (Ok Help) e g = record {
+    statement = g.statement;
+    says = says_tokens before line text short utf8 ∙ ap (statement_or_fault before) e ∙ g.says;
+    no_path = g.without_path;
+    begins = rw (e, begins_help) g.follows;
+    describes = g.describes;
+  }
+  line_of_tokens ts (Ok (Source path)) e g = record {
+    says = says_tokens before line text short utf8 ∙ ap (statement_or_fault before) e ∙ g.says;
+    begins = rw (e, begins_help) g.follows;
+    describes = g.describes;
+  }
+  line_of_tokens ts (Err kind) e (inl m) = inl m
+  line_of_tokens ts (Err kind) e (inr h) = inr (says_tokens before line text short utf8 ∙ ap (statement_or_fault before) e ∙ h.0, h.1)
+
+  -- the first fault of its tokens
+  pub line_of_fault : (f : ExprFault) (kind : TreeKind) → kind ≡ kind_of_fault f.kind → (f.kind ≡ expr_kinds.OutOfMemory) ⊎ (lexemes_from 0 0 text ≡ Err f) → RepresentsListing new.listing before → LineRead r file line text before new (Err kind)
+  line_of_fault f kind e (inl m) s = inl (e ∙ ap kind_of_fault m)
+  line_of_fault f kind e (inr h) s = inr (says_tokens before line text short utf8 ∙ ap (statement_or_fault before) h ∙ ap Err (sym e), s)

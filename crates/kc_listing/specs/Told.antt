@@ -1,8 +1,0 @@
--- What is told where memory runs out.
-use Rattle.std.specs.Prelude.{None}
-use Rattle.kc_tree_model.specs.declared.fault.TreeFault.{TreeFault}
-use Rattle.kc_tree_model.specs.declared.fault.TreeKind.TheVariants.{OutOfMemory}
-
--- want of memory has no place
-abbrev pub no_memory : TreeFault
-no_memory = record { file = None; line = 0; kind = OutOfMemory }

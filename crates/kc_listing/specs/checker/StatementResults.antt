@@ -1,0 +1,57 @@
+-- The results of reading the tokens of a line.
+use Rattle.std.specs.Prelude.{◌≡◌, ◌⊎◌, ℕ, Bool, true, false, List, [], ◌∷◌, Option, Some, None, Result, Ok, Err}
+use Rattle.kc_expr.specs.Token.{Lexeme}
+use Rattle.kc_tree_model.specs.declared.fault.TreeKind.{TreeKind}
+use Rattle.kc_tree_model.specs.declared.fault.TreeKind.TheVariants.{OutOfMemory}
+use Rattle.kc_tree_model.specs.Keywords.{Keyword}
+use Rattle.kc_tree_model.specs.LogicalLines.{is_help_word}
+use Rattle.kc_tree_model.specs.Statements.{Statement, head, source}
+use Rattle.kc_tree_model.specs.Blocks.{Group}
+use Rattle.kc_tree_model.specs.Limits.{FileSource}
+use Rattle.kc_tree_model.specs.Reading.{with_statement, path_to_read}
+use Rattle.kc_listing.specs.ListingView.{RepresentsListing}
+use Rattle.kc_listing.specs.checker.StateViews.{Describes, at_line}
+use Rattle.kc_listing.specs.checker.Steps.{limits}
+use Rattle.kc_listing.specs.declared.state.ReaderState.{ReaderState}
+use Rattle.kc_listing.specs.declared.state.Step.{Step}
+use Rattle.kc_listing.specs.declared.state.Step.TheVariants.{Next, Help, Source}
+
+-- an appended statement has no path
+abbrev pub no_path : Result (Unit {0}) TreeKind → Result (Option (List ℕ)) TreeKind
+no_path (Ok u) = Ok None
+no_path (Err k) = Err k
+
+-- a statement was appended, or is a `source`, which isn't appended yet, or passes a limit
+abbrev pub AppendsStatement : FileSource → ℕ → ℕ → List Group → Statement → ReaderState → Result (Option (List ℕ)) TreeKind → Type 0
+AppendsStatement r file line before s new (Ok None) = (limits before s ≡ None) × (path_to_read (Some s) ≡ None) × Describes r new (with_statement (at_line file line) (Some s) before)
+AppendsStatement r file line before s new (Ok (Some path)) = (limits before s ≡ None) × (s ≡ head (source path)) × Describes r new before
+AppendsStatement r file line before s new (Err k) = (k ≡ OutOfMemory) ⊎ ((limits before s ≡ Some k) × RepresentsListing new.listing before)
+
+-- whether a keyword begins a help text and stands alone
+abbrev pub begins_with : Keyword → List Lexeme → Bool
+begins_with k [] = is_help_word (Some k)
+begins_with k (t ∷ ts) = false
+
+-- a line of which this is given said something, and whether a help text follows
+pub record IsGiven (r : FileSource) (file line : ℕ) (given : Result (Option Statement) TreeKind) (begins : Bool) (before : List Group) (help : Bool) (new : ReaderState) : Type 0 where
+  pub statement : Option Statement
+  pub says : given ≡ Ok statement
+  pub without_path : path_to_read statement ≡ None
+  pub follows : begins ≡ help
+  pub describes : Describes r new (with_statement (at_line file line) statement before)
+
+-- it is a `source`, which isn't appended yet
+pub record IsSourceGiven (r : FileSource) (given : Result (Option Statement) TreeKind) (begins : Bool) (path : List ℕ) (before : List Group) (new : ReaderState) : Type 0 where
+  pub says : given ≡ Ok (Some (head (source path)))
+  pub follows : begins ≡ false
+  pub describes : Describes r new before
+
+abbrev pub StepGiven : FileSource → ℕ → ℕ → Result (Option Statement) TreeKind → Bool → List Group → ReaderState → Step → Type 0
+StepGiven r file line given begins before new Next = IsGiven r file line given begins before false new
+StepGiven r file line given begins before new Help = IsGiven r file line given begins before true new
+StepGiven r file line given begins before new (Source path) = IsSourceGiven r given begins path before new
+
+-- the result of a call that reads the tokens of a line
+abbrev pub ReturnsStatementRead : FileSource → ℕ → ℕ → Result (Option Statement) TreeKind → Bool → List Group → ReaderState → Result Step TreeKind → Type 0
+ReturnsStatementRead r file line given begins before new (Ok s) = StepGiven r file line given begins before new s
+ReturnsStatementRead r file line given begins before new (Err k) = (k ≡ OutOfMemory) ⊎ ((given ≡ Err k) × RepresentsListing new.listing before)

@@ -1,0 +1,144 @@
+//! Appends statements to the listing.
+ghost use Rattle.std.specs.Prelude.{◌≡◌, ◌<◌, ◌+◌, ◌≤◌, ℕ, false, length, slice_get, List, None, Some, IfOk, IfErr, OnOk};
+ghost use Rattle.kc_tree_model.specs.declared.fault.TreeKind.TheVariants.{OutOfMemory};
+ghost use Rattle.kc_tree_model.specs.Blocks.{Group as Placed, GroupHead as Meant, of_head, closing, inside, side_of, from_head};
+ghost use Rattle.kc_tree_model.specs.Statements.{name_of_head, block_of_head, same_block, choice_block, choice, source};
+ghost use Rattle.kc_tree_model.specs.Limits.{FileSource, size_in};
+ghost use Rattle.kc_tree_model.specs.Reading.{with_group};
+ghost use Rattle.kc_statements.specs.KeywordViews.{block_view};
+ghost use Rattle.kc_listing.specs.ListingView.{RepresentsListing};
+ghost use Rattle.kc_listing.specs.checker.StateViews.{Describes, IsMeant, at_line};
+
+use super::listing::{Group, GroupHead, Listing};
+use super::state::{OpenBlock, ReaderState};
+use kc_statements::Block;
+use kc_tree_model::TreeKind;
+use kc_value::Text;
+
+/// Appends a group that defines no symbol.
+pub(crate) fn push_group(
+    listing: &mut Listing,
+    file: u32,
+    line: u32,
+    what: GroupHead,
+) -> Result<(), TreeKind>
+    ensures put { (before : List Placed) (m : Meant) → RepresentsListing listing.old before → IsMeant listing.old before what m
+        → from_head name_of_head m ≡ None → OnOk result (RepresentsListing listing.new (with_group (at_line file line) m before)) }
+    ensures texts { listing.new.texts ≡ listing.old.texts }
+    ensures memory { IfErr result (λ k. k ≡ OutOfMemory) }
+{
+    let attributes = listing.lines.len();
+    let Ok(()) = listing.groups.push(Group {
+        file,
+        line,
+        what,
+        attributes,
+    })
+    else {
+        return Err(TreeKind::OutOfMemory);
+    };
+    Ok(())
+}
+
+/// Appends the end of a block or of a file.
+pub(crate) fn push_end(
+    read: &mut ReaderState,
+    file: u32,
+    line: u32,
+    what: GroupHead,
+) -> Result<(), TreeKind>
+    ensures put { (r : FileSource) (before : List Placed) (m : Meant) → Describes r read.old before → IsMeant read.old.listing before what m
+        → side_of m ≡ closing → OnOk result (Describes r read.new (with_group (at_line file line) m before)) }
+    ensures memory { IfErr result (λ k. k ≡ OutOfMemory) }
+{
+    let _ = read.stack.pop();
+    push_group(&mut read.listing, file, line, what)
+}
+
+/// Appends a statement that defines, opens and ends nothing.
+pub(crate) fn push_plain(
+    read: &mut ReaderState,
+    file: u32,
+    line: u32,
+    what: GroupHead,
+) -> Result<(), TreeKind>
+    ensures put { (r : FileSource) (before : List Placed) (m : Meant) → Describes r read.old before → IsMeant read.old.listing before what m
+        → side_of m ≡ inside → from_head name_of_head m ≡ None → OnOk result (Describes r read.new (with_group (at_line file line) m before)) }
+    ensures memory { IfErr result (λ k. k ≡ OutOfMemory) }
+{
+    push_group(&mut read.listing, file, line, what)
+}
+
+/// Appends the statement that opens a menu or an `if`.
+pub(crate) fn push_block(
+    read: &mut ReaderState,
+    file: u32,
+    line: u32,
+    what: GroupHead,
+    block: Block,
+) -> Result<(), TreeKind>
+    ensures put { (r : FileSource) (before : List Placed) (m : Meant) → Describes r read.old before → IsMeant read.old.listing before what m
+        → from_head block_of_head m ≡ Some (block_view block) → same_block choice_block (block_view block) ≡ false
+        → OnOk result (Describes r read.new (with_group (at_line file line) m before)) }
+    ensures memory { IfErr result (λ k. k ≡ OutOfMemory) }
+{
+    let Ok(()) = read.stack.push(OpenBlock::Block(block, line)) else {
+        return Err(TreeKind::OutOfMemory);
+    };
+    push_group(&mut read.listing, file, line, what)
+}
+
+/// Appends the statement that opens a choice.
+pub(crate) fn push_choice_group(
+    read: &mut ReaderState,
+    file: u32,
+    line: u32,
+) -> Result<(), TreeKind>
+    requires { read.old.choices < 4096 }
+    ensures put { (r : FileSource) (before : List Placed) → Describes r read.old before
+        → OnOk result (Describes r read.new (with_group (at_line file line) (of_head choice) before)) }
+    ensures memory { IfErr result (λ k. k ≡ OutOfMemory) }
+{
+    let Ok(()) = read.stack.push(OpenBlock::Block(Block::Choice, line)) else {
+        return Err(TreeKind::OutOfMemory);
+    };
+    read.choices += 1;
+    push_group(&mut read.listing, file, line, GroupHead::Choice)
+}
+
+/// Appends a text.
+pub(crate) fn push_text(read: &mut ReaderState, text: Text) -> Result<usize, TreeKind>
+    ensures kept { IfOk result (λ t. slice_get read.new.listing.texts.items t ≡ Some text) }
+    ensures describes { (r : FileSource) (before : List Placed) → Describes r read.old before → OnOk result (Describes r read.new before) }
+    ensures files { read.new.files ≡ read.old.files }
+    ensures bytes { read.new.bytes ≡ read.old.bytes }
+    ensures memory { IfErr result (λ k. k ≡ OutOfMemory) }
+{
+    let place = read.listing.texts.len();
+    let Ok(()) = read.listing.texts.push(text) else {
+        return Err(TreeKind::OutOfMemory);
+    };
+    Ok(place)
+}
+
+/// Appends a `source`, and counts its file.
+pub(crate) fn push_source(
+    read: &mut ReaderState,
+    file: u32,
+    line: u32,
+    place: usize,
+    size: usize,
+) -> Result<(), TreeKind>
+    requires files { read.old.files < 4096 }
+    requires bytes { read.old.bytes + size ≤ 67108864 }
+    ensures put { (r : FileSource) (before : List Placed) (path : List ℕ) → Describes r read.old before → slice_get read.old.listing.texts.items place ≡ Some path → size ≡ size_in r path
+        → OnOk result (Describes r read.new (with_group (at_line file line) (of_head (source path)) before)) }
+    ensures memory { IfErr result (λ k. k ≡ OutOfMemory) }
+{
+    let Ok(()) = read.stack.push(OpenBlock::Source(place)) else {
+        return Err(TreeKind::OutOfMemory);
+    };
+    read.files += 1;
+    read.bytes += size;
+    push_group(&mut read.listing, file, line, GroupHead::Source(place))
+}

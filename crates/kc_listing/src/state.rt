@@ -1,0 +1,52 @@
+//! The state of the reader.
+ghost use Rattle.std.specs.Prelude.{◌≤◌};
+
+use super::listing::Listing;
+use kc_statements::Block;
+use kc_tree_model::Texts;
+use kc_value::Text;
+use std::alloc::Global;
+
+/// An open block with its first line, or an open sourced file, by the index of its path among the texts.
+#[derive(Clone, Copy)]
+pub(crate) enum OpenBlock {
+    Block(Block, u32),
+    Source(usize),
+}
+
+/// The listing so far, the open blocks and files with the innermost last, and the counts of choices, files and bytes.
+#[derive(Drop)]
+pub(crate) struct ReaderState {
+    pub alloc: Global,
+    pub listing: Listing,
+    pub stack: Vec<OpenBlock>,
+    pub choices: usize,
+    pub files: usize,
+    pub bytes: usize,
+    ghost few_choices: { choices ≤ 4096 },
+    ghost few_files: { files ≤ 4096 },
+    ghost few_bytes: { bytes ≤ 67108864 },
+}
+
+/// Where the bytes of paths come from.
+#[derive(Clone, Copy)]
+pub(crate) struct SourceFiles<'a> {
+    pub texts: &'a Texts,
+    pub root: &'a str,
+    pub absent_is_empty: bool,
+}
+
+/// A file: its number, and its bytes.
+#[derive(Clone, Copy)]
+pub(crate) struct SourceFile<'a> {
+    pub number: u32,
+    pub bytes: &'a [u8],
+}
+
+/// What a line leads to: the next line, a help text, or a sourced file.
+#[derive(Drop)]
+pub(crate) enum Step {
+    Next,
+    Help,
+    Source(Text),
+}

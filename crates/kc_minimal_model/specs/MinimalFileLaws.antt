@@ -1,0 +1,61 @@
+-- The minimal file is read as the least assignment of its values.
+use Rattle.std.specs.Prelude.{◌≡◌, ◌↔◌, [], ℕ, true, List, Option, Some, length, slice_get, IsTrue}
+use Rattle.kc_tree_model.specs.Trees.{Tree}
+use Rattle.kc_tree_model.specs.TreeLookup.{IsConsistent, unit_of}
+use Rattle.kc_system.specs.Solutions.{Solves, FitsUsers, FitsValues}
+use Rattle.kc_system.specs.LeastAssignments.{IsLeastAssignment}
+use Rattle.kc_rules_model.specs.declared.profile.Profile.{Profile}
+use Rattle.kc_rules_model.specs.declared.values.UnitValue.{UnitValue}
+use Rattle.kc_rules_model.specs.declared.values.UserValue.{UserValue}
+use Rattle.kc_rules_model.specs.Rule.{rule, as_user}
+use Rattle.kc_rules_model.specs.Shapes.{user_fits, value_fits}
+use Rattle.kc_dotconfig_model.specs.PrefixGrammar.{is_prefix}
+use Rattle.kc_dotconfig_model.specs.ConfigLines.{LineMeaning, assigns, Means, without_white_end}
+use Rattle.kc_dotconfig_model.specs.ConfigFiles.{FileMeans, file_assignment}
+use Rattle.kc_minimal_model.specs.Spelling.{symbol_line}
+use Rattle.kc_minimal_model.specs.Differences.{differences}
+use Rattle.kc_minimal_model.specs.MinimalFile.{minimal_file, has_line}
+
+-- each line of the file is read, and what the lines assign is the least assignment of the values
+pub record IsReadAsLeast (prefix : List ℕ) (profile : Profile) (tree : Tree) (values : List UnitValue) : Type 0 where
+  pub sayings : List LineMeaning
+  pub says : FileMeans prefix tree (minimal_file prefix profile tree values) sayings
+  pub least : IsLeastAssignment (length tree.units) (rule profile tree) as_user values (file_assignment tree sayings)
+
+-- a symbol's line is read as the assignment of its unit's value to its unit
+pub record IsReadAsItsAssignment (prefix : List ℕ) (tree : Tree) (values : List UnitValue) (s : ℕ) : Type 0 where
+  pub value : UnitValue
+  pub user : UserValue
+  pub has : slice_get values (unit_of tree s) ≡ Some value
+  pub meant : as_user value ≡ Some user
+  pub trimmed : without_white_end (symbol_line prefix tree values s) ≡ symbol_line prefix tree values s
+  pub says : Means prefix tree (symbol_line prefix tree values s) (assigns (unit_of tree s) user)
+
+-- where the values are those of a fitting assignment, over a consistent tree
+abbrev pub ForSolutions : (Profile → Tree → List UnitValue → Type 0) → Type 0
+ForSolutions P =
+    (profile : Profile) (tree : Tree) (users : List (Option UserValue)) (values : List UnitValue) → IsConsistent tree
+    → FitsUsers (length tree.units) (λ u x. IsTrue (user_fits tree u x)) users
+    → Solves (length tree.units) (rule profile tree) users values → P profile tree values
+
+abbrev pub MinimalLinesAreRead : Type 0
+MinimalLinesAreRead = (prefix : List ℕ) → is_prefix prefix ≡ true
+    → ForSolutions (λ profile tree values. (s : ℕ) → has_line profile tree values s ≡ true
+    → IsReadAsItsAssignment prefix tree values s)
+
+-- no two lines speak of one unit
+abbrev pub MinimalLinesDiffer : Type 0
+MinimalLinesDiffer =
+    ForSolutions (λ profile tree values. (s t : ℕ) → has_line profile tree values s ≡ true
+    → has_line profile tree values t ≡ true → unit_of tree s ≡ unit_of tree t → s ≡ t)
+
+abbrev pub MinimalFilesAssignLeast : Type 0
+MinimalFilesAssignLeast = (prefix : List ℕ) → is_prefix prefix ≡ true
+    → ForSolutions (λ profile tree values. IsReadAsLeast prefix profile tree values)
+
+-- nothing differs between two valuations exactly if they are the same
+abbrev pub DifferencesAreExact : Type 0
+DifferencesAreExact = (tree : Tree) (v w : List UnitValue) → IsConsistent tree
+    → FitsValues (length tree.units) (λ u x. IsTrue (value_fits tree u x)) v
+    → FitsValues (length tree.units) (λ u x. IsTrue (value_fits tree u x)) w
+    → (differences tree v w ≡ []) ↔ (v ≡ w)

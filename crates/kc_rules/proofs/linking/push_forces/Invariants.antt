@@ -1,9 +1,0 @@
-use Rattle.std.proofs.Common.{◌≡◌, ℕ, ◌||◌, take}
-use Rattle.kc_rules.specs.checker.Links.{has, forced_by, AreUnits}
-use Rattle.kc_rules.proofs.linking.push_forces.Given as goal
-
-abbrev pub invariant-loop-force : goal.invariant-loop-force
-invariant-loop-force l = record {
-  units : (d : ℕ) → has l.units.items d ≡ (has l.initial.units.items d || forced_by l.tree.whole d (take l.force-index l.all));
-  below : AreUnits l.tree.whole l.initial.units.items → AreUnits l.tree.whole l.units.items;
-}

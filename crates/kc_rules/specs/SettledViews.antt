@@ -1,0 +1,32 @@
+-- A settled tree as contracts see it.
+use Rattle.std.specs.Prelude.{if◌then◌else◌}
+use Rattle.kc_value.specs.declared.value.Value.{Value}
+use Rattle.kc_value.specs.declared.value.Value.TheVariants.{Tri as TriValue, Text as TextValue}
+use Rattle.kc_value.specs.declared.value.ValueRef.{ValueRef}
+use Rattle.kc_value.specs.declared.value.ValueRef.TheVariants.{Tri as TriLent, Text as TextLent}
+use Rattle.kc_expr.specs.Expr.{SymbolValue}
+use Rattle.kc_tree.specs.TreeModel.{TreeModel}
+use Rattle.kc_tree_model.specs.Trees.{Tree}
+use Rattle.kc_rules_model.specs.declared.profile.Profile.{Profile}
+use Rattle.kc_rules_model.specs.Kinds.{is_tri_kind}
+use Rattle.kc_rules.specs.declared.rules.Settled.{Settled}
+
+-- the tree with its arena
+abbrev pub tree_model_of : Settled → TreeModel
+tree_model_of settled = settled.rules.tree
+
+-- what the tree holds
+abbrev pub tree_of_settled : Settled → Tree
+tree_of_settled settled = settled.rules.tree.whole
+
+abbrev pub profile_of : Settled → Profile
+profile_of settled = settled.rules.profile
+
+-- the value of a symbol: a tristate of a bool or tristate, else a text
+abbrev pub value_view : SymbolValue → Value
+value_view seen = if is_tri_kind seen.kind then TriValue seen.tri else TextValue seen.text
+
+-- a value that is lent
+abbrev pub value_of_ref : ValueRef → Value
+value_of_ref (TriLent t) = TriValue t
+value_of_ref (TextLent text) = TextValue text.now

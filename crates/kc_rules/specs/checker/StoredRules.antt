@@ -1,0 +1,48 @@
+-- What the parts of a kept tree say of rules.
+use Rattle.std.specs.Prelude.{ℕ, ◌<◌, All, Bool, not, ◌&&◌, Option, Some, None, find, List, length, if◌then◌else◌}
+use Rattle.std.specs.Option.{option_map, option_and_then}
+use Rattle.kc_tree_model.specs.Trees.{Choice, MemberDefault}
+use Rattle.kc_rules_model.specs.Kinds.{is_n}
+use Rattle.kc_rules_model.specs.SymbolValues.{condition}
+use Rattle.kc_rules_model.specs.Rule.{is_visible_member, is_shown, or_else}
+use Rattle.kc_expr.specs.Arena.{Exprs}
+use Rattle.kc_tree_model.specs.Trees.{Tree}
+use Rattle.kc_tree.specs.Views.{RangeFits}
+use Rattle.kc_tree.specs.declared.symbol.Default.{Default as KeptDefault}
+use Rattle.kc_tree.specs.declared.symbol.Range.{Range as KeptRange}
+use Rattle.kc_tree.specs.declared.symbol.ReverseDependency.{ReverseDependency as KeptForce}
+use Rattle.kc_tree.specs.declared.symbol.MemberDefault.{MemberDefault as KeptMemberDefault}
+use Rattle.kc_rules_model.specs.declared.values.UnitValue.{UnitValue}
+
+-- numbers of nodes and symbols that are there
+abbrev pub AreNodes : Exprs → List ℕ → Type 0
+AreNodes exprs ids = All (λ i. i < length exprs.nodes) ids
+
+abbrev pub AreReverseDependencies : Exprs → Tree → List KeptForce → Type 0
+AreReverseDependencies exprs tree fs = All (λ (f : KeptForce). (f.by < length tree.symbols) × (f.condition < length exprs.nodes)) fs
+
+abbrev pub AreDefaults : Exprs → List KeptDefault → Type 0
+AreDefaults exprs ds = All (λ (d : KeptDefault). (d.value < length exprs.nodes) × (d.condition < length exprs.nodes)) ds
+
+abbrev pub AreRanges : Exprs → List KeptRange → Type 0
+AreRanges exprs rs = All (RangeFits (length exprs.nodes)) rs
+
+abbrev pub AreMemberDefaults : Exprs → Tree → List KeptMemberDefault → Type 0
+AreMemberDefaults exprs tree ds = All (λ (d : KeptMemberDefault). (d.member < length tree.symbols) × (d.condition < length exprs.nodes)) ds
+
+abbrev pub AreMembers : Tree → List ℕ → Type 0
+AreMembers tree ms = All (λ s. s < length tree.symbols) ms
+
+-- a choice's default counts where its condition isn't `n` and its member is visible
+abbrev pub is_open : Tree → List UnitValue → MemberDefault → Bool
+is_open tree values d = not (is_n (condition tree values d.condition)) && is_visible_member tree values d.member
+
+abbrev pub default_member_of : Tree → List UnitValue → List MemberDefault → Option ℕ
+default_member_of tree values ds = option_map (λ (d : MemberDefault). d.member) (find (is_open tree values) ds)
+
+-- the rule of a choice, with the user's member
+abbrev pub choice_rule_of : Tree → Choice → Option ℕ → List UnitValue → Option ℕ
+choice_rule_of tree choice user values =
+    if is_shown tree values choice
+    then or_else (option_and_then (λ s. if is_visible_member tree values s then Some s else None) user) (or_else (default_member_of tree values choice.defaults) (find (is_visible_member tree values) choice.members))
+    else None

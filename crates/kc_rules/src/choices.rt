@@ -1,0 +1,89 @@
+//! The rule of choices.
+ghost use Rattle.std.specs.Prelude.{◌≡◌, ◌<◌, ◌&&◌, not, length, map, find, IfSome};
+ghost use Rattle.kc_tree.specs.Views.{choice_view, member_default_view, ChoiceFits};
+ghost use Rattle.kc_rules.specs.checker.StoredRules.{AreMemberDefaults, AreMembers, default_member_of, is_open, choice_rule_of};
+ghost use Rattle.kc_rules_model.specs.Rule.{is_shown, is_visible_member};
+ghost use Rattle.kc_rules.specs.checker.ValuationView.{valuation_tree, valuation_exprs, valuation_values};
+
+use super::symbol_values::is_n;
+use super::tristate_rules::is_visible;
+use super::valuation::Valuation;
+use kc_tree::{Choice, MemberDefault, Sym};
+
+/// Whether the prompt's condition isn't `n`; without a prompt never.
+fn is_shown(under: &Valuation<'_>, choice: &Choice<'_>) -> bool
+    requires { ChoiceFits (valuation_exprs under.now) (length (valuation_tree under.now).symbols) choice.now }
+    ensures { result ≡ is_shown (valuation_tree under.now) (valuation_values under.now) (choice_view (valuation_exprs under.now) choice.now) }
+{
+    match choice.prompt {
+        None => false,
+        Some(id) => !is_n(under.condition(id)),
+    }
+}
+
+/// Whether a member is visible.
+fn is_member_visible(under: &Valuation<'_>, s: Sym) -> bool
+    requires { s < length (valuation_tree under.now).symbols }
+    ensures { result ≡ is_visible_member (valuation_tree under.now) (valuation_values under.now) s }
+{
+    is_visible(under, &under.rules.tree.symbol(s))
+}
+
+/// Whether the condition isn't `n` and the member is visible.
+fn is_default_open(under: &Valuation<'_>, default: MemberDefault) -> bool
+    requires member { default.member < length (valuation_tree under.now).symbols }
+    requires condition { default.condition < length (valuation_exprs under.now).nodes }
+    ensures { result ≡ is_open (valuation_tree under.now) (valuation_values under.now) (member_default_view (valuation_exprs under.now) default) }
+{
+    !is_n(under.condition(default.condition)) && is_member_visible(under, default.member)
+}
+
+/// The first default whose condition isn't `n` and whose member is visible.
+fn default_member(under: &Valuation<'_>, defaults: &[MemberDefault]) -> Option<Sym>
+    requires { AreMemberDefaults (valuation_exprs under.now) (valuation_tree under.now) defaults.now }
+    ensures { result ≡ default_member_of (valuation_tree under.now) (valuation_values under.now) (map (member_default_view (valuation_exprs under.now)) defaults.now) }
+{
+    for default in defaults {
+        if is_default_open(under, *default) {
+            return Some(default.member);
+        }
+    }
+    None
+}
+
+/// The first visible member.
+fn first_member(under: &Valuation<'_>, members: &[Sym]) -> Option<Sym>
+    requires { AreMembers (valuation_tree under.now) members.now }
+    ensures { result ≡ find (is_visible_member (valuation_tree under.now) (valuation_values under.now)) members.now }
+{
+    for s in members {
+        if is_member_visible(under, *s) {
+            return Some(*s);
+        }
+    }
+    None
+}
+
+/// The selection of a choice.
+pub(crate) fn choice_rule(
+    under: &Valuation<'_>,
+    choice: &Choice<'_>,
+    user: Option<Sym>,
+) -> Option<Sym>
+    requires fits { ChoiceFits (valuation_exprs under.now) (length (valuation_tree under.now).symbols) choice.now }
+    requires user { IfSome user (λ s. s < length (valuation_tree under.now).symbols) }
+    ensures { result ≡ choice_rule_of (valuation_tree under.now) (choice_view (valuation_exprs under.now) choice.now) user (valuation_values under.now) }
+{
+    if !is_shown(under, choice) {
+        return None;
+    }
+    if let Some(s) = user {
+        if is_member_visible(under, s) {
+            return Some(s);
+        }
+    }
+    if let Some(s) = default_member(under, choice.defaults) {
+        return Some(s);
+    }
+    first_member(under, choice.members)
+}

@@ -1,0 +1,199 @@
+//! The rules of strings, ints and hexes.
+ghost use Rattle.std.specs.Prelude.{◌≡◌, ◌<◌, length, map, IfOk, IfSome, option_map, unwrap_or, pos};
+ghost use Rattle.std.specs.Option.{option_copied};
+ghost use Rattle.kc_value.specs.Number.{number_of_text, IsPrintable};
+ghost use Rattle.kc_expr.specs.Arena.{node_expr};
+ghost use Rattle.kc_tree.specs.Views.{symbol_view, default_view, range_view, operand_or_empty, SymbolFits};
+ghost use Rattle.kc_rules.specs.checker.StoredRules.{AreDefaults, AreRanges};
+ghost use Rattle.kc_rules_model.specs.Rule.{bound, is_within, clamped, default_text, number_default};
+ghost use Rattle.kc_rules.specs.checker.Texts.{IsNumber, active_value_of, active_range_of, string_rule_of, number_rule_of};
+ghost use Rattle.kc_rules.specs.checker.ValuationView.{valuation_tree, valuation_exprs, valuation_values};
+
+use super::symbol_values::is_n;
+use super::tristate_rules::is_visible;
+use super::valuation::Valuation;
+use kc_expr::ExprId;
+use kc_tree::{Default, Range, Symbol};
+use kc_value::{Kind, Text, hex_of, int_of, number_text};
+use std::alloc::{AllocError, Global};
+
+/// The value of the first default whose condition isn't `n`.
+pub(crate) fn active_default(under: &Valuation<'_>, defaults: &[Default]) -> Option<ExprId>
+    requires { AreDefaults (valuation_exprs under.now) defaults.now }
+    ensures value { option_map (node_expr (valuation_exprs under.now)) result ≡ active_value_of (valuation_tree under.now) (valuation_values under.now) (map (default_view (valuation_exprs under.now)) defaults.now) }
+    ensures there { IfSome result (λ i. i < length (valuation_exprs under.now).nodes) }
+{
+    for default in defaults {
+        if !is_n(under.condition(default.condition)) {
+            return Some(default.value);
+        }
+    }
+    None
+}
+
+/// The text of the active default, empty without one.
+fn default_text<'a>(under: &'a Valuation<'a>, symbol: &Symbol<'_>) -> &'a str
+    requires { SymbolFits (valuation_exprs under.now) (length (valuation_tree under.now).symbols) symbol.now }
+    ensures { result.now ≡ default_text (valuation_tree under.now) (valuation_values under.now) (symbol_view (valuation_exprs under.now) symbol.now) }
+{
+    match active_default(under, symbol.defaults) {
+        None => "",
+        Some(value) => under.operand_text(value),
+    }
+}
+
+/// The value of a string.
+pub(crate) fn string_rule(
+    alloc: Global,
+    under: &Valuation<'_>,
+    symbol: &Symbol<'_>,
+    user: Option<&str>,
+) -> Result<Text, AllocError>
+    requires { SymbolFits (valuation_exprs under.now) (length (valuation_tree under.now).symbols) symbol.now }
+    ensures { IfOk result (λ text. text ≡ string_rule_of (valuation_tree under.now) (valuation_values under.now) (symbol_view (valuation_exprs under.now) symbol.now) (option_copied user.entry)) }
+{
+    match user {
+        Some(text) => {
+            if is_visible(under, symbol) {
+                Text::copied(alloc, text)
+            } else {
+                Text::copied(alloc, default_text(under, symbol))
+            }
+        }
+        None => Text::copied(alloc, default_text(under, symbol)),
+    }
+}
+
+/// The number that a text is for a kind.
+pub(crate) fn number_of(kind: Kind, text: &str) -> Option<i128>
+    ensures { result ≡ number_of_text kind text.now }
+{
+    match kind {
+        Kind::Int => int_of(text.as_bytes()),
+        Kind::Hex => hex_of(text.as_bytes()),
+        Kind::Bool | Kind::Tristate | Kind::Text => None,
+    }
+}
+
+/// The number of a bound, 0 where it isn't a number of the type.
+#[tactic(auto, using(crate::proofs::Bounds::bound_is, crate::proofs::Bounds::number_printable))]
+fn bound(under: &Valuation<'_>, kind: Kind, id: ExprId) -> i128
+    requires there { id < length (valuation_exprs under.now).nodes }
+    requires number { IsNumber kind }
+    ensures bound { result ≡ bound (valuation_tree under.now) (valuation_values under.now) kind (operand_or_empty (node_expr (valuation_exprs under.now) id)) }
+    ensures printable { IsPrintable kind result }
+{
+    number_of(kind, under.operand_text(id)).unwrap_or(0)
+}
+
+/// The first range whose condition isn't `n`.
+fn active_range(under: &Valuation<'_>, ranges: &[Range]) -> Option<Range>
+    requires { AreRanges (valuation_exprs under.now) ranges.now }
+    ensures range { option_map (range_view (valuation_exprs under.now)) result ≡ active_range_of (valuation_tree under.now) (valuation_values under.now) (map (range_view (valuation_exprs under.now)) ranges.now) }
+    ensures there { IfSome result (λ r. (r.low < length (valuation_exprs under.now).nodes) × (r.high < length (valuation_exprs under.now).nodes)) }
+{
+    for range in ranges {
+        if !is_n(under.condition(range.condition)) {
+            return Some(*range);
+        }
+    }
+    None
+}
+
+/// Whether a number is within the range, if there is one.
+fn is_within(under: &Valuation<'_>, kind: Kind, range: &Option<Range>, number: i128) -> bool
+    requires there { IfSome range.now (λ r. (r.low < length (valuation_exprs under.now).nodes) × (r.high < length (valuation_exprs under.now).nodes)) }
+    requires number { IsNumber kind }
+    ensures { result ≡ is_within (valuation_tree under.now) (valuation_values under.now) kind (option_map (range_view (valuation_exprs under.now)) range.now) number }
+{
+    match range {
+        None => true,
+        Some(r) => !(number < bound(under, kind, r.low)) && !(bound(under, kind, r.high) < number),
+    }
+}
+
+/// Whether the number of a text is within the range, if there is one.
+fn is_text_within(under: &Valuation<'_>, kind: Kind, range: &Option<Range>, text: &str) -> bool
+    requires there { IfSome range.now (λ r. (r.low < length (valuation_exprs under.now).nodes) × (r.high < length (valuation_exprs under.now).nodes)) }
+    requires number { IsNumber kind }
+    ensures { result ≡ is_within (valuation_tree under.now) (valuation_values under.now) kind (option_map (range_view (valuation_exprs under.now)) range.now) (unwrap_or (number_of_text kind text.now) (pos 0)) }
+{
+    match number_of(kind, text) {
+        None => is_within(under, kind, range, 0),
+        Some(number) => is_within(under, kind, range, number),
+    }
+}
+
+/// The text, where its number is within the range; below it the lower bound, above it the upper one.
+fn clamped(
+    alloc: Global,
+    under: &Valuation<'_>,
+    kind: Kind,
+    range: &Option<Range>,
+    number: i128,
+    text: &str,
+) -> Result<Text, AllocError>
+    requires there { IfSome range.now (λ r. (r.low < length (valuation_exprs under.now).nodes) × (r.high < length (valuation_exprs under.now).nodes)) }
+    requires number { IsNumber kind }
+    ensures { IfOk result (λ t. t ≡ clamped (valuation_tree under.now) (valuation_values under.now) kind (option_map (range_view (valuation_exprs under.now)) range.now) number text.now) }
+{
+    match range {
+        None => Text::copied(alloc, text),
+        Some(r) => {
+            let low = bound(under, kind, r.low);
+            let high = bound(under, kind, r.high);
+            if number < low {
+                return Ok(Text::from_string(number_text(alloc, kind, low)?));
+            }
+            if high < number {
+                return Ok(Text::from_string(number_text(alloc, kind, high)?));
+            }
+            Text::copied(alloc, text)
+        }
+    }
+}
+
+/// The value of an int or hex without a user value that counts.
+fn number_default(
+    alloc: Global,
+    under: &Valuation<'_>,
+    symbol: &Symbol<'_>,
+    range: &Option<Range>,
+) -> Result<Text, AllocError>
+    requires fits { SymbolFits (valuation_exprs under.now) (length (valuation_tree under.now).symbols) symbol.now }
+    requires there { IfSome range.now (λ r. (r.low < length (valuation_exprs under.now).nodes) × (r.high < length (valuation_exprs under.now).nodes)) }
+    requires range { option_map (range_view (valuation_exprs under.now)) range.now ≡ active_range_of (valuation_tree under.now) (valuation_values under.now) (map (range_view (valuation_exprs under.now)) symbol.now.ranges.now) }
+    requires number { IsNumber symbol.now.kind }
+    ensures { IfOk result (λ text. text ≡ number_default (valuation_tree under.now) (valuation_values under.now) (symbol_view (valuation_exprs under.now) symbol.now)) }
+{
+    let text = default_text(under, symbol);
+    match number_of(symbol.kind, text) {
+        None => clamped(alloc, under, symbol.kind, range, 0, ""),
+        Some(number) => clamped(alloc, under, symbol.kind, range, number, text),
+    }
+}
+
+/// The value of an int or hex.
+pub(crate) fn number_rule(
+    alloc: Global,
+    under: &Valuation<'_>,
+    symbol: &Symbol<'_>,
+    user: Option<&str>,
+) -> Result<Text, AllocError>
+    requires fits { SymbolFits (valuation_exprs under.now) (length (valuation_tree under.now).symbols) symbol.now }
+    requires number { IsNumber symbol.now.kind }
+    ensures { IfOk result (λ text. text ≡ number_rule_of (valuation_tree under.now) (valuation_values under.now) (symbol_view (valuation_exprs under.now) symbol.now) (option_copied user.entry)) }
+{
+    let range = active_range(under, symbol.ranges);
+    match user {
+        Some(assigned) => {
+            let within = is_text_within(under, symbol.kind, &range, assigned);
+            if within && is_visible(under, symbol) {
+                Text::copied(alloc, assigned)
+            } else {
+                number_default(alloc, under, symbol, &range)
+            }
+        }
+        None => number_default(alloc, under, symbol, &range),
+    }
+}

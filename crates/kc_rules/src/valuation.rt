@@ -1,0 +1,13 @@
+//! A valuation: rules, and a value for each unit.
+use super::rules::Rules;
+use kc_expr::{ExprId, Looked, Lookup, NameId, Operand};
+use kc_rules_model::UnitValue;
+use kc_tree::Sym;
+use kc_value::{Kind, Tri};
+
+/// Rules and a value for each unit.
+#[derive(Clone, Copy)]
+pub(crate) struct Valuation<'a> {
+    pub(crate) rules: &'a Rules,
+    pub(crate) values: &'a [UnitValue],
+}

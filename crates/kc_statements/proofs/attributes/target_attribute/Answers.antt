@@ -1,0 +1,52 @@
+use Rattle.kc_statements.proofs.Growing.{grows_on, grows_none}
+use Rattle.std.proofs.Common.{inl, inr, refl, sym, ◌∙◌, length, arith}
+use Rattle.std.proofs.lemmas.Grind.{common_steps, elements}
+use Rattle.kc_statements.proofs.FormLemmas.{there}
+use Rattle.kc_statements.proofs.Later.{if_held}
+use Rattle.kc_statements.proofs.LineLemmas.{aimed_told, aimed_refused, aimed_other}
+use Rattle.kc_statements.proofs.attributes.target_attribute.Goals as goal
+
+pub returns-in-Ok-intern-clause-grows : goal.returns-in-Ok-intern-clause-grows
+returns-in-Ok-intern-clause-grows c = grows_on c.args.arena.now c.optional_if.new.arena c.intern.new.self c.optional_if.ensures.grows c.intern.ensures.grows
+
+pub returns-in-Err-intern-clause-grows : goal.returns-in-Err-intern-clause-grows
+returns-in-Err-intern-clause-grows c = grows_on c.args.arena.now c.optional_if.new.arena c.intern.new.self c.optional_if.ensures.grows c.intern.ensures.grows
+
+pub returns-then-is_empty-clause-grows : goal.returns-then-is_empty-clause-grows
+returns-then-is_empty-clause-grows c = grows_none c.args.arena.now
+
+pub returns-then-not-is_name-clause-grows : goal.returns-then-not-is_name-clause-grows
+returns-then-not-is_name-clause-grows c = grows_none c.args.arena.now
+
+pub returns-then-not-is_name-clause-gives : goal.returns-then-not-is_name-clause-gives
+returns-then-not-is_name-clause-gives c =
+    let some = there (length c.args.tokens.now) c.is_empty.result c.is_empty.ensures c.if-is_empty.false in
+    λ f. inr (aimed_other f c.args.tokens.now some (sym c.is_name.ensures ∙ c.if-not-is_name.true))
+
+pub returns-in-Err-clause-gives : goal.returns-in-Err-clause-gives
+returns-in-Err-clause-gives c =
+    let some = there (length c.args.tokens.now) c.is_empty.result c.is_empty.ensures c.if-is_empty.false in
+    λ f. elim c.in-Err.ensures.gives [ inl m ↦ inl m | inr e ↦ inr (aimed_refused f c.args.tokens.now c.in-Err.kind some (sym c.is_name.ensures ∙ c.if-not-is_name.false) e) ]
+
+pub returns-in-Err-intern-clause-gives : goal.returns-in-Err-intern-clause-gives
+returns-in-Err-intern-clause-gives c = λ f. inl refl
+
+pub returns-in-Ok-intern-clause-held : goal.returns-in-Ok-intern-clause-held
+returns-in-Ok-intern-clause-held c = (c.in-Ok-intern.ensures.within, if_held c.optional_if.new.arena c.intern.new.self c.in-Ok.condition c.intern.ensures.grows c.in-Ok.ensures.held)
+
+pub returns-in-Ok-intern-clause-gives : goal.returns-in-Ok-intern-clause-gives
+returns-in-Ok-intern-clause-gives c =
+    let some = there (length c.args.tokens.now) c.is_empty.result c.is_empty.ensures c.if-is_empty.false in
+    λ f. aimed_told c.optional_if.new.arena c.intern.new.self f c.args.tokens.now c.in-Ok-intern.name c.in-Ok.condition some (sym c.is_name.ensures ∙ c.if-not-is_name.false) c.intern.ensures.grows c.in-Ok.ensures.gives c.in-Ok.ensures.held c.in-Ok-intern.ensures.name
+
+pub returns-then-is_empty-clause-gives : goal.returns-then-is_empty-clause-gives
+returns-then-is_empty-clause-gives c = grind (arith, common_steps)
+
+pub optional_if-requires : goal.optional_if-requires
+optional_if-requires c = grind (arith, common_steps)
+
+pub bounds-tokens-0 : goal.bounds-tokens-0
+bounds-tokens-0 c = grind (arith, elements)
+
+pub bounds-tokens-0-2 : goal.bounds-tokens-0-2
+bounds-tokens-0-2 c = grind (arith, common_steps)

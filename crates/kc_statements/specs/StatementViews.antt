@@ -1,0 +1,127 @@
+-- The definitions' statements for which those of the code stand, under the expressions of an arena.
+use Rattle.std.specs.Prelude.{◌≡◌, ◌⊎◌, ℕ, ◌<◌, [], length, Option, Some, None, option_map, unwrap_or, slice_index_or, Result, Ok, Err}
+use Rattle.kc_value.specs.declared.tri.Tri.TheVariants.{N}
+use Rattle.kc_expr.specs.Arena.{Exprs, Represents, node_expr}
+use Rattle.kc_expr.specs.Expr.{Expr, Operand, alone, constant}
+use Rattle.kc_expr.specs.Operand.{operand_alone}
+use Rattle.kc_tree_model.specs.declared.fault.TreeKind.{TreeKind}
+use Rattle.kc_tree_model.specs.declared.fault.TreeKind.TheVariants.{OutOfMemory}
+use Rattle.kc_tree_model.specs.Statements.{Head, config, choice, menu, condition, comment, source, mainmenu, ends, DefaultAttribute, TargetAttribute, RangeAttribute, Attribute, typed, typed_prompt, typed_default, prompt, default, depends, select, imply, range, visible, help, modules, Statement, head, attribute}
+use Rattle.kc_statements.specs.declared.statement.Head.{Head as CodeHead}
+use Rattle.kc_statements.specs.declared.statement.Head.TheVariants as heads
+use Rattle.kc_statements.specs.declared.statement.DefaultAttribute.{DefaultAttribute as CodeValued}
+use Rattle.kc_statements.specs.declared.statement.TargetAttribute.{TargetAttribute as CodeAimed}
+use Rattle.kc_statements.specs.declared.statement.RangeAttribute.{RangeAttribute as CodeBounded}
+use Rattle.kc_statements.specs.declared.statement.Attribute.{Attribute as CodeAttribute}
+use Rattle.kc_statements.specs.declared.statement.Attribute.TheVariants as attributes
+use Rattle.kc_statements.specs.declared.statement.Statement.{Statement as CodeStatement}
+use Rattle.kc_statements.specs.declared.statement.Statement.TheVariants as statements
+use Rattle.kc_statements.specs.KeywordViews.{block_view}
+
+-- what is answered is what the definition gives; a fault is the definition's, or memory ran out
+abbrev pub ReturnsOrFails : {A B : Type 0} → (A → B) → Result A TreeKind → Result B TreeKind → Type 0
+ReturnsOrFails view (Ok x) given = given ≡ Ok (view x)
+ReturnsOrFails view (Err k) given = (k ≡ OutOfMemory) ⊎ (given ≡ Err k)
+
+-- the expression of an `if`, where there is one
+abbrev pub if_in : Exprs → Option ℕ → Option Expr
+if_in e c = option_map (node_expr e) c
+
+-- the operand that an expression is
+abbrev pub operand_of_expr : Expr → Operand
+operand_of_expr e = unwrap_or (operand_alone e) (constant N)
+
+abbrev pub operand_or_n : Exprs → ℕ → Operand
+operand_or_n e id = operand_of_expr (node_expr e id)
+
+-- a default, a `select` or `imply`, and a range
+abbrev pub default_in : Exprs → CodeValued → DefaultAttribute
+default_in e d = record { value = node_expr e d.value; single = d.single; condition = if_in e d.condition }
+
+abbrev pub target_in : Exprs → CodeAimed → TargetAttribute
+target_in e s = record { name = slice_index_or e.names s.name []; condition = if_in e s.condition }
+
+abbrev pub range_in : Exprs → CodeBounded → RangeAttribute
+range_in e r = record { low = operand_or_n e r.low; high = operand_or_n e r.high; condition = if_in e r.condition }
+
+-- an attribute
+abbrev pub attribute_in : Exprs → CodeAttribute → Attribute
+attribute_in e (attributes.Typed k) = typed k
+attribute_in e (attributes.TypedPrompt k c) = typed_prompt k (if_in e c)
+attribute_in e (attributes.TypedDefault k d) = typed_default k (default_in e d)
+attribute_in e (attributes.Prompt c) = prompt (if_in e c)
+attribute_in e (attributes.Default d) = default (default_in e d)
+attribute_in e (attributes.Depends id) = depends (node_expr e id)
+attribute_in e (attributes.Select s) = select (target_in e s)
+attribute_in e (attributes.Imply s) = imply (target_in e s)
+attribute_in e (attributes.Range r) = range (range_in e r)
+attribute_in e (attributes.Visible id) = visible (node_expr e id)
+attribute_in e attributes.Help = help
+attribute_in e attributes.Modules = modules
+
+-- a statement that closes the open entry
+abbrev pub head_in : Exprs → CodeHead → Head
+head_in e (heads.Config name) = config name.now
+head_in e heads.Choice = choice
+head_in e (heads.Menu title) = menu title
+head_in e (heads.Condition id) = condition (node_expr e id)
+head_in e (heads.Comment title) = comment title
+head_in e (heads.Source path) = source path
+head_in e heads.Mainmenu = mainmenu
+head_in e (heads.Ends b) = ends (block_view b)
+
+-- a line's statement
+abbrev pub statement_in : Exprs → CodeStatement → Statement
+statement_in e (statements.Head h) = head (head_in e h)
+statement_in e (statements.Attribute a) = attribute (attribute_in e a)
+
+-- the numbers of nodes are those of nodes of the arena
+abbrev pub NodeExists : Exprs → ℕ → Type 0
+NodeExists e id = id < length e.nodes
+
+abbrev pub IfNodeExists : Exprs → Option ℕ → Type 0
+IfNodeExists e None = Unit {0}
+IfNodeExists e (Some id) = NodeExists e id
+
+-- a node is an operand
+abbrev pub OperandNodeExists : Exprs → ℕ → Type 0
+OperandNodeExists e id = Represents e id (alone (operand_or_n e id))
+
+abbrev pub DefaultNodesExist : Exprs → CodeValued → Type 0
+DefaultNodesExist e d = NodeExists e d.value × IfNodeExists e d.condition
+
+abbrev pub TargetNodesExist : Exprs → CodeAimed → Type 0
+TargetNodesExist e s = (s.name < length e.names) × IfNodeExists e s.condition
+
+abbrev pub RangeNodesExist : Exprs → CodeBounded → Type 0
+RangeNodesExist e r = OperandNodeExists e r.low × OperandNodeExists e r.high × IfNodeExists e r.condition
+
+-- all numbers of an attribute are held
+abbrev pub AttributeNodesExist : Exprs → CodeAttribute → Type 0
+AttributeNodesExist e (attributes.Typed k) = Unit {0}
+AttributeNodesExist e (attributes.TypedPrompt k c) = IfNodeExists e c
+AttributeNodesExist e (attributes.TypedDefault k d) = DefaultNodesExist e d
+AttributeNodesExist e (attributes.Prompt c) = IfNodeExists e c
+AttributeNodesExist e (attributes.Default d) = DefaultNodesExist e d
+AttributeNodesExist e (attributes.Depends id) = NodeExists e id
+AttributeNodesExist e (attributes.Select s) = TargetNodesExist e s
+AttributeNodesExist e (attributes.Imply s) = TargetNodesExist e s
+AttributeNodesExist e (attributes.Range r) = RangeNodesExist e r
+AttributeNodesExist e (attributes.Visible id) = NodeExists e id
+AttributeNodesExist e attributes.Help = Unit {0}
+AttributeNodesExist e attributes.Modules = Unit {0}
+
+-- all numbers of a statement are held
+abbrev pub HeadNodesExist : Exprs → CodeHead → Type 0
+HeadNodesExist e (heads.Config name) = Unit {0}
+HeadNodesExist e heads.Choice = Unit {0}
+HeadNodesExist e (heads.Menu title) = Unit {0}
+HeadNodesExist e (heads.Condition id) = NodeExists e id
+HeadNodesExist e (heads.Comment title) = Unit {0}
+HeadNodesExist e (heads.Source path) = Unit {0}
+HeadNodesExist e heads.Mainmenu = Unit {0}
+HeadNodesExist e (heads.Ends b) = Unit {0}
+
+abbrev pub StatementNodesExist : Exprs → CodeStatement → Type 0
+StatementNodesExist e (statements.Head h) = HeadNodesExist e h
+StatementNodesExist e (statements.Attribute a) = AttributeNodesExist e a

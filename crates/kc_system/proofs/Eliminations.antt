@@ -1,0 +1,190 @@
+-- One more unit taken, or one more that waits.
+use Rattle.std.proofs.Common.{◌≡◌, ◌⊎◌, inl, inr, ℕ, zero, suc, ◌+◌, ◌<◌, ◌≤◌, Bool, true, false, List, [], ◌∷◌, ◌++◌, length, set, get_or, length-set, refl, sym, ◌∙◌, ap, subst, arith, Some, slice_get, not, eqb, replicate}
+use Rattle.std.proofs.lemmas.Bool.{cases_eq, cases_lt, cases_Bool, false≢true, not-true, eqb-true}
+use Rattle.std.proofs.lemmas.Option.{slice_get_within, none-some}
+use Rattle.std.proofs.lemmas.List.{get_or-set_same, get_or-set_other, get_or_default, get_or_past, get_or-replicate, length-replicate}
+use Rattle.std.proofs.lemmas.Map.Steps.{length-le_from_distinct_below}
+use Rattle.std.proofs.lemmas.Map.Views.{Contains-from_any}
+use Rattle.std.specs.List.{Contains}
+use Rattle.kc_system.specs.checker.Rows.{AreDependents}
+use Rattle.kc_system.specs.Dependencies.{IsGraph, IsOrder}
+use Rattle.kc_system.specs.checker.Elimination.{IsEliminated, Eliminating, Passed, IsEliminatedOrWaits, Grows, WaitsBeyond, FlagsLeft}
+use Rattle.kc_system.proofs.Lists.{get-some, get_from_Contains, distinct_from_once}
+use Rattle.kc_system.proofs.Cycles.{get-append_left, taken_not_left}
+
+pub push_at : (xs : List ℕ) (u : ℕ) → slice_get (xs ++ u ∷ []) (length xs) ≡ Some u
+push_at [] u = refl
+push_at (x ∷ xs) u = push_at xs u
+
+pub push_cases : (xs : List ℕ) (u k w : ℕ) → slice_get (xs ++ u ∷ []) k ≡ Some w → (slice_get xs k ≡ Some w) ⊎ ((k ≡ length xs) × (w ≡ u))
+push_cases [] u zero w e = let same : w ≡ u = cc in inr (refl, same)
+push_cases [] u (suc k) w e = absurd (none-some w e)
+push_cases (x ∷ xs) u zero w e = inl e
+push_cases (x ∷ xs) u (suc k) w e = elim (push_cases xs u k w e) [ inl earlier ↦ inl earlier | inr last ↦ inr (ap suc last.0, last.1) ]
+
+-- a unit whose dependencies are all taken is taken
+pub takes_more : (size : ℕ) (dependencies : ℕ → List ℕ) (taken new : List ℕ) (flags : List Bool) (u : ℕ) → u < size → new ≡ taken ++ u ∷ [] → get_or flags u false ≡ false
+    → ((d : ℕ) → Contains (dependencies u) d → (d < size) × (get_or flags d false ≡ true)) → Eliminating size dependencies taken flags → Eliminating size dependencies new (set flags u true)
+takes_more size dependencies taken new flags u inside new_is fresh ready t =
+    let at : (k w : ℕ) → slice_get new k ≡ Some w → (slice_get taken k ≡ Some w) ⊎ ((k ≡ length taken) × (w ≡ u)) = λ k w e. push_cases taken u k w (ap (λ xs. slice_get xs k) (sym new_is) ∙ e) in
+    let keep : (k w : ℕ) → slice_get taken k ≡ Some w → slice_get new k ≡ Some w = λ k w e. ap (λ xs. slice_get xs k) new_is ∙ get-append_left taken (u ∷ []) k w e in
+    let last : slice_get new (length taken) ≡ Some u = ap (λ xs. slice_get xs (length taken)) new_is ∙ push_at taken u in
+    let not_yet : (k : ℕ) → slice_get taken k ≡ Some u → ⊥ = λ k e. false≢true (sym fresh ∙ (t.flagged u inside).1 (k, e)) in
+    record {
+      units = λ k w e. elim (at k w e) [ inl earlier ↦ t.units k w earlier | inr here ↦ omega (arith, here.1) ];
+      once = λ j k w a b. elim (at j w a) [
+        | inl earlier_j ↦ elim (at k w b) [ inl earlier_k ↦ t.once j k w earlier_j earlier_k | inr here_k ↦ absurd (not_yet j (earlier_j ∙ ap Some here_k.1)) ]
+        | inr here_j ↦ elim (at k w b) [ inl earlier_k ↦ absurd (not_yet k (earlier_k ∙ ap Some here_j.1)) | inr here_k ↦ here_j.0 ∙ sym here_k.0 ]
+      ];
+      after = λ k w d e has. elim (at k w e) [
+        | inl earlier ↦ let r = t.after k w d earlier has in (r.0, r.1, keep r.0 d r.2)
+        | inr here ↦
+            let ready_d = ready d (subst (λ x. Contains (dependencies x) d) here.1 has) in
+            let place = (t.flagged d ready_d.0).0 ready_d.1 in
+            (place.0, omega (arith, here.0, slice_get_within taken place.0 d place.1), keep place.0 d place.1)
+      ];
+      one_each = length-set flags u true ∙ t.one_each;
+      flagged = λ w h. elim (cases_eq w u) [
+        | inl same ↦ (λ m. (length taken, last ∙ ap Some (sym same)), λ m. ap (λ x. get_or (set flags u true) x false) same ∙ get_or-set_same flags u true false (omega (arith, t.one_each)))
+        | inr other ↦ (
+          λ m. let r = (t.flagged w h).0 (sym (get_or-set_other flags u w true false other) ∙ m) in (r.0, keep r.0 w r.1),
+          λ m. get_or-set_other flags u w true false other ∙ elim (at m.0 w m.1) [ inl earlier ↦ (t.flagged w h).1 (m.0, earlier) | inr here ↦ absurd (other here.1) ],
+        )
+      ];
+    }
+
+pub taken_grows : (taken new : List ℕ) (u : ℕ) → new ≡ taken ++ u ∷ [] → Grows taken new × IsEliminated new u
+taken_grows taken new u new_is = (
+  λ k w e. ap (λ xs. slice_get xs k) new_is ∙ get-append_left taken (u ∷ []) k w e,
+  (length taken, ap (λ xs. slice_get xs (length taken)) new_is ∙ push_at taken u),
+)
+
+-- where every unit is taken, the list is an order
+pub all_taken : (size : ℕ) (dependencies : ℕ → List ℕ) (taken : List ℕ) (flags : List Bool) → Eliminating size dependencies taken flags → ((u : ℕ) → u < size → get_or flags u false ≡ true) → IsOrder size dependencies taken
+all_taken size dependencies taken flags t all = record { units = t.units; each = λ u h. (t.flagged u h).0 (all u h); once = t.once; after = t.after }
+
+-- who waits beyond the first i goes on so
+pub still_beyond : (dependencies : ℕ → List ℕ) (old new : List ℕ) (i u : ℕ) → i ≤ length old → Grows old new → WaitsBeyond dependencies old i u → WaitsBeyond dependencies new i u
+still_beyond dependencies old new i u h grows w = elim w [
+  | inl taken ↦ inl (taken.0, grows taken.0 u taken.1)
+  | inr waits ↦ inr (
+    waits.0,
+    waits.1,
+    λ k lt e.
+        let was = get-some old k (omega arith) in
+        let both : Some was.0 ≡ Some waits.0 = sym (grows k was.0 was.1) ∙ e in
+        let same : was.0 ≡ waits.0 = cc in
+        waits.2 k lt (was.1 ∙ ap Some same),
+  )
+]
+
+pub waits_beyond : (size : ℕ) (dependencies : ℕ → List ℕ) (flags : List Bool) (taken : List ℕ) (i u : ℕ) → Eliminating size dependencies taken flags → IsEliminatedOrWaits dependencies flags taken u → WaitsBeyond dependencies taken i u
+waits_beyond size dependencies flags taken i u t s = elim s [
+  | inl yet ↦ inl yet
+  | inr waits ↦ inr (waits.0, waits.1, λ k lt e. false≢true (sym waits.2 ∙ (t.flagged waits.0 (t.units k waits.0 e)).1 (k, e)))
+]
+
+pub grows_length : (a b : List ℕ) → Grows a b → length a ≤ length b
+grows_length [] b g = omega arith
+grows_length (x ∷ xs) b g =
+    let last = get-some (x ∷ xs) (length xs) (omega arith) in
+    let there = slice_get_within b (length xs) last.0 (g (length xs) last.0 last.1) in
+    omega arith
+
+pub beyond_less : (dependencies : ℕ → List ℕ) (taken : List ℕ) (i j u : ℕ) → i ≤ j → WaitsBeyond dependencies taken j u → WaitsBeyond dependencies taken i u
+beyond_less dependencies taken i j u h w = elim w [ inl yet ↦ inl yet | inr waits ↦ inr (waits.0, waits.1, λ k lt e. waits.2 k (omega arith) e) ]
+
+-- the units that depend on the one at i were visited
+pub visited_beyond : (size : ℕ) (dependencies : ℕ → List ℕ) (taken new : List ℕ) (ready : List ℕ) (i u : ℕ) → slice_get taken i ≡ Some u → AreDependents size dependencies u ready → Grows taken new
+    → ((w : ℕ) → Contains ready w → WaitsBeyond dependencies new (length taken) w) → (w : ℕ) → w < size → WaitsBeyond dependencies taken i w → WaitsBeyond dependencies new (i + 1) w
+visited_beyond size dependencies taken new ready i u at dependents grows visited w inside before =
+    let h = slice_get_within taken i u at in
+    elim before [
+      | inl yet ↦ inl (yet.0, grows yet.0 w yet.1)
+      | inr waits ↦ elim (cases_eq waits.0 u) [
+        | inl same ↦
+            let has : Contains ready w = dependents.each w inside (subst (Contains (dependencies w)) same waits.1) in
+            beyond_less dependencies new (i + 1) (length taken) w (omega arith) (visited w has)
+        | inr other ↦ still_beyond dependencies taken new (i + 1) w (omega arith) grows (inr (
+          waits.0,
+          waits.1,
+          λ k lt e. elim (cases_eq k i) [
+            | inl here ↦ let both : Some u ≡ Some waits.0 = sym at ∙ ap (slice_get taken) (sym here) ∙ e in let same : waits.0 ≡ u = cc in other same
+            | inr earlier ↦ waits.2 k (omega arith) e
+          ],
+        ))
+      ]
+    ]
+
+-- numbers below n, each once, are n at most
+pub length-once : (n : ℕ) (xs : List ℕ) → ((k u : ℕ) → slice_get xs k ≡ Some u → u < n) → ((j k u : ℕ) → slice_get xs j ≡ Some u → slice_get xs k ≡ Some u → j ≡ k) → length xs ≤ n
+length-once n xs below once = length-le_from_distinct_below xs n (distinct_from_once xs once)
+    (λ q has. let at = Contains-from_any {eq = eqb} eqb-true q xs has in below at.0 q (get_from_Contains xs q at))
+
+-- with nothing taken, the flags are unset
+pub nothing_taken : (size : ℕ) (dependencies : ℕ → List ℕ) (taken : List ℕ) (flags : List Bool) → taken ≡ [] → flags ≡ replicate size false → Eliminating size dependencies taken flags
+nothing_taken size dependencies taken flags none unset =
+    let empty : (k u : ℕ) → slice_get taken k ≡ Some u → ⊥ = λ k u e. none-some u (sym (ap (λ xs. slice_get xs k) none) ∙ e) in
+    record {
+      units = λ k u e. absurd (empty k u e);
+      once = λ j k u a b. absurd (empty j u a);
+      after = λ k u d e has. absurd (empty k u e);
+      one_each = ap length unset ∙ length-replicate size false;
+      flagged = λ u h. (
+        λ t. absurd (false≢true (sym (get_or-replicate size u false false h) ∙ sym (ap (λ xs. get_or xs u false) unset) ∙ t)),
+        λ t. absurd (empty t.0 u t.1),
+      );
+    }
+
+-- with every place 0, nothing was passed
+pub nothing_passed : (size : ℕ) (dependencies : ℕ → List ℕ) (flags : List Bool) (next : List ℕ) → next ≡ replicate size 0 → Passed size dependencies flags next
+nothing_passed size dependencies flags next is =
+    let at : (u : ℕ) → u < size → get_or next u 0 ≡ 0 = λ u h. ap (λ xs. get_or xs u 0) is ∙ get_or-replicate size u 0 0 h in
+    record {
+      one_each = ap length is ∙ length-replicate size 0;
+      within = λ u h. omega (arith, at u h);
+      passed = λ u k d h below e. absurd (omega (arith, at u h, below));
+    }
+
+-- where each unit is taken or has a dependency that isn't, just the units that are left have unset flags
+pub left_told : (size : ℕ) (dependencies : ℕ → List ℕ) (taken : List ℕ) (flags : List Bool) → IsGraph size dependencies → Eliminating size dependencies taken flags
+    → ((u : ℕ) → u < size → IsEliminated taken u ⊎ ((d : ℕ) × Contains (dependencies u) d × (get_or flags d false ≡ false))) → FlagsLeft size dependencies flags
+left_told size dependencies taken flags graph t each u h = (
+  λ unset. (untaken, record { units = λ w is_so. inside w is_so; held = λ w is_so. held w is_so }, says u h unset),
+  λ left. elim (cases_Bool (get_or flags u false)) [
+    | inl so ↦ let at = (t.flagged u h).0 so in absurd (taken_not_left size dependencies taken t.after (suc at.0) at.0 u (omega arith) at.1 left)
+    | inr unset ↦ unset
+  ],
+) where
+  untaken : ℕ → Bool
+  untaken w = not (get_or flags w true)
+
+  says : (w : ℕ) → w < size → get_or flags w false ≡ false → not (get_or flags w true) ≡ true
+  says w inside unset = ap not (get_or_default flags w true false (omega (arith, t.one_each)) ∙ unset)
+
+  inside : (w : ℕ) → not (get_or flags w true) ≡ true → w < size
+  inside w is_so = elim (cases_lt w size) [ inl lt ↦ lt | inr past ↦ absurd (false≢true (sym (ap not (get_or_past flags w true (omega (arith, t.one_each)))) ∙ is_so)) ]
+
+  held : (w : ℕ) → not (get_or flags w true) ≡ true → (d : ℕ) × Contains (dependencies w) d × (not (get_or flags d true) ≡ true)
+  held w is_so =
+      let lt = inside w is_so in
+      let unset : get_or flags w false ≡ false = get_or_default flags w false true (omega (arith, t.one_each)) ∙ not-true (get_or flags w true) is_so in
+      elim (each w lt) [
+        | inl taken_yet ↦ absurd (false≢true (sym unset ∙ (t.flagged w lt).1 taken_yet))
+        | inr waits ↦ (waits.0, waits.1, says waits.0 (graph.units w waits.0 lt waits.1) waits.2)
+      ]
+
+-- once each unit is taken or waits for one that isn't, just the units that are left have unset flags
+pub tells_left : (size : ℕ) (dependencies : ℕ → List ℕ) (taken : List ℕ) (flags : List Bool) → IsGraph size dependencies → Eliminating size dependencies taken flags
+    → ((u : ℕ) → u < size → WaitsBeyond dependencies taken (length taken) u) → FlagsLeft size dependencies flags
+tells_left size dependencies taken flags graph t beyond = left_told size dependencies taken flags graph t (λ u h. elim (beyond u h) [
+  | inl yet ↦ inl yet
+  | inr waits ↦ inr (
+    waits.0,
+    waits.1,
+    elim (cases_Bool (get_or flags waits.0 false)) [
+      | inl so ↦ let at = (t.flagged waits.0 (graph.units u waits.0 h waits.1)).0 so in absurd (waits.2 at.0 (slice_get_within taken at.0 waits.0 at.1) at.1)
+      | inr unset ↦ unset
+    ],
+  )
+])

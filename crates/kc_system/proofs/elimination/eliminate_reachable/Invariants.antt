@@ -1,0 +1,14 @@
+use Rattle.std.proofs.Common.{◌≤◌, ◌<◌, ◌-◌, ℕ, length}
+use Rattle.kc_system.specs.checker.Elimination.{Eliminating, Passed, WaitsBeyond}
+use Rattle.kc_system.proofs.elimination.eliminate_reachable.Given as goal
+
+abbrev pub invariant-loop-i : goal.invariant-loop-i
+invariant-loop-i g l = record {
+  within : l.i ≤ length l.taken.items;
+  taking : Eliminating (g.G.Graph.size l.graph) (g.G.Graph.dependencies l.graph) l.taken.items l.flags;
+  passed : Passed (g.G.Graph.size l.graph) (g.G.Graph.dependencies l.graph) l.flags l.next;
+  beyond : (u : ℕ) → u < g.G.Graph.size l.graph → WaitsBeyond (g.G.Graph.dependencies l.graph) l.taken.items l.i u;
+}
+
+abbrev pub decreases-loop-i : goal.decreases-loop-i
+decreases-loop-i g l = g.G.Graph.size l.graph - l.i

@@ -1,0 +1,8 @@
+-- What a session holds.
+use Rattle.std.specs.Prelude.{List, Option}
+
+-- A system, an assignment and a valuation.
+pub record SessionState (S A X : Type 0) : Type 0 where
+  pub system : S
+  pub users : List (Option X)
+  pub values : List A

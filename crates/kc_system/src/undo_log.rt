@@ -1,0 +1,42 @@
+ghost use Rattle.std.specs.Prelude.{◌≡◌, ℕ, ◌<◌, List, Some, length, slice_get, slice_set, OnOk, OnErr};
+ghost use Rattle.kc_system.specs.checker.Logs.{Undoes, LogsOneMore, undone};
+
+use std::alloc::AllocError;
+
+/// Writes a value, and takes the one that was there.
+fn replace_value<V>(values: &mut [V], u: usize, value: &mut V)
+    requires { u < length values.old }
+    ensures written { values.new ≡ slice_set values.old u value.old }
+    ensures taken { slice_get values.old u ≡ Some value.new }
+{
+    std::mem::swap(&mut values[u], value);
+}
+
+/// Writes a value, and logs the one that was there. After running out of memory both are as before.
+pub(crate) fn write_logged<V: Drop>(
+    values: &mut [V],
+    log: &mut Vec<(u32, V)>,
+    u: u32,
+    value: V,
+) -> Result<(), AllocError>
+    requires { u < length values.old }
+    ensures written { OnOk result (values.new ≡ slice_set values.old u value) }
+    ensures logged { OnOk result (LogsOneMore log.old.items log.new.items values.old u) }
+    ensures undo { (old : List V) → Undoes log.old.items old values.old → Undoes log.new.items old values.new }
+{
+    log.reserve(1)?;
+    let mut value = value;
+    replace_value(values, u as usize, &mut value);
+    log.push((u, value)).unwrap();
+    Ok(())
+}
+
+/// Puts the logged values back, the last first.
+pub(crate) fn restore_logged<V: Drop>(values: &mut [V], log: &mut Vec<(u32, V)>)
+    requires { (k u : ℕ) (a : V) → slice_get log.old.items k ≡ Some (u, a) → u < length values.old }
+    ensures { values.new ≡ undone log.old.items values.old }
+{
+    while let Some((u, mut value)) = log.pop() {
+        replace_value(values, u as usize, &mut value);
+    }
+}

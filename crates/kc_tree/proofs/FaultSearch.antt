@@ -1,0 +1,283 @@
+-- The faults of a group, by what is known of its symbol.
+use Rattle.std.proofs.Common.{◌≡◌, ℕ, zero, suc, ◌+◌, ◌-◌, ◌<◌, ◌≤◌, ◌==◌, Bool, true, false, cond, List, [], ◌∷◌, length, get_or, map, replicate, reverse, Option, Some, None, refl, ap, sym, subst, ◌∙◌, arith, filter}
+use Rattle.std.specs.Prelude.{slice_get, slice_index, slice_range, filter_map, flat_map, is_some, nat_lt, option_and_then, option_map, bytes_eq, All}
+use Rattle.std.specs.List.{list_any}
+use Rattle.std.specs.Option.{option_or}
+use Rattle.std.proofs.lemmas.Bool.{ltb-true}
+use Rattle.std.proofs.lemmas.Grind.{flat_map-append}
+use Rattle.std.proofs.lemmas.List.{get_or_past, length-map}
+use Rattle.std.proofs.lemmas.Option.{get_or_from_slice_get}
+use Rattle.kc_expr.specs.Arena.{Exprs}
+use Rattle.kc_expr.specs.Expr.{modules as modules_name}
+use Rattle.kc_expr.specs.Lookup.{index_of_name}
+use Rattle.kc_tree_model.specs.declared.fault.TreeFault.{TreeFault}
+use Rattle.kc_tree_model.specs.Statements.{config, choice}
+use Rattle.kc_tree_model.specs.Blocks.{Group, GroupHead, of_head, file_end, defined_name, open_blocks, opens_choice}
+use Rattle.kc_tree_model.specs.Conditions.{GroupInContext, group_in_context, groups_in_context}
+use Rattle.kc_tree_model.specs.Contents.{Contents, contents_of, choice_number, definitions_of, is_first_definition, member_names}
+use Rattle.kc_tree_model.specs.Limits.{names_defined}
+use Rattle.kc_tree_model.specs.TreeFaults.{attribute_faults, choice_faults, definition_faults, faults_at, faults_of_group, faults_of_head, faults_of_lines, kind_of}
+use Rattle.kc_tree_model.proofs.Consistency.Lists.{Has, Differ-once, get-map, get_below, has-at, map-get, number-get}
+use Rattle.kc_listing.specs.declared.listing.Group.{Group as CodeGroup}
+use Rattle.kc_listing.specs.declared.listing.Line.{Line as CodeLine}
+use Rattle.kc_listing.specs.declared.listing.GroupHead.{GroupHead as CodeWhat}
+use Rattle.kc_listing.specs.declared.listing.GroupHead.TheVariants as codes
+use Rattle.kc_listing.specs.SymbolTable.{HasNames, text_of_name}
+use Rattle.kc_listing.specs.ListingView.{RepresentsGroups, RepresentsHead, line_in}
+use Rattle.kc_tree.specs.checker.GroupedItems.{items_at, items_of}
+use Rattle.kc_tree.specs.checker.Kinds.{definition_kind}
+use Rattle.kc_tree.specs.checker.Marks.{AreMarked, WereMarked}
+use Rattle.kc_tree.specs.checker.FaultSearch.{AreSmall, HasMembers, choices_before}
+use Rattle.kc_tree.specs.checker.Summaries.{IsSummaryOf, summary_in, attributes_end, enclosing_choice, first_is, first_in_definitions, group_at, member_keys_at, number_at, read_before}
+use Rattle.kc_tree.specs.declared.summary.SymbolSummary.{SymbolSummary}
+use Rattle.kc_tree.specs.declared.summary.Summary.{Summary}
+use Rattle.kc_tree.proofs.SymbolSummaries.{first_of_both}
+use Rattle.kc_tree.proofs.Aligned.{all_before, are_numbers, count_is, none_before, numbers_before, place_numbered, placed_before, placed_count, shown_at}
+use Rattle.kc_tree.proofs.FaultKinds.{definition_is, fault_of, first_mapped}
+use Rattle.kc_tree.proofs.Rounds.{begins_is, number_counts, round_numbered}
+use Rattle.kc_tree.proofs.MemberMarks.{are_marked, keys_small, member_defined}
+use Rattle.kc_tree.proofs.MemberLaw.{members_are}
+use Rattle.kc_tree.proofs.Symbols.{choice_is, place_is, said_by}
+
+-- what stands at a place, as it is kept
+pub record IsPlaceAt (e : Exprs) (names texts : List (List ℕ)) (lines : List CodeLine) (groups : List CodeGroup) (read : List Group) (i : ℕ) (p : GroupInContext) : Type 0 where
+  pub number : p.group.number ≡ i
+  pub file : p.group.at.file ≡ (group_at groups i).file
+  pub line : p.group.at.line ≡ (group_at groups i).line
+  pub what : RepresentsHead e names texts (group_at groups i).what p.group.what
+  pub attributes : p.group.attributes ≡ map (line_in e) (slice_range lines (group_at groups i).attributes (attributes_end groups lines i))
+  pub has : Has p (groups_in_context read)
+
+module _ (e : Exprs) (names texts : List (List ℕ)) (lines : List CodeLine) (groups : List CodeGroup) (read : List Group) (h : RepresentsGroups e names texts lines (length lines) (reverse groups) read) where
+  pub place_at : (i : ℕ) (p : GroupInContext) → i < length groups → slice_get (groups_in_context read) i ≡ Some p → IsPlaceAt e names texts lines groups read i p
+  place_at i p l at =
+      let t = shown_at e names texts lines groups read h i l in
+      let n = count_is e names texts lines groups read h in
+      let found = place_numbered read i t.group (omega arith) t.now in
+      let same : group_in_context (open_blocks 0 (read_before i read)) t.group ≡ p = cc in
+      let group : t.group ≡ p.group = ap (λ (q : GroupInContext). q.group) same in
+      record {
+        number = sym (ap (λ (g : Group). g.number) group) ∙ t.shown.number_is;
+        file = sym (ap (λ (g : Group). g.at.file) group) ∙ t.shown.file_is;
+        line = sym (ap (λ (g : Group). g.at.line) group) ∙ t.shown.line_is;
+        what = subst (λ (g : Group). RepresentsHead e names texts (group_at groups i).what g.what) group t.shown.what;
+        attributes = sym (ap (λ (g : Group). g.attributes) group) ∙ t.shown.attributes;
+        has = has-at p (groups_in_context read) i at;
+      }
+
+  pub place_there : (i : ℕ) → i < length groups → (p : GroupInContext) × (slice_get (groups_in_context read) i ≡ Some p)
+  place_there i l =
+      let t = shown_at e names texts lines groups read h i l in
+      let n = count_is e names texts lines groups read h in
+      (group_in_context (open_blocks 0 (read_before i read)) t.group, place_numbered read i t.group (omega arith) t.now)
+
+-- the name that a `config` defines
+pub config_there : (e : Exprs) (names texts : List (List ℕ)) (code : CodeWhat) (s : ℕ) (w : GroupHead) → RepresentsHead e names texts code w → code ≡ codes.Config s → (name : List ℕ) × (slice_get names s ≡ Some name) × (w ≡ of_head (config name))
+config_there e names texts code s w h k = subst (λ v. RepresentsHead e names texts v w) k h
+
+pub choice_there : (e : Exprs) (names texts : List (List ℕ)) (code : CodeWhat) (w : GroupHead) → RepresentsHead e names texts code w → code ≡ codes.Choice → w ≡ of_head choice
+choice_there e names texts code w h k = subst (λ v. RepresentsHead e names texts v w) k h
+
+-- the number of the choice round a place
+pub round_got : (read : List Group) (enclosing : List (Option ℕ)) (i : ℕ) (p : GroupInContext) (d : Option ℕ) → enclosing ≡ map (enclosing_choice (contents_of read)) (groups_in_context read) → slice_get (groups_in_context read) i ≡ Some p → get_or enclosing i d ≡ enclosing_choice (contents_of read) p
+round_got read enclosing i p d a at = get_or_from_slice_get enclosing i _ d (ap (λ xs. slice_get xs i) a ∙ map-get (enclosing_choice (contents_of read)) (groups_in_context read) i p at)
+
+-- the word of a symbol's name
+pub word_is : (e : Exprs) (symbols numbers : List ℕ) (names : List (List ℕ)) (s : ℕ) (name : List ℕ) (d : ℕ) → HasNames e symbols numbers names → slice_get names s ≡ Some name → text_of_name e (get_or symbols s d) ≡ name
+word_is e symbols numbers names s name d h at =
+    let r = get-map (text_of_name e) symbols s name (ap (λ xs. slice_get xs s) h.words ∙ at) in
+    ap (text_of_name e) (get_or_from_slice_get symbols s r.0 d r.1) ∙ r.2
+
+-- whether a place stands in a choice
+round_by : (c : Contents) (o : Option ℕ) → ((n : ℕ) → o ≡ Some n → (k : ℕ) × (choice_number c n ≡ Some k)) → is_some (option_and_then (choice_number c) o) ≡ is_some o
+round_by c None k = refl
+round_by c (Some n) k = let j = k n refl in ap is_some j.1
+
+pub round_some : (read : List Group) (p : GroupInContext) → Has p (groups_in_context read) → is_some (enclosing_choice (contents_of read) p) ≡ is_some p.enclosing.choice
+round_some read p h = round_by (contents_of read) p.enclosing.choice (λ n e. round_numbered read p n h e)
+
+-- whether a place is the first definition
+first_by : (ds : List GroupInContext) (n : ℕ) → first_is (slice_get (flat_map number_at ds) 0) n ≡ elim (option_map (λ (q : GroupInContext). q.group) (slice_get ds 0)) as (λ _. Bool) [ None ↦ false | Some g ↦ g.number == n ]
+first_by [] n = refl
+first_by (d ∷ ds) n = refl
+
+pub first_told : (c : Contents) (name : List ℕ) (p : GroupInContext) (i : ℕ) → p.group.number ≡ i → first_is (first_in_definitions number_at c.places name) i ≡ is_first_definition c name p
+first_told c name p i e = ap (first_is (first_in_definitions number_at c.places name)) (sym e) ∙ first_by (definitions_of c name) p.group.number
+
+-- the kind of fault of a definition
+pub definition_told : (read : List Group) (p : GroupInContext) (name : List ℕ) (i : ℕ) (about : SymbolSummary) (is_member is_first is_modules : Bool) → Has p (groups_in_context read) → p.group.number ≡ i → about ≡ summary_in (contents_of read) (groups_in_context read) name
+    → is_member ≡ is_some (enclosing_choice (contents_of read) p) → is_first ≡ first_is about.first i → is_modules ≡ bytes_eq name modules_name → definition_kind about is_member is_first is_modules ≡ slice_get (definition_faults (contents_of read) p name) 0
+definition_told read p name i about is_member is_first is_modules has n a m f o =
+    definition_is (contents_of read) p name about is_member is_first is_modules
+    (ap (λ (x : SymbolSummary). x.given) a)
+    (ap (λ (x : SymbolSummary). is_some x.choice) a ∙ ap is_some (choice_is read name))
+    (m ∙ round_some read p has)
+    (f ∙ ap (λ (x : SymbolSummary). first_is x.first i) a ∙ first_told (contents_of read) name p i n)
+    o
+
+-- the first fault of a definition with its attributes
+pub config_first : (c : Contents) (p : GroupInContext) (name : List ℕ) → p.group.what ≡ of_head (config name)
+    → slice_get (faults_of_group c p) 0
+    ≡ option_or (option_map (fault_of p.group p.group.at.line) (slice_get (definition_faults c p name) 0)) (slice_get (faults_of_lines p.group (attribute_faults c name (kind_of c name)) false p.group.attributes) 0)
+config_first c p name e =
+    ap (λ w. slice_get (elim w as (λ _. List TreeFault) [ of_head h ↦ faults_of_head c p h | file_end ↦ [] ]) 0) e
+    ∙ first_of_both (faults_at p.group p.group.at.line (definition_faults c p name)) (faults_of_lines p.group (attribute_faults c name (kind_of c name)) false p.group.attributes)
+    ∙ ap (λ o. option_or o (slice_get (faults_of_lines p.group (attribute_faults c name (kind_of c name)) false p.group.attributes) 0)) (first_mapped (fault_of p.group p.group.at.line) (definition_faults c p name))
+
+pub choice_first : (c : Contents) (p : GroupInContext) → p.group.what ≡ of_head choice
+    → slice_get (faults_of_group c p) 0 ≡ slice_get (faults_of_lines p.group (choice_faults (member_names c p.group.number)) false p.group.attributes) 0
+choice_first c p e = ap (λ w. slice_get (elim w as (λ _. List TreeFault) [ of_head h ↦ faults_of_head c p h | file_end ↦ [] ]) 0) e
+
+-- the members of a choice at a place are those with its mark
+module _ (e : Exprs) (texts : List (List ℕ)) (lines : List CodeLine) (groups : List CodeGroup) (read : List Group) (h : RepresentsGroups e (names_defined read) texts lines (length lines) (reverse groups) read) where
+  pub choice_counted : (i choices : ℕ) (p : GroupInContext) → i < length groups → (group_at groups i).what ≡ codes.Choice → slice_get (groups_in_context read) i ≡ Some p → choices ≡ choices_before i read → choice_number (contents_of read) p.group.number ≡ Some choices
+  choice_counted i choices p l w at c =
+      let t = shown_at e (names_defined read) texts lines groups read h i l in
+      let n = count_is e (names_defined read) texts lines groups read h in
+      let a = are_numbers e (names_defined read) texts lines (length lines) (reverse groups) read h in
+      let what = subst (λ v. RepresentsHead e (names_defined read) texts v t.group.what) w t.shown.what in
+      let begins : opens_choice t.group ≡ true = begins_is e (names_defined read) texts codes.Choice t.group what in
+      let found = place_numbered read i t.group (omega arith) t.now in
+      let same : group_in_context (open_blocks 0 (read_before i read)) t.group ≡ p = cc in
+      sym (ap (λ (q : GroupInContext). choice_number (contents_of read) q.group.number) same)
+      ∙ number_counts read i t.group a (numbers_before (length read - (i + 1)) read a) t.now begins ∙ ap Some (sym c)
+
+  pub choice_below : (i choices : ℕ) → i < length groups → (group_at groups i).what ≡ codes.Choice → choices ≡ choices_before i read → choices < length (contents_of read).choices
+  choice_below i choices l w c =
+      let t = shown_at e (names_defined read) texts lines groups read h i l in
+      let n = count_is e (names_defined read) texts lines groups read h in
+      let found = place_numbered read i t.group (omega arith) t.now in
+      let p : GroupInContext = group_in_context (open_blocks 0 (read_before i read)) t.group in
+      get_below (contents_of read).choices choices p.group.number (number-get p.group.number (contents_of read).choices choices (choice_counted i choices p l w found c))
+
+  pub members_kept : (s : Summary) (starts items : List ℕ) (i choices : ℕ) (p : GroupInContext) → IsSummaryOf (contents_of read) s → HasMembers s starts items → i < length groups → (group_at groups i).what ≡ codes.Choice → slice_get (groups_in_context read) i ≡ Some p → choices ≡ choices_before i read
+      → items_at starts items choices ≡ filter_map (λ x. index_of_name x (names_defined read)) (member_names (contents_of read) p.group.number)
+  members_kept s starts items i choices p known m l w at c =
+      let below = choice_below i choices l w c in
+      let count = known.choices in
+      m.of_key choices (omega arith)
+      ∙ ap (λ ks. items_of choices ks s.members.items.items) known.member_keys
+      ∙ ap (items_of choices (flat_map (member_keys_at (contents_of read)) (groups_in_context read))) known.members
+      ∙ members_are (contents_of read) choices p.group.number (choice_counted i choices p l w at c)
+
+pub are_marked_in : (read : List Group) (p : GroupInContext) (members old new : List ℕ) (choices : ℕ) → members ≡ filter_map (λ x. index_of_name x (names_defined read)) (member_names (contents_of read) p.group.number) → length old ≡ length (names_defined read) → AreSmall old choices → WereMarked old members (choices + 1) new
+    → AreMarked (names_defined read) (member_names (contents_of read) p.group.number) new (choices + 1)
+are_marked_in read p members old new choices e many small were =
+    are_marked (names_defined read) (member_names (contents_of read) p.group.number) old new (choices + 1) many (λ s. let k = small s in omega arith)
+    (subst (λ ms. WereMarked old ms (choices + 1) new) e were)
+    (λ x n. member_defined read p.group.number x n)
+    (λ s x at. place_is (names_defined read) x s (Differ-once (filter_map defined_name read)) at)
+
+-- a mark is one of those that were given
+pub marks_small : (members old new : List ℕ) (choices : ℕ) → AreSmall old choices → WereMarked old members (choices + 1) new → AreSmall new (choices + 1)
+marks_small members old new choices small were = λ s. by_any s (list_any (λ m. m == s) members) refl
+  where
+    by_any : (s : ℕ) (b : Bool) → list_any (λ m. m == s) members ≡ b → slice_index new s ≤ choices + 1
+    by_any s false e = let k = were.kept s e in let l = small s in omega arith
+    by_any s true e = by_length s e (nat_lt s (length old)) refl
+      where
+        by_length : (s : ℕ) → list_any (λ m. m == s) members ≡ true → (b : Bool) → nat_lt s (length old) ≡ b → slice_index new s ≤ choices + 1
+        by_length s e true l = let below = ltb-true s (length old) l in let k = were.marked s below e in omega arith
+        by_length s e false l =
+            let past : length old ≤ s = grind arith in
+            let n = were.len in
+            let k : slice_index new s ≡ 0 = get_or_past new s 0 (omega arith) in
+            omega arith
+
+-- the first fault of one group more, and of all
+pub fault_more : (read : List Group) (i : ℕ) (m : Group) → read_before (i + 1) read ≡ m ∷ read_before i read → slice_get (flat_map (faults_of_group (contents_of read)) (groups_in_context (read_before i read))) 0 ≡ None
+    → slice_get (flat_map (faults_of_group (contents_of read)) (groups_in_context (read_before (i + 1) read))) 0 ≡ slice_get (faults_of_group (contents_of read) (group_in_context (open_blocks 0 (read_before i read)) m)) 0
+fault_more read i m now none =
+    let f = faults_of_group (contents_of read) in
+    let p : GroupInContext = group_in_context (open_blocks 0 (read_before i read)) m in
+    ap (λ xs. slice_get xs 0) (said_by f read i m now)
+    ∙ first_of_both (flat_map f (groups_in_context (read_before i read))) (f p)
+    ∙ ap (λ o. option_or o (slice_get (f p) 0)) none
+
+pub fault_all : (read : List Group) (i : ℕ) (t : TreeFault) → slice_get (flat_map (faults_of_group (contents_of read)) (groups_in_context (read_before i read))) 0 ≡ Some t → slice_get (flat_map (faults_of_group (contents_of read)) (groups_in_context read)) 0 ≡ Some t
+fault_all read i t told =
+    let f = faults_of_group (contents_of read) in
+    let r = placed_before (length read - i) read in
+    ap (λ ps. slice_get (flat_map f ps) 0) r.1
+    ∙ ap (λ xs. slice_get xs 0) (flat_map-append f (groups_in_context (read_before i read)) r.0)
+    ∙ first_of_both (flat_map f (groups_in_context (read_before i read))) (flat_map f r.0)
+    ∙ ap (λ o. option_or o (slice_get (flat_map f r.0) 0)) told
+
+pub fault_none : (read : List Group) (i : ℕ) → i ≡ length read → slice_get (flat_map (faults_of_group (contents_of read)) (groups_in_context (read_before i read))) 0 ≡ None → slice_get (flat_map (faults_of_group (contents_of read)) (groups_in_context read)) 0 ≡ None
+fault_none read i e none = ap (λ r. slice_get (flat_map (faults_of_group (contents_of read)) (groups_in_context r)) 0) (sym (ap (λ n. read_before n read) e ∙ all_before read)) ∙ none
+
+pub no_fault_yet : (read : List Group) → slice_get (flat_map (faults_of_group (contents_of read)) (groups_in_context (read_before 0 read))) 0 ≡ None
+no_fault_yet read = ap (λ r. slice_get (flat_map (faults_of_group (contents_of read)) (groups_in_context r)) 0) (none_before read)
+
+-- other groups have no fault
+other_first : (c : Contents) (p : GroupInContext) (w : GroupHead) → p.group.what ≡ w → slice_get (faults_of_group c p) 0 ≡ slice_get (elim w as (λ _. List TreeFault) [ of_head h ↦ faults_of_head c p h | file_end ↦ [] ]) 0
+other_first c p w e = ap (λ v. slice_get (elim v as (λ _. List TreeFault) [ of_head h ↦ faults_of_head c p h | file_end ↦ [] ]) 0) e
+
+pub nothing_told : (e : Exprs) (names texts : List (List ℕ)) (code : CodeWhat) (c : Contents) (p : GroupInContext) → RepresentsHead e names texts code p.group.what → ((s : ℕ) → code ≡ codes.Config s → ⊥) → (code ≡ codes.Choice → ⊥) → slice_get (faults_of_group c p) 0 ≡ None
+nothing_told e names texts (codes.Config s) c p h n m = absurd (n s refl)
+nothing_told e names texts codes.Choice c p h n m = absurd (m refl)
+nothing_told e names texts (codes.Menu t) c p h n m = other_first c p _ h.2
+nothing_told e names texts (codes.Condition id) c p h n m = other_first c p _ h.1
+nothing_told e names texts (codes.Comment t) c p h n m = other_first c p _ h.2
+nothing_told e names texts (codes.Source t) c p h n m = other_first c p _ h.2
+nothing_told e names texts codes.Mainmenu c p h n m = other_first c p _ h
+nothing_told e names texts (codes.Ends b) c p h n m = other_first c p _ h
+nothing_told e names texts codes.FileEnd c p h n m = other_first c p _ h
+
+pub at_most_more : (b : Bool) (m n : ℕ) → m ≤ n → m ≤ cond b (n + 1) n
+at_most_more true m n h = omega arith
+at_most_more false m n h = h
+
+pub at_most_choice : (b : Bool) (m n : ℕ) → b ≡ true → m ≤ n + 1 → m ≤ cond b (n + 1) n
+at_most_choice true m n e h = h
+at_most_choice false m n e h = cc
+
+-- the marks at the beginning
+zero_at : (n s : ℕ) → get_or {A = ℕ} (replicate n 0) s 0 ≡ 0
+zero_at zero s = refl
+zero_at (suc n) zero = refl
+zero_at (suc n) (suc s) = zero_at n s
+
+pub zeros_small : (n : ℕ) → AreSmall (replicate n 0) 0
+zeros_small n = λ s. let e = zero_at n s in omega arith
+
+-- the members have places among the choices
+pub keys_fit : (read : List Group) (s : Summary) → IsSummaryOf (contents_of read) s → (i : ℕ) → i < length s.members.keys.items → slice_index s.members.keys.items i < s.choices
+keys_fit read s known i h =
+    let small = subst (All (λ k. k < length (contents_of read).choices)) (sym known.member_keys) (keys_small (contents_of read) (groups_in_context read)) i 0 h in
+    let n = known.choices in
+    omega arith
+
+-- there are at most as many choices as groups
+small_by : {A : Type 0} (b : Bool) (x : A) (xs : List A) (n : ℕ) → length xs ≤ n → length (cond b (x ∷ xs) xs) ≤ suc n
+small_by true x xs n h = omega arith
+small_by false x xs n h = omega arith
+
+filter_small : {A : Type 0} (test : A → Bool) (xs : List A) → length (filter test xs) ≤ length xs
+filter_small test [] = omega arith
+filter_small test (x ∷ xs) = small_by (test x) x (filter test xs) (length xs) (filter_small test xs)
+
+pub few_choices : (read : List Group) → length (contents_of read).choices ≤ length read
+few_choices read =
+    let k = filter_small (λ (p : GroupInContext). opens_choice p.group) (groups_in_context read) in
+    let n = length-map (filter (λ (p : GroupInContext). opens_choice p.group) (groups_in_context read)) (λ (p : GroupInContext). p.group.number) in
+    let m = placed_count read in
+    omega arith
+
+-- what is told of one group more
+module _ (e : Exprs) (texts : List (List ℕ)) (lines : List CodeLine) (groups : List CodeGroup) (read : List Group) (h : RepresentsGroups e (names_defined read) texts lines (length lines) (reverse groups) read) where
+  pub fault_here : (i : ℕ) (told : Option TreeFault) → i < length groups → slice_get (flat_map (faults_of_group (contents_of read)) (groups_in_context (read_before i read))) 0 ≡ None
+      → ((p : GroupInContext) → slice_get (groups_in_context read) i ≡ Some p → told ≡ slice_get (faults_of_group (contents_of read) p) 0) → told ≡ slice_get (flat_map (faults_of_group (contents_of read)) (groups_in_context (read_before (i + 1) read))) 0
+  fault_here i told l none t =
+      let s = shown_at e (names_defined read) texts lines groups read h i l in
+      let n = count_is e (names_defined read) texts lines groups read h in
+      let p : GroupInContext = group_in_context (open_blocks 0 (read_before i read)) s.group in
+      t p (place_numbered read i s.group (omega arith) s.now) ∙ sym (fault_more read i s.group s.now none)
+
+pub told_some : (o : Option TreeFault) → is_some o ≡ true → (t : TreeFault) × (o ≡ Some t)
+told_some None e = cc
+told_some (Some t) e = (t, refl)
+
+pub told_none : (o : Option TreeFault) → is_some o ≡ false → o ≡ None
+told_none None e = refl
+told_none (Some t) e = cc

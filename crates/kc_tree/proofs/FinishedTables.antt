@@ -1,0 +1,194 @@
+-- The tree of what was gathered.
+use Rattle.std.proofs.Common.{◌≡◌, ℕ, suc, ◌+◌, ◌<◌, List, [], ◌∷◌, length, map, get_or, Option, Some, None, refl, ap, sym, subst, ◌∙◌, arith, cond, Bool, true, false}
+use Rattle.std.specs.Prelude.{All, Contains, IfSome, slice_get, slice_index, slice_index_or, bytes_eq}
+use Rattle.std.specs.List.{position_or_len}
+use Rattle.std.proofs.lemmas.Bool.{ltb-true}
+use Rattle.std.proofs.lemmas.Option.{slice_get_within, get_or_from_slice_get}
+use Rattle.std.proofs.lemmas.List.{length-map, get_or-map, ext_get_or}
+use Rattle.std.proofs.lemmas.List.Elements.{All-weaker, All-contains}
+use Rattle.std.proofs.lemmas.List.Sums.{passes_at_first}
+use Rattle.std.proofs.lemmas.Slice.Eq.{bytes_eq-Decides}
+use Rattle.kc_expr.specs.Lookup.{index_of_name, AreDistinct}
+use Rattle.kc_expr.proofs.Places.{place_at}
+use Rattle.kc_tree_model.specs.Trees as tree
+use Rattle.kc_tree_model.specs.Trees.{Tree}
+use Rattle.kc_tree_model.specs.Trees.{of_choice}
+use Rattle.kc_tree_model.specs.TreeLookup.{IsConsistent, unit_of, index_of_unit, symbol_named}
+use Rattle.kc_tree.specs.Views.{DefaultFits, RangeFits, HasOperands, ReverseDependencyFits, MemberDefaultFits, unit_view}
+use Rattle.kc_tree.specs.checker.GatheredAttributes.{AreGrouped}
+use Rattle.kc_tree.specs.checker.GatheredFits.{GatheredFit}
+use Rattle.kc_tree.specs.checker.GatheredView.{gathered_tree, symbol_gathered, choice_gathered}
+use Rattle.kc_tree.specs.checker.GroupedItems.{IsGrouped}
+use Rattle.kc_tree.specs.checker.StoredParts.{AreSoundParts, PartsFit, HasPlaces}
+use Rattle.kc_tree.specs.checker.NameTable.{IsTable}
+use Rattle.kc_tree.specs.checker.PartsView.{tree_from_rows, symbol_from_row, choice_from_row, from_rows}
+use Rattle.kc_tree.specs.checker.Units.{HasUnits}
+use Rattle.kc_tree.specs.declared.parts.SymbolRow.{SymbolRow}
+use Rattle.kc_tree.specs.declared.parts.ChoiceRow.{ChoiceRow}
+use Rattle.kc_tree.specs.declared.parts.Parts.{Parts}
+use Rattle.kc_tree.specs.declared.symbol.MemberDefault.{MemberDefault}
+use Rattle.kc_tree.specs.declared.keyed.Keyed.{Keyed}
+use Rattle.kc_tree.specs.declared.gathered.Attributes.{Attributes}
+use Rattle.kc_tree.specs.declared.gathered.GroupedAttributes.{GroupedAttributes}
+use Rattle.kc_tree.specs.declared.gathered.Gathered.{Gathered}
+use Rattle.kc_tree.proofs.Gathering.{got, all_got, symbol_at, symbols_count, choices_count, symbols_there, choices_there}
+use Rattle.kc_tree_model.proofs.Lookups.{found_by_name}
+use Rattle.kc_tree.proofs.SymbolNames.{named_there}
+
+seen_same : {A B : Type 0} (f h : ℕ → A → B) (n : ℕ) (xs : List A) → ((s : ℕ) (r : A) → s < n + length xs → f s r ≡ h s r) → from_rows f n xs ≡ from_rows h n xs
+seen_same f h n [] e = refl
+seen_same f h n (x ∷ xs) e =
+    let here : f n x ≡ h n x = e n x (omega arith) in
+    let rest = seen_same f h (suc n) xs (λ s r l. e s r (omega arith)) in
+    cc
+
+all_together : {X : Type 0} (P : X → Type 0) (items together : List X) → All (Contains items) together → All P items → All P together
+all_together P items together h p = All-weaker (Contains items) P (λ x. All-contains P items x p) together h
+
+-- the symbol of a name has that name
+found_inside : (place count s : ℕ) (b : Bool) → cond b (Some place) None ≡ Some s → (b ≡ true) × (place ≡ s)
+found_inside place count s true e = (refl, cc)
+found_inside place count s false e = cc
+
+named_by : (W : Tree) (x : List ℕ) (s : ℕ) (a : tree.Symbol) → symbol_named W x ≡ Some s → slice_get W.symbols s ≡ Some a → x ≡ a.name
+named_by W x s a named at =
+    let p = found_inside (position_or_len (λ (t : tree.Symbol). bytes_eq x t.name) W.symbols) (length W.symbols) s _ named in
+    let below = ltb-true (position_or_len (λ (t : tree.Symbol). bytes_eq x t.name) W.symbols) (length W.symbols) p.0 in
+    let passes = passes_at_first (λ (t : tree.Symbol). bytes_eq x t.name) W.symbols a below in
+    let here : get_or W.symbols (position_or_len (λ (t : tree.Symbol). bytes_eq x t.name) W.symbols) a ≡ a = ap (λ k. get_or W.symbols k a) p.1 ∙ get_or_from_slice_get W.symbols s a a at in
+    (bytes_eq-Decides x a.name).0 (rw here at passes)
+
+module _ (g : Gathered) (sound : IsConsistent (gathered_tree g)) (distinct : AreDistinct g.arena.names) (fits : GatheredFit g) where
+  pub name_at : (s : ℕ) (r : SymbolRow) → slice_get g.symbols.items s ≡ Some r → r.name < length g.arena.names
+  name_at s r e = all_got (λ (q : SymbolRow). q.name < length g.arena.names) g.symbols.items s r fits.names e
+
+  pub names_apart : (s t : ℕ) (r q : SymbolRow) → slice_get g.symbols.items s ≡ Some r → slice_get g.symbols.items t ≡ Some q → r.name ≡ q.name → s ≡ t
+  names_apart s t r q e f n = sound.names_differ s t (symbol_gathered g s r) (symbol_gathered g t q) (symbol_at g sound s r e) (symbol_at g sound t q f) (ap (λ i. slice_index_or g.arena.names i []) n)
+
+  -- a symbol that is named has a row
+  row_named : (x : List ℕ) (s : ℕ) → symbol_named (gathered_tree g) x ≡ Some s → (r : SymbolRow) × (slice_get g.symbols.items s ≡ Some r) × (x ≡ slice_index_or g.arena.names r.name [])
+  row_named x s e =
+      let w : IfSome (Some s) (λ t. t < length (gathered_tree g).symbols) = subst (λ o. IfSome o (λ t. t < length (gathered_tree g).symbols)) e (named_there (gathered_tree g) x) in
+      let below : s < length (gathered_tree g).symbols = w in
+      let k = got g.symbols.items s (omega (arith, symbols_count g sound)) in
+      (k.0, k.1, named_by (gathered_tree g) x s (symbol_gathered g s k.0) e (symbol_at g sound s k.0 k.1))
+
+  held_by : (x : List ℕ) (o : Option ℕ) → symbol_named (gathered_tree g) x ≡ o → index_of_name x g.arena.names ≡ None → o ≡ None
+  held_by x None e f = refl
+  held_by x (Some s) e f =
+      let k = row_named x s e in
+      let p = place_at g.arena.names k.0.name distinct (name_at s k.0 k.1) in
+      let q : index_of_name x g.arena.names ≡ Some k.0.name = ap (λ y. index_of_name y g.arena.names) k.2 ∙ p in
+      cc
+
+  pub held : (x : List ℕ) → index_of_name x g.arena.names ≡ None → symbol_named (gathered_tree g) x ≡ None
+  held x f = held_by x (symbol_named (gathered_tree g) x) refl f
+
+  module _ (table : List (Option ℕ)) (t : IsTable (length g.arena.names) g.symbols.items (length g.symbols.items) table) where
+    told_some : (j s : ℕ) → get_or table j None ≡ Some s → symbol_named (gathered_tree g) (get_or g.arena.names j []) ≡ Some s
+    told_some j s e =
+        let k = t.there j s e in
+        ap (λ i. symbol_named (gathered_tree g) (get_or g.arena.names i [])) (sym k.2) ∙ found_by_name (gathered_tree g) sound s (symbol_gathered g s k.0) (symbol_at g sound s k.0 k.1)
+
+    told_none : (j : ℕ) (o : Option ℕ) → j < length g.arena.names → get_or table j None ≡ None → symbol_named (gathered_tree g) (get_or g.arena.names j []) ≡ o → o ≡ None
+    told_none j None h e f = refl
+    told_none j (Some s) h e f =
+        let k = row_named (get_or g.arena.names j []) s f in
+        let i : j ≡ k.0.name = distinct j k.0.name h (name_at s k.0 k.1) k.2 in
+        let a : get_or table j None ≡ Some s = ap (λ n. get_or table n None) i ∙ t.told s k.0 (slice_get_within g.symbols.items s k.0 k.1) k.1 in
+        cc
+
+    told_same : (j : ℕ) (o : Option ℕ) → j < length g.arena.names → get_or table j None ≡ o → o ≡ symbol_named (gathered_tree g) (get_or g.arena.names j [])
+    told_same j None h e = sym (told_none j (symbol_named (gathered_tree g) (get_or g.arena.names j [])) h e refl)
+    told_same j (Some s) h e = sym (told_some j s e)
+
+    pub table_is : table ≡ map (symbol_named (gathered_tree g)) g.arena.names
+    table_is = ext_get_or None table (map (symbol_named (gathered_tree g)) g.arena.names) (t.len ∙ sym (length-map g.arena.names (symbol_named (gathered_tree g))))
+        (λ j h. (let l : j < length g.arena.names = omega (arith, t.len) in told_same j (get_or table j None) l refl ∙ sym (get_or-map (symbol_named (gathered_tree g)) g.arena.names j [] None l)))
+
+-- what was gathered, where these are the lists of its tree
+abbrev pub gathered_in : Parts → Attributes → Keyed ℕ → Keyed MemberDefault → Gathered
+gathered_in p A M D = record { arena = p.arena; symbols = p.symbols; attributes = A; choices = p.choices; members = M; member_defaults = D; entries = p.entries; titles = p.titles; units = p.units }
+
+abbrev pub grouped_in : Parts → GroupedAttributes
+grouped_in p = record { prompts = p.prompts; defaults = p.defaults; ranges = p.ranges; selectors = p.selectors; impliers = p.impliers; direct = p.direct }
+
+module _ (p : Parts) (A : Attributes) (M : Keyed ℕ) (D : Keyed MemberDefault) (a : AreGrouped (length p.symbols.items) A (grouped_in p))
+    (m : IsGrouped (length p.choices.items) M.keys.items M.items.items p.members.starts.items p.members.items.items)
+    (d : IsGrouped (length p.choices.items) D.keys.items D.items.items p.member_defaults.starts.items p.member_defaults.items.items) where
+  same_symbol : (s : ℕ) (r : SymbolRow) → s < 0 + length p.symbols.items → symbol_from_row p s r ≡ symbol_gathered (gathered_in p A M D) s r
+  same_symbol s r l =
+      let h : s < length p.symbols.items = omega arith in
+      rw (a.prompts.of_key s h, a.defaults.of_key s h, a.ranges.of_key s h, a.selectors.of_key s h, a.impliers.of_key s h, a.direct.of_key s h) refl
+
+  same_choice : (c : ℕ) (r : ChoiceRow) → c < 0 + length p.choices.items → choice_from_row p c r ≡ choice_gathered (gathered_in p A M D) c r
+  same_choice c r l =
+      let h : c < length p.choices.items = omega arith in
+      rw (m.of_key c h, d.of_key c h) refl
+
+  -- both are one tree
+  pub whole_same : tree_from_rows p ≡ gathered_tree (gathered_in p A M D)
+  whole_same =
+      let made : List tree.Symbol → List tree.Choice → Tree = λ s c. record { symbols = s; choices = c; entries = (tree_from_rows p).entries; units = (tree_from_rows p).units } in
+      ap (λ s. made s (tree_from_rows p).choices) (seen_same (symbol_from_row p) (symbol_gathered (gathered_in p A M D)) 0 p.symbols.items same_symbol)
+      ∙ ap (made (gathered_tree (gathered_in p A M D)).symbols) (seen_same (choice_from_row p) (choice_gathered (gathered_in p A M D)) 0 p.choices.items same_choice)
+
+  module _ (f : GatheredFit (gathered_in p A M D)) (sound : IsConsistent (gathered_tree (gathered_in p A M D))) where
+    parts_fit : PartsFit p
+    parts_fit = record {
+      few_symbols = f.few_symbols;
+      few_choices = f.few_choices;
+      few_units = f.few_units;
+      names = f.names;
+      prompts = all_together (λ i. i < length p.arena.nodes) A.prompts.items.items p.prompts.items.items a.prompts.same f.prompts;
+      defaults = all_together (DefaultFits (length p.arena.nodes)) A.defaults.items.items p.defaults.items.items a.defaults.same f.defaults;
+      ranges = all_together (RangeFits (length p.arena.nodes)) A.ranges.items.items p.ranges.items.items a.ranges.same f.ranges;
+      bounds = all_together (HasOperands p.arena) A.ranges.items.items p.ranges.items.items a.ranges.same f.bounds;
+      selectors = all_together (ReverseDependencyFits (length p.arena.nodes) (length p.symbols.items)) A.selectors.items.items p.selectors.items.items a.selectors.same f.selectors;
+      impliers = all_together (ReverseDependencyFits (length p.arena.nodes) (length p.symbols.items)) A.impliers.items.items p.impliers.items.items a.impliers.same f.impliers;
+      direct = all_together (λ i. i < length p.arena.nodes) A.direct.items.items p.direct.items.items a.direct.same f.direct;
+      choice_prompts = f.choice_prompts;
+      members = all_together (λ s. s < length p.symbols.items) M.items.items p.members.items.items m.same f.members;
+      member_defaults = all_together (MemberDefaultFits (length p.arena.nodes) (length p.symbols.items)) D.items.items p.member_defaults.items.items d.same f.member_defaults;
+      entries = f.entries;
+      symbol_units = symbols_there (gathered_in p A M D) sound;
+      choice_units = choices_there (gathered_in p A M D) sound;
+    }
+
+    module _ (u : HasUnits (gathered_tree (gathered_in p A M D)) p.unit_of_symbol.items p.unit_of_choice.items) where
+      symbols_many : length (gathered_tree (gathered_in p A M D)).symbols ≡ length p.symbols.items
+      symbols_many = symbols_count (gathered_in p A M D) sound
+
+      choices_many : length (gathered_tree (gathered_in p A M D)).choices ≡ length p.choices.items
+      choices_many = choices_count (gathered_in p A M D) sound
+
+      units_many : length (gathered_tree (gathered_in p A M D)).units ≡ length p.units.items
+      units_many = length-map p.units.items unit_view
+
+      have_places : HasPlaces p
+      have_places = record {
+        prompts = a.prompts.places;
+        defaults = a.defaults.places;
+        ranges = a.ranges.places;
+        selectors = a.selectors.places;
+        impliers = a.impliers.places;
+        direct = a.direct.places;
+        members = m.places;
+        member_defaults = d.places;
+        unit_of_symbol = u.symbols_len ∙ symbols_many;
+        unit_of_choice = u.choices_len ∙ choices_many;
+      }
+
+      -- the lists keep what they have to
+      pub kept : AreDistinct p.arena.names → IsTable (length p.arena.names) p.symbols.items (length p.symbols.items) p.symbol_of_name.items → AreSoundParts p
+      kept distinct t = record {
+        fits = parts_fit;
+        places = have_places;
+        units = subst (λ (W : Tree). (s : ℕ) → s < length p.symbols.items → (slice_index p.unit_of_symbol.items s ≡ unit_of W s) × (slice_index p.unit_of_symbol.items s < length p.units.items)) (sym whole_same)
+            (λ s h. (let k = u.symbol_units s (omega (arith, symbols_many)) in (k.0, omega (arith, k.1, units_many))));
+        choice_units = subst (λ (W : Tree). (c : ℕ) → c < length p.choices.items → (slice_index p.unit_of_choice.items c ≡ index_of_unit W (of_choice c)) × (slice_index p.unit_of_choice.items c < length p.units.items)) (sym whole_same)
+            (λ c h. (let k = u.choice_units c (omega (arith, choices_many)) in (k.0, omega (arith, k.1, units_many))));
+        table = subst (λ (W : Tree). p.symbol_of_name.items ≡ map (symbol_named W) p.arena.names) (sym whole_same) (table_is (gathered_in p A M D) sound distinct f p.symbol_of_name.items t);
+        held = subst (λ (W : Tree). (x : List ℕ) → index_of_name x p.arena.names ≡ None → symbol_named W x ≡ None) (sym whole_same) (held (gathered_in p A M D) sound distinct f);
+        consistent = subst IsConsistent (sym whole_same) sound;
+      }

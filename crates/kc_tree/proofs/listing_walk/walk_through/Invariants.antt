@@ -1,0 +1,13 @@
+use Rattle.std.proofs.Common.{ℕ, List, length, reverse}
+use Rattle.kc_expr.specs.Arena.{Grows}
+use Rattle.kc_listing.specs.ListingView.{RepresentsGroups}
+use Rattle.kc_tree_model.specs.Blocks.{Group}
+use Rattle.kc_tree.specs.checker.Summaries.{read_before}
+use Rattle.kc_tree.specs.checker.Walks.{HasWalked}
+use Rattle.kc_tree.proofs.listing_walk.walk_through.Given as goal
+
+abbrev pub invariant-loop-i : goal.invariant-loop-i
+invariant-loop-i l = record {
+  grows : Grows l.fn.arena l.walk.arena;
+  walked : (names texts : List (List ℕ)) (read : List Group) → RepresentsGroups l.fn.arena names texts l.lines (length l.lines) (reverse l.groups) read → HasWalked texts l.walk (read_before l.i read);
+}

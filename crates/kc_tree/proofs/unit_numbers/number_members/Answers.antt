@@ -1,0 +1,12 @@
+use Rattle.std.proofs.Common.{arith}
+use Rattle.std.proofs.lemmas.Grind.{elements}
+use Rattle.kc_tree.proofs.unit_numbers.number_members.Goals as goal
+
+pub loop-s-preserved : goal.loop-s-preserved
+loop-s-preserved c = grind (arith, elements)
+
+pub returns-clause-units : goal.returns-clause-units
+returns-clause-units c = grind (arith, elements)
+
+pub index-requires : goal.index-requires
+index-requires c = grind (arith, elements)

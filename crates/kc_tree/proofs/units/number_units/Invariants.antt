@@ -1,5 +1,0 @@
-use Rattle.kc_tree.specs.checker.Numbered.{AreNumbered}
-use Rattle.kc_tree.proofs.units.number_units.Given as goal
-
-abbrev pub invariant-loop-u : goal.invariant-loop-u
-invariant-loop-u l = AreNumbered l.symbols l.choices l.units l.u l.of_symbol.items l.of_choice.items

@@ -1,6 +1,0 @@
-use Rattle.kc_tree.proofs.WalkSteps.{if_inside}
-use Rattle.kc_tree.proofs.walk.inside_if.Goals as goal
-
-pub returns-clause-shown : goal.returns-clause-shown
-returns-clause-shown c = λ texts yes m opened what a.
-    if_inside c.args.arena.now c.with.new.arena texts yes c.args.condition c.in_ok-dependencies.dependencies m c.args.around.now opened c.with.ensures.grows what a c.in_ok-dependencies.ensures.ok

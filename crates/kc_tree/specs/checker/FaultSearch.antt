@@ -1,0 +1,31 @@
+-- How far the search for faults has come.
+use Rattle.std.specs.Prelude.{◌≡◌, ℕ, ◌≤◌, List, flat_map, length, slice_get, slice_index, None}
+use Rattle.kc_tree_model.specs.Blocks.{Group}
+use Rattle.kc_tree_model.specs.Conditions.{groups_in_context}
+use Rattle.kc_tree_model.specs.Contents.{contents_of}
+use Rattle.kc_tree_model.specs.TreeFaults.{faults_of_group}
+use Rattle.kc_listing.specs.declared.listing.Listing.{Listing}
+use Rattle.kc_listing.specs.ListingView.{RepresentsListing}
+use Rattle.kc_tree.specs.checker.GroupedItems.{IsGrouped}
+use Rattle.kc_tree.specs.checker.Summaries.{read_before}
+use Rattle.kc_tree.specs.declared.summary.Summary.{Summary}
+
+-- the count of choices before a group
+abbrev pub choices_before : ℕ → List Group → ℕ
+choices_before i read = length (contents_of (read_before i read)).choices
+
+-- a number is the count of choices before a group of a listing
+abbrev pub CountsChoices : Listing → ℕ → ℕ → Type 0
+CountsChoices l i choices = (read : List Group) → RepresentsListing l read → choices ≡ choices_before i read
+
+-- the members of each choice, put together
+abbrev pub HasMembers : Summary → List ℕ → List ℕ → Type 0
+HasMembers s starts items = IsGrouped s.choices s.members.keys.items s.members.items.items starts items
+
+-- no mark is greater
+abbrev pub AreSmall : List ℕ → ℕ → Type 0
+AreSmall marks most = (s : ℕ) → slice_index marks s ≤ most
+
+-- no group before this one has a fault
+abbrev pub HaveNoFault : Listing → ℕ → Type 0
+HaveNoFault l i = (read : List Group) → RepresentsListing l read → slice_get (flat_map (faults_of_group (contents_of read)) (groups_in_context (read_before i read))) 0 ≡ None

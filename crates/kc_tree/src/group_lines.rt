@@ -1,0 +1,39 @@
+//! The attributes of each group.
+ghost use Rattle.std.specs.Prelude.{◌≡◌, ◌≤◌, ◌<◌, All, length, slice_range};
+ghost use Rattle.kc_listing.specs.ListingView.{LineNodesExist};
+ghost use Rattle.kc_tree.specs.checker.Summaries.{attributes_end, group_at, own_lines, IsRepresented};
+
+use kc_listing::{Group, Line, Listing};
+
+/// Where the attributes of a group end.
+pub(crate) fn end_of(groups: &[Group], lines: &[Line], i: usize) -> usize
+    requires { i < length groups.now }
+    ensures { result ≡ attributes_end groups.now lines.now i }
+{
+    if i + 1 < groups.len() {
+        groups[i + 1].attributes
+    } else {
+        lines.len()
+    }
+}
+
+/// The lines from a place up to another.
+pub(crate) fn part(lines: &[Line], from: usize, to: usize) -> &[Line]
+    requires rising { from ≤ to }
+    requires within { to ≤ length lines.now }
+    ensures { result.now ≡ slice_range lines.now from to }
+{
+    &lines[from..to]
+}
+
+/// The attributes of a group.
+pub(crate) fn lines_of(listing: &Listing, i: usize) -> &[Line]
+    requires shown { IsRepresented listing.now }
+    requires here { i < length listing.now.groups.items }
+    ensures lines { result.now ≡ own_lines listing.now i }
+    ensures held { All (LineNodesExist listing.now.names.arena) result.now }
+{
+    let begin = listing.groups[i].attributes;
+    let end = end_of(&listing.groups, &listing.lines, i);
+    part(&listing.lines, begin, end)
+}

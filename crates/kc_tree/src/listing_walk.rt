@@ -1,0 +1,88 @@
+//! The walk over a whole listing.
+ghost use Rattle.std.specs.Prelude.{◌≡◌, ◌≤◌, ◌<◌, ℕ, All, IfOk, List, length, reverse, slice_range};
+ghost use Rattle.kc_expr.specs.Arena.{Grows};
+ghost use Rattle.kc_listing.specs.ListingView.{RepresentsGroups, LineNodesExist, RepresentsListing};
+ghost use Rattle.kc_tree_model.specs.Blocks.{Group as Read};
+ghost use Rattle.kc_tree.specs.checker.Summaries.{attributes_end, group_at, IsRepresented};
+ghost use Rattle.kc_tree.specs.checker.Walks.{RepresentsAllConditions, HasWalked};
+
+use super::group_lines::{end_of, part};
+use super::group_walk::{GroupConditions, GroupWalk};
+use kc_expr::{Arena, ExprFault, ExprId};
+use kc_listing::{Group, Line, Listing, SymbolTable};
+use std::alloc::Global;
+
+/// What was read, with an arena that also has the joined conditions; the conditions of each group, and those of the
+/// attributes of all groups, in reading order.
+#[derive(Drop)]
+pub(crate) struct WalkedListing {
+    pub listing: Listing,
+    pub groups: Vec<GroupConditions>,
+    pub conditions: Vec<ExprId>,
+}
+
+/// The attributes of a group.
+fn lines_at<'a>(groups: &[Group], lines: &'a [Line], i: usize) -> &'a [Line]
+    requires here { i < length groups.now }
+    requires rising { (group_at groups.now i).attributes ≤ attributes_end groups.now lines.now i }
+    requires within { attributes_end groups.now lines.now i ≤ length lines.now }
+    ensures { result.now ≡ slice_range lines.now (group_at groups.now i).attributes (attributes_end groups.now lines.now i) }
+{
+    part(lines, groups[i].attributes, end_of(groups, lines, i))
+}
+
+/// Walks the groups with their attributes, which are in `lines`.
+fn walk_through(
+    alloc: Global,
+    arena: Arena,
+    groups: &[Group],
+    lines: &[Line],
+) -> Result<GroupWalk, ExprFault>
+    requires shown { (names texts : List (List ℕ)) × (read : List Read) × RepresentsGroups arena names texts lines.now (length lines.now) (reverse groups.now) read }
+    requires held { All (LineNodesExist arena) lines.now }
+    ensures grows { IfOk result (λ w. Grows arena w.arena) }
+    ensures walked { (names texts : List (List ℕ)) (read : List Read) → RepresentsGroups arena names texts lines.now (length lines.now) (reverse groups.now) read
+        → IfOk result (λ w. HasWalked texts w read) }
+{
+    let mut walk = GroupWalk::new(alloc, arena)?;
+    for i in 0..groups.len() {
+        walk.step(&groups[i].what, lines_at(groups, lines, i))?;
+    }
+    Ok(walk)
+}
+
+/// Walks the whole listing. An `Err` is out of memory.
+pub(crate) fn walk_all(alloc: Global, listing: Listing) -> Result<WalkedListing, ExprFault>
+    requires { IsRepresented listing }
+    ensures shows { (read : List Read) → RepresentsListing listing read → IfOk result (λ w. RepresentsListing w.listing read) }
+    ensures walked { (read : List Read) → RepresentsListing listing read
+        → IfOk result (λ w. RepresentsAllConditions w.listing.names.arena w.listing.texts.items w.conditions.items (length w.conditions.items) (reverse w.groups.items) read) }
+{
+    let Listing {
+        names,
+        texts,
+        groups,
+        lines,
+    } = listing;
+    let SymbolTable {
+        arena,
+        symbols,
+        numbers,
+    } = names;
+    let walk = walk_through(alloc, arena, &groups, &lines)?;
+    let names = SymbolTable {
+        arena: walk.arena,
+        symbols,
+        numbers,
+    };
+    Ok(WalkedListing {
+        listing: Listing {
+            names,
+            texts,
+            groups,
+            lines,
+        },
+        groups: walk.groups,
+        conditions: walk.conditions,
+    })
+}

@@ -1,5 +1,0 @@
-use Rattle.std.proofs.Common.{rules}
-use Rattle.kmin_jobs.proofs.verbs.text_of.Goals as goal
-
-pub returns-in-Min : goal.returns-in-Min
-returns-in-Min c = search rules

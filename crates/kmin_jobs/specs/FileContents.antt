@@ -1,0 +1,33 @@
+-- What is known about the content of files.
+use Rattle.std.specs.Prelude.{◌≡◌, ℕ, List, ◌∷◌, ◌++◌, Option, Some, None, take}
+use Rattle.kc_tree_model.specs.TreeFiles.{Files, file_at}
+
+-- what is known about a path: nothing, that there is no such file, or its bytes
+abbrev pub FileContent : Type 0
+FileContent = Option (Option (List ℕ))
+
+-- a file opens according to its known content: its reader has these bytes left, or there is no reader
+abbrev pub OpensAs : FileContent → Option (Option (List ℕ)) → Type 0
+OpensAs None reader = Unit {0}
+OpensAs (Some None) reader = reader ≡ None
+OpensAs (Some (Some bytes)) reader = reader ≡ Some (Some bytes)
+
+-- bytes match the known content, if anything is known
+abbrev pub MatchContent : FileContent → List ℕ → Type 0
+MatchContent None bytes = Unit {0}
+MatchContent (Some None) bytes = ⊥
+MatchContent (Some (Some told)) bytes = bytes ≡ told
+
+-- the same, but a file past the limit of a tree is known by its first 67,108,865 bytes
+abbrev pub MatchContentStart : FileContent → List ℕ → Type 0
+MatchContentStart None bytes = Unit {0}
+MatchContentStart (Some None) bytes = ⊥
+MatchContentStart (Some (Some told)) bytes = bytes ≡ take 67108865 told
+
+-- where a path of a tree lies: below its root
+abbrev pub path_below : List ℕ → List ℕ → List ℕ
+path_below root path = root ++ 47 ∷ path
+
+-- each text of a tree matches the known content of its path below the root
+abbrev pub AreTextsBelow : (List ℕ → FileContent) → List ℕ → Files → Type 0
+AreTextsBelow content_of root texts = (path bytes : List ℕ) → file_at texts path ≡ Some bytes → MatchContentStart (content_of (path_below root path)) bytes

@@ -1,0 +1,87 @@
+//! Guesses which files a file sources, before it is read. A wrong guess only opens a file in vain.
+use kc_tree::Texts;
+use memchr::{memchr, memmem};
+use std::alloc::{AllocError, Global};
+
+/// The word that a line begins with which sources a file.
+const SOURCE: &[u8] = b"source";
+
+/// The most paths guessed for one file: as many files as a tree may have.
+const MAX_PATHS: usize = 4096;
+
+/// The absent paths that file `number` of the texts sources; `None` after the last file.
+pub(crate) fn absent_paths_of_file(
+    alloc: Global,
+    texts: &Texts,
+    number: u32,
+) -> Result<Option<Vec<String>>, AllocError> {
+    let Some(path) = texts.path_at(number) else {
+        return Ok(None);
+    };
+    let bytes = texts.get(path).unwrap_or(&[]);
+    Ok(Some(absent_paths(alloc, texts, bytes)?))
+}
+
+/// The absent paths that the lines of a file source, up to `MAX_PATHS`.
+fn absent_paths(alloc: Global, texts: &Texts, bytes: &[u8]) -> Result<Vec<String>, AllocError> {
+    let mut paths = Vec::new(alloc);
+    for place in memmem::find_iter(bytes, SOURCE) {
+        push_absent(alloc, texts, sourced_path(bytes, place), &mut paths)?;
+        if paths.len() >= MAX_PATHS {
+            break;
+        }
+    }
+    Ok(paths)
+}
+
+/// Appends a path if it is absent.
+fn push_absent(
+    alloc: Global,
+    texts: &Texts,
+    path: Option<&str>,
+    paths: &mut Vec<String>,
+) -> Result<(), AllocError> {
+    match path {
+        Some(path) if texts.get(path).is_none() => {
+            paths.push(String::from_str(alloc, path)?)?;
+            Ok(())
+        }
+        _ => Ok(()),
+    }
+}
+
+/// The path of the `source` line whose keyword is at this offset, if the line is written the usual way.
+fn sourced_path(bytes: &[u8], place: usize) -> Option<&str> {
+    let (before, rest) = bytes.split_at_checked(place)?;
+    if begins_line(before) {
+        path_after_word(line_from(rest))
+    } else {
+        None
+    }
+}
+
+/// The bytes up to the first newline.
+fn line_from(bytes: &[u8]) -> &[u8] {
+    match memchr(b'\n', bytes) {
+        Some(end) => bytes.get(..end).unwrap_or(bytes),
+        None => bytes,
+    }
+}
+
+/// The path after the keyword, if it is written the usual way.
+fn path_after_word(line: &[u8]) -> Option<&str> {
+    let path = std::str::from_utf8(line).ok()?.strip_prefix("source")?;
+    Some(path.trim().trim_matches('"'))
+}
+
+/// Whether there are only spaces and tabs after the last newline.
+fn begins_line(before: &[u8]) -> bool {
+    for byte in before.iter().rev() {
+        match *byte {
+            b'\n' => return true,
+            b' ' | b'\t' => {}
+            _ => return false,
+        }
+    }
+    true
+}

@@ -1,0 +1,49 @@
+//! Errors that end a run before its answer.
+ghost use Rattle.std.specs.Prelude.{◌≡◌};
+ghost use Rattle.kmin_jobs.specs.checker.RunErrors.{status_of};
+ghost use Rattle.kmin_jobs.specs.declared.run_error.RunError.TheVariants.{Memory};
+
+use std::alloc::{AllocError, AllocFailed};
+
+/// Why a run ends early. All but out of memory was reported on standard error before.
+#[derive(Clone, Copy, Debug, PartialEq, Eq)]
+pub(crate) enum RunError {
+    /// The tree is refused.
+    Tree,
+    /// A configuration file is refused, or the bundle is too large.
+    Configuration,
+    /// A read or a write failed.
+    Failed,
+    /// Memory was refused.
+    Memory,
+}
+
+impl RunError {
+    /// The exit status.
+    pub(crate) fn status(self) -> u8
+        ensures { result ≡ status_of self }
+    {
+        match self {
+            RunError::Tree => 3,
+            RunError::Configuration => 4,
+            RunError::Failed => 5,
+            RunError::Memory => 6,
+        }
+    }
+}
+
+impl From<AllocError> for RunError {
+    ghost from_gives = { λ _ stop. stop ≡ Memory };
+
+    fn from(_: AllocError) -> RunError {
+        RunError::Memory
+    }
+}
+
+impl<T: Drop> From<AllocFailed<T>> for RunError {
+    ghost from_gives = { λ _ stop. stop ≡ Memory };
+
+    fn from(_: AllocFailed<T>) -> RunError {
+        RunError::Memory
+    }
+}

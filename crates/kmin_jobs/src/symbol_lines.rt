@@ -1,0 +1,105 @@
+//! Lines with the names of symbols and their values.
+ghost use Rattle.std.specs.Prelude.{◌≡◌, ◌++◌, ◌∷◌, [], IfOk, OnOk, map};
+ghost use Rattle.std.specs.List.{flat_map};
+ghost use Rattle.kc_expr.specs.Lookup.{symbol_value_of};
+ghost use Rattle.kc_rules.specs.SettledViews.{tree_of_settled};
+ghost use Rattle.kc_minimal_model.specs.Spelling.{spelled};
+ghost use Rattle.kmin_jobs.specs.Answers.{name_at, name_line};
+ghost use Rattle.kmin_jobs.specs.checker.Lines.{line_between};
+ghost use Rattle.kc_minimal.specs.declared.differing.Difference.{Difference as ToldDifference};
+
+use kc_expr::Looked;
+use kc_minimal::Difference;
+use kc_rules::{Settled, UnitValue};
+use kc_tree::{Sym, Tree};
+use kc_value::{Kind, push_escaped};
+use std::alloc::{AllocError, Global};
+
+/// The name of a symbol, empty where there is none of that number.
+fn name_of(tree: &Tree, s: Sym) -> &str
+    ensures { result.now ≡ name_at tree.now.whole s }
+{
+    if s.number() < tree.symbol_count() {
+        tree.name(s)
+    } else {
+        ""
+    }
+}
+
+/// Appends a line with the name of a symbol, after some text.
+fn push_name_line(out: &mut Vec<u8>, front: &str, tree: &Tree, s: Sym) -> Result<(), AllocError>
+    ensures { OnOk result (out.new.items ≡ out.old.items ++ name_line front.now tree.now.whole s) }
+{
+    out.extend_from_slice(front.as_bytes())?;
+    out.extend_from_slice(name_of(tree, s).as_bytes())?;
+    out.push(b'\n')?;
+    Ok(())
+}
+
+/// A line for each symbol: its name, after some text.
+pub(crate) fn name_lines(
+    alloc: Global,
+    front: &str,
+    tree: &Tree,
+    symbols: &[Sym],
+) -> Result<Vec<u8>, AllocError>
+    ensures { IfOk result (λ text. text.items ≡ flat_map (name_line front.now tree.now.whole) symbols.now) }
+{
+    let mut text = Vec::new(alloc);
+    for s in symbols {
+        push_name_line(&mut text, front, tree, *s)?;
+    }
+    Ok(text)
+}
+
+/// Appends a value as it stands after `=` in a file: that of a string in quotes.
+fn push_spelled(out: &mut Vec<u8>, seen: &Looked<'_>) -> Result<(), AllocError>
+    ensures { OnOk result (out.new.items ≡ out.old.items ++ spelled (symbol_value_of seen.now).kind (symbol_value_of seen.now).text) }
+{
+    match seen.kind {
+        Kind::Text => push_escaped(out, seen.text),
+        Kind::Bool | Kind::Tristate | Kind::Int | Kind::Hex => out.extend_from_slice(
+            seen.text.as_bytes(),
+        ),
+    }
+}
+
+/// Appends `NAME: LEFT -> RIGHT` for a symbol, if there is one of that number.
+fn push_difference(
+    out: &mut Vec<u8>,
+    settled: &Settled,
+    left: &[UnitValue],
+    right: &[UnitValue],
+    s: Sym,
+) -> Result<(), AllocError>
+    ensures { OnOk result (out.new.items ≡ out.old.items ++ line_between (tree_of_settled settled.now) left.now right.now s) }
+{
+    let tree = settled.tree();
+    if s.number() >= tree.symbol_count() {
+        return Ok(());
+    }
+    out.extend_from_slice(name_of(tree, s).as_bytes())?;
+    out.extend_from_slice(b": ")?;
+    push_spelled(out, &settled.value_of_symbol(s, left))?;
+    out.extend_from_slice(b" -> ")?;
+    push_spelled(out, &settled.value_of_symbol(s, right))?;
+    out.push(b'\n')?;
+    Ok(())
+}
+
+/// A line for each difference of two valuations.
+pub(crate) fn difference_lines(
+    alloc: Global,
+    settled: &Settled,
+    left: &[UnitValue],
+    right: &[UnitValue],
+    differences: &[Difference],
+) -> Result<Vec<u8>, AllocError>
+    ensures { IfOk result (λ text. text.items ≡ flat_map (λ (d : ToldDifference). line_between (tree_of_settled settled.now) left.now right.now d.symbol) differences.now) }
+{
+    let mut text = Vec::new(alloc);
+    for difference in differences {
+        push_difference(&mut text, settled, left, right, difference.symbol)?;
+    }
+    Ok(text)
+}

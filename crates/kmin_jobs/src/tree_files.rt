@@ -1,0 +1,269 @@
+//! The files of a tree.
+ghost use Rattle.std.specs.Prelude.{◌≡◌, ◌≤◌, ◌⊎◌, List, ℕ, length, IfOk, IfSome};
+ghost use Rattle.std.specs.Io.KnownBytes.{Consumes, IsAtEnd};
+ghost use Rattle.kmin_jobs.specs.FileContents.{AreTextsBelow, MatchContentStart, path_below};
+ghost use Rattle.kmin_jobs.specs.checker.Readings.{IsRead};
+
+use crate::files::Files;
+use crate::prefetch::absent_paths_of_file;
+use crate::trees::read_texts;
+use kc_tree::{Texts, Tree, TreeFault, TreeKind, wanted};
+use kc_value::Source;
+use std::alloc::{AllocError, Global};
+
+/// The most bytes of a file that are read: one more than a tree may have.
+const MAX_BYTES: usize = 67_108_865;
+
+/// How many bytes are read at once.
+const BLOCK: usize = 8192;
+
+/// The most files that are opened ahead, and at once: as many as a tree may have.
+const MAX_FILES: u32 = 4096;
+
+/// How often the files of a tree are asked what they want. A path that wasn't asked for before stands one file
+/// deeper each time, and no more than 32 files are open within each other.
+const MAX_ROUNDS: u32 = 64;
+
+/// The files of a tree, and the result of reading them.
+#[derive(Drop)]
+pub(crate) struct TreeReading {
+    pub(crate) texts: Texts,
+    pub(crate) read: Result<Tree, TreeFault>,
+}
+
+/// How many files and bytes may still be opened and read at once.
+#[derive(Drop)]
+struct Room {
+    files: u32,
+    bytes: usize,
+}
+
+impl Room {
+    /// Room for a whole tree.
+    fn whole() -> Room {
+        Room {
+            files: MAX_FILES,
+            bytes: MAX_BYTES,
+        }
+    }
+
+    /// Takes the room of a file that was opened, of which so many bytes were read.
+    fn take(&mut self, bytes: usize) {
+        self.files = self.files.saturating_sub(1);
+        self.bytes = self.bytes.saturating_sub(bytes);
+    }
+
+    /// Whether none is left.
+    fn is_used(&self) -> bool {
+        self.files == 0 || self.bytes == 0
+    }
+}
+
+/// The files of a tree, read: its first file and what the lines of its files source, as far as it can be opened and read,
+/// and where one is missing then, what its files want.
+pub(crate) fn gather<F: Files>(
+    alloc: Global,
+    root: &str,
+    first: &str,
+    files: &mut F,
+) -> Result<TreeReading, AllocError>
+    ensures same { (path : List ℕ) → F.content_of files.new path ≡ F.content_of files.old path }
+    ensures below { IfOk result (λ g. AreTextsBelow (F.content_of files.old) root.now g.texts) }
+    ensures read { IfOk result (λ g. IsRead g.texts first.now g.read) }
+{
+    let mut texts = Texts::with_seed(alloc, files.seed());
+    open_first(alloc, root, first, files, &mut texts)?;
+    let read = read_texts(alloc, &texts, first);
+    if lacks_file(&read) {
+        drop(read);
+        return gather_wanted(alloc, root, first, files, texts);
+    }
+    Ok(TreeReading { texts, read })
+}
+
+/// Inserts the first file of a tree and what the lines of its files source, ahead of a reading.
+fn open_first<F: Files>(
+    alloc: Global,
+    root: &str,
+    first: &str,
+    files: &mut F,
+    texts: &mut Texts,
+) -> Result<(), AllocError>
+    requires below { AreTextsBelow (F.content_of files.old) root.now texts.old }
+    ensures same { (path : List ℕ) → F.content_of files.new path ≡ F.content_of files.old path }
+    ensures below { AreTextsBelow (F.content_of files.old) root.now texts.new }
+{
+    let mut room = Room::whole();
+    insert_one(alloc, root, first, &mut room, files, texts)?;
+    open_ahead(alloc, root, &mut room, files, texts)
+}
+
+/// The files of a tree, with those that its files want beside these, and read.
+fn gather_wanted<F: Files>(
+    alloc: Global,
+    root: &str,
+    first: &str,
+    files: &mut F,
+    mut texts: Texts,
+) -> Result<TreeReading, AllocError>
+    requires below { AreTextsBelow (F.content_of files.old) root.now texts }
+    ensures same { (path : List ℕ) → F.content_of files.new path ≡ F.content_of files.old path }
+    ensures below { IfOk result (λ g. AreTextsBelow (F.content_of files.old) root.now g.texts) }
+    ensures read { IfOk result (λ g. IsRead g.texts first.now g.read) }
+{
+    open_wanted(alloc, root, first, files, &mut texts)?;
+    let read = read_texts(alloc, &texts, first);
+    Ok(TreeReading { texts, read })
+}
+
+/// Whether a reading met a file that isn't there.
+fn lacks_file(read: &Result<Tree, TreeFault>) -> bool {
+    match read {
+        Ok(_) => false,
+        Err(fault) => fault.kind == TreeKind::MissingFile,
+    }
+}
+
+/// Inserts what the lines of the files source, ahead of a reading, as long as there is room. Files that no reading looks at
+/// change no answer.
+fn open_ahead<F: Files>(
+    alloc: Global,
+    root: &str,
+    room: &mut Room,
+    files: &mut F,
+    texts: &mut Texts,
+) -> Result<(), AllocError>
+    requires below { AreTextsBelow (F.content_of files.old) root.now texts.old }
+    ensures same { (path : List ℕ) → F.content_of files.new path ≡ F.content_of files.old path }
+    ensures below { AreTextsBelow (F.content_of files.old) root.now texts.new }
+{
+    for number in 0..MAX_FILES {
+        if room.is_used() {
+            return Ok(());
+        }
+        let Some(paths) = absent_paths_of_file(alloc, texts, number)? else {
+            return Ok(());
+        };
+        insert_all(alloc, root, &paths, room, files, texts)?;
+    }
+    Ok(())
+}
+
+/// Inserts what a reading of the files wants, as long as there is any that can be opened and read.
+fn open_wanted<F: Files>(
+    alloc: Global,
+    root: &str,
+    first: &str,
+    files: &mut F,
+    texts: &mut Texts,
+) -> Result<(), AllocError>
+    requires below { AreTextsBelow (F.content_of files.old) root.now texts.old }
+    ensures same { (path : List ℕ) → F.content_of files.new path ≡ F.content_of files.old path }
+    ensures below { AreTextsBelow (F.content_of files.old) root.now texts.new }
+{
+    for _ in 0..MAX_ROUNDS {
+        let paths = match wanted(alloc, texts, first) {
+            Ok(paths) => paths,
+            Err(fault) if fault.kind == TreeKind::OutOfMemory => return Err(AllocError),
+            Err(_) => return Ok(()),
+        };
+        if !insert_all(alloc, root, &paths, &mut Room::whole(), files, texts)? {
+            return Ok(());
+        }
+    }
+    Ok(())
+}
+
+/// Inserts the files of some paths, as long as there is room, and tells whether any was inserted.
+fn insert_all<F: Files>(
+    alloc: Global,
+    root: &str,
+    paths: &[String],
+    room: &mut Room,
+    files: &mut F,
+    texts: &mut Texts,
+) -> Result<bool, AllocError>
+    requires below { AreTextsBelow (F.content_of files.old) root.now texts.old }
+    ensures same { (path : List ℕ) → F.content_of files.new path ≡ F.content_of files.old path }
+    ensures below { AreTextsBelow (F.content_of files.old) root.now texts.new }
+{
+    let mut any = false;
+    for path in paths {
+        if room.is_used() {
+            return Ok(any);
+        }
+        any |= insert_one(alloc, root, path.as_str(), room, files, texts)?;
+    }
+    Ok(any)
+}
+
+/// Inserts the file of a path that isn't there yet, if it can be opened and read, and tells whether it did.
+fn insert_one<F: Files>(
+    alloc: Global,
+    root: &str,
+    path: &str,
+    room: &mut Room,
+    files: &mut F,
+    texts: &mut Texts,
+) -> Result<bool, AllocError>
+    requires below { AreTextsBelow (F.content_of files.old) root.now texts.old }
+    ensures same { (other : List ℕ) → F.content_of files.new other ≡ F.content_of files.old other }
+    ensures below { AreTextsBelow (F.content_of files.old) root.now texts.new }
+{
+    if texts.get(path).is_some() {
+        return Ok(false);
+    }
+    let Some(bytes) = read_below(alloc, root, path, files)? else {
+        room.take(0);
+        return Ok(false);
+    };
+    room.take(bytes.len());
+    texts.insert(path, &bytes)?;
+    Ok(true)
+}
+
+/// The bytes of a path below the root, unless it can't be opened or read.
+fn read_below<F: Files>(
+    alloc: Global,
+    root: &str,
+    path: &str,
+    files: &mut F,
+) -> Result<Option<Vec<u8>>, AllocError>
+    ensures same { (other : List ℕ) → F.content_of files.new other ≡ F.content_of files.old other }
+    ensures bytes { IfOk result (λ found. IfSome found (λ bytes. MatchContentStart (F.content_of files.old (path_below root.now path.now)) bytes.items)) }
+{
+    let mut place = String::from_str(alloc, root)?;
+    place.push_str("/")?;
+    place.push_str(path)?;
+    match files.reader_for(&place) {
+        Some(mut reader) => {
+            let room = files.size_of(&reader).min(MAX_BYTES);
+            read_front(alloc, &mut reader, room)
+        }
+        None => Ok(None),
+    }
+}
+
+/// All bytes of a reader, or the first `MAX_BYTES` of more; nothing where a read fails. `room` is for how many bytes room is
+/// made at once.
+fn read_front<S: Source>(
+    alloc: Global,
+    source: &mut S,
+    room: usize,
+) -> Result<Option<Vec<u8>>, AllocError>
+    ensures bytes { IfOk result (λ found. IfSome found (λ bytes. Consumes (S.left source.old) (S.left source.new) bytes.items × (length bytes.items ≤ MAX_BYTES) × ((length bytes.items ≡ MAX_BYTES) ⊎ IsAtEnd (S.left source.new)))) }
+{
+    let mut bytes = Vec::with_capacity(alloc, room)?;
+    let mut block = [0; BLOCK];
+    while bytes.len() < MAX_BYTES {
+        let most = (MAX_BYTES - bytes.len()).min(BLOCK);
+        let Ok(count) = source.read_some(&mut block[..most]) else {
+            return Ok(None);
+        };
+        if count == 0 {
+            return Ok(Some(bytes));
+        }
+        bytes.extend_from_slice(&block[..count])?;
+    }
+    Ok(Some(bytes))
+}
