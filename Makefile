@@ -1,5 +1,6 @@
-# make run: builds kmin and runs it on the stored bundle. make test: every proof, test and program.
-# make bench: what the libraries take, beside plain programs. make install PREFIX=DIR: program, man page and completions.
+# make run: a first look, a small bundle run by a program that is checked while it runs. make test: the gate, which proves all and
+# leaves the proved program in build/kmin. make build/kmin: the proved program alone. make bench: what the libraries and the program
+# take, beside other programs. make install PREFIX=DIR DESTDIR=DIR: program, manual page and completions.
 SOURCES := crates.txt $(shell find crates -type f \( -path '*/src/*' -o -path '*/specs/*' -o -path '*/proofs/*' \) | sort)
 BUNDLE := crates/kmin/stdin
 PREFIX ?= /usr/local
@@ -7,8 +8,14 @@ DESTDIR ?=
 
 .PHONY: run test bench install clean
 
-run: build/kmin
-	build/kmin < $(BUNDLE)
+run:
+	@if $(MAKE) --silent --question build/kmin; then \
+	    build/kmin < $(BUNDLE); \
+	else \
+	    echo "make run: not proved: this build checks while it runs what a proof shows before; 'make build/kmin' proves and builds kmin, in about an hour of processor time" >&2; \
+	    mkdir -p build; \
+	    (cd crates/kmin && rt try < stdin 2> ../../build/try.log) || { cat build/try.log >&2; exit 1; }; \
+	fi
 
 build/kmin: $(SOURCES)
 	cd crates/kmin && rt run < stdin > /dev/null
@@ -16,7 +23,9 @@ build/kmin: $(SOURCES)
 	cp crates/kmin/out/kmin build/kmin
 
 test:
-	tests/prove
+	rt ci
+	mkdir -p build
+	cp crates/kmin/out/kmin build/kmin
 	tests/run_rows
 	tests/check_minimal_files
 	tests/cut_trees
