@@ -1,4 +1,4 @@
-/* Cuts a program's reads and writes into pieces, and fails some. The environment says how:
+/* Cuts a program's reads and writes into pieces, and fails some. The environment has the settings:
  *
  *   PIECE       the most bytes that a read or a write takes
  *   FAIL_READ   the number of the read that fails, counted from 1
@@ -45,7 +45,7 @@ static void read_environment(void)
     stays = getenv("STAYS") != (void *)0;
 }
 
-/* The path of a file whose number is below 100, with a zero behind it. */
+/* The path of a file whose number is below 100, with a zero after it. */
 static void find_path(int file, char *path, size_t room)
 {
     char link[] = "/proc/self/fd/00";
@@ -79,7 +79,7 @@ static void tell_number(int mark, size_t number)
     (void)__write(mark, digits + first, (size_t)(24 - first));
 }
 
-static void tell(int file)
+static void write_mark(int file)
 {
     long offset = lseek(file, 0, 1);
     int mark = open(getenv("MARK"), WRITE_CREATE, 0600);
@@ -111,7 +111,7 @@ long read(int file, void *bytes, size_t count)
     }
     if (++reads == fail_read) {
         is_failing = 1;
-        tell(file);
+        write_mark(file);
         return fail();
     }
     return __read(file, bytes, piece && piece < count ? piece : count);
@@ -122,7 +122,7 @@ long write(int file, const void *bytes, size_t count)
     static size_t writes;
     read_environment();
     if (++writes == fail_write) {
-        tell(file);
+        write_mark(file);
         return error ? fail() : 0;
     }
     return __write(file, bytes, piece && piece < count ? piece : count);

@@ -1,4 +1,4 @@
-"""Libraries of C that are preloaded for one program, so that its calls of the system answer otherwise."""
+"""Libraries of C that are preloaded for one program, so that its calls of the system have other results."""
 import os
 import shutil
 import subprocess
@@ -24,7 +24,7 @@ def build(name, folder):
 
 
 def marked(run, mark, library, settings):
-    """Runs by a call that is given settings of the environment; answers its result, and what the library left in the mark."""
+    """Runs by a call that is given settings of the environment; returns its result, and the bytes that the library left in the mark."""
     result = run({"LD_PRELOAD": library, "MARK": mark, **settings})
     if not os.path.exists(mark):
         return result, None

@@ -197,7 +197,7 @@ def is_needed(values, users, it):
     return values.held[unit] is it and values.rule(unit, None) is not it if it.choice else values.rule(unit, None) != values.held[unit]
 
 
-def told(symbols, choices, lines, is_classic):
+def results(symbols, choices, lines, is_classic):
     """The lines of the full and the minimal file, the names that are missed, and the lines of what is unmet."""
     users = users_of(symbols, lines)
     values = Values(symbols, choices, is_classic)

@@ -1,19 +1,19 @@
 """Rows: runs of the program with the bytes that go in and come out, in the files of tests/rows.
 
-A line '== NAME' begins a row; lines '# ..' behind it say what it shows. A line '$ kmin WORD ..' has the words, quoted as in a
-shell; in a word, too, \\xNN stands for a byte. A line '-- NAME' begins a part: what follows up to the next such line are its
-bytes, as they stand. Parts are 'stdin', 'stdout', 'stderr', and any other name is a file that lies where the program runs.
-Behind the name a part may have a word:
+A line '== NAME' begins a row; lines '# ..' after it describe it. A line '$ kmin WORD ..' has the words, quoted as in a
+shell; in a word, too, \\xNN is a byte. A line '-- NAME' begins a part: the lines up to the next such line are its bytes,
+unchanged. Parts are 'stdin', 'stdout', 'stderr', and any other name is a file in the folder where the program runs.
+After the name a part may have a word:
 
-    escaped    the lines are joined, and \\n, \\r, \\t, \\\\, \\" and \\xNN stand for bytes
-    repeated   each line is COUNT TEXT: TEXT, read as escaped, so many times, '{}' being its number from 0
+    escaped    the lines are joined, and \\n, \\r, \\t, \\\\, \\" and \\xNN are bytes
+    repeated   each line is COUNT TEXT: TEXT, read as escaped, COUNT times, '{}' being its number from 0
     full       of stdout and stderr: a device on which no byte finds room, /dev/full
     closed     of stdout and stderr: it isn't open
     endless    of stdin: zero bytes without an end, /dev/zero
-    unended    of stdin, alone or behind another word: the stream stays open behind these bytes, so that a program that asks
+    unended    of stdin, alone or after another word: the stream stays open after these bytes, so that a program that asks
                for more of it waits until its time is up
 
-'-- status N' has the status, 0 without it. '-- long' says that the row is too long to be cut at each byte, or to be read in small
+'-- status N' has the status, 0 without it. '-- long': the row is too long to be cut at each byte, or to be read in small
 pieces each of which fails in turn; '-- large' that its allocations, reads and writes are too many to be refused in turn at all.
 '-- memory N' gives the program N kibibytes of memory and no more; such a row counts as large.
 """
@@ -35,7 +35,7 @@ OPTIONS = ("--root", "--tree", "--prefix", "--imply")
 
 
 def unescaped(text):
-    """The bytes for which an escaped text stands."""
+    """The bytes that an escaped text means."""
     return text.encode().decode("unicode_escape").encode("latin-1")
 
 
@@ -54,8 +54,8 @@ def lines_of(data):
     return re.findall(rb"[^\n]*\n|[^\n]+", data)
 
 
-def parted(bundle):
-    """The two parts of a bundle, before and behind its first line of just `%%`; the second is None where there is none."""
+def split_bundle(bundle):
+    """The two parts of a bundle, before and after its first line of just `%%`; the second is None where there is none."""
     lines = lines_of(bundle)
     for number, line in enumerate(lines):
         if line.rstrip(b"\n") == b"%%":
@@ -70,7 +70,7 @@ def side_by_side(call, *items):
         yield from pool.map(call, *items)
 
 
-def put(folder, name, data):
+def write_file(folder, name, data):
     """Writes a file below a folder, in place of one that is there (to write over that would wait for the disk)."""
     path = f"{folder}/{name}"
     os.makedirs(os.path.dirname(path), exist_ok=True)
@@ -131,13 +131,13 @@ class Row:
             raise ValueError(f"{self.name}: {name} has no form {how}")
 
     def files(self):
-        """The files that lie where the program runs."""
+        """The files of the folder where the program runs."""
         return {name: data for name, data in self.parts.items() if name not in ("stdin", "stdout", "stderr")}
 
     def place(self, folder):
         """Writes these files."""
         for name, data in self.files().items():
-            put(folder, name, data)
+            write_file(folder, name, data)
 
     def is_bundle(self):
         """Whether the program reads a bundle that ends."""
@@ -163,7 +163,7 @@ class Row:
 
     def run(self, folder=None, settings={}):
         """Runs the program in a folder that has the row's files, or in a new one, with these settings in its environment, and
-        answers its status and what it wrote."""
+        returns its status and what it wrote."""
         if not folder:
             with tempfile.TemporaryDirectory(prefix="kmin-row-") as made:
                 self.place(made)
@@ -187,7 +187,7 @@ class Row:
         return ran.returncode, ran.stdout or b"", ran.stderr or b""
 
     def run_unended(self, words, **streams):
-        """Runs these words while standard input stays open behind its bytes."""
+        """Runs these words while standard input stays open after its bytes."""
         taker, giver = os.pipe()
         with subprocess.Popen(words, stdin=taker, **streams) as ran:
             os.close(taker)
