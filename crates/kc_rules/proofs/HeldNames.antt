@@ -1,4 +1,4 @@
--- What the names of an arena stand for is what all names mean.
+-- The values that an arena's names are given are the values of all names.
 use Rattle.std.proofs.Common.{◌≡◌, ℕ, List, [], ◌∷◌, Option, Some, None, refl, sym, ap, ◌∙◌}
 use Rattle.std.specs.Prelude.{option_and_then}
 use Rattle.std.specs.List.{AllByRecursion}

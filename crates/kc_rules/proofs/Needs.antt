@@ -1,4 +1,4 @@
--- What is met on the way to a unit's dependencies is what the unit needs.
+-- The units appended on the way to a unit's dependencies are those that it needs.
 use Rattle.std.proofs.Common.{◌≡◌, inl, inr, ℕ, suc, ◌<◌, Bool, true, false, ◌||◌, ◌==◌, cond, List, [], ◌∷◌, ◌++◌, length, map, get_or, Option, Some, None, refl, sym, ap, subst, ◌∙◌, arith}
 use Rattle.std.specs.Prelude.{All, slice_get, slice_index_or, bytes_eq}
 use Rattle.std.specs.Option.{option_map, option_and_then}

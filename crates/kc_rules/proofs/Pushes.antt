@@ -1,4 +1,4 @@
--- Tests over lists: what walks put after a list so far.
+-- Tests over lists: the elements that a visit appends.
 use Rattle.std.proofs.Common.{◌≡◌, ℕ, ◌+◌, ◌<◌, Bool, true, false, ◌||◌, ◌==◌, List, [], ◌∷◌, ◌++◌, length, map, get_or, take, Option, Some, None, IsSome, subst, refl, sym, ap, ◌∙◌}
 use Rattle.std.specs.List.{flat_map, filter_map, list_any, cons_option}
 use Rattle.std.proofs.Math.Bool.{or_assoc}

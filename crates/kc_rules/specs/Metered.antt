@@ -1,4 +1,4 @@
--- What a meter has counted.
+-- The count of a meter.
 use Rattle.std.specs.Prelude.{ℕ}
 use Rattle.kc_rules.specs.declared.steps.Steps.{Steps}
 

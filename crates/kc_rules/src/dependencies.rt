@@ -1,4 +1,4 @@
-//! What units depend on.
+//! The dependencies of units.
 ghost use Rattle.std.specs.Prelude.{◌≡◌, ◌<◌, ◌++◌, ◌||◌, ℕ, [], ◌∷◌, length, IfOk, IfSome, OnOk, slice_get, slice_index_or};
 ghost use Rattle.std.specs.List.{list_any};
 ghost use Rattle.kc_expr.specs.Visits.{HasFound};

@@ -1,4 +1,4 @@
-//! Which symbols are written and which are unmet, given the values of the units.
+//! Tests of whether a symbol is written or unmet, given the values of the units.
 ghost use Rattle.std.specs.Prelude.{◌≡◌, ◌<◌, ◌++◌, ◌∷◌, [], length, nat_lt, IfOk, OnOk, if◌then◌else◌};
 ghost use Rattle.kc_value.specs.Tri.{rank};
 ghost use Rattle.kc_tree.specs.Views.{SymbolFits, symbol_view};

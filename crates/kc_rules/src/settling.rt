@@ -16,7 +16,7 @@ use kc_system::{Order, OrderFault, order};
 use kc_tree::Tree;
 use std::alloc::{AllocError, Global};
 
-/// What a refused order says of a tree.
+/// The fault of a tree whose units have no order.
 fn fault_of(fault: OrderFault) -> SettleFault
     ensures { (size : ℕ) (dependencies : ℕ → List ℕ) → ReportsCycle size dependencies fault → ReportsTreeCycle size dependencies result }
 {

@@ -1,4 +1,4 @@
-//! Which user values fit units.
+//! Tests of whether a user value fits a unit.
 ghost use Rattle.std.specs.Prelude.{◌≡◌, ◌<◌, ◌==◌, length};
 ghost use Rattle.std.specs.List.{list_any};
 ghost use Rattle.kc_tree_model.specs.TreeLookup.{has_newline};

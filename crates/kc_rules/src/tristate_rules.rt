@@ -28,7 +28,7 @@ pub(crate) fn largest(under: &Valuation<'_>, ids: &[ExprId]) -> Tri
     most
 }
 
-/// What a select or imply forces.
+/// The least value that a select or imply demands.
 #[inline(never)]
 fn reverse_value(under: &Valuation<'_>, force: ReverseDependency) -> Tri
     requires by { force.by < length (valuation_tree under.now).symbols }
@@ -42,7 +42,7 @@ fn reverse_value(under: &Valuation<'_>, force: ReverseDependency) -> Tri
     }
 }
 
-/// What some selects or implies force.
+/// The largest of the values that selects or implies demand.
 #[inline(always)]
 pub(crate) fn reverse_limit(under: &Valuation<'_>, all: &[ReverseDependency]) -> Tri
     requires { AreReverseDependencies (valuation_exprs under.now) (valuation_tree under.now) all.now }

@@ -1,4 +1,4 @@
--- What `imply` gives: a line for each value of the implying symbol and of the dependency, in both profiles.
+-- The value that `imply` gives: a line for each value of the implying symbol and of the dependency, in both profiles.
 use Rattle.std.proofs.Common.{◌≡◌, [], ◌∷◌, Option, None, refl}
 use Rattle.kc_value.specs.declared.tri.Tri.{Tri}
 use Rattle.kc_value.specs.declared.tri.Tri.TheVariants.{N, M, Y}

@@ -1,4 +1,4 @@
--- Which units a unit depends on.
+-- The units that a unit depends on.
 use Rattle.std.specs.Prelude.{ℕ, List, [], ◌∷◌, ◌++◌, Option, Some, None, length, map, ◌==◌, slice_get, filter, if◌then◌else◌}
 use Rattle.std.specs.List.{list_any, filter_map, flat_map, range_with_len}
 use Rattle.std.specs.Option.{option_map}

@@ -1,4 +1,4 @@
--- What is told of a valuation: the symbols of a full file, unmet dependencies and lifted tristates.
+-- The symbols of a full file, unmet dependencies and lifted tristates, by the values of the units.
 use Rattle.std.specs.Prelude.{◌≡◌, ◌≢◌, ℕ, Bool, true, false, not, ◌&&◌, ◌||◌, List, Some, is_some, is_none, length, nat_lt, slice_get, filter, unwrap_or, if◌then◌else◌}
 use Rattle.std.specs.List.{range_with_len}
 use Rattle.std.specs.Option.{option_map}

@@ -13,7 +13,7 @@ pub enum UnitValue {
     Member(Option<Sym>),
 }
 
-/// What a user assigns to a unit.
+/// A value that a user assigns to a unit.
 #[derive(Drop)]
 pub enum UserValue {
     /// The value of a bool or tristate.

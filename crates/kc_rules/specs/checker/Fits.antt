@@ -1,4 +1,4 @@
--- Which user values fit a type and a choice's members.
+-- Tests of whether a user value fits a type or a choice's members.
 use Rattle.std.specs.Prelude.{ℕ, Bool, false, List, ◌==◌}
 use Rattle.std.specs.List.{list_any}
 use Rattle.kc_value.specs.declared.value.Kind.{Kind}

@@ -1,4 +1,4 @@
--- The dependencies as they are kept, and what is met on the way to them.
+-- The dependencies as they are stored, and the names that are visited on the way to them.
 use Rattle.std.specs.Prelude.{◌≡◌, ℕ, ◌+◌, ◌-◌, ◌<◌, ◌≤◌, Bool, false, ◌&&◌, ◌||◌, ◌==◌, List, length, take, drop, All, Option, Some, None, slice_index}
 use Rattle.std.specs.List.{list_any}
 use Rattle.std.specs.Option.{option_map}
@@ -16,8 +16,8 @@ use Rattle.kc_tree_model.specs.TreeLookup.{unit_of, symbol_named}
 use Rattle.kc_rules_model.specs.Dependencies.{dependencies, names_in_member_prompts}
 use Rattle.kc_rules_model.specs.Kinds.{is_tristate}
 
--- those of the units below this one stand from their place in `starts` to that of the next unit, and nothing after
--- them
+-- the dependencies of the units below this one: each unit's begin at its place in `starts` and end at the next
+-- unit's, and nothing follows them
 pub record LinksBelow (tree : Tree) (unit : ℕ) (starts links : List ℕ) : Type 0 where
   pub places : length starts ≡ unit + 1
   pub last : slice_index starts unit ≡ length links
@@ -25,11 +25,11 @@ pub record LinksBelow (tree : Tree) (unit : ℕ) (starts links : List ℕ) : Typ
   pub within : (u : ℕ) → u < unit → slice_index starts (u + 1) ≤ length links
   pub rows : (u : ℕ) → u < unit → take (slice_index starts (u + 1) - slice_index starts u) (drop (slice_index starts u) links) ≡ dependencies tree u
 
--- those of all units
+-- the dependencies of all units
 abbrev pub AreLinks : Tree → List ℕ → List ℕ → Type 0
 AreLinks tree starts links = LinksBelow tree (length tree.units) starts links
 
--- numbers of units
+-- all are numbers of units
 abbrev pub AreUnits : Tree → List ℕ → Type 0
 AreUnits tree units = All (λ u. u < length tree.units) units
 
@@ -37,6 +37,7 @@ AreUnits tree units = All (λ u. u < length tree.units) units
 abbrev pub has : List ℕ → ℕ → Bool
 has units d = list_any (λ e. e == d) units
 
+-- whether an optional number is this one
 abbrev pub is_at : ℕ → Option ℕ → Bool
 is_at d None = false
 is_at d (Some u) = u == d
@@ -45,34 +46,40 @@ is_at d (Some u) = u == d
 abbrev pub is_of : Tree → ℕ → List ℕ → Bool
 is_of tree d name = is_at d (option_map (unit_of tree) (symbol_named tree name))
 
--- whether the test passes a name in some expressions, defaults, ranges, conditions of selects and implies
+-- whether the test passes some name of these expressions
 abbrev pub in_exprs : Exprs → (List ℕ → Bool) → List ℕ → Bool
 in_exprs exprs p ids = list_any (λ i. mentions p (node_expr exprs i)) ids
 
+-- whether the test passes some name of these defaults
 abbrev pub in_defaults : Exprs → (List ℕ → Bool) → List KeptDefault → Bool
 in_defaults exprs p ds = list_any (λ (d : KeptDefault). mentions p (node_expr exprs d.value) || mentions p (node_expr exprs d.condition)) ds
 
+-- whether the test passes some name of these ranges
 abbrev pub in_ranges : Exprs → (List ℕ → Bool) → List KeptRange → Bool
 in_ranges exprs p rs = list_any (λ (r : KeptRange). mentions p (node_expr exprs r.low) || mentions p (node_expr exprs r.high) || mentions p (node_expr exprs r.condition)) rs
 
+-- whether the test passes some name in the conditions of these selects or implies
 abbrev pub in_reverse_dependencies : Exprs → (List ℕ → Bool) → List KeptForce → Bool
 in_reverse_dependencies exprs p fs = list_any (λ (f : KeptForce). mentions p (node_expr exprs f.condition)) fs
 
--- the same of all names of a symbol
+-- whether the test passes some name of a symbol's attributes
 abbrev pub in_symbol : Exprs → (List ℕ → Bool) → KeptSymbol → Bool
 in_symbol exprs p k = in_exprs exprs p k.prompts.now || in_defaults exprs p k.defaults.now || in_ranges exprs p k.ranges.now || in_exprs exprs p k.direct.now || in_reverse_dependencies exprs p k.selectors.now || in_reverse_dependencies exprs p k.impliers.now
 
--- the same of a choice's defaults, its members' prompts, all of its names
+-- whether the test passes some name of a choice's defaults
 abbrev pub in_member_defaults : Tree → Exprs → (List ℕ → Bool) → List KeptMemberDefault → Bool
 in_member_defaults tree exprs p ds = list_any (λ (d : KeptMemberDefault). mentions p (node_expr exprs d.condition) || list_any p (names_in_member_prompts tree d.member)) ds
 
+-- whether the test passes some name of the prompts of these members
 abbrev pub in_members : Tree → (List ℕ → Bool) → List ℕ → Bool
 in_members tree p ms = list_any (λ s. list_any p (names_in_member_prompts tree s)) ms
 
+-- whether the test passes some name of a prompt's condition
 abbrev pub in_prompt : Exprs → (List ℕ → Bool) → Option ℕ → Bool
 in_prompt exprs p None = false
 in_prompt exprs p (Some i) = mentions p (node_expr exprs i)
 
+-- whether the test passes some name of a choice's attributes
 abbrev pub in_choice : Tree → Exprs → (List ℕ → Bool) → KeptChoice → Bool
 in_choice tree exprs p k = in_prompt exprs p k.prompt || in_member_defaults tree exprs p k.defaults.now || in_members tree p k.members.now
 

@@ -1,4 +1,4 @@
--- The rules of bools and tristates, with the user value told as a tristate and a list of defaults.
+-- The rules of bools and tristates, with the user value as a tristate and a list of defaults.
 use Rattle.std.specs.Prelude.{not, List, Option, find, if◌then◌else◌}
 use Rattle.kc_value.specs.declared.tri.Tri.{Tri}
 use Rattle.kc_value.specs.Tri.{tri_or}

@@ -1,4 +1,4 @@
--- What the parts of a kept tree say of rules.
+-- The attributes of a stored tree, as the rules have them.
 use Rattle.std.specs.Prelude.{ℕ, ◌<◌, All, Bool, not, ◌&&◌, Option, Some, None, find, List, length, if◌then◌else◌}
 use Rattle.std.specs.Option.{option_map, option_and_then}
 use Rattle.kc_tree_model.specs.Trees.{Choice, MemberDefault}

@@ -1,4 +1,4 @@
--- What the names of an arena represent.
+-- The symbol value of each name of an arena.
 use Rattle.std.specs.Prelude.{ℕ, List, Option, slice_get, option_and_then}
 use Rattle.kc_expr.specs.Expr.{SymbolValue}
 use Rattle.kc_tree_model.specs.Trees.{Tree}

@@ -1,4 +1,4 @@
--- The rules of texts, with the user value told as a text.
+-- The rules of strings, ints and hexes, with the user value as a text.
 use Rattle.std.specs.Prelude.{ℕ, Bool, not, List, Option, Some, None, ℤ, pos, unwrap_or, find, if◌then◌else◌}
 use Rattle.std.specs.Option.{option_map, option_and_then}
 use Rattle.kc_value.specs.declared.value.Kind.{Kind}

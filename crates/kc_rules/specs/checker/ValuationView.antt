@@ -1,4 +1,4 @@
--- What is read under values of the units.
+-- A valuation as contracts see it: its tree, its expressions and the values of the units.
 use Rattle.std.specs.Prelude.{List}
 use Rattle.kc_expr.specs.Arena.{Exprs}
 use Rattle.kc_tree_model.specs.Trees.{Tree}

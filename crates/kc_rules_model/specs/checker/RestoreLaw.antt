@@ -29,7 +29,7 @@ promoted_twice true true Y = refl
 promoted_twice true false t = refl
 promoted_twice false l t = refl
 
--- a bool's or tristate's value with the user value a: r tells whether `m` becomes `y`, top is the visibility, un the value without a user value, s what is selected
+-- a bool's or tristate's value with the user value a: r is whether `m` becomes `y`, top is the visibility, un the value without a user value, s what is selected
 abbrev tri_with : Bool → Tri → Tri → Tri → Tri → Tri
 tri_with r top un s a = promoted_if r (tri_or (cond (not (is_n top)) (tri_and a top) un) s)
 
