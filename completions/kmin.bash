@@ -1,13 +1,22 @@
 # Completions of kmin for bash: source this file, or put it into the folder of completions as `kmin`.
 _kmin() {
-    local word=${COMP_WORDS[COMP_CWORD]} before=${COMP_WORDS[COMP_CWORD-1]} command= i
+    local word=${COMP_WORDS[COMP_CWORD]} before=${COMP_WORDS[COMP_CWORD-1]} command= root=. i
+    # bash makes `--root=DIR` three words
+    if [[ $word == "=" ]]; then
+        word=
+    elif [[ $before == "=" ]]; then
+        before=${COMP_WORDS[COMP_CWORD-2]}
+    fi
     for ((i = 1; i < COMP_CWORD; i++)); do
         case ${COMP_WORDS[i]} in
-            min|full|missed|check|compare|help) command=${COMP_WORDS[i]}; break ;;
+            min|full|missed|check|compare|help) command=${command:-${COMP_WORDS[i]}} ;;
+            --root) root=${COMP_WORDS[i+1]}; [[ $root == "=" ]] && root=${COMP_WORDS[i+2]} ;;
         esac
     done
     COMPREPLY=()
     if [[ -z $command ]]; then
+        # options come after the command
+        [[ $COMP_CWORD == 1 ]] || return
         mapfile -t COMPREPLY < <(compgen -W "min full missed check compare help -h --help -V --version" -- "$word")
         return
     fi
@@ -19,7 +28,7 @@ _kmin() {
         --root) mapfile -t COMPREPLY < <(compgen -d -- "$word"); return ;;
         --imply) mapfile -t COMPREPLY < <(compgen -W "present classic" -- "$word"); return ;;
         --prefix) return ;;
-        --tree) mapfile -t COMPREPLY < <(compgen -f -- "$word"); return ;;
+        --tree) mapfile -t COMPREPLY < <(cd -- "$root" 2> /dev/null && compgen -f -- "$word"); return ;;
     esac
     if [[ $word == -* ]]; then
         mapfile -t COMPREPLY < <(compgen -W "--root --tree --prefix --imply -h --help -V --version" -- "$word")

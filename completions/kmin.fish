@@ -1,17 +1,47 @@
 # Completions of kmin for fish: put this file into ~/.config/fish/completions.
 set -l commands min full missed check compare
 
-complete -c kmin -f -n "not __fish_seen_subcommand_from $commands help" -a min -d "Write the minimal file"
-complete -c kmin -f -n "not __fish_seen_subcommand_from $commands help" -a full -d "Write the full file"
-complete -c kmin -f -n "not __fish_seen_subcommand_from $commands help" -a missed -d "List the symbols that don't have their assigned value"
-complete -c kmin -f -n "not __fish_seen_subcommand_from $commands help" -a check -d "List the symbols that are selected against their dependencies"
-complete -c kmin -f -n "not __fish_seen_subcommand_from $commands help" -a compare -d "List the symbols whose values differ between two files"
-complete -c kmin -f -n "not __fish_seen_subcommand_from $commands help" -a help -d "Print help"
+# the last value of an option among the words so far, or a default
+function __kmin_value
+    set -l found $argv[2]
+    set -l words (commandline -opc)
+    for i in (seq (count $words))
+        if string match -q -- "$argv[1]=*" $words[$i]
+            set found (string replace -- "$argv[1]=" "" $words[$i])
+        else if test $words[$i] = $argv[1]; and set -q words[(math $i + 1)]
+            set found $words[(math $i + 1)]
+        end
+    end
+    echo $found
+end
+
+# the folders that begin with the current word, without the option before a `=`
+function __kmin_folders
+    __fish_complete_directories (commandline -ct | string replace -r -- '^--root=' '')
+end
+
+# the files below the folder of the tree that begin with the current word
+function __kmin_tree_files
+    set -l root (__kmin_value --root .)
+    set -l begun (commandline -ct | string replace -r -- '^--tree=' '')
+    for file in $root/$begun*
+        set -l name (string replace -- "$root/" "" $file)
+        test -d $file; and echo $name/; or echo $name
+    end
+end
+
+complete -c kmin -f -n "__fish_is_first_arg" -a min -d "Write the minimal file"
+complete -c kmin -f -n "__fish_is_first_arg" -a full -d "Write the full file"
+complete -c kmin -f -n "__fish_is_first_arg" -a missed -d "List the symbols that don't have their assigned value"
+complete -c kmin -f -n "__fish_is_first_arg" -a check -d "List the symbols that are selected against their dependencies"
+complete -c kmin -f -n "__fish_is_first_arg" -a compare -d "List the symbols whose values differ between two files"
+complete -c kmin -f -n "__fish_is_first_arg" -a help -d "Print help"
+complete -c kmin -f -n "not __fish_seen_subcommand_from $commands"
 complete -c kmin -f -n "__fish_seen_subcommand_from help" -a "$commands help"
 
-complete -c kmin -x -n "__fish_seen_subcommand_from $commands" -l root -d "Folder in which the paths of the tree lie" -a "(__fish_complete_directories)"
-complete -c kmin -r -n "__fish_seen_subcommand_from $commands" -l tree -d "First file of the tree, below the folder"
-complete -c kmin -x -n "__fish_seen_subcommand_from $commands" -l prefix -d "What stands before each name in a FILE"
+complete -c kmin -x -n "__fish_seen_subcommand_from $commands" -l root -d "Folder of the tree" -a "(__kmin_folders)"
+complete -c kmin -x -n "__fish_seen_subcommand_from $commands" -l tree -d "First file of the tree, below the folder" -a "(__kmin_tree_files)"
+complete -c kmin -x -n "__fish_seen_subcommand_from $commands" -l prefix -d "Text before each name in a FILE"
 complete -c kmin -x -n "__fish_seen_subcommand_from $commands" -l imply -d "How an implied value counts" -a "present classic"
 complete -c kmin -s h -l help -d "Print help"
 complete -c kmin -s V -l version -d "Print version"

@@ -1,11 +1,17 @@
 #compdef kmin
 # Completions of kmin for zsh: put this file as `_kmin` into a folder of $fpath.
 
+# the files below the folder of the tree
+_kmin_tree_files() {
+    local -a roots=(${${(Q)opt_args[--root]:-.}:a})
+    _files -W roots
+}
+
 _kmin_options() {
     _arguments -S \
-        '--root=[folder in which the paths of the tree lie]:folder:_files -/' \
-        '--tree=[first file of the tree, below the folder]:file:_files' \
-        '--prefix=[what stands before each name in a FILE]:text:' \
+        '--root=[folder of the tree]:folder:_files -/' \
+        '--tree=[first file of the tree, below the folder]:file:_kmin_tree_files' \
+        '--prefix=[text before each name in a FILE]:text:' \
         '--imply=[how an implied value counts]:profile:(present classic)' \
         '(- *)'{-h,--help}'[print help]' \
         '(- *)'{-V,--version}'[print version]' \
