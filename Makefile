@@ -1,15 +1,15 @@
-# make run: a first look, a small bundle run by a program that is checked while it runs. make test: the gate, which proves all and
-# leaves the proved program in build/kmin. make build/kmin: the proved program alone. make bench: what the libraries and the program
-# take, beside other programs. make install PREFIX=DIR DESTDIR=DIR: program, manual page and completions.
 SOURCES := crates.txt $(shell find crates -type f \( -path '*/src/*' -o -path '*/specs/*' -o -path '*/proofs/*' \) | sort)
 BUNDLE := crates/kmin/stdin
 PREFIX ?= /usr/local
 DESTDIR ?=
 
-.PHONY: run test bench install clean
+.PHONY: help run check test bench install clean
 
-run:
-	@if $(MAKE) --silent --question build/kmin; then \
+help:            # lists the targets
+	@sed -n 's/^\([a-z/]*\):[^#]*# \(.*\)$$/make \1|\2/p' Makefile | awk -F '|' '{ printf "%-18s%s\n", $$1, $$2 }'
+
+run:             # a first look: a small bundle, by a program that checks while it runs what a proof shows before
+	@if make --silent --question build/kmin; then \
 	    build/kmin < $(BUNDLE); \
 	else \
 	    echo "make run: not proved: this build checks while it runs what a proof shows before; 'make build/kmin' proves and builds kmin, in about an hour of processor time" >&2; \
@@ -17,12 +17,15 @@ run:
 	    (cd crates/kmin && rt try < stdin 2> ../../build/try.log) || { cat build/try.log >&2; exit 1; }; \
 	fi
 
-build/kmin: $(SOURCES)
+build/kmin: $(SOURCES) # proves and builds the program
 	cd crates/kmin && rt run < stdin > /dev/null
 	mkdir -p build
 	cp crates/kmin/out/kmin build/kmin
 
-test:
+check:           # proves the crates that changed since the last commit and those above them, and runs the rows
+	tests/check_changed
+
+test:            # the gate: proves all, tries the wrong bodies, runs every test; leaves the program in build/kmin
 	rt ci
 	mkdir -p build
 	cp crates/kmin/out/kmin build/kmin
@@ -35,15 +38,15 @@ test:
 	tests/check_texts
 	tests/refuse_allocations
 
-bench:
+bench:           # time, memory and instructions of the libraries and the program, beside other programs
 	bench/run
 
-install: build/kmin
+install: build/kmin # program, manual page and completions, below DESTDIR and PREFIX
 	install -D -m 755 build/kmin $(DESTDIR)$(PREFIX)/bin/kmin
 	install -D -m 644 man/kmin.1 $(DESTDIR)$(PREFIX)/share/man/man1/kmin.1
 	install -D -m 644 completions/kmin.bash $(DESTDIR)$(PREFIX)/share/bash-completion/completions/kmin
 	install -D -m 644 completions/kmin.zsh $(DESTDIR)$(PREFIX)/share/zsh/site-functions/_kmin
 	install -D -m 644 completions/kmin.fish $(DESTDIR)$(PREFIX)/share/fish/vendor_completions.d/kmin.fish
 
-clean:
+clean:           # removes what was built
 	rm -rf build crates/*/out
