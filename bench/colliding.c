@@ -1,5 +1,5 @@
 /* Writes COUNT names whose hashes under a fixed seed (SipHash-1-3 with both keys 0) have the same lowest BITS bits, so that
- * a table of 2^BITS groups keeps them all behind one another; with any other word as a third one, ordinary names. */
+ * a table of 2^BITS groups keeps them all in one chain; with any other word as a third one, ordinary names. */
 #include <stdint.h>
 #include <stdio.h>
 #include <stdlib.h>

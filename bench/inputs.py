@@ -101,7 +101,7 @@ def likeness(count, rng):
 
 
 def likeness_in_files(count, files, folder, rng):
-    """The same in so many files of a folder, which its file Kconfig sources."""
+    """The likeness of a tree in several files of a folder, which its file Kconfig sources."""
     with open(f"{folder}/Kconfig", "w") as root:
         root.write(HEAD)
         for i in range(files):

@@ -1,4 +1,4 @@
-/* A plain measure of the same bytes: reads standard input, splits it into words at the bytes that part tokens, and interns
+/* A plain measure of the same bytes: reads standard input, splits it into words at the bytes that separate tokens, and interns
  * them in a table; prints how many there are, how many differ, and the microseconds without reading. */
 #include <stdio.h>
 #include <stdlib.h>
