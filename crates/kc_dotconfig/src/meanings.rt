@@ -111,9 +111,9 @@ fn read_text(
 
 /// Interprets the text after `=` for a symbol.
 fn read_value(alloc: Global, tree: &Tree, s: Sym, text: &str) -> Result<Meaning, AllocError>
-    requires { s < length tree.now.whole.symbols }
-    ensures said { IfOk result (λ said. (symbol : Symbol) → slice_get tree.now.whole.symbols s ≡ Some symbol → meaning_view said ≡ value_meaning tree.now.whole s symbol text.now) }
-    ensures within { IfOk result (λ said. IsWithin (length tree.now.whole.units) (meaning_view said)) }
+    requires { s < length tree.now.tree.symbols }
+    ensures said { IfOk result (λ said. (symbol : Symbol) → slice_get tree.now.tree.symbols s ≡ Some symbol → meaning_view said ≡ value_meaning tree.now.tree s symbol text.now) }
+    ensures within { IfOk result (λ said. IsWithin (length tree.now.tree.units) (meaning_view said)) }
 {
     let symbol = tree.symbol(s);
     read_text(alloc, symbol.kind, symbol.unit, s, symbol.choice, text)
@@ -121,9 +121,9 @@ fn read_value(alloc: Global, tree: &Tree, s: Sym, text: &str) -> Result<Meaning,
 
 /// Interprets an unset line for a symbol.
 fn read_unset(tree: &Tree, s: Sym) -> Meaning
-    requires { s < length tree.now.whole.symbols }
-    ensures said { (symbol : Symbol) → slice_get tree.now.whole.symbols s ≡ Some symbol → meaning_view result ≡ unset_meaning tree.now.whole s symbol symbol.choice }
-    ensures within { IsWithin (length tree.now.whole.units) (meaning_view result) }
+    requires { s < length tree.now.tree.symbols }
+    ensures said { (symbol : Symbol) → slice_get tree.now.tree.symbols s ≡ Some symbol → meaning_view result ≡ unset_meaning tree.now.tree s symbol symbol.choice }
+    ensures within { IsWithin (length tree.now.tree.units) (meaning_view result) }
 {
     let symbol = tree.symbol(s);
     match (symbol.choice, symbol.kind) {
@@ -135,8 +135,8 @@ fn read_unset(tree: &Tree, s: Sym) -> Meaning
 
 /// The symbol of a unit, if there is one of that name.
 fn symbol_of_unit(tree: &Tree, u: u32, name: &str) -> Option<Sym>
-    ensures symbol { IfSome result (λ s. symbol_named tree.now.whole name.now ≡ Some s) }
-    ensures there { IfSome result (λ s. s < length tree.now.whole.symbols) }
+    ensures symbol { IfSome result (λ s. symbol_named tree.now.tree name.now ≡ Some s) }
+    ensures there { IfSome result (λ s. s < length tree.now.tree.symbols) }
 {
     let _ = tree.arena();
     if u >= tree.len() {
@@ -150,8 +150,8 @@ fn symbol_of_unit(tree: &Tree, u: u32, name: &str) -> Option<Sym>
 
 /// The symbol of a name. Most files are written in the order of the units, so the next unit is tried first.
 fn find_symbol(tree: &Tree, next: u32, name: &str) -> Option<Sym>
-    ensures symbol { result ≡ symbol_named tree.now.whole name.now }
-    ensures there { IfSome result (λ s. s < length tree.now.whole.symbols) }
+    ensures symbol { result ≡ symbol_named tree.now.tree name.now }
+    ensures there { IfSome result (λ s. s < length tree.now.tree.symbols) }
 {
     match symbol_of_unit(tree, next, name) {
         Some(s) => Some(s),
@@ -167,8 +167,8 @@ fn read_value_line(
     name: &str,
     text: &str,
 ) -> Result<Meaning, AllocError>
-    ensures said { IfOk result (λ said. meaning_view said ≡ of_named tree.now.whole (λ s symbol. value_meaning tree.now.whole s symbol text.now) (symbol_named tree.now.whole name.now)) }
-    ensures within { IfOk result (λ said. IsWithin (length tree.now.whole.units) (meaning_view said)) }
+    ensures said { IfOk result (λ said. meaning_view said ≡ of_named tree.now.tree (λ s symbol. value_meaning tree.now.tree s symbol text.now) (symbol_named tree.now.tree name.now)) }
+    ensures within { IfOk result (λ said. IsWithin (length tree.now.tree.units) (meaning_view said)) }
 {
     match find_symbol(tree, next, name) {
         Some(s) => read_value(alloc, tree, s, text),
@@ -178,8 +178,8 @@ fn read_value_line(
 
 /// Interprets a line `# CONFIG_X is not set`.
 fn read_unset_line(tree: &Tree, next: u32, name: &str) -> Meaning
-    ensures said { meaning_view result ≡ of_named tree.now.whole (λ s symbol. unset_meaning tree.now.whole s symbol symbol.choice) (symbol_named tree.now.whole name.now) }
-    ensures within { IsWithin (length tree.now.whole.units) (meaning_view result) }
+    ensures said { meaning_view result ≡ of_named tree.now.tree (λ s symbol. unset_meaning tree.now.tree s symbol symbol.choice) (symbol_named tree.now.tree name.now) }
+    ensures within { IsWithin (length tree.now.tree.units) (meaning_view result) }
 {
     match find_symbol(tree, next, name) {
         Some(s) => read_unset(tree, s),

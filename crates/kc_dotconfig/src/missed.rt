@@ -45,8 +45,8 @@ fn is_missed_value(
 
 /// Whether a symbol is missed, by its number.
 fn is_missed(tree: &Tree, users: &[Option<UserValue>], values: &[UnitValue], s: Sym) -> bool
-    requires { s < length tree.now.whole.symbols }
-    ensures { result ≡ is_missed tree.now.whole users.now values.now s }
+    requires { s < length tree.now.tree.symbols }
+    ensures { result ≡ is_missed tree.now.tree users.now values.now s }
 {
     let symbol = tree.symbol(s);
     let user = match users.get(symbol.unit as usize) {
@@ -75,7 +75,7 @@ pub(crate) fn missed_symbols(
     users: &[Option<UserValue>],
     values: &[UnitValue],
 ) -> Result<Vec<Sym>, AllocError>
-    ensures { IfOk result (λ found. found.items ≡ missed tree.now.whole users.now values.now) }
+    ensures { IfOk result (λ found. found.items ≡ missed tree.now.tree users.now values.now) }
 {
     let mut found = Vec::new(alloc);
     for number in 0..tree.symbol_count() {

@@ -11,13 +11,14 @@ use Rattle.kc_value.specs.declared.tri.Tri.TheVariants.{N}
 use Rattle.kc_value.specs.declared.value.Kind.TheVariants.{Text}
 use Rattle.kc_value.specs.Quoted.{IsQuoted}
 use Rattle.kc_value.specs.Number.{number_of_text}
-use Rattle.kc_tree_model.specs.Trees.{Tree, Symbol, of_symbol}
-use Rattle.kc_tree_model.specs.TreeLookup.{IsConsistent, unit_of, index_if_found, symbol_named}
+use Rattle.kc_tree_model.specs.Trees.{Tree, Symbol}
+use Rattle.kc_tree_model.specs.declared.ids.Unit.TheVariants.{Symbol as of_symbol}
+use Rattle.kc_tree_model.specs.TreeLookup.{IsConsistent, unit_of, symbol_named}
 use Rattle.kc_system.specs.Solutions.{user_of}
 use Rattle.kc_rules_model.specs.declared.values.UserValue.{UserValue}
 use Rattle.kc_rules_model.specs.declared.values.UserValue.TheVariants.{Tri as TriUser, Text as TextUser}
-use Rattle.kc_rules_model.specs.Kinds.{is_tri_kind}
-use Rattle.kc_tree_model.proofs.Lookups.{unit_is}
+use Rattle.kc_value.specs.Kinds.{is_tri_kind}
+use Rattle.kc_tree_model.proofs.Lookups.{unit_is, index_if_found}
 use Rattle.kc_dotconfig_model.specs.ConfigLines.{LineMeaning, assigns, notice, silent, unset_meaning, ValueMeans, tri, chosen, not_chosen, quoted, number, no_int, no_hex, no_tri, no_text, no_number, Means, value, unset, unknown_value, unknown_unset, empty, comment, without_white_end}
 use Rattle.kc_dotconfig_model.specs.ConfigFiles.{assigned_over}
 

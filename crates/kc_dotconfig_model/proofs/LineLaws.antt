@@ -7,7 +7,7 @@ use Rattle.std.proofs.lemmas.Bool.{cases_Bool, false≢true, eqb-true, and_parts
 use Rattle.std.proofs.lemmas.Option.{slice_get_cases}
 use Rattle.kc_expr.specs.Token.{is_white_byte}
 use Rattle.kc_tree_model.specs.Trees.{Tree, Symbol}
-use Rattle.kc_tree_model.specs.TreeLookup.{is_name_byte, symbol_named, index_if_found}
+use Rattle.kc_tree_model.specs.TreeLookup.{is_name_byte, symbol_named}
 use Rattle.kc_dotconfig_model.specs.PrefixGrammar.{is_prefix}
 use Rattle.kc_dotconfig_model.specs.ConfigLines.{LineMeaning, silent, Means, value, unset, unknown_value, unknown_unset, empty, comment, IsValueLine, IsUnsetLine, unset_meaning, without_white_end}
 use Rattle.kc_dotconfig_model.specs.ConfigFiles.{file_lines}
@@ -16,6 +16,7 @@ use Rattle.kc_dotconfig_model.specs.checker.LineMeaningLaws.{LinesAreRead, Files
 use Rattle.kc_dotconfig_model.specs.FileLaws.{LinesHaveOneMeaning, FilesHaveOneMeaning}
 use Rattle.kc_dotconfig_model.proofs.ValueLaws.{value_says, value_said}
 use Rattle.kc_dotconfig_model.proofs.LineForms.{value_line_is, value_line_read, unset_line_is, unset_line_read}
+use Rattle.kc_tree_model.proofs.Lookups.{index_if_found}
 
 isn't : (k b : ℕ) → is_name_byte k ≡ false → is_name_byte b ≡ true → (b == k) ≡ false
 isn't k b fails passes = elim (cases_Bool (b == k)) [ inl same ↦ absurd (false≢true (sym fails ∙ ap is_name_byte (sym (eqb-true b k same)) ∙ passes)) | inr other ↦ other ]

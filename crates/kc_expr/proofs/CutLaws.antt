@@ -1,4 +1,4 @@
--- What is read of a line is a cut of it.
+-- The tokens that are read of a line are a cut of it.
 use Rattle.std.proofs.Common.{◌≡◌, ℕ, suc, zero, ◌+◌, ◌<◌, ◌≤◌, Bool, true, false, ◌&&◌, ◌||◌, ltb, eqb, cond, List, [], ◌∷◌, ◌++◌, length, take, drop, get_or, Option, Some, None, Result, Ok, Err, refl, ap, sym, ◌∙◌, subst, append_assoc, length-append, arith}
 use Rattle.std.specs.Prelude.{take_while, position}
 use Rattle.std.specs.List.{list_all, list_any, position_or_len}
@@ -13,7 +13,7 @@ use Rattle.kc_expr.specs.declared.token.NextToken.TheVariants.{White, Comment, T
 use Rattle.kc_expr.specs.declared.token.Relop.TheVariants.{Equal, NotEqual, Less, Greater, LessEqual, GreaterEqual}
 use Rattle.kc_expr.specs.declared.token.TokenKind.{TokenKind}
 use Rattle.kc_expr.specs.declared.token.TokenKind.TheVariants.{Word, Quoted, Relation, Not, And, Or, Open, Close}
-use Rattle.kc_expr.specs.Results.{with_front}
+use Rattle.kc_expr.specs.Token.{with_front}
 use Rattle.kc_expr.specs.Grammar.{is_quote}
 use Rattle.kc_expr.specs.Token.{Lexeme, is_white_byte, is_word_byte, next_token, next_operator, quoted_up_to, quoted_or_left_out, lexemes_from}
 use Rattle.kc_expr.specs.TokenGrammar.{IsToken, IsLongest, IsCut, ends, comment, white, token}
@@ -29,7 +29,7 @@ pub record IsTokenAt (k : TokenKind) (len : ℕ) (bytes : List ℕ) : Type 0 whe
   pub is : IsToken k text
   pub longest : IsLongest text bytes
 
--- what a lead says of the bytes
+-- the bytes at the front, by what they begin with
 abbrev Says : ℕ → List ℕ → NextToken → Type 0
 Says b bs White = is_white_byte b ≡ true
 Says b bs Comment = b ≡ 35
@@ -279,7 +279,7 @@ quoted_says : (b : ℕ) (bs : List ℕ) (o : Option ℕ) → is_quote b ≡ true
 quoted_says b bs None q c = tt
 quoted_says b bs (Some n) q c = left_out_says b n bs (position (λ c. eqb c 36) (take (n + 1) (b ∷ bs))) q c refl
 
--- what stands at the front says what it is
+-- the bytes at the front decide what is there
 module _ (b : ℕ) (bs : List ℕ) where
   at_operator : (t : Bool) → is_word_byte b ≡ false → is_quote b ≡ t → Says b bs (cond t (quoted_up_to (b ∷ bs) (closing b false bs)) (next_operator b (get_or bs 0 0)))
   at_operator true w e = quoted_says b bs (closing b false bs) e refl

@@ -1,4 +1,4 @@
--- What is read is in the grammar.
+-- Each expression that is read is in the grammar.
 use Rattle.std.proofs.Common.{◌≡◌, ℕ, suc, zero, Bool, true, false, List, [], ◌∷◌, ◌++◌, length, Option, Some, None, Ok, Err, refl, ap, sym, ◌∙◌, subst, append_assoc}
 use Rattle.kc_expr.specs.declared.token.TokenKind.{TokenKind}
 use Rattle.kc_expr.specs.declared.token.TokenKind.TheVariants.{Word, Quoted, Relation, Not, And, Or, Open, Close}
@@ -175,7 +175,7 @@ suc_at And d t ts r e ih h = cc
 suc_at Or d t ts r e ih h = cc
 suc_at Close d t ts r e ih h = cc
 
--- what is read is in the grammar, as deep as it says
+-- an expression that is read is in the grammar, within the given depth
 pub factor_sound : (d : ℕ) (ts : List Lexeme) (r : Expr × List Lexeme) → read_factor d ts ≡ Ok r → Reads factor d ts r
 factor_sound zero [] r h = cc
 factor_sound (suc d) [] r h = cc

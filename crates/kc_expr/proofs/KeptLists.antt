@@ -1,9 +1,9 @@
--- A list that stands in front of another.
+-- A list that is the front of another.
 use Rattle.std.proofs.Common.{◌≡◌, ◌≤◌, ◌++◌, List, [], ◌∷◌, length, take, drop, ap, sym, ◌∙◌, append_assoc, arith}
 use Rattle.std.proofs.lemmas.List.{length-take, take-append-drop, take-take}
 use Rattle.std.proofs.Math.Seq.{take-append_seam}
 
--- what stands in front of a list stands in front of a longer one
+-- the front of a list is the front of a longer one
 pub kept_behind : {X : Type 0} (old xs : List X) (x : X) → take (length old) xs ≡ old → take (length old) (xs ++ x ∷ []) ≡ old
 kept_behind old xs x e =
     let parts : xs ≡ old ++ drop (length old) xs = sym (take-append-drop (length old) xs) ∙ ap (λ ys. ys ++ drop (length old) xs) e in

@@ -14,7 +14,7 @@ use Rattle.kc_expr.specs.declared.token.NextToken.TheVariants.{White, Comment, T
 use Rattle.kc_expr.specs.declared.token.TokenKind.{TokenKind}
 use Rattle.kc_expr.specs.declared.fault.ExprKind.{ExprKind}
 use Rattle.std.proofs.lemmas.Bool.Decides.{nat_tests}
-use Rattle.kc_expr.specs.Results.{with_front}
+use Rattle.kc_expr.specs.Token.{with_front}
 use Rattle.kc_expr.specs.declared.fault.ExprFault.{ExprFault}
 
 pub word_byte_ascii : (c : ℕ) → is_word_byte c ≡ true → c < 128

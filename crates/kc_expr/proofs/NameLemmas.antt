@@ -1,4 +1,4 @@
--- What a name that is put in leaves as it was.
+-- Appending a name keeps the names before it.
 use Rattle.std.proofs.Common.{◌≡◌, length, take, ap, sym, ◌∙◌}
 use Rattle.std.proofs.Math.Seq.{take-length}
 use Rattle.kc_expr.specs.declared.store.Store.{Store}

@@ -12,17 +12,17 @@ use Rattle.kc_expr.specs.declared.node.Leaf.{Leaf}
 use Rattle.kc_expr.specs.declared.node.Node.{Node}
 use Rattle.kc_expr.specs.declared.node.Node.TheVariants.{Alone, Related, Negated, Both, Either, Shown}
 use Rattle.kc_expr.specs.declared.store.Store.{Store}
-use Rattle.kc_expr.specs.Arena.{Exprs, node_expr}
+use Rattle.kc_expr.specs.between.Arena.{Exprs, node_expr}
 use Rattle.kc_expr.specs.Expr.{Expr, alone, related, negated, both, either, shown}
 use Rattle.kc_expr.specs.NamesIn.{names_in}
 use Rattle.kc_expr.specs.checker.Nodes.{operand_of, expr_of, some_node}
-use Rattle.kc_expr.specs.Operand.{operand_alone}
+use Rattle.kc_expr.specs.between.Operand.{operand_alone}
 use Rattle.kc_expr.specs.checker.Store.{stored_names, exprs_in, IsSound}
-use Rattle.kc_expr.specs.ReverseNames.{names_in_reverse}
+use Rattle.kc_expr.specs.between.ReverseNames.{names_in_reverse}
 use Rattle.kc_expr.specs.Lookup.{AreDistinct}
 use Rattle.kc_expr.proofs.StoreLemmas.{within_nodes, node_of}
 
--- a node that is no operand stands for no operand
+-- a node that is no operand represents no operand
 pub not_alone : (names texts : List (List ℕ)) (es : List Expr) (n : Node) → ((a : Leaf) → n ≡ Alone a → ⊥) → operand_alone (expr_of names texts es n) ≡ None
 not_alone names texts es (Alone a) h = absurd (h a refl)
 not_alone names texts es (Related op a b) h = refl

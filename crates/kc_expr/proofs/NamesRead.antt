@@ -1,15 +1,15 @@
--- The names that the parser puts in.
+-- The names that the parser appends.
 use Rattle.std.proofs.Common.{◌≡◌, ℕ, Bool, true, false, List, [], ◌∷◌, ◌++◌, refl, ap, sym, ◌∙◌}
 use Rattle.kc_value.specs.declared.tri.Tri.TheVariants.{N, M, Y}
 use Rattle.kc_expr.specs.declared.node.Leaf.{Leaf}
 use Rattle.kc_expr.specs.declared.node.Leaf.TheVariants.{Constant, Name, Quoted as Text}
 use Rattle.kc_expr.specs.declared.store.Store.{Store}
 use Rattle.kc_expr.specs.declared.token.Relop.{Relop}
-use Rattle.kc_expr.specs.Arena.{Represents, node_expr}
+use Rattle.kc_expr.specs.between.Arena.{Represents, node_expr}
 use Rattle.kc_expr.specs.Expr.{Expr, Operand, alone, related, negated}
 use Rattle.kc_expr.specs.checker.Conditions.{as_condition}
 use Rattle.kc_expr.specs.NamesIn.{operand_names, names_in}
-use Rattle.kc_expr.specs.Names.{with_name, with_names}
+use Rattle.kc_expr.specs.between.Names.{with_name, with_names}
 use Rattle.kc_expr.specs.checker.Nodes.{operand_of}
 use Rattle.kc_expr.specs.checker.Parsing.{names_of_m}
 use Rattle.kc_expr.specs.checker.Store.{stored_names, exprs_in, IsSound, Extends, HasNamesOf}

@@ -10,7 +10,7 @@ use Rattle.kc_value.specs.Tri.{tri_and, tri_or}
 use Rattle.kc_expr.specs.Expr.{Expr, alone, constant, negated, both, either, shown}
 use Rattle.kc_expr.specs.declared.node.Node.{Node}
 use Rattle.kc_expr.specs.declared.node.Node.TheVariants.{Alone, Related, Negated, Both, Either, Shown}
-use Rattle.kc_expr.specs.Arena.{Grows, Represents}
+use Rattle.kc_expr.specs.between.Arena.{Grows, Represents}
 use Rattle.std.proofs.lemmas.Bool.{cases_lt}
 use Rattle.kc_expr.specs.checker.Nodes.{expr_of, exprs_after, exprs_of, at, NodeFits, AreNodes, some_node}
 
@@ -78,7 +78,7 @@ pub chain_more : (new least found left right here all : Tri) → new ≡ tri_and
 chain_more new least found left right here all e f h k = rw (e, f) (chained least left right ∙ ap (tri_and least) (sym h) ∙ k)
 
 module _ (names texts : List (List ℕ)) where
-  -- what stands is kept
+  -- the nodes before are kept
   pub kept : (es : List Expr) (ns : List Node) (i : ℕ) → i < length es → at (exprs_after names texts es ns) i ≡ at es i
   kept es [] i h = refl
   kept es (n ∷ ns) i h = kept (es ++ expr_of names texts es n ∷ []) ns i (omega (arith, length-append es (expr_of names texts es n ∷ []))) ∙ get_or_append_left es (expr_of names texts es n ∷ []) (alone (constant N)) i h
@@ -107,7 +107,7 @@ module _ (names texts : List (List ℕ)) where
       let len : length more ≡ length es + 1 = length-append es (expr_of names texts es n ∷ []) in
       step_at x y more ns i at_i (omega (arith, len)) (λ k m e l. f (suc k) m (omega (arith, len)) (omega arith)) (omega arith)
 
-  -- what the node at a place stands for
+  -- the expression that the node at a place represents
   pub node_at : (x y : ℕ) (ns : List Node) (i : ℕ) → AreNodes x y ns → i < length ns → at (exprs_of names texts ns) i ≡ expr_of names texts (exprs_of names texts ns) (get_or ns i some_node)
   node_at x y ns i f h = step_at x y [] ns i i (omega arith) (λ k m e l. let g : k ≡ m = omega arith in rw (← g) (f k l)) h
 

@@ -1,4 +1,4 @@
--- What the functions of the parser answer, step by step.
+-- The results of the parser's functions, step by step.
 use Rattle.std.proofs.Common.{◌≡◌, ℕ, suc, ◌+◌, ◌≤◌, ◌<◌, ◌⊎◌, inl, inr, Bool, true, false, List, length, drop, Option, Some, None, Result, Ok, Err, refl, ap, sym, ◌∙◌, subst, arith}
 use Rattle.std.specs.Prelude.{option_map}
 use Rattle.std.proofs.Math.ListN.{drop_of_length-le}
@@ -10,7 +10,7 @@ use Rattle.kc_expr.specs.declared.store.Store.{Store}
 use Rattle.kc_expr.specs.declared.token.Relop.{Relop}
 use Rattle.kc_expr.specs.declared.token.TokenKind.{TokenKind}
 use Rattle.kc_expr.specs.declared.token.TokenKind.TheVariants.{Not, Open, Close}
-use Rattle.kc_expr.specs.Arena.{Represents, node_expr}
+use Rattle.kc_expr.specs.between.Arena.{Represents, node_expr}
 use Rattle.kc_expr.specs.Expr.{Expr, Operand, alone, related, negated, both, either}
 use Rattle.kc_expr.specs.Grammar.{Read, on_read, past_depth_limit, closed, fault_of}
 use Rattle.kc_expr.specs.checker.Conditions.{as_condition}
@@ -56,7 +56,7 @@ drop_two at all = ap (λ n. drop n all) (let q : at + 2 ≡ (at + 1) + 1 = omega
 drop_three : (at : ℕ) (all : List Lexeme) → drop (at + 3) all ≡ drop 1 (drop 1 (drop 1 (drop at all)))
 drop_three at all = ap (λ n. drop n all) (let q : at + 3 ≡ (at + 2) + 1 = omega arith in q) ∙ drop_one (at + 2) all ∙ ap (drop 1) (drop_two at all)
 
--- where something stands at a place, the place is within
+-- the place of an element is within the list
 within_by : (all : List Lexeme) (at : ℕ) (a : Operand) → first_operand (drop at all) ≡ Some a → (at < length all) ⊎ (length all ≤ at) → at + 1 ≤ length all
 within_by all at a e (inl h) = omega arith
 within_by all at a e (inr h) = let n = ap first_operand (drop_of_length-le all h) in absurd (let q : None ≡ Some a = sym n ∙ e in cc)

@@ -8,7 +8,7 @@ use Rattle.std.proofs.lemmas.List.{get_or_append_left, map-append}
 use Rattle.std.specs.List.{list_any, position_or_len, position}
 use Rattle.kc_expr.specs.Expr.{SymbolValue}
 use Rattle.kc_expr.specs.Lookup.{index_of_name, AreDistinct, environment_of}
-use Rattle.kc_expr.specs.Names.{with_name}
+use Rattle.kc_expr.specs.between.Names.{with_name}
 
 same_bytes : (n : List ℕ) → bytes_eq n n ≡ true
 same_bytes n = (bytes_eq-Decides n n).1 refl
@@ -87,7 +87,7 @@ module _ {K : Type 0} (name : K → List ℕ) (x : List ℕ) where
       by_places (inr a) (inl b) = absurd (n j b (sym (get_or_append_left names (x ∷ []) [] j b) ∙ sym e ∙ last i h a))
       by_places (inr a) (inr b) = omega (arith, length-append names (x ∷ []))
 
-  -- a name that is put in is found where the set says
+  -- an appended name is found at the place that the set has for it
   pub place_put : (v : K) → name v ≡ x → (ks : List K) → index_of_name x (map name (cond (list_any (λ k. bytes_eq x (name k)) ks) ks (ks ++ v ∷ []))) ≡ Some (position_or_len (λ k. bytes_eq x (name k)) ks)
   place_put v e ks = by_any (list_any (λ k. bytes_eq x (name k)) ks) refl
     where
@@ -120,7 +120,7 @@ module _ {K : Type 0} (name : K → List ℕ) (x : List ℕ) where
       by_any true h = d
       by_any false h = rw (map-append, e) (push_distinct (map name ks) d (not_there ks h))
 
--- what stands at the place of a name
+-- the name at the place where it is found
 place_tail : (o : Option ℕ) (i : ℕ) → option_map suc o ≡ Some i → (j : ℕ) × (o ≡ Some j) × (i ≡ suc j)
 place_tail None i e = cc
 place_tail (Some j) i e = (j, refl, cc)

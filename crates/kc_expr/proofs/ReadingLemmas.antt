@@ -10,7 +10,7 @@ use Rattle.kc_expr.specs.declared.token.Token.{Token as CodeToken}
 use Rattle.kc_expr.specs.Expr.{Expr}
 use Rattle.kc_expr.specs.Grammar.{extent, is_operand_kind, is_close, read_expr, IsExpr, ors, fault_of}
 use Rattle.kc_expr.specs.checker.Parsing.{read_all_tokens, IsParsedToEnd, IsRefusedToEnd}
-use Rattle.kc_expr.specs.ParseResults.{expr_tokens, expr_end, ReadsExpr, RefusesExpr}
+use Rattle.kc_expr.specs.between.ParseResults.{expr_tokens, expr_end, ReadsExpr, RefusesExpr}
 use Rattle.kc_expr.specs.checker.Store.{exprs_in}
 use Rattle.kc_expr.specs.Token.{Lexeme, lexemes_of, lexeme_of}
 use Rattle.kc_expr.proofs.GrammarComplete.{expr_complete}
@@ -47,7 +47,7 @@ middle_pieces ts at end e =
     ∙ drop-take at (length (expr_tokens (lexemes_of ts) at)) (lexemes_of ts)
     ∙ extent_front (drop at (lexemes_of ts))
 
--- what the parser of a line's front answers, of the line
+-- from the results over a line's front to those over the line
 module _ (ts line : List CodeToken) (at end : ℕ) (is_line : line ≡ take end ts) (is_end : end ≡ expr_end (lexemes_of ts) at) where
   pub line_read : (s : Store) (condition : Bool) (id : ℕ) → IsParsedToEnd s condition (read_all_tokens 64 (drop at (lexemes_of line))) id → ReadsExpr (exprs_in s) id condition (expr_tokens (lexemes_of ts) at)
   line_read s condition id p =

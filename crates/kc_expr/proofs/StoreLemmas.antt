@@ -1,4 +1,4 @@
--- What the lists of a store stand for, as they grow.
+-- The expressions that a store represents, as it grows.
 use Rattle.std.proofs.Common.{◌≡◌, ℕ, suc, ◌+◌, ◌^◌, ◌<◌, ◌≤◌, List, [], ◌∷◌, ◌++◌, length, get_or, take, drop, map, Bool, true, false, cond, refl, ap, sym, ◌∙◌, subst, arith, length-append, append_assoc, append-nil}
 use Rattle.std.specs.Prelude.{string_bytes}
 use Rattle.std.proofs.lemmas.List.{take-append-drop, length-take, get_or_append_left, map-append}
@@ -9,14 +9,14 @@ use Rattle.kc_expr.specs.declared.node.Leaf.TheVariants.{Constant, Name, Quoted}
 use Rattle.kc_expr.specs.declared.node.Node.{Node}
 use Rattle.kc_expr.specs.declared.node.Node.TheVariants.{Alone, Related, Negated, Both, Either, Shown}
 use Rattle.kc_expr.specs.declared.store.Store.{Store}
-use Rattle.kc_expr.specs.Arena.{Exprs, node_expr, Represents, Grows}
+use Rattle.kc_expr.specs.between.Arena.{Exprs, node_expr, Represents, Grows}
 use Rattle.kc_expr.specs.Expr.{Expr, alone, related, constant, named, quoted}
 use Rattle.kc_expr.specs.Lookup.{AreDistinct}
 use Rattle.kc_expr.specs.checker.Nodes.{operand_of, expr_of, exprs_after, exprs_of, LeafFits, NodeFits, some_node}
 use Rattle.kc_expr.specs.checker.Store.{stored_names, exprs_in, IsSound, Extends}
 use Rattle.kc_expr.proofs.NodeLemmas.{at_node, nodes_push, stands_last, length-exprs}
 
--- what a node stands for, by its form
+-- the expression that a node represents, by its form
 pub node_of : (s : Store) (i : ℕ) (found n : Node) → IsSound s → i < length s.nodes.items → found ≡ get_or s.nodes.items i some_node → found ≡ n → node_expr (exprs_in s) i ≡ expr_of (stored_names s) s.texts.items (exprs_in s).nodes n
 node_of s i found n sound h e f = at_node (stored_names s) s.texts.items (length (stored_names s)) (length s.texts.items) s.nodes.items i n sound.nodes h (sym e ∙ f)
 
@@ -101,7 +101,7 @@ module _ (names texts : List (List ℕ)) where
       let (rest, e) = behind (es ++ expr_of names texts es n ∷ []) ns in
       (expr_of names texts es n ∷ rest, e ∙ append_assoc es (expr_of names texts es n ∷ []) rest)
 
--- an extended store stands for all for which it stood before
+-- an extended store represents each expression that it represented before
 pub grows : (old new : Store) → IsSound old → Extends old new → Grows (exprs_in old) (exprs_in new)
 grows old new sound e =
     let names_kept = prefix_map string_bytes old.names.keys new.names.keys e.names in
@@ -178,7 +178,7 @@ node_on old new i e h = omega (arith, h, prefix_long old.nodes.items new.nodes.i
 pub stands_node : (s : Store) (i : ℕ) (e : Expr) → Represents (exprs_in s) i e → i < length s.nodes.items
 stands_node s i e h = omega (arith, h.within, length-nodes s)
 
--- a name that is put in comes after, or was there
+-- an appended name comes last, unless it was there
 pub put_prefix : {X : Type 0} (b : Bool) (xs : List X) (x : X) → take (length xs) (cond b xs (xs ++ x ∷ [])) ≡ xs
 put_prefix true xs x = take-length xs
 put_prefix false xs x = take-append_seam xs (x ∷ [])

@@ -12,7 +12,7 @@ use Rattle.kc_expr.specs.declared.token.NextToken.TheVariants.{White, Comment, T
 use Rattle.kc_expr.specs.declared.token.Relop.TheVariants.{Equal, NotEqual, Less, Greater, LessEqual, GreaterEqual}
 use Rattle.kc_expr.specs.declared.token.TokenKind.{TokenKind}
 use Rattle.kc_expr.specs.declared.token.TokenKind.TheVariants.{Word, Quoted, Relation, Not, And, Or, Open, Close}
-use Rattle.kc_expr.specs.Results.{with_front}
+use Rattle.kc_expr.specs.Token.{with_front}
 use Rattle.kc_expr.specs.Grammar.{is_quote}
 use Rattle.kc_expr.specs.Token.{Lexeme, is_white_byte, is_word_byte, next_token, quoted_up_to, quoted_or_left_out, lexemes_from}
 use Rattle.kc_expr.specs.TokenGrammar.{IsQuotedToken, IsToken, IsLongest, IsCut, ends, comment, white, token}
@@ -68,7 +68,7 @@ any_append : (p : ℕ → Bool) (xs ys : List ℕ) → list_any p xs ≡ false �
 any_append p [] ys h k = k
 any_append p (x ∷ xs) ys h k = let (f, r) = or_parts (p x) (list_any p xs) h in rw f (any_append p xs ys r k)
 
--- what stands at the front, where the language has a token there
+-- the token at the front, where the language has one there
 lead_word : (c : ℕ) (bs : List ℕ) → is_word_byte c ≡ true → next_token (c ∷ bs) ≡ Token Word (length (take_while is_word_byte (c ∷ bs)))
 unfolding next_token
 lead_word c bs h = let a = word_no_white c h in let b = word_no_hash c h in rw (a, b, h) refl

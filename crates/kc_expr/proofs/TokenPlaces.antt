@@ -91,7 +91,7 @@ no_relation k n = relation_not k n
 pub some_token : CodeToken
 some_token = record { kind = Word; start = 0; end = 0; text = record { ref_ptr = (0, 0); now = [] } }
 
--- where a token stands, a place more is within the tokens
+-- the place after a token is at most the number of tokens
 stood_by : (ts : List CodeToken) (at : ℕ) (k : TokenKind) → first_kind (drop at (lexemes_of ts)) ≡ Some k → (at < length ts) ⊎ (length ts ≤ at) → at + 1 ≤ length ts
 stood_by ts at k e (inl h) = omega arith
 stood_by ts at k e (inr h) = absurd (no_kind_at ts at k h e)

@@ -1,6 +1,6 @@
--- What a line has and each part of it keeps, its tokens have.
+-- A property that a line has and each part of it keeps holds of its tokens.
 use Rattle.std.proofs.Common.{◌≡◌, ℕ, zero, suc, ◌+◌, pred, List, [], ◌∷◌, Result, Ok, Err, subst, refl, take}
-use Rattle.kc_expr.specs.Results.{with_front}
+use Rattle.kc_expr.specs.Token.{with_front}
 use Rattle.kc_expr.specs.Token.{Lexeme, next_token, lexemes_from}
 use Rattle.kc_expr.specs.declared.fault.ExprFault.{ExprFault}
 use Rattle.kc_expr.specs.declared.token.NextToken.{NextToken}

@@ -8,8 +8,8 @@ use Rattle.std.proofs.lemmas.Bool.{false≢true}
 use Rattle.std.proofs.lemmas.Bool.Decides.{nat_tests}
 use Rattle.std.proofs.lemmas.List.Folds.{list_any-append}
 use Rattle.std.proofs.lemmas.Bool.{cases_lt, cases_eq}
-use Rattle.kc_expr.specs.Arena.{Exprs, node_expr}
-use Rattle.kc_expr.specs.Visits.{mentions, passes_some_name, is_visited}
+use Rattle.kc_expr.specs.between.Arena.{Exprs, node_expr}
+use Rattle.kc_expr.specs.between.Visits.{mentions, passes_some_name, is_visited}
 use Rattle.kc_expr.specs.checker.Visiting.{stamped, HasFoundTo, HasVisited, IsWalking}
 
 -- no stamp is that of a later turn
@@ -49,7 +49,7 @@ module _ (exprs : Exprs) (last : ℕ) (before : List Bool) (old : List ℕ) wher
   abbrev pub whole_of : (List ℕ → Bool) → Bool
   whole_of p = passes_some_name exprs p old || mentions p (node_expr exprs last)
 
-  -- nothing is put yet
+  -- no name was pushed yet
   pub walk_begins : HasFoundTo exprs last before old → IsWalking exprs last before old last before old
   walk_begins h = record {
     below = omega arith;
@@ -120,7 +120,7 @@ module _ (exprs : Exprs) (last : ℕ) (before : List Bool) (old : List ℕ) wher
     found_before : (node : ℕ) (p : List ℕ → Bool) → node < at → is_visited (slice_set walked at true) node ≡ true → mentions p (node_expr exprs node) ≡ true → passes_some_name exprs p ids ≡ true
     found_before node p l w m = h.found node p (omega (arith, l)) (sym (set_there node (λ e. absurd (omega (arith, l, e)))) ∙ w) m
 
-    -- the names of this node are put after the others
+    -- the names of this node are pushed after the others
     pub walk_met : (more : List ℕ) → ((p : List ℕ → Bool) → passes_some_name exprs p more ≡ (passes_some_name exprs p ids || mentions p (node_expr exprs at))) → HasVisited exprs last before (slice_set walked at true) old more
     walk_met more exact =
         let same : (p : List ℕ → Bool) → passes_some_name exprs p more ≡ whole_of p = λ p. exact p ∙ h.exact p in
@@ -156,7 +156,7 @@ module _ (exprs : Exprs) (last : ℕ) (before : List Bool) (old : List ℕ) wher
         found_by node p b w m (inl a) = g.exact p ∙ or_left _ _ (found_before node p b (sym (g.above node a) ∙ w) m)
         found_by node p b w m (inr a) = g.found node p a w m
 
--- names that are put after others
+-- names that are pushed after others
 pub some_pushed : (exprs : Exprs) (p : List ℕ → Bool) (old new : List ℕ) (more : List (List ℕ)) → map (λ i. slice_index_or exprs.names i []) new ≡ map (λ i. slice_index_or exprs.names i []) old ++ more → passes_some_name exprs p new ≡ (passes_some_name exprs p old || list_any p more)
 some_pushed exprs p old new more e = ap (list_any p) e ∙ list_any-append p (map (λ i. slice_index_or exprs.names i []) old) more
 

@@ -3,11 +3,11 @@ use Rattle.std.proofs.Common.{◌≡◌, ℕ, zero, suc, ◌+◌, ◌<◌, Bool,
 use Rattle.std.specs.Bool.{beq}
 use Rattle.kc_expr.specs.Token.{is_word_byte}
 
--- an entry says that its place is a word byte
+-- an entry is set where its place is a word byte
 abbrev pub says_word : ℕ → Bool
 says_word entry = not (nat_eq entry 33)
 
--- each entry from a place on says what its place is
+-- each entry from a place on is set where its place is a word byte
 unfoldable pub says_all : ℕ → List ℕ → Bool
 says_all at [] = true
 says_all at (b ∷ bs) = beq (says_word b) (is_word_byte at) && says_all (at + 1) bs

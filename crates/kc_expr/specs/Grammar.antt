@@ -1,5 +1,6 @@
--- The grammar of expressions, over tokens.
+-- The grammar of expressions, over tokens ("Menu dependencies").
 use Rattle.std.specs.Prelude.{◌≡◌, ℕ, zero, suc, ◌-◌, Bool, true, false, ◌&&◌, ◌||◌, ◌==◌, List, [], ◌∷◌, ◌++◌, length, take, drop, slice_index, nat_le, Option, Some, None, Result, Ok, Err, bytes_eq, if◌then◌else◌}
+use Rattle.kc_value.specs.declared.limits.TheConstants.{MAX_EXPR_DEPTH}
 use Rattle.kc_value.specs.Quoted.{unescaped}
 use Rattle.kc_value.specs.declared.tri.Tri.{Tri}
 use Rattle.kc_value.specs.declared.tri.Tri.TheVariants.{N, M, Y}
@@ -32,6 +33,7 @@ letter_value text =
     else if bytes_eq text (121 ∷ []) then Some Y
     else None
 
+-- a constant, if a text is one
 abbrev pub constant_else : Option Tri → Operand → Operand
 constant_else (Some t) other = constant t
 constant_else None other = other
@@ -40,19 +42,17 @@ constant_else None other = other
 abbrev pub constant_or : (List ℕ → Operand) → List ℕ → Operand
 constant_or other text = constant_else (letter_value text) (other text)
 
+-- the operand that a token of a kind is, by its text
 abbrev pub operand_of_kind : TokenKind → List ℕ → Option Operand
 operand_of_kind Word text = Some (constant_or named text)
 operand_of_kind Quoted text = Some (constant_or quoted (quoted_text text))
-operand_of_kind (Relation op) text = None
-operand_of_kind Not text = None
-operand_of_kind And text = None
-operand_of_kind Or text = None
-operand_of_kind Open text = None
-operand_of_kind Close text = None
+operand_of_kind _ text = None
 
+-- the operand that a token is
 abbrev pub operand_of_lexeme : Lexeme → Option Operand
 operand_of_lexeme t = operand_of_kind t.kind t.text
 
+-- the levels of the grammar: `||` binds loosest, then `&&`, then a factor ("Menu dependencies")
 pub data Level : Type 0 where
   ors : Level
   ands : Level
@@ -69,27 +69,18 @@ pub data IsExpr : Level → ℕ → List Lexeme → Expr → Type 0 where
   negation : {d : ℕ} {all ts : List Lexeme} (t : Lexeme) {e : Expr} → t.kind ≡ Not → IsExpr factor d ts e → all ≡ t ∷ ts → IsExpr factor (suc d) all (negated e)
   parentheses : {d : ℕ} {all ts : List Lexeme} (o c : Lexeme) {e : Expr} → o.kind ≡ Open → IsExpr ors d ts e → c.kind ≡ Close → all ≡ o ∷ (ts ++ c ∷ []) → IsExpr factor (suc d) all e
 
--- the expression reaches up to the first word or quoted token that directly follows an operand or `)`
+-- a word or a quoted text; an expression ends before one that directly follows an operand or a `)`
 abbrev pub is_operand_kind : TokenKind → Bool
 is_operand_kind Word = true
 is_operand_kind Quoted = true
-is_operand_kind (Relation op) = false
-is_operand_kind Not = false
-is_operand_kind And = false
-is_operand_kind Or = false
-is_operand_kind Open = false
-is_operand_kind Close = false
+is_operand_kind _ = false
 
+-- a closing parenthesis
 abbrev pub is_close : TokenKind → Bool
 is_close Close = true
-is_close Word = false
-is_close Quoted = false
-is_close (Relation op) = false
-is_close Not = false
-is_close And = false
-is_close Or = false
-is_close Open = false
+is_close _ = false
 
+-- the tokens of the expression at the front
 abbrev pub extent : List Lexeme → List Lexeme
 extent [] = []
 extent (t ∷ []) = t ∷ []
@@ -99,11 +90,12 @@ extent (t ∷ u ∷ ts) = if (is_operand_kind t.kind || is_close t.kind) && is_o
 abbrev pub Read : Type 0
 Read = Result (Expr × List Lexeme) (ExprKind × List Lexeme)
 
+-- goes on after an expression; a fault stays
 abbrev pub on_read : Read → (Expr × List Lexeme → Read) → Read
 on_read (Ok r) f = f r
 on_read (Err e) f = Err e
 
--- past the greatest depth the first symbol is too deep
+-- past the limit of depth the first symbol is TooDeep
 abbrev pub past_depth_limit : List Lexeme → Read
 past_depth_limit [] = Err (Malformed, [])
 past_depth_limit (t ∷ ts) = elim t.kind [
@@ -111,12 +103,10 @@ past_depth_limit (t ∷ ts) = elim t.kind [
   | Open ↦ past_depth_limit ts
   | Word ↦ Err (TooDeep, t ∷ ts)
   | Quoted ↦ Err (TooDeep, t ∷ ts)
-  | Relation op ↦ Err (Malformed, t ∷ ts)
-  | And ↦ Err (Malformed, t ∷ ts)
-  | Or ↦ Err (Malformed, t ∷ ts)
-  | Close ↦ Err (Malformed, t ∷ ts)
+  | _ ↦ Err (Malformed, t ∷ ts)
 ]
 
+-- the operand after a relation
 abbrev pub right_operand : (Operand → Expr) → List Lexeme → Read
 right_operand f [] = Err (Malformed, [])
 right_operand f (t ∷ ts) = elim (operand_of_lexeme t) [ Some b ↦ Ok (f b, ts) | None ↦ Err (Malformed, t ∷ ts) ]
@@ -124,36 +114,17 @@ right_operand f (t ∷ ts) = elim (operand_of_lexeme t) [ Some b ↦ Ok (f b, ts
 -- an operand, which a relation may follow
 abbrev pub after_operand : Operand → List Lexeme → Read
 after_operand a [] = Ok (alone a, [])
-after_operand a (t ∷ ts) = elim t.kind [
-  | Relation op ↦ right_operand (related op a) ts
-  | Word ↦ Ok (alone a, t ∷ ts)
-  | Quoted ↦ Ok (alone a, t ∷ ts)
-  | Not ↦ Ok (alone a, t ∷ ts)
-  | And ↦ Ok (alone a, t ∷ ts)
-  | Or ↦ Ok (alone a, t ∷ ts)
-  | Open ↦ Ok (alone a, t ∷ ts)
-  | Close ↦ Ok (alone a, t ∷ ts)
-]
+after_operand a (t ∷ ts) = elim t.kind [ Relation op ↦ right_operand (related op a) ts | _ ↦ Ok (alone a, t ∷ ts) ]
 
+-- `&&`
 abbrev pub is_and : TokenKind → Bool
 is_and And = true
-is_and Word = false
-is_and Quoted = false
-is_and (Relation op) = false
-is_and Not = false
-is_and Or = false
-is_and Open = false
-is_and Close = false
+is_and _ = false
 
+-- `||`
 abbrev pub is_or : TokenKind → Bool
 is_or Or = true
-is_or Word = false
-is_or Quoted = false
-is_or (Relation op) = false
-is_or Not = false
-is_or And = false
-is_or Open = false
-is_or Close = false
+is_or _ = false
 
 -- a chain, joined from the left; the number bounds its length
 abbrev pub chain : (TokenKind → Bool) → (Expr → Expr → Expr) → (List Lexeme → Read) → ℕ → Expr → List Lexeme → Read
@@ -164,45 +135,42 @@ chain is_joint joined part (suc n) a (t ∷ ts) = elim (is_joint t.kind) [
   | false ↦ Ok (a, t ∷ ts)
 ]
 
+-- factors joined by `&&`
 abbrev pub read_ands : (List Lexeme → Read) → List Lexeme → Read
 read_ands part ts = on_read (part ts) (λ r. chain is_and both part (length ts) r.0 r.1)
 
+-- conjunctions joined by `||`
 abbrev pub read_ors : (List Lexeme → Read) → List Lexeme → Read
 read_ors part ts = on_read (read_ands part ts) (λ r. chain is_or either (read_ands part) (length ts) r.0 r.1)
 
+-- an expression in parentheses ends with `)`
 abbrev pub closed : Expr × List Lexeme → Read
 closed r = elim r.1 [ [] ↦ Err (Malformed, []) | t ∷ ts ↦ (if is_close t.kind then Ok (r.0, ts) else Err (Malformed, t ∷ ts)) ]
 
+-- a relation or one operand; `after_not` and `after_open` read the tokens after a `!` and after a `(`
+abbrev pub factor_of : (after_not after_open : List Lexeme → Read) → List Lexeme → Read
+factor_of after_not after_open [] = Err (Malformed, [])
+factor_of after_not after_open (t ∷ ts) = elim t.kind [
+  | Word ↦ after_operand (constant_or named t.text) ts
+  | Quoted ↦ after_operand (constant_or quoted (quoted_text t.text)) ts
+  | Not ↦ after_not ts
+  | Open ↦ after_open ts
+  | _ ↦ Err (Malformed, t ∷ ts)
+]
+
+-- a factor with at most this many `!` and parentheses around a symbol
 abbrev pub read_factor : ℕ → List Lexeme → Read
-read_factor d [] = Err (Malformed, [])
-read_factor zero (t ∷ ts) = elim t.kind [
-  | Not ↦ past_depth_limit ts
-  | Open ↦ past_depth_limit ts
-  | Word ↦ after_operand (constant_or named t.text) ts
-  | Quoted ↦ after_operand (constant_or quoted (quoted_text t.text)) ts
-  | Relation op ↦ Err (Malformed, t ∷ ts)
-  | And ↦ Err (Malformed, t ∷ ts)
-  | Or ↦ Err (Malformed, t ∷ ts)
-  | Close ↦ Err (Malformed, t ∷ ts)
-]
-read_factor (suc d) (t ∷ ts) = elim t.kind [
-  | Not ↦ on_read (read_factor d ts) (λ r. Ok (negated r.0, r.1))
-  | Open ↦ on_read (read_ors (read_factor d) ts) closed
-  | Word ↦ after_operand (constant_or named t.text) ts
-  | Quoted ↦ after_operand (constant_or quoted (quoted_text t.text)) ts
-  | Relation op ↦ Err (Malformed, t ∷ ts)
-  | And ↦ Err (Malformed, t ∷ ts)
-  | Or ↦ Err (Malformed, t ∷ ts)
-  | Close ↦ Err (Malformed, t ∷ ts)
-]
+read_factor zero ts = factor_of past_depth_limit past_depth_limit ts
+read_factor (suc d) ts = factor_of (λ us. on_read (read_factor d us) (λ r. Ok (negated r.0, r.1))) (λ us. on_read (read_ors (read_factor d) us) closed) ts
 
 -- all of the tokens
 abbrev pub read_to_end : Read → Result Expr (ExprKind × List Lexeme)
 read_to_end (Err e) = Err e
 read_to_end (Ok r) = elim r.1 [ [] ↦ Ok r.0 | t ∷ ts ↦ Err (Malformed, t ∷ ts) ]
 
+-- the expression that tokens are, or its fault
 unfoldable pub read_expr : List Lexeme → Result Expr (ExprKind × List Lexeme)
-read_expr ts = read_to_end (read_ors (read_factor 64) ts)
+read_expr ts = read_to_end (read_ors (read_factor MAX_EXPR_DEPTH) ts)
 
 -- the byte after the last token
 abbrev pub end_of : List Lexeme → ℕ

@@ -1,14 +1,9 @@
-pub mod Results
-pub mod Arena
 pub mod Expr
+pub mod FaultNames
 pub mod Grammar
 pub mod Lookup
 pub mod NamesIn
-pub mod Names
-pub mod Operand
-pub mod ParseResults
 pub mod Token
 pub mod TokenGrammar
-pub mod Visits
-pub mod ReverseNames
+pub mod between
 pub mod checker

@@ -3,6 +3,7 @@ use Rattle.std.specs.Prelude.{◌≡◌, ℕ, suc, ◌<◌, List, [], ◌∷◌,
 use Rattle.kc_expr.specs.Expr.{SymbolValue, Environment}
 use Rattle.kc_expr.specs.declared.lookup.Looked.{Looked}
 
+-- the value that a look-up returned
 abbrev pub symbol_value_of : Looked → SymbolValue
 symbol_value_of l = record { kind = l.kind; tri = l.tri; text = l.text.now }
 

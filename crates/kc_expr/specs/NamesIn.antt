@@ -2,6 +2,7 @@
 use Rattle.std.specs.Prelude.{ℕ, List, [], ◌∷◌, ◌++◌}
 use Rattle.kc_expr.specs.Expr.{Operand, Expr, constant, named, quoted, alone, related, negated, both, either, shown}
 
+-- the name that an operand is, as a list of at most one
 abbrev pub operand_names : Operand → List (List ℕ)
 operand_names (constant t) = []
 operand_names (named name) = name ∷ []

@@ -1,5 +1,5 @@
 -- The tokens of a line.
-use Rattle.std.specs.Prelude.{ℕ, zero, suc, pred, ◌+◌, Bool, false, ◌&&◌, ◌||◌, ◌==◌, nat_le, List, [], ◌∷◌, length, take, drop, map, take_while, position, Option, Some, None, Result, Ok, Err, slice_index, if◌then◌else◌}
+use Rattle.std.specs.Prelude.{ℕ, zero, suc, pred, ◌+◌, Bool, false, ◌&&◌, ◌||◌, ◌==◌, nat_le, List, [], ◌∷◌, ◌++◌, length, take, drop, map, take_while, position, Option, Some, None, Result, Ok, Err, slice_index, if◌then◌else◌}
 use Rattle.kc_value.specs.Quoted.{closing}
 use Rattle.kc_expr.specs.declared.fault.ExprFault.{ExprFault}
 use Rattle.kc_expr.specs.declared.fault.ExprKind.TheVariants.{BadToken, UnclosedQuote, LeftOut}
@@ -9,7 +9,6 @@ use Rattle.kc_expr.specs.declared.token.TokenKind.TheVariants.{Word, Quoted, Rel
 use Rattle.kc_expr.specs.declared.token.Token.{Token as CodeToken}
 use Rattle.kc_expr.specs.declared.token.NextToken.{NextToken}
 use Rattle.kc_expr.specs.declared.token.NextToken.TheVariants.{White, Comment, Token, Fault}
-use Rattle.kc_expr.specs.Results.{with_front}
 
 -- a token: what it is, the places of its first byte and of the byte after it, and its bytes
 pub record Lexeme : Type 0 where
@@ -18,9 +17,11 @@ pub record Lexeme : Type 0 where
   pub stop : ℕ
   pub text : List ℕ
 
+-- white space within a line
 abbrev pub is_white_byte : ℕ → Bool
 is_white_byte c = c == 9 || (c == 11) || (c == 12) || (c == 13) || (c == 32)
 
+-- a letter, a digit, `_`, `-`, `.` or `/`
 abbrev pub is_word_byte : ℕ → Bool
 is_word_byte c = (nat_le 65 c && nat_le c 90) || (nat_le 97 c && nat_le c 122) || (nat_le 48 c && nat_le c 57) || (c == 95) || (c == 45) || (c == 46) || (c == 47)
 
@@ -29,10 +30,12 @@ abbrev pub quoted_or_left_out : ℕ → Option ℕ → NextToken
 quoted_or_left_out len None = Token Quoted len
 quoted_or_left_out len (Some k) = Fault LeftOut k
 
+-- the quoted text that ends at its closing quote, if it has one
 abbrev pub quoted_up_to : List ℕ → Option ℕ → NextToken
 quoted_up_to bytes None = Fault UnclosedQuote 0
 quoted_up_to bytes (Some n) = quoted_or_left_out (n + 1) (position (λ c. c == 36) (take (n + 1) bytes))
 
+-- the quoted text at the front of bytes
 abbrev pub next_quoted : List ℕ → NextToken
 next_quoted bytes = quoted_up_to bytes (closing (slice_index bytes 0) false (drop 1 bytes))
 
@@ -60,6 +63,11 @@ next_token bytes =
     else if a == 34 || (a == 39) then next_quoted bytes
     else next_operator a (slice_index bytes 1)
 
+-- a list in front of the list of a result
+abbrev pub with_front : {X E : Type 0} → List X → Result (List X) E → Result (List X) E
+with_front front (Ok xs) = Ok (front ++ xs)
+with_front front (Err e) = Err e
+
 -- the tokens of a line from a byte on, or its first fault; `skip` counts the remaining bytes of the token before
 abbrev pub lexemes_from : ℕ → ℕ → List ℕ → Result (List Lexeme) ExprFault
 lexemes_from skip at [] = Ok []
@@ -71,8 +79,10 @@ lexemes_from zero at (b ∷ bs) = elim (next_token (b ∷ bs)) [
   | Fault kind ahead ↦ Err (record { offset = at + ahead; kind = kind })
 ]
 
+-- a token of the code as the definitions see it
 abbrev pub lexeme_of : CodeToken → Lexeme
 lexeme_of t = record { kind = t.kind; start = t.start; stop = t.end; text = t.text.now }
 
+-- tokens of the code as the definitions see them
 abbrev pub lexemes_of : List CodeToken → List Lexeme
 lexemes_of ts = map lexeme_of ts

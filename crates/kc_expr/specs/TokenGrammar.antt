@@ -1,4 +1,4 @@
--- The token language, apart from how a line is scanned.
+-- The token language, apart from how a line is scanned ("Menu dependencies").
 use Rattle.std.specs.Prelude.{◌≡◌, ℕ, ◌+◌, ◌<◌, ◌≤◌, true, false, ◌==◌, List, [], ◌∷◌, ◌++◌, length}
 use Rattle.std.specs.List.{list_all, list_any}
 use Rattle.kc_value.specs.Quoted.{IsBody}
@@ -9,6 +9,7 @@ use Rattle.kc_expr.specs.declared.token.TokenKind.TheVariants.{Word, Quoted, Rel
 use Rattle.kc_expr.specs.Grammar.{is_quote}
 use Rattle.kc_expr.specs.Token.{Lexeme, is_white_byte, is_word_byte}
 
+-- the spelling of a relation ("Menu dependencies")
 abbrev pub relation_text : Relop → List ℕ
 relation_text Equal = 61 ∷ []
 relation_text NotEqual = 33 ∷ 61 ∷ []

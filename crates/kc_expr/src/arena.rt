@@ -14,12 +14,9 @@ use super::parse::extent_len;
 use super::store::Store;
 use super::token::Token;
 use super::visited::VisitedSet;
-use kc_value::{Seed, Tri};
+use kc_value::{MAX_EXPR_DEPTH, Seed, Tri};
 use std::alloc::{AllocError, Global};
 use std::marker::Model;
-
-/// The most `!` and parentheses around a symbol.
-const MAX_DEPTH: usize = 64;
 
 /// Names and expressions. Contracts see the list of names and, for each node, the expression that it represents.
 #[derive(Drop)]
@@ -28,7 +25,7 @@ pub struct Arena {
 }
 
 impl Model for Arena {
-    ghost use Rattle.kc_expr.specs.Arena.{Exprs};
+    ghost use Rattle.kc_expr.specs.between.Arena.{Exprs};
     ghost use Rattle.kc_expr.specs.checker.ArenaCode.{exprs_code};
 
     ghost Value = { Exprs };
@@ -43,16 +40,16 @@ impl Model for Arena {
 }
 
 impl Arena {
-    ghost use Rattle.kc_expr.specs.Arena.{Grows, node_expr, Represents};
+    ghost use Rattle.kc_expr.specs.between.Arena.{Grows, node_expr, Represents};
     ghost use Rattle.kc_expr.specs.Expr.{alone, both, constant, shown, value};
     ghost use Rattle.kc_expr.specs.Lookup.{AreDistinct, environment_of, index_of_name};
     ghost use Rattle.kc_expr.specs.NamesIn.{names_in};
-    ghost use Rattle.kc_expr.specs.Names.{name_alone, with_name, with_names};
-    ghost use Rattle.kc_expr.specs.Operand.{operand_alone, operand_of_ref, HasKnownName};
-    ghost use Rattle.kc_expr.specs.ParseResults.{expr_tokens, expr_end, ReadsExpr, RefusesExpr};
+    ghost use Rattle.kc_expr.specs.between.Names.{name_alone, with_name, with_names};
+    ghost use Rattle.kc_expr.specs.between.Operand.{operand_alone, operand_of_ref, HasKnownName};
+    ghost use Rattle.kc_expr.specs.between.ParseResults.{expr_tokens, expr_end, ReadsExpr, RefusesExpr};
     ghost use Rattle.kc_expr.specs.Token.{lexemes_of};
-    ghost use Rattle.kc_expr.specs.ReverseNames.{names_in_reverse};
-    ghost use Rattle.kc_expr.specs.Visits.{is_visited, mentions, passes_some_name, HasFound};
+    ghost use Rattle.kc_expr.specs.between.ReverseNames.{names_in_reverse};
+    ghost use Rattle.kc_expr.specs.between.Visits.{is_visited, mentions, passes_some_name, HasFound};
 
     /// No names and no nodes. Takes no memory. Names are hashed with the same seed in each run.
     pub fn new(alloc: Global) -> Arena
@@ -72,7 +69,7 @@ impl Arena {
         }
     }
 
-    /// The value of an expression, where the look-up tells what its names mean. Takes no memory.
+    /// The value of an expression, its names having the values of the look-up. Takes no memory.
     pub fn value<L: Lookup>(&self, id: ExprId, lookup: &L) -> Tri
         requires { id < length self.now.nodes }
         ensures { result ≡ value (environment_of self.now.names (L.symbol_values lookup.now)) (node_expr self.now id) }
@@ -81,13 +78,15 @@ impl Arena {
     }
 
     /// Reads the expression that begins at a token. It reaches up to the first word or quoted token that directly
-    /// follows an operand or a `)`, else to the end of the tokens. Answers its number and the place after it.
+    /// follows an operand or a `)`, else to the end of the tokens. Returns its number and the place after it.
     ///
     /// In a condition, a constant `m` that isn't an operand of a relation means `m && MODULES`.
     ///
-    /// `Malformed` stands at the first token that can't go on, and at the end of the token before where none is left;
-    /// `TooDeep` at a symbol under more than 64 `!` and parentheses; `OutOfMemory` is out of memory. The first is
-    /// told. An `Err` leaves the arena as it was; an `Ok` adds the new names of the expression, in their order.
+    /// # Errors
+    ///
+    /// `Malformed`, at the first token that can't continue the expression, or at the end of the last token if none is
+    /// left; `TooDeep`, at a symbol under more than `MAX_EXPR_DEPTH` `!` and parentheses; `OutOfMemory`. The first one is
+    /// returned, and the arena is as it was. An `Ok` adds the new names of the expression, in their order.
     #[inline(always)]
     pub fn parse_expr(
         &mut self,
@@ -107,7 +106,7 @@ impl Arena {
         let mark = self.store.mark();
         match self
             .store
-            .parse_to_end(&tokens[..end], at, MAX_DEPTH, condition)
+            .parse_to_end(&tokens[..end], at, MAX_EXPR_DEPTH, condition)
         {
             Ok(id) => Ok((ExprId::at(id), end)),
             Err(fault) => {
@@ -173,8 +172,8 @@ impl Arena {
         self.store.node_count()
     }
 
-    /// The number of a name, which is put after the others where it is new, as it mostly is: it is hashed once. No
-    /// expression is made. An `Err` means out of memory, and leaves the arena as it was.
+    /// The number of a name, which is appended if it is new, as it mostly is: it is hashed once. No expression is
+    /// made. An `Err` means out of memory, and leaves the arena as it was.
     pub fn intern(&mut self, name: &str) -> Result<NameId, ExprFault>
         ensures names { IfOk result (λ id. self.new.names ≡ with_name name.now self.old.names) }
         ensures place { IfOk result (λ id. index_of_name name.now self.new.names ≡ Some id) }

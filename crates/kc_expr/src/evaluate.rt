@@ -5,8 +5,10 @@ ghost use Rattle.kc_value.specs.declared.tri.Tri.TheVariants.{N, Y};
 ghost use Rattle.std.specs.Prelude.{◌&&◌, if◌then◌else◌};
 ghost use Rattle.std.specs.Cmp.Lexicographic.{slice_cmp};
 ghost use Rattle.std.specs.Ordering.{nat_cmp};
-ghost use Rattle.kc_expr.specs.Expr.{compared_by, value, operand_value, operand_text, operand_number, is_string, compared, relation_holds, letter, tri_of_kind, number_of_kind, is_text_kind, y_unless_n};
-ghost use Rattle.kc_expr.specs.Arena.{node_expr};
+ghost use Rattle.kc_expr.specs.Expr.{compared_by, value, operand_value, operand_text, operand_number, is_string, compared, relation_holds, letter, tri_of_kind, number_of_kind};
+ghost use Rattle.kc_value.specs.Tri.{y_for_m};
+ghost use Rattle.kc_value.specs.Kinds.{is_text_kind};
+ghost use Rattle.kc_expr.specs.between.Arena.{node_expr};
 ghost use Rattle.kc_expr.specs.checker.Nodes.{LeafFits, operand_of};
 ghost use Rattle.kc_expr.specs.checker.Store.{stored_names, exprs_in, IsSound};
 ghost use Rattle.kc_expr.specs.Lookup.{environment_of, AreDistinct};
@@ -83,7 +85,7 @@ struct Side<'a> {
     is_text: bool,
 }
 
-/// What the side of a relation says.
+/// A side of a relation: its text, its number, and whether it is string-typed.
 #[tactic(auto, using(crate::proofs::Places::seen_at))]
 fn side_of<'a, L: Lookup>(store: &'a Store, leaf: Leaf, lookup: &'a L) -> Side<'a>
     requires fits { LeafFits (length (stored_names store.now)) (length store.now.texts.items) leaf }
@@ -156,7 +158,7 @@ fn leaf_value<L: Lookup>(store: &Store, leaf: Leaf, lookup: &L) -> Tri
 
 /// `y` where the value isn't `n`.
 fn shown_value(value: Tri) -> Tri
-    ensures { result ≡ y_unless_n value }
+    ensures { result ≡ y_for_m value }
 {
     match value {
         Tri::N => Tri::N,

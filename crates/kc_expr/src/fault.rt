@@ -1,32 +1,52 @@
 //! Faults of tokens and expressions.
 use std::alloc::{AllocError, AllocFailed};
-use std::fmt;
 use thiserror::Error;
 
-/// What is wrong. The text of a kind is its name.
+/// The kind of a fault; its text is its name.
 #[derive(Clone, Copy, Debug, PartialEq, Eq, Error)]
 pub enum ExprKind {
     /// A byte that begins no token.
+    #[error("BadToken")]
     BadToken,
     /// A quote that isn't closed in its line.
+    #[error("UnclosedQuote")]
     UnclosedQuote,
     /// Tokens that aren't an expression.
+    #[error("Malformed")]
     Malformed,
-    /// A symbol under more than 64 `!` and parentheses.
+    /// A symbol under more than `MAX_EXPR_DEPTH` `!` and parentheses.
+    #[error("TooDeep")]
     TooDeep,
     /// A `$` outside a comment.
+    #[error("LeftOut")]
     LeftOut,
     /// Out of memory.
+    #[error("OutOfMemory")]
     OutOfMemory,
 }
 
-impl fmt::Display for ExprKind {
-    fn fmt<W: fmt::Write>(&self, f: &mut fmt::Formatter<W>) -> fmt::Result {
-        fmt::Debug::fmt(self, f)
+impl ExprKind {
+    ghost use Rattle.std.specs.Prelude.{◌≡◌};
+    ghost use Rattle.kc_expr.specs.FaultNames.{expr_kind_name};
+
+    /// The name of the kind, which is its text too.
+    pub fn name(self) -> &'static str
+        ensures { result.now ≡ expr_kind_name self }
+    {
+        match self {
+            ExprKind::BadToken => "BadToken",
+            ExprKind::UnclosedQuote => "UnclosedQuote",
+            ExprKind::Malformed => "Malformed",
+            ExprKind::TooDeep => "TooDeep",
+            ExprKind::LeftOut => "LeftOut",
+            ExprKind::OutOfMemory => "OutOfMemory",
+        }
     }
 }
 
-/// What is wrong, and at which byte of the line; 0 if memory ran out.
+/// A fault of a line's tokens or of an expression.
+///
+/// `offset` is the byte of the line at which it is, and 0 if memory ran out.
 #[derive(Clone, Copy, Debug, PartialEq, Eq, Error)]
 #[error("{kind} at byte {offset}")]
 pub struct ExprFault {

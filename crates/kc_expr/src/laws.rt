@@ -1,5 +1,6 @@
 //! Laws of the definitions.
 ghost use Rattle.std.specs.Prelude.{◌≡◌, ◌↔◌, ℕ, List, Ok};
+ghost use Rattle.kc_value.specs.declared.limits.TheConstants.{MAX_EXPR_DEPTH};
 ghost use Rattle.kc_expr.specs.Token.{Lexeme, lexemes_from};
 ghost use Rattle.kc_expr.specs.TokenGrammar.{IsCut};
 ghost use Rattle.kc_expr.specs.Expr.{Expr};
@@ -12,5 +13,5 @@ pub fn tokens_are_the_language()
 
 /// Tokens are read as an expression exactly where the grammar has them as that expression.
 pub fn reading_is_the_grammar()
-    ensures { (ts : List Lexeme) (e : Expr) → (read_expr ts ≡ Ok e) ↔ IsExpr ors 64 ts e }
+    ensures { (ts : List Lexeme) (e : Expr) → (read_expr ts ≡ Ok e) ↔ IsExpr ors MAX_EXPR_DEPTH ts e }
 {}

@@ -1,12 +1,12 @@
 //! Operands, and the nodes of those that are whole expressions.
 ghost use Rattle.std.specs.Prelude.{◌≡◌, ◌<◌, ◌≤◌, length, drop, take, IfOk, IfErr, IfSome, option_map, Some};
 ghost use Rattle.kc_expr.specs.declared.fault.ExprKind.TheVariants.{OutOfMemory};
-ghost use Rattle.kc_expr.specs.Arena.{Represents};
+ghost use Rattle.kc_expr.specs.between.Arena.{Represents};
 ghost use Rattle.kc_expr.specs.Expr.{alone, named, quoted};
 ghost use Rattle.kc_expr.specs.Grammar.{constant_or, letter_value, quoted_text};
 ghost use Rattle.kc_expr.specs.checker.Conditions.{as_condition};
 ghost use Rattle.kc_expr.specs.NamesIn.{operand_names};
-ghost use Rattle.kc_expr.specs.Names.{with_names};
+ghost use Rattle.kc_expr.specs.between.Names.{with_names};
 ghost use Rattle.kc_expr.specs.checker.Nodes.{LeafFits, operand_of};
 ghost use Rattle.kc_expr.specs.checker.Parsing.{first_operand, is_m, names_of_leaf, names_of_m};
 ghost use Rattle.kc_expr.specs.Token.{lexemes_of};

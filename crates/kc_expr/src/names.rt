@@ -1,11 +1,11 @@
 //! The names in an expression.
 ghost use Rattle.std.specs.Prelude.{◌≡◌, ◌<◌, ◌++◌, [], All, length, map, take, OnOk, slice_index_or};
-ghost use Rattle.kc_expr.specs.Arena.{node_expr};
+ghost use Rattle.kc_expr.specs.between.Arena.{node_expr};
 ghost use Rattle.kc_expr.specs.NamesIn.{operand_names};
 ghost use Rattle.kc_expr.specs.checker.Nodes.{LeafFits, operand_of};
 ghost use Rattle.kc_expr.specs.checker.Store.{stored_names, exprs_in, IsSound};
 ghost use Rattle.kc_expr.specs.checker.Visiting.{HasFoundTo, HasVisited};
-ghost use Rattle.kc_expr.specs.ReverseNames.{names_in_reverse};
+ghost use Rattle.kc_expr.specs.between.ReverseNames.{names_in_reverse};
 
 use super::ids::NameId;
 use super::node::{Leaf, Node};
@@ -91,7 +91,7 @@ pub(crate) fn push_unvisited(
 }
 
 /// Appends the names in the expression of a node, skipping visited nodes, and marks the node as visited. It is
-/// stamped before its names stand: a node below can't reach it.
+/// stamped before its names are pushed: a node below can't reach it.
 #[inline(never)]
 #[tactic(auto, using(crate::proofs::KeptLists::kept_through))]
 fn push_new_names(

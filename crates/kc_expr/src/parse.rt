@@ -82,7 +82,7 @@ fn is_symbol_at(tokens: &[Token<'_>], at: usize) -> bool
     is_kind_at(tokens, at, TokenKind::Word) || is_kind_at(tokens, at, TokenKind::Quoted)
 }
 
-/// The fault past the greatest depth: the first symbol is too deep, unless something else stands before it.
+/// The fault past the limit of depth: the first symbol is too deep, unless another token comes before it.
 fn too_deep(tokens: &[Token<'_>], at: usize) -> ExprFault
     requires { at ≤ length tokens.now }
     ensures { MeetsFault (lexemes_of tokens.now) (past_depth_limit (drop at (lexemes_of tokens.now))) result }

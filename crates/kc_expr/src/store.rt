@@ -1,9 +1,9 @@
 //! The lists that an arena holds.
 ghost use Rattle.std.specs.Prelude.{◌≡◌, ◌<◌, ◌^◌, [], length, take, Some, IsTrue, IfSome, IfOk, IfErr, OnOk, OnErr, slice_index_or};
 ghost use Rattle.kc_expr.specs.declared.fault.ExprKind.TheVariants.{OutOfMemory};
-ghost use Rattle.kc_expr.specs.Arena.{Represents};
+ghost use Rattle.kc_expr.specs.between.Arena.{Represents};
 ghost use Rattle.kc_expr.specs.Lookup.{index_of_name};
-ghost use Rattle.kc_expr.specs.Names.{with_name};
+ghost use Rattle.kc_expr.specs.between.Names.{with_name};
 ghost use Rattle.kc_expr.specs.checker.Nodes.{NodeFits, expr_of, some_node};
 
 use super::fault::ExprFault;
@@ -29,7 +29,7 @@ pub(crate) struct Mark {
     nodes: usize,
 }
 
-/// A place as a number of 32 bits. Out of memory where it is none.
+/// A place as a number of 32 bits; out of memory if it doesn't fit.
 fn index_of_32_bits(place: usize) -> Result<u32, ExprFault>
     ensures number { IfOk result (λ n. n ≡ place) }
     ensures below { OnOk result (place < 2 ^ 32) }
@@ -124,7 +124,7 @@ impl Store {
         None
     }
 
-    /// Whether a name stands at a place. Names that follow one another differ mostly at their ends: these are compared
+    /// Whether this name is at a place. Names that follow one another differ mostly at their ends: these are compared
     /// first.
     fn has_at(&self, index: usize, name: &str) -> bool
         requires { index < length (stored_names self.now) }
@@ -134,7 +134,7 @@ impl Store {
         held.len() == name.len() && held.as_bytes().last() == name.as_bytes().last() && held == name
     }
 
-    /// Appends a node. 2^32 nodes are as many as there can be.
+    /// Appends a node. An `Err` means out of memory, as 2^32 nodes would be.
     pub(crate) fn push(&mut self, node: Node) -> Result<u32, ExprFault>
         requires sound { IsSound self.old }
         requires fits { NodeFits (length (stored_names self.old)) (length self.old.texts.items) (length self.old.nodes.items) node }
@@ -150,7 +150,7 @@ impl Store {
         Ok(id)
     }
 
-    /// The number of a name, which is put after the others where it is new.
+    /// The number of a name, which is appended if it is new.
     pub(crate) fn intern(&mut self, name: &str) -> Result<u32, ExprFault>
         requires { IsSound self.old }
         ensures sound { IsSound self.new }
@@ -170,7 +170,7 @@ impl Store {
         }
     }
 
-    /// The number of a name, which is put after the others unless it is there. 2^32 names are as many as there can be.
+    /// The number of a name, which is appended unless it is there. An `Err` means out of memory, as 2^32 names would be.
     pub(crate) fn insert_name(&mut self, name: &str) -> Result<u32, ExprFault>
         requires { IsSound self.old }
         ensures sound { IsSound self.new }
@@ -189,7 +189,7 @@ impl Store {
         Ok(index as u32)
     }
 
-    /// Appends a quoted text. 2^32 texts are as many as there can be.
+    /// Appends a quoted text. An `Err` means out of memory, as 2^32 texts would be.
     pub(crate) fn keep(&mut self, text: Text) -> Result<u32, ExprFault>
         requires { IsSound self.old }
         ensures sound { IsSound self.new }

@@ -3,7 +3,8 @@ ghost use Rattle.std.specs.Prelude.{◌≡◌, ◌<◌, ◌≤◌, ◌⊎◌, tr
 ghost use Rattle.kc_expr.specs.declared.fault.ExprKind.TheVariants.{OutOfMemory};
 ghost use Rattle.kc_expr.specs.Token.{is_white_byte, is_word_byte, next_token, next_quoted, next_operator, lexemes_from, lexemes_of};
 ghost use Rattle.kc_expr.specs.checker.Leads.{Reaches};
-ghost use Rattle.kc_expr.specs.Results.{Returns, with_front};
+ghost use Rattle.kc_expr.specs.between.Results.{Returns};
+ghost use Rattle.kc_expr.specs.Token.{with_front};
 
 use super::fault::{ExprFault, ExprKind};
 use kc_value::closing_quote;
@@ -20,7 +21,7 @@ pub enum Relop {
     GreaterEqual,
 }
 
-/// What a token is.
+/// The kinds of tokens.
 #[derive(Clone, Copy, Debug, PartialEq, Eq)]
 pub enum TokenKind {
     Word,

@@ -1,6 +1,6 @@
 //! The set of visited expressions of an arena.
 ghost use Rattle.std.specs.Prelude.{◌≡◌, ◌<◌, ℕ, length, false, true, slice_set, IfOk};
-ghost use Rattle.kc_expr.specs.Visits.{is_visited};
+ghost use Rattle.kc_expr.specs.between.Visits.{is_visited};
 
 use std::alloc::{AllocError, Global};
 use std::marker::Model;

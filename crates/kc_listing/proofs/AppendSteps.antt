@@ -4,8 +4,10 @@ use Rattle.std.specs.Prelude.{slice_get, slice_range, filter, filter_map, All, o
 use Rattle.std.proofs.lemmas.List.{reverse-append, append-nil, drop-append-le, take_all, map-append}
 use Rattle.std.proofs.Math.Seq.{take-length}
 use Rattle.std.proofs.lemmas.List.Sums.{sum_by-cons}
-use Rattle.kc_expr.specs.Arena.{Exprs, Grows}
-use Rattle.kc_tree_model.specs.Statements.{Attribute, Block, choice_block, same_block, config, choice, menu, condition, comment, source, mainmenu, ends, name_of_head, block_of_head, path_of_head}
+use Rattle.kc_expr.specs.between.Arena.{Exprs, Grows}
+use Rattle.kc_tree_model.specs.Statements.{Attribute, same_block, config, choice, menu, condition, comment, source, mainmenu, ends, name_of_head, block_of_head, path_of_head}
+use Rattle.kc_tree_model.specs.declared.keyword.Block.{Block}
+use Rattle.kc_tree_model.specs.declared.keyword.Block.TheVariants as blocks
 use Rattle.kc_tree_model.specs.Blocks.{Group, GroupHead, of_head, file_end, Side, side_of, opening, closing, inside, open_blocks, from_head, defined_name, sourced_path, opens_choice}
 use Rattle.kc_tree_model.specs.Limits.{is_in_list, FileSource, names_defined, without_repeats, size_in}
 use Rattle.kc_tree_model.specs.Reading.{with_group, with_attribute}
@@ -15,19 +17,16 @@ use Rattle.kc_listing.specs.declared.listing.Line.{Line as CodeLine}
 use Rattle.kc_listing.specs.declared.listing.GroupHead.{GroupHead as CodeWhat}
 use Rattle.kc_listing.specs.declared.listing.GroupHead.TheVariants as codes
 use Rattle.kc_expr.specs.Lookup.{index_of_name}
-use Rattle.kc_expr.specs.Names.{with_name}
-use Rattle.kc_statements.specs.StatementViews.{attribute_in}
+use Rattle.kc_expr.specs.between.Names.{with_name}
+use Rattle.kc_statements.specs.between.StatementViews.{attribute_in}
 use Rattle.std.proofs.lemmas.Slice.Eq.{bytes_eq-Decides}
 use Rattle.std.proofs.lemmas.Bool.Decides.{same_from_decides}
 use Rattle.std.proofs.lemmas.List.Folds.{list_any-append}
 use Rattle.std.proofs.lemmas.List.Elements.{All-append, All-cons, All-nil}
 use Rattle.kc_listing.specs.declared.state.OpenBlock.{OpenBlock}
 use Rattle.kc_listing.specs.declared.state.OpenBlock.TheVariants as opens
-use Rattle.kc_statements.specs.declared.statement.Block.{Block as CodeBlock}
-use Rattle.kc_statements.specs.declared.statement.Block.TheVariants as blocks
-use Rattle.kc_statements.specs.KeywordViews.{block_view}
-use Rattle.kc_listing.specs.SymbolTable.{HasNames}
-use Rattle.kc_listing.specs.ListingView.{RepresentsHead, line_in, LineNodesExist, RepresentsGroup, RepresentsGroups, RepresentsLists}
+use Rattle.kc_listing.specs.between.SymbolTable.{HasNames}
+use Rattle.kc_listing.specs.between.ListingView.{RepresentsHead, line_in, LineNodesExist, RepresentsGroup, RepresentsGroups, RepresentsLists}
 use Rattle.kc_listing.specs.checker.StateViews.{RepresentsOpenBlock, RepresentsOpenBlocks, IsCounted, at_line}
 use Rattle.kc_listing.proofs.Growing.{groups_later, lines_held, get_more}
 use Rattle.kc_listing.proofs.NameLemmas.{names_later}
@@ -63,7 +62,7 @@ lists_names old new symbols numbers symbols2 numbers2 texts lines groups read gr
 
 -- a group after the others, perhaps with a new name
 pub lists_put : (old new : Exprs) (symbols numbers symbols2 numbers2 : List ℕ) (ns texts : List (List ℕ)) (lines : List CodeLine) (groups groups2 : List CodeGroup) (read : List Group) (file line n : ℕ) (what : CodeWhat) (m : GroupHead) → Grows old new
-    → n ≡ length lines → groups2 ≡ groups ++ record { file = file; line = line; what = what; attributes = n } ∷ []
+    → n ≡ length lines → groups2 ≡ groups ++ record { file = file; line = line; head = what; attributes = n } ∷ []
     → RepresentsLists old symbols numbers texts lines groups read → names_defined (with_group (at_line file line) m read) ≡ names_defined read ++ ns
     → HasNames new symbols2 numbers2 (names_defined read ++ ns)
     → RepresentsHead new (names_defined read ++ ns) texts what m
@@ -71,12 +70,12 @@ pub lists_put : (old new : Exprs) (symbols numbers symbols2 numbers2 : List ℕ)
 lists_put old new symbols numbers symbols2 numbers2 ns texts lines groups groups2 read file line n what m grows len push h names has shown =
     let kept : RepresentsGroups new (names_defined read ++ ns) texts lines (length lines) (reverse groups) read =
     groups_later old new grows (names_defined read) ns (names_defined read ++ ns) texts [] texts lines [] lines refl (sym (append-nil texts)) (sym (append-nil lines)) h.held (reverse groups) read (length lines) (omega arith) h.groups_are in
-    let own : RepresentsGroup new (names_defined read ++ ns) texts (slice_range lines (length lines) (length lines)) (length read) (record { file = file; line = line; what = what; attributes = length lines }) (record { number = length read; at = at_line file line; what = m; attributes = [] }) =
-    record { number_is = refl; file_is = refl; line_is = refl; what = shown; attributes = sym (ap (map (line_in new)) (empty_range lines (length lines))) } in
+    let own : RepresentsGroup new (names_defined read ++ ns) texts (slice_range lines (length lines) (length lines)) (length read) (record { file = file; line = line; head = what; attributes = length lines }) (record { number = length read; at = at_line file line; head = m; attributes = [] }) =
+    record { number_is = refl; file_is = refl; line_is = refl; head = shown; attributes = sym (ap (map (line_in new)) (empty_range lines (length lines))) } in
     record {
       names = rw names has;
       held = lines_held old new grows lines h.held;
-      groups_are = rw (names, push, reverse_push groups (record { file = file; line = line; what = what; attributes = n }), len) (own, (let k : length lines ≤ length lines = omega arith in k), kept);
+      groups_are = rw (names, push, reverse_push groups (record { file = file; line = line; head = what; attributes = n }), len) (own, (let k : length lines ≤ length lines = omega arith in k), kept);
     }
 
 -- what closes a block defines and opens nothing
@@ -101,7 +100,7 @@ same_names file line m read e = rw e (sym (append-nil (names_defined read)))
 
 -- a group that defines nothing
 pub lists_put_same : (e : Exprs) (symbols numbers : List ℕ) (texts : List (List ℕ)) (lines : List CodeLine) (groups groups2 : List CodeGroup) (read : List Group) (file line n : ℕ) (what : CodeWhat) (m : GroupHead)
-    → n ≡ length lines → groups2 ≡ groups ++ record { file = file; line = line; what = what; attributes = n } ∷ []
+    → n ≡ length lines → groups2 ≡ groups ++ record { file = file; line = line; head = what; attributes = n } ∷ []
     → RepresentsLists e symbols numbers texts lines groups read → from_head name_of_head m ≡ None
     → RepresentsHead e (names_defined read) texts what m
     → RepresentsLists e symbols numbers texts lines groups2 (with_group (at_line file line) m read)
@@ -195,7 +194,7 @@ pub names_with : (file line : ℕ) (x : List ℕ) (read : List Group) → names_
 names_with file line x read = ap (λ b. cond b (names_defined read) (names_defined read ++ x ∷ [])) (sym (place_among x read))
 
 pub lists_put_config : (old new : Exprs) (symbols numbers symbols2 numbers2 : List ℕ) (texts : List (List ℕ)) (lines : List CodeLine) (groups groups2 : List CodeGroup) (read : List Group) (file line n s : ℕ) (x : List ℕ) → Grows old new
-    → n ≡ length lines → groups2 ≡ groups ++ record { file = file; line = line; what = codes.Config s; attributes = n } ∷ []
+    → n ≡ length lines → groups2 ≡ groups ++ record { file = file; line = line; head = codes.Config s; attributes = n } ∷ []
     → RepresentsLists old symbols numbers texts lines groups read
     → HasNames new symbols2 numbers2 (with_name x (names_defined read))
     → slice_get (with_name x (names_defined read)) s ≡ Some x
@@ -235,7 +234,7 @@ lists_attribute e symbols numbers texts lines lines2 groups read l push held h =
             number_is = k.0.number_is;
             file_is = k.0.file_is;
             line_is = k.0.line_is;
-            what = k.0.what;
+            head = k.0.head;
             attributes = rw (long, push, range_more lines l g.attributes a, map-append (line_in e) (slice_range lines g.attributes (length lines)) (l ∷ [])) (ap (λ ls. ls ++ line_in e l ∷ []) k.0.attributes);
           },
           omega (arith, long),
@@ -287,7 +286,7 @@ module _ (r : FileSource) (texts : List (List ℕ)) (old : List OpenBlock) (choi
       let b = closing_block m e in
       let q = closing_path m e in
       record {
-        stack = rw (popped (record { number = length read; at = at_line file line; what = m; attributes = [] }) read e) (popped_shown texts old new o (open_blocks 0 read) p v h.stack);
+        stack = rw (popped (record { number = length read; at = at_line file line; head = m; attributes = [] }) read e) (popped_shown texts old new o (open_blocks 0 read) p v h.stack);
         choices_are = rw b h.choices_are;
         files_are = rw q h.files_are;
         bytes_are = rw q h.bytes_are;
@@ -299,23 +298,23 @@ module _ (r : FileSource) (texts : List (List ℕ)) (old : List OpenBlock) (choi
       let b = inside_block m e in
       let q = inside_path m e in
       record {
-        stack = rw (open_inside 0 (record { number = length read; at = at_line file line; what = m; attributes = [] }) read e) h.stack;
+        stack = rw (open_inside 0 (record { number = length read; at = at_line file line; head = m; attributes = [] }) read e) h.stack;
         choices_are = rw b h.choices_are;
         files_are = rw q h.files_are;
         bytes_are = rw q h.bytes_are;
       }
 
-  stack_push : (o : OpenBlock) (new : List OpenBlock) → side_of m ≡ opening → new ≡ old ++ o ∷ [] → RepresentsOpenBlock texts o (record { number = length read; at = at_line file line; what = m; attributes = [] })
+  stack_push : (o : OpenBlock) (new : List OpenBlock) → side_of m ≡ opening → new ≡ old ++ o ∷ [] → RepresentsOpenBlock texts o (record { number = length read; at = at_line file line; head = m; attributes = [] })
       → RepresentsOpenBlocks texts (reverse new) (open_blocks 0 (with_group (at_line file line) m read))
-  stack_push o new e p s = rw (pushed (record { number = length read; at = at_line file line; what = m; attributes = [] }) read e, p, reverse_push old o) (s, h.stack)
+  stack_push o new e p s = rw (pushed (record { number = length read; at = at_line file line; head = m; attributes = [] }) read e, p, reverse_push old o) (s, h.stack)
 
   -- a menu or an `if`
-  pub counted_block : (b : CodeBlock) (new : List OpenBlock) → new ≡ old ++ opens.Block b line ∷ [] → from_head block_of_head m ≡ Some (block_view b) → same_block choice_block (block_view b) ≡ false
+  pub counted_block : (b : Block) (new : List OpenBlock) → new ≡ old ++ opens.Block b line ∷ [] → from_head block_of_head m ≡ Some b → same_block blocks.Choice b ≡ false
       → IsCounted r texts new choices files bytes (with_group (at_line file line) m read)
   counted_block b new p e n =
-      let q = block_path m (block_view b) e in
+      let q = block_path m b e in
       record {
-        stack = stack_push (opens.Block b line) new (block_side m (block_view b) e) p (e, refl, q);
+        stack = stack_push (opens.Block b line) new (block_side m b e) p (e, refl, q);
         choices_are = rw (e, n) h.choices_are;
         files_are = rw q h.files_are;
         bytes_are = rw q h.bytes_are;
@@ -325,10 +324,10 @@ module _ (r : FileSource) (texts : List (List ℕ)) (old : List OpenBlock) (choi
   pub counted_choice : (new : List OpenBlock) (choices2 : ℕ) → m ≡ of_head choice → new ≡ old ++ opens.Block blocks.Choice line ∷ [] → choices2 ≡ choices + 1 → IsCounted r texts new choices2 files bytes (with_group (at_line file line) m read)
   counted_choice new choices2 e p n =
       let c = h.choices_are in
-      let block : from_head block_of_head m ≡ Some choice_block = rw e refl in
-      let q = block_path m choice_block block in
+      let block : from_head block_of_head m ≡ Some blocks.Choice = rw e refl in
+      let q = block_path m blocks.Choice block in
       record {
-        stack = stack_push (opens.Block blocks.Choice line) new (block_side m choice_block block) p (block, refl, q);
+        stack = stack_push (opens.Block blocks.Choice line) new (block_side m blocks.Choice block) p (block, refl, q);
         choices_are = rw block (omega arith);
         files_are = rw q h.files_are;
         bytes_are = rw q h.bytes_are;
@@ -350,9 +349,9 @@ module _ (r : FileSource) (texts : List (List ℕ)) (old : List OpenBlock) (choi
 -- an attribute opens and closes nothing
 stack_attribute : (texts : List (List ℕ)) (os : List OpenBlock) (line : ℕ) (a : Attribute) (read : List Group) → RepresentsOpenBlocks texts os (open_blocks 0 read) → RepresentsOpenBlocks texts os (open_blocks 0 (with_attribute line a read))
 stack_attribute texts os line a [] h = h
-stack_attribute texts os line a (g ∷ before) h = by_side (side_of g.what) refl
+stack_attribute texts os line a (g ∷ before) h = by_side (side_of g.head) refl
   where
-    by_side : (s : Side) → side_of g.what ≡ s → RepresentsOpenBlocks texts os (open_blocks 0 (with_attribute line a (g ∷ before)))
+    by_side : (s : Side) → side_of g.head ≡ s → RepresentsOpenBlocks texts os (open_blocks 0 (with_attribute line a (g ∷ before)))
     by_side opening e = rw (pushed (record g { attributes = g.attributes ++ record { number = line; attribute = a } ∷ [] }) before e) (top os (rw (pushed g before e) at h))
       where
         same : (o : OpenBlock) → RepresentsOpenBlock texts o g → RepresentsOpenBlock texts o (record g { attributes = g.attributes ++ record { number = line; attribute = a } ∷ [] })

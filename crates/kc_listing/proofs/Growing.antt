@@ -3,7 +3,7 @@ use Rattle.std.proofs.Common.{◌≡◌, ℕ, suc, zero, ◌-◌, ◌<◌, ◌�
 use Rattle.std.specs.Prelude.{slice_get, slice_range, All}
 use Rattle.std.proofs.lemmas.List.{take-append-drop, get_or_append_left, take-append-le, drop-append-le}
 use Rattle.std.proofs.lemmas.List.Elements.{All-take, All-drop}
-use Rattle.kc_expr.specs.Arena.{Exprs, Grows, node_expr}
+use Rattle.kc_expr.specs.between.Arena.{Exprs, Grows, node_expr}
 use Rattle.kc_expr.specs.Expr.{alone, constant}
 use Rattle.kc_value.specs.declared.tri.Tri.TheVariants.{N}
 use Rattle.kc_tree_model.specs.Blocks.{Group, GroupHead}
@@ -12,12 +12,12 @@ use Rattle.kc_statements.specs.declared.statement.Attribute.TheVariants as attri
 use Rattle.kc_statements.specs.declared.statement.DefaultAttribute.{DefaultAttribute as CodeValued}
 use Rattle.kc_statements.specs.declared.statement.TargetAttribute.{TargetAttribute as CodeAimed}
 use Rattle.kc_statements.specs.declared.statement.RangeAttribute.{RangeAttribute as CodeBounded}
-use Rattle.kc_statements.specs.StatementViews.{attribute_in, AttributeNodesExist, IfNodeExists, if_in, OperandNodeExists, operand_or_n, operand_of_expr, DefaultNodesExist, default_in, TargetNodesExist, target_in, RangeNodesExist, range_in}
+use Rattle.kc_statements.specs.between.StatementViews.{attribute_in, AttributeNodesExist, IfNodeExists, if_in, OperandNodeExists, operand_or_n, operand_of_expr, DefaultNodesExist, default_in, TargetNodesExist, target_in, RangeNodesExist, range_in}
 use Rattle.kc_listing.specs.declared.listing.Group.{Group as CodeGroup}
 use Rattle.kc_listing.specs.declared.listing.Line.{Line as CodeLine}
 use Rattle.kc_listing.specs.declared.listing.GroupHead.{GroupHead as CodeWhat}
 use Rattle.kc_listing.specs.declared.listing.GroupHead.TheVariants as codes
-use Rattle.kc_listing.specs.ListingView.{RepresentsHead, line_in, LineNodesExist, RepresentsGroup, RepresentsGroups}
+use Rattle.kc_listing.specs.between.ListingView.{RepresentsHead, line_in, LineNodesExist, RepresentsGroup, RepresentsGroups}
 use Rattle.kc_listing.proofs.NameLemmas.{words_kept, longer}
 
 pub get_more : {A : Type 0} (xs ys : List A) (i : ℕ) (x : A) → slice_get xs i ≡ Some x → slice_get (xs ++ ys) i ≡ Some x
@@ -120,7 +120,7 @@ module _ (old new : Exprs) (grows : Grows old new) where
     number_is = h.number_is;
     file_is = h.file_is;
     line_is = h.line_is;
-    what = what_kept names ns texts ts g.what m.what h.what;
+    head = what_kept names ns texts ts g.head m.head h.head;
     attributes = rw (range_kept lines ls g.attributes end a e)
         (h.attributes ∙ sym (lines_kept (slice_range lines g.attributes end) (All-take (LineNodesExist old) (end - g.attributes) (drop g.attributes lines) (All-drop (LineNodesExist old) g.attributes lines held))));
   }

@@ -4,15 +4,15 @@ use Rattle.std.specs.Prelude.{option_map, option_and_then, bytes_eq, All}
 use Rattle.std.proofs.lemmas.List.{take-append-drop, get_or_past, get_or_append_left, get_or-set_same, get_or-set_other, map-append, length-map, length-set}
 use Rattle.std.proofs.lemmas.List.Elements.{All-append, All-cons, All-nil}
 use Rattle.std.proofs.lemmas.Slice.Eq.{bytes_eq-Decides}
-use Rattle.kc_expr.specs.Arena.{Exprs, Grows}
+use Rattle.kc_expr.specs.between.Arena.{Exprs, Grows}
 use Rattle.kc_expr.specs.Lookup.{index_of_name}
 use Rattle.kc_expr.proofs.Places.{place_there}
 use Rattle.std.proofs.lemmas.Option.{slice_get-get_or}
 use Rattle.std.specs.Prelude.{slice_get, nat_le}
-use Rattle.kc_expr.specs.Names.{with_name}
-use Rattle.kc_tree_model.specs.Limits.{max_symbols}
+use Rattle.kc_expr.specs.between.Names.{with_name}
+use Rattle.kc_value.specs.declared.limits.TheConstants.{MAX_SYMBOLS}
 use Rattle.kc_listing.specs.checker.Symbols.{is_full}
-use Rattle.kc_listing.specs.SymbolTable.{number_in_slot, number_in, text_of_name, HasNames}
+use Rattle.kc_listing.specs.between.SymbolTable.{number_in_slot, number_in, text_of_name, HasNames}
 
 none_by : (f : ℕ → Option ℕ) → ((i : ℕ) → f i ≡ None) → (o : Option ℕ) → option_and_then f o ≡ None
 none_by f h None = refl
@@ -144,7 +144,7 @@ with_there x names i e = rw e refl
 pub with_new : (x : List ℕ) (names : List (List ℕ)) → index_of_name x names ≡ None → with_name x names ≡ names ++ x ∷ []
 with_new x names e = rw e refl
 
-pub full_is : (x : List ℕ) (names : List (List ℕ)) → index_of_name x names ≡ None → is_full x names ≡ nat_le max_symbols (length names)
+pub full_is : (x : List ℕ) (names : List (List ℕ)) → index_of_name x names ≡ None → is_full x names ≡ nat_le MAX_SYMBOLS (length names)
 full_is x names e = rw e refl
 
 pub as_many_names : (e : Exprs) (symbols numbers : List ℕ) (names : List (List ℕ)) → HasNames e symbols numbers names → length symbols ≡ length names

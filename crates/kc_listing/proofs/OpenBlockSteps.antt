@@ -7,21 +7,18 @@ use Rattle.std.proofs.lemmas.Option.{slice_get-get_or}
 use Rattle.std.proofs.lemmas.List.Sums.{sum_by-cons}
 use Rattle.std.proofs.lemmas.List.Sorted.{IsPermutation-reverse, list_any-IsPermutation, sum_by-IsPermutation}
 use Rattle.kc_tree_model.specs.declared.fault.TreeKind.TheVariants.{Unclosed}
-use Rattle.kc_tree_model.specs.Statements.{choice_block}
+use Rattle.kc_tree_model.specs.declared.keyword.Block.TheVariants as blocks
 use Rattle.kc_tree_model.specs.Blocks.{Group, open_blocks, opened_block, sourced_path, opens_choice, is_some_block, in_choice, innermost, innermost_of}
-use Rattle.kc_tree_model.specs.Statements.{Block}
+use Rattle.kc_tree_model.specs.declared.keyword.Block.{Block}
 use Rattle.kc_tree_model.specs.Limits.{FileSource, is_in_list, open_files}
 use Rattle.kc_tree_model.specs.Reading.{at_file_end}
-use Rattle.kc_statements.specs.declared.statement.Block.{Block as CodeBlock}
-use Rattle.kc_statements.specs.declared.statement.Block.TheVariants as blocks
-use Rattle.kc_statements.specs.KeywordViews.{block_view}
 use Rattle.kc_listing.specs.declared.state.OpenBlock.{OpenBlock}
 use Rattle.kc_listing.specs.declared.state.OpenBlock.TheVariants as opens
 use Rattle.kc_listing.specs.checker.StateViews.{RepresentsOpenBlock, RepresentsOpenBlocks, IsCounted}
 use Rattle.kc_listing.specs.checker.Faults.{fault_in}
 use Rattle.kc_listing.specs.checker.OpenBlockViews.{is_block, is_file, is_choice, is_file_of, block_at, block_kept}
 
-block_choice : (b : CodeBlock) (l : ℕ) → is_choice (opens.Block b l) ≡ is_some_block choice_block (Some (block_view b))
+block_choice : (b : Block) (l : ℕ) → is_choice (opens.Block b l) ≡ is_some_block blocks.Choice (Some b)
 block_choice blocks.Menu l = refl
 block_choice blocks.If l = refl
 block_choice blocks.Choice l = refl
@@ -77,9 +74,9 @@ last_is [] = refl
 last_is (x ∷ xs) = last_by (x ∷ xs) (omega arith) x
 
 -- a block of the stack and one of the definition
-abbrev pub IsInnermost : Option (CodeBlock × ℕ) → Option (Group × Block) → Type 0
+abbrev pub IsInnermost : Option (Block × ℕ) → Option (Group × Block) → Type 0
 IsInnermost None None = Unit {0}
-IsInnermost (Some p) (Some q) = (q.1 ≡ block_view p.0) × (q.0.at.line ≡ p.1)
+IsInnermost (Some p) (Some q) = (q.1 ≡ p.0) × (q.0.at.line ≡ p.1)
 IsInnermost p q = ⊥
 
 innermost_top : (texts : List (List ℕ)) (os : List OpenBlock) (gs : List Group) → RepresentsOpenBlocks texts os gs → IsInnermost (block_at (slice_get os 0)) (innermost_of gs)
@@ -108,12 +105,12 @@ module _ (r : FileSource) (texts : List (List ℕ)) (opened : List OpenBlock) (c
   innermost_is = subst (λ o. IsInnermost (block_at o) (innermost read)) (sym (last_is opened)) (innermost_top texts (reverse opened) (open_blocks 0 read) h.stack)
 
 -- the end of a file
-pub ended_none : (file : ℕ) (read : List Group) (p : Option (CodeBlock × ℕ)) (q : Option (Group × Block)) → IsInnermost p q → p ≡ None → (at_file_end file read q).fault ≡ None
+pub ended_none : (file : ℕ) (read : List Group) (p : Option (Block × ℕ)) (q : Option (Group × Block)) → IsInnermost p q → p ≡ None → (at_file_end file read q).fault ≡ None
 ended_none file read None None h e = refl
 ended_none file read None (Some q) h e = absurd h
 ended_none file read (Some p) q h e = cc
 
-pub ended_some : (file : ℕ) (read : List Group) (p : Option (CodeBlock × ℕ)) (q : Option (Group × Block)) (b : CodeBlock) (line : ℕ) → IsInnermost p q → p ≡ Some (b, line) → (at_file_end file read q).fault ≡ Some (fault_in file line Unclosed)
+pub ended_some : (file : ℕ) (read : List Group) (p : Option (Block × ℕ)) (q : Option (Group × Block)) (b : Block) (line : ℕ) → IsInnermost p q → p ≡ Some (b, line) → (at_file_end file read q).fault ≡ Some (fault_in file line Unclosed)
 ended_some file read None q b line h e = cc
 ended_some file read (Some p) None b line h e = absurd h
-ended_some file read (Some p) (Some q) b line h e = let l : p.1 ≡ line = ap (λ (o : Option (CodeBlock × ℕ)). elim o [ None ↦ line | Some x ↦ x.1 ]) e in rw (h.1, l) refl
+ended_some file read (Some p) (Some q) b line h e = let l : p.1 ≡ line = ap (λ (o : Option (Block × ℕ)). elim o [ None ↦ line | Some x ↦ x.1 ]) e in rw (h.1, l) refl

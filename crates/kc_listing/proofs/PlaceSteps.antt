@@ -5,23 +5,22 @@ use Rattle.std.specs.List.{list_all, cons_option}
 use Rattle.std.proofs.lemmas.List.{get_or-reverse, length-reverse}
 use Rattle.std.proofs.lemmas.Option.{slice_get-get_or}
 use Rattle.std.proofs.lemmas.Bool.Decides.{nat_tests}
-use Rattle.kc_expr.specs.Arena.{Exprs}
+use Rattle.kc_expr.specs.between.Arena.{Exprs}
 use Rattle.kc_expr.specs.Token.{Lexeme}
 use Rattle.kc_tree_model.specs.declared.fault.TreeKind.TheVariants.{LeftOut, Misplaced, StrayEnd}
-use Rattle.kc_tree_model.specs.Statements.{Block, same_block}
-use Rattle.kc_tree_model.specs.Keywords.{Keyword}
-use Rattle.kc_tree_model.specs.Blocks.{Group, GroupHead, open_blocks, opened_block, from_head, innermost, is_stray, is_matched}
+use Rattle.kc_tree_model.specs.Statements.{same_block}
+use Rattle.kc_tree_model.specs.declared.keyword.Block.{Block}
+use Rattle.kc_tree_model.specs.declared.keyword.Keyword.{Keyword}
+use Rattle.kc_tree_model.specs.Blocks.{Group, GroupHead, open_blocks, opened_block, from_head, innermost, is_stray, is_some_block}
 use Rattle.kc_tree_model.specs.Limits.{names_defined}
-use Rattle.kc_tree_model.specs.Placement.{OpenEntry, is_left_out, is_allowed, is_stray_end, open_entry, opened_by, allows_attribute, open_entry_allows}
-use Rattle.kc_statements.specs.declared.keyword.Keyword.{Keyword as CodeKeyword}
-use Rattle.kc_statements.specs.declared.keyword.Keyword.TheVariants as words
-use Rattle.kc_statements.specs.declared.statement.Block.{Block as CodeBlock}
-use Rattle.kc_statements.specs.KeywordViews.{keyword_view, block_view, open_entry_view}
+use Rattle.kc_tree_model.specs.Placement.{is_left_out, is_allowed, is_stray_end, open_entry, opened_by, allows_attribute, open_entry_allows}
+use Rattle.kc_tree_model.specs.declared.keyword.OpenEntry.{OpenEntry}
+use Rattle.kc_tree_model.specs.declared.keyword.Keyword.TheVariants as words
 use Rattle.kc_listing.specs.declared.listing.Group.{Group as CodeGroup}
 use Rattle.kc_listing.specs.declared.listing.Line.{Line as CodeLine}
 use Rattle.kc_listing.specs.declared.listing.GroupHead.{GroupHead as CodeWhat}
 use Rattle.kc_listing.specs.declared.listing.GroupHead.TheVariants as codes
-use Rattle.kc_listing.specs.ListingView.{RepresentsHead, RepresentsGroups, RepresentsLists}
+use Rattle.kc_listing.specs.between.ListingView.{RepresentsHead, RepresentsGroups, RepresentsLists}
 use Rattle.kc_listing.specs.checker.LinePlacement.{place_of_keyword, is_allowed_here, block_ended, is_stray_block, entry_opened, entry_of_group, entry_kept, fault_before}
 use Rattle.kc_listing.proofs.OpenBlockSteps.{IsInnermost}
 
@@ -37,7 +36,7 @@ no_blocks (g ∷ gs) = by_block (opened_block g) (no_blocks gs)
     by_block None ih = ih
     by_block (Some x) ih = some_blocks (length (filter_map opened_block gs))
 
-pub allowed_is : (k : CodeKeyword) (before : List Group) → is_allowed before (keyword_view k) ≡ is_allowed_here before (place_of_keyword k) (keyword_view k)
+pub allowed_is : (k : Keyword) (before : List Group) → is_allowed before k ≡ is_allowed_here before (place_of_keyword k) k
 allowed_is words.Config before = refl
 allowed_is words.Choice before = refl
 allowed_is words.Menu before = refl
@@ -60,7 +59,7 @@ allowed_is words.Modules before = refl
 allowed_is words.Option before = refl
 allowed_is words.LeftOut before = refl
 
-pub stray_is : (k : CodeKeyword) (before : List Group) → is_stray_end before (keyword_view k) ≡ is_stray_block before (block_ended k)
+pub stray_is : (k : Keyword) (before : List Group) → is_stray_end before k ≡ is_stray_block before (block_ended k)
 stray_is (words.End b) before = refl
 stray_is k before = refl
 
@@ -74,7 +73,7 @@ last_is : (xs : List CodeGroup) → slice_get xs (length xs - 1) ≡ slice_get (
 last_is [] = refl
 last_is (x ∷ xs) = last_by (x ∷ xs) (omega arith) x
 
-entry_same : (exprs : Exprs) (names texts : List (List ℕ)) (c : CodeWhat) (w : GroupHead) → RepresentsHead exprs names texts c w → from_head opened_by w ≡ option_map open_entry_view (entry_opened c)
+entry_same : (exprs : Exprs) (names texts : List (List ℕ)) (c : CodeWhat) (w : GroupHead) → RepresentsHead exprs names texts c w → from_head opened_by w ≡ (entry_opened c)
 entry_same exprs names texts (codes.Config s) w h = rw h.2 refl
 entry_same exprs names texts codes.Choice w h = rw h refl
 entry_same exprs names texts (codes.Menu t) w h = rw h.2 refl
@@ -85,28 +84,28 @@ entry_same exprs names texts codes.Mainmenu w h = rw h refl
 entry_same exprs names texts (codes.Ends b) w h = rw h refl
 entry_same exprs names texts codes.FileEnd w h = rw h refl
 
-entry_top : (exprs : Exprs) (names texts : List (List ℕ)) (lines : List CodeLine) (end : ℕ) (gs : List CodeGroup) (ms : List Group) → RepresentsGroups exprs names texts lines end gs ms → open_entry ms ≡ option_map open_entry_view (entry_of_group (slice_get gs 0))
+entry_top : (exprs : Exprs) (names texts : List (List ℕ)) (lines : List CodeLine) (end : ℕ) (gs : List CodeGroup) (ms : List Group) → RepresentsGroups exprs names texts lines end gs ms → open_entry ms ≡ (entry_of_group (slice_get gs 0))
 entry_top exprs names texts lines end [] [] h = refl
 entry_top exprs names texts lines end [] (m ∷ ms) h = absurd h
 entry_top exprs names texts lines end (g ∷ gs) [] h = absurd h
-entry_top exprs names texts lines end (g ∷ gs) (m ∷ ms) h = entry_same exprs names texts g.what m.what h.0.what
+entry_top exprs names texts lines end (g ∷ gs) (m ∷ ms) h = entry_same exprs names texts g.head m.head h.0.head
 
 pub entry_is : (exprs : Exprs) (symbols numbers : List ℕ) (texts : List (List ℕ)) (lines : List CodeLine) (groups : List CodeGroup) (read : List Group) → RepresentsLists exprs symbols numbers texts lines groups read
-    → open_entry read ≡ option_map open_entry_view (entry_kept groups)
+    → open_entry read ≡ (entry_kept groups)
 entry_is exprs symbols numbers texts lines groups read h =
-    entry_top exprs (names_defined read) texts lines (length lines) (reverse groups) read h.groups_are ∙ ap (λ g. option_map open_entry_view (entry_of_group g)) (sym (last_is groups))
+    entry_top exprs (names_defined read) texts lines (length lines) (reverse groups) read h.groups_are ∙ ap (λ g. (entry_of_group g)) (sym (last_is groups))
 
 pub stray_none : (read : List Group) (b : Block) → IsInnermost None (innermost read) → is_stray read b ≡ true
 stray_none read b h = by_innermost (innermost read) h
   where
-    by_innermost : (o : Option (Group × Block)) → IsInnermost None o → not (is_matched b o) ≡ true
+    by_innermost : (o : Option (Group × Block)) → IsInnermost None o → not (is_some_block b (option_map (λ (q : Group × Block). q.1) o)) ≡ true
     by_innermost None h = refl
     by_innermost (Some q) h = absurd h
 
-pub stray_some : (read : List Group) (b : Block) (c : CodeBlock) (line : ℕ) → IsInnermost (Some (c, line)) (innermost read) → is_stray read b ≡ not (same_block b (block_view c))
+pub stray_some : (read : List Group) (b : Block) (c : Block) (line : ℕ) → IsInnermost (Some (c, line)) (innermost read) → is_stray read b ≡ not (same_block b c)
 stray_some read b c line h = by_innermost (innermost read) h
   where
-    by_innermost : (o : Option (Group × Block)) → IsInnermost (Some (c, line)) o → not (is_matched b o) ≡ not (same_block b (block_view c))
+    by_innermost : (o : Option (Group × Block)) → IsInnermost (Some (c, line)) o → not (is_some_block b (option_map (λ (q : Group × Block). q.1) o)) ≡ not (same_block b c)
     by_innermost None h = absurd h
     by_innermost (Some q) h = rw h.0 refl
 

@@ -5,12 +5,13 @@ use Rattle.kc_tree_model.specs.declared.fault.TreeFault.{TreeFault}
 use Rattle.kc_tree_model.specs.declared.fault.TreeKind.{TreeKind}
 use Rattle.kc_tree_model.specs.declared.fault.TreeKind.TheVariants.{OutOfMemory}
 use Rattle.kc_tree_model.specs.LogicalLines.{LogicalLine, logical_lines_from, physical_lines, begins_help, lines_of, help_line_count, first_indentation}
-use Rattle.kc_tree_model.specs.Statements.{Block, head, source}
+use Rattle.kc_tree_model.specs.Statements.{head, source}
+use Rattle.kc_tree_model.specs.declared.keyword.Block.{Block}
 use Rattle.kc_tree_model.specs.Blocks.{Group, file_end, innermost}
 use Rattle.kc_tree_model.specs.Limits.{FileSource, source_fault, bytes_in}
 use Rattle.kc_tree_model.specs.Reading.{Outcome, read_lines, read_file, statement_on_line, with_statement, with_group, at_file_end, ended_by_fault, continue_after_line, continue_after_statement}
 use Rattle.kc_listing.specs.declared.state.ReaderState.{ReaderState}
-use Rattle.kc_listing.specs.ListingView.{RepresentsListing}
+use Rattle.kc_listing.specs.between.ListingView.{RepresentsListing}
 use Rattle.kc_listing.specs.checker.LinePlaces.{IsLogicalAt, IsLineAt}
 use Rattle.kc_listing.specs.checker.StateViews.{Describes, at_line}
 use Rattle.kc_listing.specs.checker.Faults.{IsMemory, fault_in}
@@ -22,7 +23,8 @@ use Rattle.std.proofs.lemmas.List.Sums.{take_while-cons}
 use Rattle.std.proofs.Math.Dec.{eqb-suc-zero}
 use Rattle.std.specs.Str.{is_utf8, IsUtf8}
 use Rattle.std.proofs.lemmas.Str.{is_utf8-from_IsUtf8, IsUtf8-from_is_utf8}
-use Rattle.kc_tree_model.specs.Limits.{max_line_bytes, is_in_list, open_files, files_read, size_in, max_open_files, max_files, max_bytes}
+use Rattle.kc_tree_model.specs.Limits.{is_in_list, open_files, files_read, size_in}
+use Rattle.kc_value.specs.declared.limits.TheConstants.{MAX_LINE_BYTES, MAX_OPEN_FILES, MAX_FILES, MAX_TREE_BYTES}
 use Rattle.kc_tree_model.specs.declared.fault.TreeKind.TheVariants.{LineTooLong, NotUtf8, SourceLoop, MissingFile, TooDeep, TooMany}
 use Rattle.kc_listing.specs.declared.lines.PhysicalLine.{PhysicalLine}
 use Rattle.kc_listing.specs.checker.LinePlaces.{is_of_help, line_of}
@@ -163,21 +165,21 @@ module _ (r : FileSource) (sub : List ℕ → List Group → Outcome) (file line
   source_done new (Err f) s n a = inl a
 
 -- the tests of a line's bytes
-pub too_long : (read : List Group) (number : ℕ) (help : Bool) (text : List ℕ) → nat_lt max_line_bytes (length text) ≡ true → statement_on_line read (record { number = number; text = text; help = help }) ≡ Err LineTooLong
+pub too_long : (read : List Group) (number : ℕ) (help : Bool) (text : List ℕ) → nat_lt MAX_LINE_BYTES (length text) ≡ true → statement_on_line read (record { number = number; text = text; help = help }) ≡ Err LineTooLong
 unfolding statement_on_line
 too_long read number help text e = rw e refl
 
-pub no_text : (read : List Group) (number : ℕ) (help : Bool) (text : List ℕ) → nat_lt max_line_bytes (length text) ≡ false → is_utf8 text ≡ false → statement_on_line read (record { number = number; text = text; help = help }) ≡ Err NotUtf8
+pub no_text : (read : List Group) (number : ℕ) (help : Bool) (text : List ℕ) → nat_lt MAX_LINE_BYTES (length text) ≡ false → is_utf8 text ≡ false → statement_on_line read (record { number = number; text = text; help = help }) ≡ Err NotUtf8
 unfolding statement_on_line
 no_text read number help text e u = rw (e, u) refl
 
-help_says : (read : List Group) (number : ℕ) (text : List ℕ) → nat_lt max_line_bytes (length text) ≡ false → is_utf8 text ≡ true → statement_on_line read (record { number = number; text = text; help = true }) ≡ Ok None
+help_says : (read : List Group) (number : ℕ) (text : List ℕ) → nat_lt MAX_LINE_BYTES (length text) ≡ false → is_utf8 text ≡ true → statement_on_line read (record { number = number; text = text; help = true }) ≡ Ok None
 unfolding statement_on_line
 help_says read number text e u = rw (e, u) refl
 
 -- one line of a help text
 help_one : (sub : List ℕ → List Group → Outcome) (r : FileSource) (read : List Group) (file : ℕ) (bytes : List ℕ) (begin n left : ℕ) (p : PhysicalLine) → 0 < left → IsLineAt bytes begin p
-    → nat_lt max_line_bytes (length (slice_range bytes begin p.end)) ≡ false → is_utf8 (slice_range bytes begin p.end) ≡ true
+    → nat_lt MAX_LINE_BYTES (length (slice_range bytes begin p.end)) ≡ false → is_utf8 (slice_range bytes begin p.end) ≡ true
     → read_lines sub r file (logical_lines_from 0 left n (physical_lines (drop begin bytes))) read ≡ read_lines sub r file (logical_lines_from 0 (left - 1) (n + 1) (physical_lines (drop p.next bytes))) read
 help_one sub r read file bytes begin n zero p h l e u = absurd (omega arith)
 help_one sub r read file bytes begin n (suc k) p h l e u =
@@ -215,7 +217,7 @@ module _ (file : ℕ) (bytes : List ℕ) (at number columns begin lines : ℕ) (
     pub help_stops : is_of_help columns (line_of bytes begin p) ≡ false → HelpRead file bytes at number (indented columns bytes at) (Ok (begin, lines))
     help_stops e = help_done (indented_none columns bytes begin p l e)
 
-    pub indented_more : is_of_help columns (line_of bytes begin p) ≡ true → nat_lt max_line_bytes (length (slice_range bytes begin p.end)) ≡ false → is_utf8 (slice_range bytes begin p.end) ≡ true
+    pub indented_more : is_of_help columns (line_of bytes begin p) ≡ true → nat_lt MAX_LINE_BYTES (length (slice_range bytes begin p.end)) ≡ false → is_utf8 (slice_range bytes begin p.end) ≡ true
         → IsIndentedLeft file bytes at number columns p.next (lines + 1)
     indented_more i e u =
         let n = indented_one columns bytes begin p l i in
@@ -275,39 +277,39 @@ module _ (r : FileSource) (before : List Group) (path : List ℕ) where
   unfolding source_fault
   source_missing a b = rw (a, b) refl
 
-  pub source_deep : is_in_list path (open_files r before) ≡ false → is_some (r.bytes path) ≡ true → nat_le max_open_files (length (open_files r before)) ≡ true → source_fault r before path ≡ Some TooDeep
+  pub source_deep : is_in_list path (open_files r before) ≡ false → is_some (r.bytes path) ≡ true → nat_le MAX_OPEN_FILES (length (open_files r before)) ≡ true → source_fault r before path ≡ Some TooDeep
   unfolding source_fault
   source_deep a b c = rw (a, b, c) refl
 
-  pub source_many : is_in_list path (open_files r before) ≡ false → is_some (r.bytes path) ≡ true → nat_le max_open_files (length (open_files r before)) ≡ false → nat_le max_files (length (files_read r before)) ≡ true → source_fault r before path ≡ Some TooMany
+  pub source_many : is_in_list path (open_files r before) ≡ false → is_some (r.bytes path) ≡ true → nat_le MAX_OPEN_FILES (length (open_files r before)) ≡ false → nat_le MAX_FILES (length (files_read r before)) ≡ true → source_fault r before path ≡ Some TooMany
   unfolding source_fault
   source_many a b c d = rw (a, b, c, d) refl
 
-  pub source_large : is_in_list path (open_files r before) ≡ false → is_some (r.bytes path) ≡ true → nat_le max_open_files (length (open_files r before)) ≡ false → nat_le max_files (length (files_read r before)) ≡ false
-      → nat_lt max_bytes (sum_by (size_in r) (files_read r before) + size_in r path) ≡ true → source_fault r before path ≡ Some TooMany
+  pub source_large : is_in_list path (open_files r before) ≡ false → is_some (r.bytes path) ≡ true → nat_le MAX_OPEN_FILES (length (open_files r before)) ≡ false → nat_le MAX_FILES (length (files_read r before)) ≡ false
+      → nat_lt MAX_TREE_BYTES (sum_by (size_in r) (files_read r before) + size_in r path) ≡ true → source_fault r before path ≡ Some TooMany
   unfolding source_fault
   source_large a b c d e = rw (a, b, c, d, e) refl
 
-  pub source_fits : is_in_list path (open_files r before) ≡ false → is_some (r.bytes path) ≡ true → nat_le max_open_files (length (open_files r before)) ≡ false → nat_le max_files (length (files_read r before)) ≡ false
-      → nat_lt max_bytes (sum_by (size_in r) (files_read r before) + size_in r path) ≡ false → source_fault r before path ≡ None
+  pub source_fits : is_in_list path (open_files r before) ≡ false → is_some (r.bytes path) ≡ true → nat_le MAX_OPEN_FILES (length (open_files r before)) ≡ false → nat_le MAX_FILES (length (files_read r before)) ≡ false
+      → nat_lt MAX_TREE_BYTES (sum_by (size_in r) (files_read r before) + size_in r path) ≡ false → source_fault r before path ≡ None
   unfolding source_fault
   source_fits a b c d e = rw (a, b, c, d, e) refl
 
 -- the limits of files, by numbers
-pub deep_is : (n k : ℕ) → n ≡ k + 1 → 31 ≤ k → nat_le max_open_files n ≡ true
+pub deep_is : (n k : ℕ) → n ≡ k + 1 → 31 ≤ k → nat_le MAX_OPEN_FILES n ≡ true
 deep_is n k e h = grind (arith, nat_tests)
 
-pub deep_not : (n k : ℕ) → n ≡ k + 1 → k < 31 → nat_le max_open_files n ≡ false
+pub deep_not : (n k : ℕ) → n ≡ k + 1 → k < 31 → nat_le MAX_OPEN_FILES n ≡ false
 deep_not n k e h = grind (arith, nat_tests)
 
-pub many_is : (n k : ℕ) → k ≡ n → 4096 ≤ k → nat_le max_files n ≡ true
+pub many_is : (n k : ℕ) → k ≡ n → MAX_FILES ≤ k → nat_le MAX_FILES n ≡ true
 many_is n k e h = grind (arith, nat_tests)
 
-pub many_not : (n k : ℕ) → k ≡ n → k < 4096 → nat_le max_files n ≡ false
+pub many_not : (n k : ℕ) → k ≡ n → k < MAX_FILES → nat_le MAX_FILES n ≡ false
 many_not n k e h = grind (arith, nat_tests)
 
-pub large_is : (n m k l : ℕ) → k ≡ n → l ≡ m → 67108864 < k + l → nat_lt max_bytes (n + m) ≡ true
+pub large_is : (n m k l : ℕ) → k ≡ n → l ≡ m → MAX_TREE_BYTES < k + l → nat_lt MAX_TREE_BYTES (n + m) ≡ true
 large_is n m k l e f h = grind (arith, nat_tests)
 
-pub large_not : (n m k l : ℕ) → k ≡ n → l ≡ m → k + l ≤ 67108864 → nat_lt max_bytes (n + m) ≡ false
+pub large_not : (n m k l : ℕ) → k ≡ n → l ≡ m → k + l ≤ MAX_TREE_BYTES → nat_lt MAX_TREE_BYTES (n + m) ≡ false
 large_not n m k l e f h = grind (arith, nat_tests)

@@ -2,7 +2,7 @@
 use Rattle.std.proofs.Common.{◌≡◌, ◌⊎◌, inl, inr, ℕ, ◌≤◌, ◌<◌, true, false, List, [], ◌∷◌, length, refl, ap, sym, arith, Option, Some, None, Result, Err}
 use Rattle.std.specs.Prelude.{is_some, nat_lt}
 use Rattle.std.proofs.lemmas.Bool.{lt-ltb, le-ltb}
-use Rattle.kc_expr.specs.Arena.{Exprs}
+use Rattle.kc_expr.specs.between.Arena.{Exprs}
 use Rattle.kc_tree_model.specs.declared.fault.TreeFault.{TreeFault}
 use Rattle.kc_tree_model.specs.declared.fault.TreeKind.{TreeKind}
 use Rattle.kc_tree_model.specs.declared.fault.TreeKind.TheVariants.{MissingFile, TooMany, OutOfMemory}
@@ -13,9 +13,9 @@ use Rattle.kc_listing.specs.declared.listing.Line.{Line as CodeLine}
 use Rattle.kc_listing.specs.declared.listing.Listing.{Listing}
 use Rattle.kc_listing.specs.declared.state.ReaderState.{ReaderState}
 use Rattle.kc_listing.specs.declared.state.SourceFiles.{SourceFiles}
-use Rattle.kc_listing.specs.SymbolTable.{number_in}
-use Rattle.kc_listing.specs.ListingView.{RepresentsListing, RepresentsLists}
-use Rattle.kc_listing.specs.MemoryFaults.{no_memory}
+use Rattle.kc_listing.specs.between.SymbolTable.{number_in}
+use Rattle.kc_listing.specs.between.ListingView.{RepresentsListing, RepresentsLists}
+use Rattle.kc_listing.specs.between.MemoryFaults.{no_memory}
 use Rattle.kc_listing.specs.checker.Faults.{fault_in}
 use Rattle.kc_listing.specs.checker.StateViews.{Describes, file_source_of, at_line}
 use Rattle.kc_listing.specs.checker.Roots.{OutcomeRead, of_first}

@@ -3,22 +3,25 @@ use Rattle.std.proofs.Common.{◌≡◌, ◌⊎◌, inl, inr, ℕ, Bool, true, f
 use Rattle.std.proofs.lemmas.List.{append-nil}
 use Rattle.std.specs.Str.{is_utf8}
 use Rattle.std.specs.Prelude.{length, nat_lt}
-use Rattle.kc_expr.specs.Arena.{Exprs, Grows}
-use Rattle.kc_expr.specs.Results.{with_front}
+use Rattle.kc_expr.specs.between.Arena.{Exprs, Grows}
+use Rattle.kc_expr.specs.Token.{with_front}
 use Rattle.kc_expr.specs.Token.{Lexeme, lexemes_from}
 use Rattle.kc_expr.specs.declared.fault.ExprFault.{ExprFault}
 use Rattle.kc_expr.specs.declared.fault.ExprKind.TheVariants as expr_kinds
 use Rattle.kc_tree_model.specs.declared.fault.TreeKind.{TreeKind}
 use Rattle.kc_tree_model.specs.declared.fault.TreeKind.TheVariants.{OutOfMemory, UnknownStatement, LeftOut, Misplaced, StrayEnd, TooDeep, TooMany}
-use Rattle.kc_tree_model.specs.Keywords.{Keyword, help_word, keyword_of}
+use Rattle.kc_tree_model.specs.Keywords.{keyword_of}
+use Rattle.kc_tree_model.specs.declared.keyword.Keyword.{Keyword}
+use Rattle.kc_tree_model.specs.declared.keyword.Keyword.TheVariants as words
 use Rattle.kc_tree_model.specs.LogicalLines.{is_help, is_help_word, begins_help}
 use Rattle.kc_tree_model.specs.Statements.{Head, Attribute, Statement, head, attribute, source, path_of_head}
 use Rattle.kc_tree_model.specs.Forms.{statement_of, kind_of_fault, ◌>>=◌}
 use Rattle.kc_tree_model.specs.Placement.{is_allowed, is_left_out, is_stray_end}
 use Rattle.kc_tree_model.specs.Blocks.{Group}
-use Rattle.kc_tree_model.specs.Limits.{FileSource, max_line_bytes, is_too_deep, is_too_many, too_many_by_attribute}
+use Rattle.kc_tree_model.specs.Limits.{FileSource, is_too_deep, is_too_many, too_many_by_attribute}
+use Rattle.kc_value.specs.declared.limits.TheConstants.{MAX_LINE_BYTES}
 use Rattle.kc_tree_model.specs.Reading.{unless, statement_by_keyword, statement_of_tokens, statement_by_word, statement_or_fault, statement_on_line}
-use Rattle.kc_listing.specs.ListingView.{RepresentsListing}
+use Rattle.kc_listing.specs.between.ListingView.{RepresentsListing}
 use Rattle.kc_listing.specs.declared.listing.Listing.{Listing}
 use Rattle.kc_listing.specs.declared.state.ReaderState.{ReaderState}
 use Rattle.kc_listing.specs.declared.state.Step.{Step}
@@ -104,11 +107,11 @@ no_help k (t ∷ ts) e = refl
 
 a_help : (k : Keyword) (ts : List Lexeme) (s : Statement) → is_help_word (Some k) ≡ true → statement_of k ts ≡ Ok s → begins_with k ts ≡ true
 a_help k [] s e h = e
-a_help help_word (t ∷ ts) s e h = cc
+a_help words.Help (t ∷ ts) s e h = cc
 a_help k (t ∷ ts) s e h = cc
 
 no_help_of_source : (k : Keyword) (ts : List Lexeme) (path : List ℕ) → statement_of k ts ≡ Ok (head (source path)) → begins_with k ts ≡ false
-no_help_of_source help_word [] path h = cc
+no_help_of_source words.Help [] path h = cc
 no_help_of_source k [] path h = refl
 no_help_of_source k (t ∷ ts) path h = refl
 
@@ -164,11 +167,11 @@ behind_none (Ok ts) = refl
 behind_none (Err e) = refl
 
 -- the line
-says_tokens : (before : List Group) (line : ℕ) (text : List ℕ) → nat_lt max_line_bytes (length text) ≡ false → is_utf8 text ≡ true → statement_on_line before (line_here line text) ≡ statement_or_fault before (lexemes_from 0 0 text)
+says_tokens : (before : List Group) (line : ℕ) (text : List ℕ) → nat_lt MAX_LINE_BYTES (length text) ≡ false → is_utf8 text ≡ true → statement_on_line before (line_here line text) ≡ statement_or_fault before (lexemes_from 0 0 text)
 unfolding statement_on_line
 says_tokens before line text e u = rw (e, u) refl
 
-module _ (r : FileSource) (file line : ℕ) (before : List Group) (text : List ℕ) (new : ReaderState) (short : nat_lt max_line_bytes (length text) ≡ false) (utf8 : is_utf8 text ≡ true) where
+module _ (r : FileSource) (file line : ℕ) (before : List Group) (text : List ℕ) (new : ReaderState) (short : nat_lt MAX_LINE_BYTES (length text) ≡ false) (utf8 : is_utf8 text ≡ true) where
   pub line_of_tokens : (ts : List Lexeme) (result : Result Step TreeKind) → lexemes_from 0 0 text ≡ Ok ts → ReturnsStatementRead r file line (statement_of_tokens before ts) (is_help ts) before new result → LineRead r file line text before new result
   line_of_tokens ts (Ok Next) e g = record {
     statement = g.statement;

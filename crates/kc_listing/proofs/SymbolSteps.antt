@@ -5,12 +5,12 @@ use Rattle.std.proofs.Math.Seq.{take-length}
 use Rattle.std.proofs.lemmas.List.{get_or-append_right}
 use Rattle.std.proofs.lemmas.Option.{slice_get-get_or}
 use Rattle.std.proofs.lemmas.Bool.Decides.{nat_tests}
-use Rattle.kc_expr.specs.Arena.{Exprs, Grows}
+use Rattle.kc_expr.specs.between.Arena.{Exprs, Grows}
 use Rattle.kc_expr.specs.Lookup.{index_of_name}
-use Rattle.kc_tree_model.specs.Limits.{max_symbols}
+use Rattle.kc_value.specs.declared.limits.TheConstants.{MAX_SYMBOLS}
 use Rattle.kc_tree_model.specs.declared.fault.TreeKind.{TreeKind}
 use Rattle.kc_tree_model.specs.declared.fault.TreeKind.TheVariants.{OutOfMemory}
-use Rattle.kc_listing.specs.SymbolTable.{number_in_slot, HasNames}
+use Rattle.kc_listing.specs.between.SymbolTable.{number_in_slot, HasNames}
 use Rattle.kc_listing.specs.declared.listing.SymbolTable.{SymbolTable}
 use Rattle.kc_listing.specs.checker.Symbols.{is_full, KeepsNames, ReturnsSymbol}
 use Rattle.kc_listing.proofs.NameLemmas.{with_new, full_is, as_many_names}
@@ -24,10 +24,10 @@ pub place_known : (e : Exprs) (symbols numbers : List ℕ) (names : List (List �
 place_known e symbols numbers names x id h p = sym (h.numbered x) ∙ ap (option_and_then (λ i. number_in_slot (get_or numbers i 0))) p
 
 -- where there may be one more
-most_is : (n k : ℕ) → k ≡ n → 1000000 ≤ k → nat_le max_symbols n ≡ true
+most_is : (n k : ℕ) → k ≡ n → MAX_SYMBOLS ≤ k → nat_le MAX_SYMBOLS n ≡ true
 most_is n k e h = grind (arith, nat_tests)
 
-most_not : (n k : ℕ) → k ≡ n → k < 1000000 → nat_le max_symbols n ≡ false
+most_not : (n k : ℕ) → k ≡ n → k < MAX_SYMBOLS → nat_le MAX_SYMBOLS n ≡ false
 most_not n k e h = grind (arith, nat_tests)
 
 -- the last one

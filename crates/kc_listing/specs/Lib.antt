@@ -1,4 +1,2 @@
-pub mod SymbolTable
-pub mod ListingView
-pub mod MemoryFaults
+pub mod between
 pub mod checker

@@ -1,18 +1,17 @@
 //! Appends statements to the listing.
 ghost use Rattle.std.specs.Prelude.{◌≡◌, ◌<◌, ◌+◌, ◌≤◌, ℕ, false, length, slice_get, List, None, Some, IfOk, IfErr, OnOk};
+ghost use Rattle.kc_value.specs.declared.limits.TheConstants.{MAX_CHOICES, MAX_FILES, MAX_TREE_BYTES};
 ghost use Rattle.kc_tree_model.specs.declared.fault.TreeKind.TheVariants.{OutOfMemory};
 ghost use Rattle.kc_tree_model.specs.Blocks.{Group as Placed, GroupHead as Meant, of_head, closing, inside, side_of, from_head};
-ghost use Rattle.kc_tree_model.specs.Statements.{name_of_head, block_of_head, same_block, choice_block, choice, source};
+ghost use Rattle.kc_tree_model.specs.Statements.{name_of_head, block_of_head, same_block, choice, source};
 ghost use Rattle.kc_tree_model.specs.Limits.{FileSource, size_in};
 ghost use Rattle.kc_tree_model.specs.Reading.{with_group};
-ghost use Rattle.kc_statements.specs.KeywordViews.{block_view};
-ghost use Rattle.kc_listing.specs.ListingView.{RepresentsListing};
+ghost use Rattle.kc_listing.specs.between.ListingView.{RepresentsListing};
 ghost use Rattle.kc_listing.specs.checker.StateViews.{Describes, IsMeant, at_line};
 
 use super::listing::{Group, GroupHead, Listing};
 use super::state::{OpenBlock, ReaderState};
-use kc_statements::Block;
-use kc_tree_model::TreeKind;
+use kc_tree_model::{Block, TreeKind};
 use kc_value::Text;
 
 /// Appends a group that defines no symbol.
@@ -20,9 +19,9 @@ pub(crate) fn push_group(
     listing: &mut Listing,
     file: u32,
     line: u32,
-    what: GroupHead,
+    head: GroupHead,
 ) -> Result<(), TreeKind>
-    ensures put { (before : List Placed) (m : Meant) → RepresentsListing listing.old before → IsMeant listing.old before what m
+    ensures put { (before : List Placed) (m : Meant) → RepresentsListing listing.old before → IsMeant listing.old before head m
         → from_head name_of_head m ≡ None → OnOk result (RepresentsListing listing.new (with_group (at_line file line) m before)) }
     ensures texts { listing.new.texts ≡ listing.old.texts }
     ensures memory { IfErr result (λ k. k ≡ OutOfMemory) }
@@ -31,7 +30,7 @@ pub(crate) fn push_group(
     let Ok(()) = listing.groups.push(Group {
         file,
         line,
-        what,
+        head,
         attributes,
     })
     else {
@@ -45,14 +44,14 @@ pub(crate) fn push_end(
     read: &mut ReaderState,
     file: u32,
     line: u32,
-    what: GroupHead,
+    head: GroupHead,
 ) -> Result<(), TreeKind>
-    ensures put { (r : FileSource) (before : List Placed) (m : Meant) → Describes r read.old before → IsMeant read.old.listing before what m
+    ensures put { (r : FileSource) (before : List Placed) (m : Meant) → Describes r read.old before → IsMeant read.old.listing before head m
         → side_of m ≡ closing → OnOk result (Describes r read.new (with_group (at_line file line) m before)) }
     ensures memory { IfErr result (λ k. k ≡ OutOfMemory) }
 {
     let _ = read.stack.pop();
-    push_group(&mut read.listing, file, line, what)
+    push_group(&mut read.listing, file, line, head)
 }
 
 /// Appends a statement that defines, opens and ends nothing.
@@ -60,13 +59,13 @@ pub(crate) fn push_plain(
     read: &mut ReaderState,
     file: u32,
     line: u32,
-    what: GroupHead,
+    head: GroupHead,
 ) -> Result<(), TreeKind>
-    ensures put { (r : FileSource) (before : List Placed) (m : Meant) → Describes r read.old before → IsMeant read.old.listing before what m
+    ensures put { (r : FileSource) (before : List Placed) (m : Meant) → Describes r read.old before → IsMeant read.old.listing before head m
         → side_of m ≡ inside → from_head name_of_head m ≡ None → OnOk result (Describes r read.new (with_group (at_line file line) m before)) }
     ensures memory { IfErr result (λ k. k ≡ OutOfMemory) }
 {
-    push_group(&mut read.listing, file, line, what)
+    push_group(&mut read.listing, file, line, head)
 }
 
 /// Appends the statement that opens a menu or an `if`.
@@ -74,18 +73,18 @@ pub(crate) fn push_block(
     read: &mut ReaderState,
     file: u32,
     line: u32,
-    what: GroupHead,
+    head: GroupHead,
     block: Block,
 ) -> Result<(), TreeKind>
-    ensures put { (r : FileSource) (before : List Placed) (m : Meant) → Describes r read.old before → IsMeant read.old.listing before what m
-        → from_head block_of_head m ≡ Some (block_view block) → same_block choice_block (block_view block) ≡ false
+    ensures put { (r : FileSource) (before : List Placed) (m : Meant) → Describes r read.old before → IsMeant read.old.listing before head m
+        → from_head block_of_head m ≡ Some block → same_block Block.Choice block ≡ false
         → OnOk result (Describes r read.new (with_group (at_line file line) m before)) }
     ensures memory { IfErr result (λ k. k ≡ OutOfMemory) }
 {
     let Ok(()) = read.stack.push(OpenBlock::Block(block, line)) else {
         return Err(TreeKind::OutOfMemory);
     };
-    push_group(&mut read.listing, file, line, what)
+    push_group(&mut read.listing, file, line, head)
 }
 
 /// Appends the statement that opens a choice.
@@ -94,7 +93,7 @@ pub(crate) fn push_choice_group(
     file: u32,
     line: u32,
 ) -> Result<(), TreeKind>
-    requires { read.old.choices < 4096 }
+    requires { read.old.choices < MAX_CHOICES }
     ensures put { (r : FileSource) (before : List Placed) → Describes r read.old before
         → OnOk result (Describes r read.new (with_group (at_line file line) (of_head choice) before)) }
     ensures memory { IfErr result (λ k. k ≡ OutOfMemory) }
@@ -129,8 +128,8 @@ pub(crate) fn push_source(
     place: usize,
     size: usize,
 ) -> Result<(), TreeKind>
-    requires files { read.old.files < 4096 }
-    requires bytes { read.old.bytes + size ≤ 67108864 }
+    requires files { read.old.files < MAX_FILES }
+    requires bytes { read.old.bytes + size ≤ MAX_TREE_BYTES }
     ensures put { (r : FileSource) (before : List Placed) (path : List ℕ) → Describes r read.old before → slice_get read.old.listing.texts.items place ≡ Some path → size ≡ size_in r path
         → OnOk result (Describes r read.new (with_group (at_line file line) (of_head (source path)) before)) }
     ensures memory { IfErr result (λ k. k ≡ OutOfMemory) }

@@ -2,16 +2,16 @@
 ghost use Rattle.std.specs.Prelude.{◌≡◌, List};
 ghost use Rattle.kc_tree_model.specs.Blocks.{Group as Placed};
 ghost use Rattle.kc_tree_model.specs.Limits.{FileSource, too_many_by_attribute};
-ghost use Rattle.kc_statements.specs.StatementViews.{attribute_in, AttributeNodesExist};
+ghost use Rattle.kc_statements.specs.between.StatementViews.{attribute_in, AttributeNodesExist};
 ghost use Rattle.kc_listing.specs.checker.StateViews.{Describes};
 ghost use Rattle.kc_listing.specs.checker.Steps.{AppendsAttribute};
 
-use super::heads::MAX_NAME;
 use super::listing::Line;
 use super::state::ReaderState;
 use kc_expr::Arena;
 use kc_statements::Attribute;
 use kc_tree_model::TreeKind;
+use kc_value::MAX_NAME_BYTES;
 
 /// Whether an attribute selects or implies a name that is too long.
 fn has_long_name(arena: &Arena, attribute: &Attribute) -> bool
@@ -19,8 +19,8 @@ fn has_long_name(arena: &Arena, attribute: &Attribute) -> bool
     ensures { result ≡ too_many_by_attribute (attribute_in arena.now attribute.now) }
 {
     match attribute {
-        Attribute::Select(aimed) => arena.name(aimed.name).len() > MAX_NAME,
-        Attribute::Imply(aimed) => arena.name(aimed.name).len() > MAX_NAME,
+        Attribute::Select(aimed) => arena.name(aimed.name).len() > MAX_NAME_BYTES,
+        Attribute::Imply(aimed) => arena.name(aimed.name).len() > MAX_NAME_BYTES,
         _ => false,
     }
 }

@@ -1,10 +1,9 @@
 //! Statements that close the open entry, and their limits.
 ghost use Rattle.std.specs.Prelude.{◌≡◌, ◌<◌, ℕ, List, length, count_by, nat_le};
-ghost use Rattle.kc_expr.specs.Arena.{node_expr};
+ghost use Rattle.kc_expr.specs.between.Arena.{node_expr};
 ghost use Rattle.kc_tree_model.specs.Blocks.{Group as Placed};
 ghost use Rattle.kc_tree_model.specs.Limits.{FileSource};
 ghost use Rattle.kc_tree_model.specs.Statements.{config, choice, menu, condition, comment, mainmenu, ends};
-ghost use Rattle.kc_statements.specs.KeywordViews.{block_view};
 ghost use Rattle.kc_listing.specs.checker.StateViews.{Describes};
 ghost use Rattle.kc_listing.specs.checker.OpenBlockViews.{is_block};
 ghost use Rattle.kc_listing.specs.checker.Steps.{AppendsHead};
@@ -14,24 +13,14 @@ use super::listing::{Group, GroupHead};
 use super::open_blocks::open_block_count;
 use super::state::{OpenBlock, ReaderState};
 use kc_expr::ExprId;
-use kc_statements::Block;
-use kc_tree_model::TreeKind;
-use kc_value::Text;
-
-/// The most blocks within each other, over all open files.
-const MAX_BLOCKS: usize = 64;
-
-/// The most choices of a tree.
-const MAX_CHOICES: usize = 4_096;
-
-/// The most bytes of a name.
-pub(crate) const MAX_NAME: usize = 256;
+use kc_tree_model::{Block, TreeKind};
+use kc_value::{MAX_CHOICES, MAX_NAME_BYTES, MAX_OPEN_BLOCKS, Text};
 
 /// Whether the limit of open blocks is reached.
 fn is_at_block_limit(stack: &[OpenBlock]) -> bool
-    ensures { result ≡ nat_le 64 (count_by is_block stack.now) }
+    ensures { result ≡ nat_le MAX_OPEN_BLOCKS (count_by is_block stack.now) }
 {
-    open_block_count(stack) >= MAX_BLOCKS
+    open_block_count(stack) >= MAX_OPEN_BLOCKS
 }
 
 /// Puts a menu.
@@ -111,7 +100,7 @@ pub(crate) fn push_block_end(
     line: u32,
     block: Block,
 ) -> Result<(), TreeKind>
-    ensures { (r : FileSource) (before : List Placed) → Describes r read.old before → AppendsHead r file line before (ends (block_view block)) read.new result }
+    ensures { (r : FileSource) (before : List Placed) → Describes r read.old before → AppendsHead r file line before (ends block) read.new result }
 {
     push_end(read, file, line, GroupHead::Ends(block))
 }
@@ -125,7 +114,7 @@ pub(crate) fn push_config(
 ) -> Result<(), TreeKind>
     ensures { (r : FileSource) (before : List Placed) → Describes r read.old before → AppendsHead r file line before (config name.now) read.new result }
 {
-    if name.len() > MAX_NAME {
+    if name.len() > MAX_NAME_BYTES {
         return Err(TreeKind::TooMany);
     }
     let number = match read.listing.names.symbol_of(name) {
@@ -136,7 +125,7 @@ pub(crate) fn push_config(
     let Ok(()) = read.listing.groups.push(Group {
         file,
         line,
-        what: GroupHead::Config(number),
+        head: GroupHead::Config(number),
         attributes,
     })
     else {

@@ -6,7 +6,6 @@ ghost use Rattle.kc_tree_model.specs.Blocks.{Group};
 ghost use Rattle.kc_tree_model.specs.Limits.{FileSource};
 ghost use Rattle.kc_tree_model.specs.LogicalLines.{is_help, is_help_word};
 ghost use Rattle.kc_tree_model.specs.Reading.{statement_of_tokens, statement_by_keyword};
-ghost use Rattle.kc_statements.specs.KeywordViews.{keyword_view};
 ghost use Rattle.kc_listing.specs.checker.StateViews.{Describes, file_source_of};
 ghost use Rattle.kc_listing.specs.checker.StatementResults.{begins_with, ReturnsStatementRead};
 ghost use Rattle.kc_listing.specs.checker.Steps.{LineRead};
@@ -16,13 +15,13 @@ use super::state::{ReaderState, SourceFiles, Step};
 use super::statements::push_statement;
 use super::text::text_of;
 use kc_expr::{Token, push_tokens};
-use kc_statements::{Keyword, keyword_of, statement_of, tree_kind_of};
-use kc_tree_model::TreeKind;
+use kc_statements::{keyword_of, statement_of, tree_kind_of};
+use kc_tree_model::{Keyword, TreeKind};
 use std::borrow::CowSlice;
 
 /// Whether a keyword begins a help text.
 fn is_help_keyword(keyword: Keyword) -> bool
-    ensures { result ≡ is_help_word (Some (keyword_view keyword)) }
+    ensures { result ≡ is_help_word (Some keyword) }
 {
     matches!(keyword, Keyword::Help)
 }
@@ -36,7 +35,7 @@ fn read_form(
     tokens: &[Token<'_>],
 ) -> Result<Step, TreeKind>
     ensures { (r : FileSource) (before : List Group) → Describes r read.old before
-        → ReturnsStatementRead r file line (statement_by_keyword before (keyword_view keyword) (lexemes_of tokens.now)) (begins_with (keyword_view keyword) (lexemes_of tokens.now)) before read.new result }
+        → ReturnsStatementRead r file line (statement_by_keyword before keyword (lexemes_of tokens.now)) (begins_with keyword (lexemes_of tokens.now)) before read.new result }
 {
     if let Some(kind) = fault_before_form(read, keyword, tokens) {
         return Err(kind);

@@ -1,6 +1,7 @@
 //! The statements of a tree's files.
 use kc_expr::{Arena, ExprId, NameId};
-use kc_statements::{Attribute, Block};
+use kc_statements::Attribute;
+use kc_tree_model::Block;
 use kc_value::Text;
 
 /// A statement that closes the open entry, or the end of a sourced file. A symbol is told by its number in order of
@@ -23,7 +24,7 @@ pub enum GroupHead {
 pub struct Group {
     pub file: u32,
     pub line: u32,
-    pub what: GroupHead,
+    pub head: GroupHead,
     pub attributes: usize,
 }
 

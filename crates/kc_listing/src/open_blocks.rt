@@ -4,7 +4,7 @@ ghost use Rattle.std.specs.List.{list_any};
 ghost use Rattle.kc_listing.specs.checker.OpenBlockViews.{is_block, is_file, is_choice, is_file_of, block_kept};
 
 use super::state::OpenBlock;
-use kc_statements::Block;
+use kc_tree_model::Block;
 use kc_value::Text;
 
 /// How many blocks are open, over all open files.

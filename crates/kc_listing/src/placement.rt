@@ -5,7 +5,6 @@ ghost use Rattle.kc_tree_model.specs.Blocks.{Group as Placed};
 ghost use Rattle.kc_tree_model.specs.Limits.{FileSource};
 ghost use Rattle.kc_tree_model.specs.Placement.{is_allowed as allowed, is_stray_end, is_choice_open};
 ghost use Rattle.kc_tree_model.specs.Statements.{same_block as same};
-ghost use Rattle.kc_statements.specs.KeywordViews.{keyword_view, block_view, open_entry_view};
 ghost use Rattle.kc_listing.specs.checker.LinePlacement.{place_of_keyword, block_ended, entry_kept, fault_before};
 ghost use Rattle.kc_listing.specs.checker.StateViews.{Describes};
 
@@ -13,8 +12,8 @@ use super::listing::{Group, GroupHead};
 use super::open_blocks::{in_choice, innermost, open_block_count};
 use super::state::ReaderState;
 use kc_expr::Token;
-use kc_statements::{Block, Keyword, OpenEntry, allows_attribute, is_left_out};
-use kc_tree_model::TreeKind;
+use kc_statements::{allows_attribute, is_left_out};
+use kc_tree_model::{Block, Keyword, OpenEntry, TreeKind};
 
 /// Where a line is allowed.
 #[derive(Clone, Copy)]
@@ -49,7 +48,7 @@ fn ended_block(keyword: Keyword) -> Option<Block>
 }
 
 fn same_block(a: Block, b: Block) -> bool
-    ensures { result ≡ same (block_view a) (block_view b) }
+    ensures { result ≡ same a b }
 {
     match a {
         Block::Menu => matches!(b, Block::Menu),
@@ -65,7 +64,7 @@ fn open_entry(groups: &[Group]) -> Option<OpenEntry>
     let Some(group) = groups.last() else {
         return None;
     };
-    match group.what {
+    match group.head {
         GroupHead::Config(_) => Some(OpenEntry::Config),
         GroupHead::Choice => Some(OpenEntry::Choice),
         GroupHead::Menu(_) => Some(OpenEntry::Menu),
@@ -75,14 +74,14 @@ fn open_entry(groups: &[Group]) -> Option<OpenEntry>
 }
 
 fn is_choice(entry: Option<OpenEntry>) -> bool
-    ensures { result ≡ is_choice_open (option_map open_entry_view entry) }
+    ensures { result ≡ is_choice_open entry }
 {
     matches!(entry, Some(OpenEntry::Choice))
 }
 
 /// Whether a line with this keyword is allowed here.
 fn is_allowed(read: &ReaderState, keyword: Keyword) -> bool
-    ensures { (r : FileSource) (before : List Placed) → Describes r read.now before → result ≡ allowed before (keyword_view keyword) }
+    ensures { (r : FileSource) (before : List Placed) → Describes r read.now before → result ≡ allowed before keyword }
 {
     match place_of(keyword) {
         Place::Anywhere => true,
@@ -97,7 +96,7 @@ fn is_allowed(read: &ReaderState, keyword: Keyword) -> bool
 
 /// Whether a line with this keyword ends a block that isn't the innermost of its file.
 fn is_stray(read: &ReaderState, keyword: Keyword) -> bool
-    ensures { (r : FileSource) (before : List Placed) → Describes r read.now before → result ≡ is_stray_end before (keyword_view keyword) }
+    ensures { (r : FileSource) (before : List Placed) → Describes r read.now before → result ≡ is_stray_end before keyword }
 {
     let Some(block) = ended_block(keyword) else {
         return false;
@@ -115,7 +114,7 @@ pub(crate) fn fault_before_form(
     keyword: Keyword,
     tokens: &[Token<'_>],
 ) -> Option<TreeKind>
-    ensures { (r : FileSource) (before : List Placed) → Describes r read.now before → result ≡ fault_before before (keyword_view keyword) (lexemes_of tokens.now) }
+    ensures { (r : FileSource) (before : List Placed) → Describes r read.now before → result ≡ fault_before before keyword (lexemes_of tokens.now) }
 {
     let entry = open_entry(&read.listing.groups);
     if is_left_out(keyword, tokens, is_choice(entry)) {

@@ -2,19 +2,19 @@
 ghost use Rattle.std.specs.Prelude.{◌≡◌, ◌⊎◌, ◌≤◌, [], length, Some};
 ghost use Rattle.kc_tree_model.specs.Limits.{FileSource, size_in, bytes_in};
 ghost use Rattle.kc_tree_model.specs.Reading.{read_root, reading, lenient_reading};
-ghost use Rattle.kc_listing.specs.ListingView.{RepresentsListing};
-ghost use Rattle.kc_listing.specs.MemoryFaults.{no_memory};
+ghost use Rattle.kc_listing.specs.between.ListingView.{RepresentsListing};
+ghost use Rattle.kc_listing.specs.between.MemoryFaults.{no_memory};
 ghost use Rattle.kc_listing.specs.checker.StateViews.{Describes, file_source_of};
 ghost use Rattle.kc_listing.specs.checker.Roots.{OutcomeRead, of_first};
 
 use super::fault::fault_at;
 use super::listing::{Listing, SymbolTable};
 use super::reader::read_open_file;
-use super::sources::{MAX_BYTES, MAX_OPEN_FILES, file_of};
+use super::sources::file_of;
 use super::state::{ReaderState, SourceFile, SourceFiles};
 use kc_expr::Arena;
 use kc_tree_model::{Texts, TreeFault, TreeKind};
-use kc_value::Seed;
+use kc_value::{MAX_OPEN_FILES, MAX_TREE_BYTES, Seed};
 use std::alloc::Global;
 
 impl Listing {
@@ -38,7 +38,7 @@ impl Listing {
 impl ReaderState {
     /// The state before a first file of this size.
     fn new(alloc: Global, seed: Seed, bytes: usize) -> ReaderState
-        requires { bytes ≤ 67108864 }
+        requires { bytes ≤ MAX_TREE_BYTES }
         ensures { (r : FileSource) → bytes ≡ size_in r r.root → Describes r result [] }
     {
         ReaderState {
@@ -58,7 +58,7 @@ fn read_first(
     from: SourceFiles<'_>,
     file: SourceFile<'_>,
 ) -> (Listing, Option<TreeFault>)
-    requires { length file.bytes.now ≤ 67108864 }
+    requires { length file.bytes.now ≤ MAX_TREE_BYTES }
     ensures { file.entry.number ≡ (file_source_of from.entry).number (file_source_of from.entry).root → file.entry.bytes.now ≡ bytes_in (file_source_of from.entry) (file_source_of from.entry).root
         → OutcomeRead (of_first (file_source_of from.entry)) result }
 {
@@ -85,7 +85,7 @@ fn read_all(alloc: Global, from: SourceFiles<'_>) -> (Listing, Option<TreeFault>
             return (Listing::new(alloc, from.texts.seed()), Some(fault));
         }
     };
-    if file.bytes.len() > MAX_BYTES {
+    if file.bytes.len() > MAX_TREE_BYTES {
         let fault = fault_at(file.number, 0, TreeKind::TooMany);
         return (Listing::new(alloc, from.texts.seed()), Some(fault));
     }

@@ -12,16 +12,7 @@ use super::listing::GroupHead;
 use super::open_blocks::{innermost, is_path_open, open_file_count};
 use super::state::{ReaderState, SourceFile, SourceFiles};
 use kc_tree_model::{TreeFault, TreeKind};
-use kc_value::Text;
-
-/// The most files of a tree, one that is read twice counting twice.
-const MAX_FILES: usize = 4_096;
-
-/// The most bytes of all files of a tree.
-pub(crate) const MAX_BYTES: usize = 67_108_864;
-
-/// The most files within each other.
-pub(crate) const MAX_OPEN_FILES: usize = 32;
+use kc_value::{MAX_FILES, MAX_OPEN_FILES, MAX_TREE_BYTES, Text};
 
 /// The file of a path. A file whose number doesn't fit is out of memory.
 pub(crate) fn file_of<'a>(from: SourceFiles<'a>, path: &str) -> Result<SourceFile<'a>, TreeKind>
@@ -50,8 +41,8 @@ fn sourced<'a>(
     from: SourceFiles<'a>,
     path: &str,
 ) -> Result<SourceFile<'a>, TreeKind>
-    ensures few { IfOk result (λ o. read.now.files < 4096) }
-    ensures small { IfOk result (λ o. read.now.bytes + length o.bytes.now ≤ 67108864) }
+    ensures few { IfOk result (λ o. read.now.files < MAX_FILES) }
+    ensures small { IfOk result (λ o. read.now.bytes + length o.bytes.now ≤ MAX_TREE_BYTES) }
     ensures sourced { (before : List Group) → Describes (file_source_of from.entry) read.now before → SourcedFile (file_source_of from.entry) path.now before result }
 {
     if is_open(read, from, path) {
@@ -67,7 +58,7 @@ fn sourced<'a>(
     if read.files >= MAX_FILES {
         return Err(TreeKind::TooMany);
     }
-    if file.bytes.len() > MAX_BYTES - read.bytes {
+    if file.bytes.len() > MAX_TREE_BYTES - read.bytes {
         return Err(TreeKind::TooMany);
     }
     Ok(file)

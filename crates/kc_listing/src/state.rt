@@ -1,9 +1,9 @@
 //! The state of the reader.
 ghost use Rattle.std.specs.Prelude.{◌≤◌};
+ghost use Rattle.kc_value.specs.declared.limits.TheConstants.{MAX_CHOICES, MAX_FILES, MAX_TREE_BYTES};
 
 use super::listing::Listing;
-use kc_statements::Block;
-use kc_tree_model::Texts;
+use kc_tree_model::{Block, Texts};
 use kc_value::Text;
 use std::alloc::Global;
 
@@ -23,9 +23,9 @@ pub(crate) struct ReaderState {
     pub choices: usize,
     pub files: usize,
     pub bytes: usize,
-    ghost few_choices: { choices ≤ 4096 },
-    ghost few_files: { files ≤ 4096 },
-    ghost few_bytes: { bytes ≤ 67108864 },
+    ghost few_choices: { choices ≤ MAX_CHOICES },
+    ghost few_files: { files ≤ MAX_FILES },
+    ghost few_bytes: { bytes ≤ MAX_TREE_BYTES },
 }
 
 /// Where the bytes of paths come from.

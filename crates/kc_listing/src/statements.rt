@@ -3,7 +3,7 @@ ghost use Rattle.std.specs.Prelude.{◌≡◌, List};
 ghost use Rattle.kc_tree_model.specs.Blocks.{Group as Placed};
 ghost use Rattle.kc_tree_model.specs.Limits.{FileSource};
 ghost use Rattle.kc_tree_model.specs.Statements.{head as said_by_head};
-ghost use Rattle.kc_statements.specs.StatementViews.{head_in, HeadNodesExist, statement_in, StatementNodesExist};
+ghost use Rattle.kc_statements.specs.between.StatementViews.{head_in, HeadNodesExist, statement_in, StatementNodesExist};
 ghost use Rattle.kc_listing.specs.checker.StateViews.{Describes};
 ghost use Rattle.kc_listing.specs.checker.StatementResults.{no_path, AppendsStatement};
 

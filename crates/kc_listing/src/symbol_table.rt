@@ -1,18 +1,16 @@
 //! The names of symbols.
 ghost use Rattle.std.specs.Prelude.{◌≡◌, ◌<◌, ◌≤◌, ◌++◌, ◌∷◌, ℕ, List, [], length, None, Some, IfOk, IfErr, OnOk, slice_index};
 ghost use Rattle.kc_tree_model.specs.declared.fault.TreeKind.TheVariants.{OutOfMemory};
-ghost use Rattle.kc_expr.specs.Arena.{Grows};
+ghost use Rattle.kc_expr.specs.between.Arena.{Grows};
 ghost use Rattle.kc_expr.specs.Lookup.{index_of_name};
-ghost use Rattle.kc_listing.specs.SymbolTable.{number_in_slot, number_in, HasNames};
+ghost use Rattle.kc_listing.specs.between.SymbolTable.{number_in_slot, number_in, HasNames};
 ghost use Rattle.kc_listing.specs.checker.Symbols.{ReturnsSymbol};
 
 use super::listing::SymbolTable;
 use kc_expr::NameId;
 use kc_tree_model::TreeKind;
+use kc_value::MAX_SYMBOLS;
 use std::alloc::AllocError;
-
-/// The most symbols of a tree.
-const MAX_SYMBOLS: usize = 1_000_000;
 
 /// The number of the symbol of a name of the arena, if an entry defines it.
 fn number_at(numbers: &[u32], id: NameId) -> Option<u32>
@@ -49,7 +47,7 @@ impl SymbolTable {
     /// The number of a new symbol, whose name is held by the arena.
     fn define(&mut self, id: NameId) -> Result<u32, TreeKind>
         requires held { id < length self.old.arena.names }
-        requires few { length self.old.symbols.items < 1000000 }
+        requires few { length self.old.symbols.items < MAX_SYMBOLS }
         ensures arena { self.new.arena ≡ self.old.arena }
         ensures number { IfOk result (λ n. n ≡ length self.old.symbols.items) }
         ensures named { (name : List ℕ) (names : List (List ℕ)) → HasNames self.old.arena self.old.symbols.items self.old.numbers.items names

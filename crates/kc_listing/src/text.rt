@@ -2,15 +2,13 @@
 ghost use Rattle.kc_listing.specs.checker.Steps.{IsText};
 
 use kc_tree_model::TreeKind;
-
-/// The most bytes of a logical line.
-const MAX_LINE: usize = 65_536;
+use kc_value::MAX_LINE_BYTES;
 
 /// The text of a logical line, unless it is too long or isn't UTF-8.
 pub(crate) fn text_of(bytes: &[u8]) -> Result<&str, TreeKind>
     ensures { IsText bytes.now result }
 {
-    if bytes.len() > MAX_LINE {
+    if bytes.len() > MAX_LINE_BYTES {
         return Err(TreeKind::LineTooLong);
     }
     match str::from_utf8(bytes) {

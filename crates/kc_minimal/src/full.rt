@@ -1,7 +1,7 @@
 //! Full files.
 ghost use Rattle.std.specs.Prelude.{◌≡◌, ◌<◌, ◌++◌, ◌∷◌, ◌&&◌, ℕ, Bool, true, false, not, List, [], length, IfOk, OnOk, slice_index_or, slice_set, if◌then◌else◌};
-ghost use Rattle.kc_expr.specs.Arena.{node_expr};
-ghost use Rattle.kc_tree.specs.Views.{entry_view, EntryFits};
+ghost use Rattle.kc_expr.specs.between.Arena.{node_expr};
+ghost use Rattle.kc_tree.specs.between.Views.{entry_view, EntryFits};
 ghost use Rattle.kc_tree_model.specs.Trees.{Entry as TreeEntry, definition};
 ghost use Rattle.kc_rules_model.specs.Reports.{is_written};
 ghost use Rattle.kc_rules.specs.SettledViews.{tree_of_settled, tree_model_of};

@@ -1,7 +1,8 @@
 //! The line of a symbol's value.
 ghost use Rattle.std.specs.Prelude.{◌≡◌, ◌<◌, ◌++◌, ◌∷◌, ◌&&◌, [], length, OnOk};
 ghost use Rattle.kc_expr.specs.Lookup.{symbol_value_of};
-ghost use Rattle.kc_rules_model.specs.Kinds.{is_n, is_tri_kind};
+ghost use Rattle.kc_rules_model.specs.Kinds.{is_n};
+ghost use Rattle.kc_value.specs.Kinds.{is_tri_kind};
 ghost use Rattle.kc_rules.specs.SettledViews.{tree_of_settled};
 ghost use Rattle.kc_dotconfig_model.specs.Prefixes.{prefix_bytes};
 ghost use Rattle.kc_minimal_model.specs.Spelling.{spelled, value_line, unset_line, line_with, ended_line};

@@ -11,12 +11,14 @@ use Rattle.kc_value.specs.declared.tri.Tri.TheVariants.{N, M, Y}
 use Rattle.kc_value.specs.declared.value.Kind.{Kind}
 use Rattle.kc_value.specs.declared.value.Kind.TheVariants.{Bool as Boolean, Tristate, Text, Int, Hex}
 use Rattle.kc_expr.specs.Expr.{SymbolValue}
-use Rattle.kc_tree_model.specs.Trees.{Tree, Symbol, Choice, TreeUnit, of_symbol, of_choice}
+use Rattle.kc_tree_model.specs.Trees.{Tree, Symbol, Choice}
+use Rattle.kc_tree_model.specs.declared.ids.Unit.{Unit as TreeUnit}
+use Rattle.kc_tree_model.specs.declared.ids.Unit.TheVariants.{Symbol as of_symbol, Choice as of_choice}
 use Rattle.kc_tree_model.specs.TreeLookup.{IsConsistent, unit_of, index_of_unit}
 use Rattle.kc_system.specs.Solutions.{FitsValues}
 use Rattle.kc_rules_model.specs.declared.values.UnitValue.{UnitValue}
 use Rattle.kc_rules_model.specs.declared.values.UnitValue.TheVariants.{Tri as TriValue, Text as TextValue, Member as MemberValue}
-use Rattle.kc_rules_model.specs.Kinds.{is_tri_kind}
+use Rattle.kc_value.specs.Kinds.{is_tri_kind}
 use Rattle.kc_rules_model.specs.SymbolValues.{value_of_symbol, value_in_unit, tri_symbol_value, tri_of, text_of, member_of, tri_if_selected}
 use Rattle.kc_rules_model.specs.Shapes.{value_fits, unit_value_fits, symbol_value_fits, choice_value_fits, is_member, tri_fits, text_fits}
 use Rattle.kc_rules_model.specs.Equality.{same_tri}

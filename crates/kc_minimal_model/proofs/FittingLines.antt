@@ -10,7 +10,8 @@ use Rattle.kc_value.specs.declared.value.Kind.{Kind}
 use Rattle.kc_value.specs.declared.value.Kind.TheVariants.{Bool as Boolean, Tristate, Text, Int, Hex}
 use Rattle.kc_expr.specs.Expr.{letter}
 use Rattle.kc_tree_model.specs.TreeLookup.{is_name_byte}
-use Rattle.kc_rules_model.specs.Kinds.{is_n, is_tri_kind}
+use Rattle.kc_rules_model.specs.Kinds.{is_n}
+use Rattle.kc_value.specs.Kinds.{is_tri_kind}
 use Rattle.kc_rules_model.specs.SymbolValues.{tri_symbol_value}
 use Rattle.kc_dotconfig_model.specs.PrefixGrammar.{is_prefix}
 use Rattle.kc_dotconfig_model.specs.LoadFaults.{MAX_LINE_BYTES}

@@ -7,7 +7,9 @@ use Rattle.std.proofs.lemmas.Bool.{cases_Bool, cases_eq, false≢true, and_from,
 use Rattle.std.proofs.lemmas.List.{get_or-set_same, get_or-set_other, length-set}
 use Rattle.std.proofs.lemmas.Option.{slice_get-get_or}
 use Rattle.kc_value.specs.declared.tri.Tri.TheVariants.{N, Y}
-use Rattle.kc_tree_model.specs.Trees.{Tree, Symbol, TreeUnit, of_symbol, of_choice}
+use Rattle.kc_tree_model.specs.Trees.{Tree, Symbol}
+use Rattle.kc_tree_model.specs.declared.ids.Unit.{Unit as TreeUnit}
+use Rattle.kc_tree_model.specs.declared.ids.Unit.TheVariants.{Symbol as of_symbol, Choice as of_choice}
 use Rattle.kc_tree_model.specs.TreeLookup.{IsConsistent, unit_of, index_of_unit}
 use Rattle.kc_system.specs.Solutions.{user_of, Solves, FitsUsers}
 use Rattle.kc_system.specs.LeastAssignments.{IsLeastAssignment}

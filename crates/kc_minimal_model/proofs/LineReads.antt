@@ -12,7 +12,7 @@ use Rattle.kc_expr.specs.Expr.{SymbolValue, letter}
 use Rattle.kc_tree_model.specs.Trees.{Tree, Symbol}
 use Rattle.kc_tree_model.specs.TreeLookup.{has_newline, IsConsistent, is_name_byte, unit_of}
 use Rattle.kc_rules_model.specs.declared.values.UserValue.TheVariants.{Tri as TriUser, Text as TextUser, Member as MemberUser}
-use Rattle.kc_rules_model.specs.Kinds.{is_tri_kind}
+use Rattle.kc_value.specs.Kinds.{is_tri_kind}
 use Rattle.kc_value.specs.Number.{number_of_text}
 use Rattle.kc_rules_model.specs.Shapes.{tri_fits, user_text_fits}
 use Rattle.kc_dotconfig_model.specs.PrefixGrammar.{is_prefix, lacks}

@@ -11,7 +11,8 @@ use Rattle.kc_value.specs.declared.value.Kind.TheVariants.{Bool as Boolean, Tris
 use Rattle.kc_value.specs.Number.{number_of_text}
 use Rattle.kc_value.specs.Quoted.{IsQuoted, quoted}
 use Rattle.kc_expr.specs.Expr.{SymbolValue}
-use Rattle.kc_tree_model.specs.Trees.{Tree, Symbol, of_symbol, of_choice}
+use Rattle.kc_tree_model.specs.Trees.{Tree, Symbol}
+use Rattle.kc_tree_model.specs.declared.ids.Unit.TheVariants.{Symbol as of_symbol, Choice as of_choice}
 use Rattle.kc_tree_model.specs.TreeLookup.{IsConsistent, unit_of, index_of_unit}
 use Rattle.kc_system.specs.Solutions.{user_of, FitsUsers}
 use Rattle.kc_rules_model.specs.declared.profile.Profile.{Profile}
@@ -19,7 +20,7 @@ use Rattle.kc_rules_model.specs.declared.values.UnitValue.{UnitValue}
 use Rattle.kc_rules_model.specs.declared.values.UnitValue.TheVariants.{Text as TextValue}
 use Rattle.kc_rules_model.specs.declared.values.UserValue.{UserValue}
 use Rattle.kc_rules_model.specs.declared.values.UserValue.TheVariants.{Tri as TriUser, Text as TextUser, Member as MemberUser}
-use Rattle.kc_rules_model.specs.Kinds.{is_tri_kind}
+use Rattle.kc_value.specs.Kinds.{is_tri_kind}
 use Rattle.kc_rules_model.specs.SymbolValues.{value_of_symbol, value_in_unit, tri_symbol_value, tri_of, text_of, member_of, tri_if_selected}
 use Rattle.kc_rules_model.specs.Rule.{as_user}
 use Rattle.kc_rules_model.specs.Shapes.{user_fits, unit_user_fits, symbol_user_fits}

@@ -8,14 +8,18 @@ use Rattle.kc_value.specs.declared.value.Kind.{Kind}
 use Rattle.kc_value.specs.declared.value.Kind.TheVariants.{Bool as Boolean, Tristate, Text, Int, Hex}
 use Rattle.kc_value.specs.Tri.{tri_and, tri_or}
 use Rattle.kc_value.specs.Number.{number_of_text, int_text, hex_text}
-use Rattle.kc_tree_model.specs.Trees.{Tree, Symbol, Choice, TreeUnit, of_symbol, of_choice}
+use Rattle.kc_tree_model.specs.Trees.{Tree, Symbol, Choice}
+use Rattle.kc_tree_model.specs.declared.ids.Unit.{Unit as TreeUnit}
+use Rattle.kc_tree_model.specs.declared.ids.Unit.TheVariants.{Symbol as of_symbol, Choice as of_choice}
 use Rattle.kc_system.specs.Solutions.{user_of, Solves, FitsUsers}
 use Rattle.kc_rules_model.specs.declared.profile.Profile.{Profile}
 use Rattle.kc_rules_model.specs.declared.values.UnitValue.{UnitValue}
 use Rattle.kc_rules_model.specs.declared.values.UnitValue.TheVariants.{Tri as TriValue, Text as TextValue, Member as MemberValue}
 use Rattle.kc_rules_model.specs.declared.values.UserValue.{UserValue}
 use Rattle.kc_rules_model.specs.declared.values.UserValue.TheVariants.{Tri as TriUser, Text as TextUser, Member as MemberUser}
-use Rattle.kc_rules_model.specs.Kinds.{is_n, y_for_m, is_bool, is_tristate, largest}
+use Rattle.kc_rules_model.specs.Kinds.{is_n, largest}
+use Rattle.kc_value.specs.Tri.{y_for_m}
+use Rattle.kc_value.specs.Kinds.{is_bool, is_tristate}
 use Rattle.kc_rules_model.specs.Rule.{rule, rule_of_unit, rule_of_symbol, rule_of_choice, symbol_rule, tri_rule, string_rule, number_rule, choice_rule, as_user, is_visible, visibility, conditions, modules_value, unassigned_value, selected, leaves_no_m, default_text, number_default, is_within, active_range, or_else, is_shown, is_visible_member, assigned_text}
 use Rattle.kc_rules_model.specs.Reports.{IsLifted}
 use Rattle.kc_rules_model.specs.checker.RestoreLaw.{rules_restore, promoted_if}

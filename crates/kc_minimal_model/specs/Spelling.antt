@@ -6,7 +6,8 @@ use Rattle.kc_value.specs.Quoted.{quoted}
 use Rattle.kc_expr.specs.Expr.{SymbolValue}
 use Rattle.kc_tree_model.specs.Trees.{Tree, Symbol}
 use Rattle.kc_rules_model.specs.declared.values.UnitValue.{UnitValue}
-use Rattle.kc_rules_model.specs.Kinds.{is_n, is_tri_kind}
+use Rattle.kc_rules_model.specs.Kinds.{is_n}
+use Rattle.kc_value.specs.Kinds.{is_tri_kind}
 use Rattle.kc_rules_model.specs.SymbolValues.{value_of_symbol}
 
 -- the text after `=`: a string stands in quotes

@@ -5,7 +5,7 @@ use Rattle.kc_value.specs.declared.value.Kind.TheVariants.{Bool as Boolean, Tris
 use Rattle.kc_value.specs.Number.{number_of_text, IsPrintable}
 use Rattle.kc_expr.specs.Expr.{Expr, alone, related, negated, both, either, shown, operand_text}
 use Rattle.kc_tree_model.specs.Trees.{Tree}
-use Rattle.kc_tree.specs.Views.{operand_or_empty}
+use Rattle.kc_tree.specs.between.Views.{operand_or_empty}
 use Rattle.kc_rules_model.specs.declared.values.UnitValue.{UnitValue}
 use Rattle.kc_rules_model.specs.Rule.{expression_text}
 use Rattle.kc_rules_model.specs.SymbolValues.{environment}

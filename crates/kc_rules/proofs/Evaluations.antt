@@ -7,7 +7,8 @@ use Rattle.std.proofs.lemmas.Bool.{cases_lt, false≢true, false_from_ne_true, e
 use Rattle.std.proofs.lemmas.List.Elements.{All-weaker}
 use Rattle.std.proofs.lemmas.List.Folds.{list_any_none}
 use Rattle.kc_value.specs.Number.{number_of_text}
-use Rattle.kc_tree_model.specs.Trees.{Tree, Symbol, Choice, of_symbol, of_choice}
+use Rattle.kc_tree_model.specs.Trees.{Tree, Symbol, Choice}
+use Rattle.kc_tree_model.specs.declared.ids.Unit.TheVariants.{Symbol as of_symbol, Choice as of_choice}
 use Rattle.kc_rules_model.specs.declared.profile.Profile.{Profile}
 use Rattle.kc_rules_model.specs.declared.values.UnitValue.{UnitValue}
 use Rattle.kc_rules_model.specs.declared.values.UnitValue.TheVariants.{Member as MemberValue}

@@ -6,7 +6,7 @@ use Rattle.kc_expr.specs.Lookup.{index_of_name}
 use Rattle.kc_expr.proofs.Places.{place_there}
 use Rattle.kc_tree_model.specs.Trees.{Tree}
 use Rattle.kc_tree_model.specs.TreeLookup.{symbol_named}
-use Rattle.kc_tree.specs.Views.{symbol_of_name_id}
+use Rattle.kc_tree.specs.between.Views.{symbol_of_name_id}
 
 pub told_as_named : (tree : Tree) (names : List (List ℕ)) (name : ℕ) (x : List ℕ) (r : Option ℕ) → index_of_name x names ≡ Some name → r ≡ symbol_of_name_id tree names name → r ≡ symbol_named tree x
 told_as_named tree names name x r p e =

@@ -12,23 +12,24 @@ use Rattle.std.proofs.lemmas.Option.{slice_get-get_or, slice_get_past, get_or_fr
 use Rattle.std.proofs.lemmas.Slice.Eq.{bytes_eq-Decides}
 use Rattle.kc_value.specs.declared.value.Kind.{Kind}
 use Rattle.kc_value.specs.declared.value.Kind.TheVariants.{Bool as Boolean, Tristate, Text, Int, Hex}
-use Rattle.kc_expr.specs.Arena.{Exprs, node_expr}
+use Rattle.kc_expr.specs.between.Arena.{Exprs, node_expr}
 use Rattle.kc_expr.specs.Expr.{modules}
 use Rattle.kc_expr.specs.NamesIn.{names_in, operand_names}
-use Rattle.kc_tree.specs.Views.{symbol_view, choice_view, default_view, range_view, reverse_dependency_view, member_default_view, operand_or_empty, symbol_of_name_id, HasOperands}
+use Rattle.kc_tree.specs.between.Views.{symbol_view, choice_view, default_view, range_view, reverse_dependency_view, member_default_view, operand_or_empty, symbol_of_name_id, HasOperands}
 use Rattle.kc_tree.specs.declared.symbol.Default.{Default as KeptDefault}
 use Rattle.kc_tree.specs.declared.symbol.Range.{Range as KeptRange}
 use Rattle.kc_tree.specs.declared.symbol.ReverseDependency.{ReverseDependency as KeptForce}
 use Rattle.kc_tree.specs.declared.symbol.Symbol.{Symbol as KeptSymbol}
 use Rattle.kc_tree.specs.declared.symbol.Choice.{Choice as KeptChoice}
 use Rattle.kc_tree.specs.declared.symbol.MemberDefault.{MemberDefault as KeptMemberDefault}
-use Rattle.kc_tree_model.specs.Trees.{Tree, Symbol, Choice, Default, Range, ReverseDependency, MemberDefault, of_symbol, of_choice}
-use Rattle.kc_tree_model.specs.TreeLookup.{IsConsistent, unit_of, symbol_named, index_if_found}
+use Rattle.kc_tree_model.specs.Trees.{Tree, Symbol, Choice, Default, Range, ReverseDependency, MemberDefault}
+use Rattle.kc_tree_model.specs.declared.ids.Unit.TheVariants.{Symbol as of_symbol, Choice as of_choice}
+use Rattle.kc_tree_model.specs.TreeLookup.{IsConsistent, unit_of, symbol_named}
 use Rattle.kc_rules_model.specs.Dependencies.{units_named, units_of_reverse_dependencies, needed_by, needed_by_symbol, needed_by_choice, needed_by_symbol_at, needed_by_choice_at, names_in_prompt, names_in_prompts, names_in_member_prompts}
-use Rattle.kc_rules_model.specs.Kinds.{is_tristate}
-use Rattle.kc_tree_model.proofs.Lookups.{inside}
+use Rattle.kc_value.specs.Kinds.{is_tristate}
+use Rattle.kc_tree_model.proofs.Lookups.{inside, index_if_found}
 use Rattle.kc_rules.specs.checker.ModulesSymbol.{modules_symbol}
-use Rattle.kc_expr.specs.Visits.{mentions, passes_some_name}
+use Rattle.kc_expr.specs.between.Visits.{mentions, passes_some_name}
 use Rattle.kc_rules.specs.checker.Links.{has, is_of, in_exprs, in_defaults, in_ranges, in_reverse_dependencies, in_symbol, in_member_defaults, in_prompt, in_choice, depends_on_reverse, by_modules}
 use Rattle.kc_rules.proofs.Pushes.{any_same, any_map, any_flat, any_told, operand_mention, nothing_more}
 

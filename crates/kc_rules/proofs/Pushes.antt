@@ -7,10 +7,10 @@ use Rattle.std.proofs.lemmas.Bool.{false≢true}
 use Rattle.std.proofs.lemmas.List.Folds.{list_any-append, list_any_more}
 use Rattle.kc_expr.specs.Expr.{Expr, alone, related, negated, both, either, shown}
 use Rattle.kc_expr.specs.NamesIn.{operand_names}
-use Rattle.kc_expr.specs.Operand.{operand_alone}
-use Rattle.kc_tree.specs.Views.{operand_or_empty}
+use Rattle.kc_expr.specs.between.Operand.{operand_alone}
+use Rattle.kc_tree.specs.between.Views.{operand_or_empty}
 use Rattle.kc_tree_model.specs.Trees.{Tree}
-use Rattle.kc_expr.specs.Visits.{mentions}
+use Rattle.kc_expr.specs.between.Visits.{mentions}
 use Rattle.kc_rules.specs.checker.Links.{is_at, has, AreUnits}
 
 -- one more element

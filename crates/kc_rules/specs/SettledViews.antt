@@ -8,7 +8,7 @@ use Rattle.kc_expr.specs.Expr.{SymbolValue}
 use Rattle.kc_tree.specs.TreeModel.{TreeModel}
 use Rattle.kc_tree_model.specs.Trees.{Tree}
 use Rattle.kc_rules_model.specs.declared.profile.Profile.{Profile}
-use Rattle.kc_rules_model.specs.Kinds.{is_tri_kind}
+use Rattle.kc_value.specs.Kinds.{is_tri_kind}
 use Rattle.kc_rules.specs.declared.rules.Settled.{Settled}
 
 -- the tree with its arena
@@ -17,7 +17,7 @@ tree_model_of settled = settled.rules.tree
 
 -- what the tree holds
 abbrev pub tree_of_settled : Settled → Tree
-tree_of_settled settled = settled.rules.tree.whole
+tree_of_settled settled = settled.rules.tree.tree
 
 abbrev pub profile_of : Settled → Profile
 profile_of settled = settled.rules.profile

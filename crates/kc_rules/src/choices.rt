@@ -1,6 +1,6 @@
 //! The rule of choices.
 ghost use Rattle.std.specs.Prelude.{◌≡◌, ◌<◌, ◌&&◌, not, length, map, find, IfSome};
-ghost use Rattle.kc_tree.specs.Views.{choice_view, member_default_view, ChoiceFits};
+ghost use Rattle.kc_tree.specs.between.Views.{choice_view, member_default_view, ChoiceFits};
 ghost use Rattle.kc_rules.specs.checker.StoredRules.{AreMemberDefaults, AreMembers, default_member_of, is_open, choice_rule_of};
 ghost use Rattle.kc_rules_model.specs.Rule.{is_shown, is_visible_member};
 ghost use Rattle.kc_rules.specs.checker.ValuationView.{valuation_tree, valuation_exprs, valuation_values};

@@ -1,8 +1,8 @@
 //! The dependencies of units.
 ghost use Rattle.std.specs.Prelude.{◌≡◌, ◌<◌, ◌++◌, ◌||◌, ℕ, [], ◌∷◌, length, IfOk, IfSome, OnOk, slice_get, slice_index_or};
 ghost use Rattle.std.specs.List.{list_any};
-ghost use Rattle.kc_expr.specs.Visits.{HasFound};
-ghost use Rattle.kc_tree.specs.Views.{SymbolFits, ChoiceFits, symbol_view, choice_view};
+ghost use Rattle.kc_expr.specs.between.Visits.{HasFound};
+ghost use Rattle.kc_tree.specs.between.Views.{SymbolFits, ChoiceFits, symbol_view, choice_view};
 ghost use Rattle.std.specs.Option.{option_map};
 ghost use Rattle.kc_tree_model.specs.TreeLookup.{IsConsistent, unit_of};
 ghost use Rattle.kc_rules_model.specs.Dependencies.{dependencies, needed_by, needed_by_symbol, needed_by_choice};
@@ -23,9 +23,9 @@ fn push_reverse_dependencies(
     all: &[ReverseDependency],
     units: &mut Vec<u32>,
 ) -> Result<(), AllocError>
-    requires { AreReverseDependencies tree.now.exprs tree.now.whole all.now }
-    ensures units { (d : ℕ) → OnOk result (has units.new.items d ≡ (has units.old.items d || depends_on_reverse tree.now.whole d all.now)) }
-    ensures below { AreUnits tree.now.whole units.old.items → OnOk result (AreUnits tree.now.whole units.new.items) }
+    requires { AreReverseDependencies tree.now.exprs tree.now.tree all.now }
+    ensures units { (d : ℕ) → OnOk result (has units.new.items d ≡ (has units.old.items d || depends_on_reverse tree.now.tree d all.now)) }
+    ensures below { AreUnits tree.now.tree units.old.items → OnOk result (AreUnits tree.now.tree units.new.items) }
 {
     for force in all {
         units.push(tree.unit_of(force.by))?;
@@ -36,9 +36,9 @@ fn push_reverse_dependencies(
 /// Appends the unit of a symbol, if there is one.
 #[tactic(auto, using(crate::proofs::Pushes::nothing_more))]
 fn push_unit(tree: &Tree, symbol: &Option<Sym>, units: &mut Vec<u32>) -> Result<(), AllocError>
-    requires { IfSome symbol.now (λ s. s < length tree.now.whole.symbols) }
-    ensures units { (d : ℕ) → OnOk result (has units.new.items d ≡ (has units.old.items d || is_at d (option_map (unit_of tree.now.whole) symbol.now))) }
-    ensures below { AreUnits tree.now.whole units.old.items → OnOk result (AreUnits tree.now.whole units.new.items) }
+    requires { IfSome symbol.now (λ s. s < length tree.now.tree.symbols) }
+    ensures units { (d : ℕ) → OnOk result (has units.new.items d ≡ (has units.old.items d || is_at d (option_map (unit_of tree.now.tree) symbol.now))) }
+    ensures below { AreUnits tree.now.tree units.old.items → OnOk result (AreUnits tree.now.tree units.new.items) }
 {
     match symbol {
         Some(s) => {
@@ -51,9 +51,9 @@ fn push_unit(tree: &Tree, symbol: &Option<Sym>, units: &mut Vec<u32>) -> Result<
 
 /// Appends the unit of a name, if it is defined.
 fn push_named(tree: &Tree, name: NameId, units: &mut Vec<u32>) -> Result<(), AllocError>
-    requires { IsConsistent tree.now.whole }
-    ensures units { (d : ℕ) → OnOk result (has units.new.items d ≡ (has units.old.items d || is_of tree.now.whole d (slice_index_or tree.now.exprs.names name []))) }
-    ensures below { AreUnits tree.now.whole units.old.items → OnOk result (AreUnits tree.now.whole units.new.items) }
+    requires { IsConsistent tree.now.tree }
+    ensures units { (d : ℕ) → OnOk result (has units.new.items d ≡ (has units.old.items d || is_of tree.now.tree d (slice_index_or tree.now.exprs.names name []))) }
+    ensures below { AreUnits tree.now.tree units.old.items → OnOk result (AreUnits tree.now.tree units.new.items) }
 {
     let symbol = tree.symbol_at(name);
     push_unit(tree, &symbol, units)
@@ -61,9 +61,9 @@ fn push_named(tree: &Tree, name: NameId, units: &mut Vec<u32>) -> Result<(), All
 
 /// Appends the units of the defined names.
 fn push_units(tree: &Tree, names: &[NameId], units: &mut Vec<u32>) -> Result<(), AllocError>
-    requires { IsConsistent tree.now.whole }
-    ensures units { (d : ℕ) → OnOk result (has units.new.items d ≡ (has units.old.items d || list_any (λ i. is_of tree.now.whole d (slice_index_or tree.now.exprs.names i [])) names.now)) }
-    ensures below { AreUnits tree.now.whole units.old.items → OnOk result (AreUnits tree.now.whole units.new.items) }
+    requires { IsConsistent tree.now.tree }
+    ensures units { (d : ℕ) → OnOk result (has units.new.items d ≡ (has units.old.items d || list_any (λ i. is_of tree.now.tree d (slice_index_or tree.now.exprs.names i [])) names.now)) }
+    ensures below { AreUnits tree.now.tree units.old.items → OnOk result (AreUnits tree.now.tree units.new.items) }
 {
     for name in names {
         push_named(tree, *name, units)?;
@@ -79,9 +79,9 @@ fn push_modules(
     kind: Kind,
     units: &mut Vec<u32>,
 ) -> Result<(), AllocError>
-    requires { IfSome modules.now (λ s. s < length tree.now.whole.symbols) }
-    ensures units { (d : ℕ) → OnOk result (has units.new.items d ≡ (has units.old.items d || by_modules tree.now.whole d kind modules.now)) }
-    ensures below { AreUnits tree.now.whole units.old.items → OnOk result (AreUnits tree.now.whole units.new.items) }
+    requires { IfSome modules.now (λ s. s < length tree.now.tree.symbols) }
+    ensures units { (d : ℕ) → OnOk result (has units.new.items d ≡ (has units.old.items d || by_modules tree.now.tree d kind modules.now)) }
+    ensures below { AreUnits tree.now.tree units.old.items → OnOk result (AreUnits tree.now.tree units.new.items) }
 {
     match kind {
         Kind::Tristate => push_unit(tree, modules, units),
@@ -101,15 +101,15 @@ fn push_symbol_needs(
     names: &mut Vec<NameId>,
     units: &mut Vec<u32>,
 ) -> Result<(), AllocError>
-    requires consistent { IsConsistent tree.now.whole }
-    requires fits { SymbolFits tree.now.exprs (length tree.now.whole.symbols) symbol.now }
-    requires modules { modules.now ≡ modules_symbol tree.now.whole }
-    requires there { IfSome modules.now (λ s. s < length tree.now.whole.symbols) }
+    requires consistent { IsConsistent tree.now.tree }
+    requires fits { SymbolFits tree.now.exprs (length tree.now.tree.symbols) symbol.now }
+    requires modules { modules.now ≡ modules_symbol tree.now.tree }
+    requires there { IfSome modules.now (λ s. s < length tree.now.tree.symbols) }
     requires found { HasFound tree.now.exprs walk.old names.old.items }
     requires no_names { names.old.items ≡ [] }
     requires no_units { units.old.items ≡ [] }
-    ensures units { (d : ℕ) → OnOk result (has units.new.items d ≡ has (needed_by_symbol tree.now.whole (symbol_view tree.now.exprs symbol.now)) d) }
-    ensures below { OnOk result (AreUnits tree.now.whole units.new.items) }
+    ensures units { (d : ℕ) → OnOk result (has units.new.items d ≡ has (needed_by_symbol tree.now.tree (symbol_view tree.now.exprs symbol.now)) d) }
+    ensures below { OnOk result (AreUnits tree.now.tree units.new.items) }
     ensures room { OnOk result (length walk.new ≡ length tree.now.exprs.nodes) }
 {
     push_symbol(tree, symbol, walk, names)?;
@@ -127,13 +127,13 @@ fn push_choice_needs(
     names: &mut Vec<NameId>,
     units: &mut Vec<u32>,
 ) -> Result<(), AllocError>
-    requires consistent { IsConsistent tree.now.whole }
-    requires fits { ChoiceFits tree.now.exprs (length tree.now.whole.symbols) choice.now }
+    requires consistent { IsConsistent tree.now.tree }
+    requires fits { ChoiceFits tree.now.exprs (length tree.now.tree.symbols) choice.now }
     requires found { HasFound tree.now.exprs walk.old names.old.items }
     requires no_names { names.old.items ≡ [] }
     requires no_units { units.old.items ≡ [] }
-    ensures units { (d : ℕ) → OnOk result (has units.new.items d ≡ has (needed_by_choice tree.now.whole (choice_view tree.now.exprs choice.now)) d) }
-    ensures below { OnOk result (AreUnits tree.now.whole units.new.items) }
+    ensures units { (d : ℕ) → OnOk result (has units.new.items d ≡ has (needed_by_choice tree.now.tree (choice_view tree.now.exprs choice.now)) d) }
+    ensures below { OnOk result (AreUnits tree.now.tree units.new.items) }
     ensures room { OnOk result (length walk.new ≡ length tree.now.exprs.nodes) }
 {
     push_choice(tree, choice, walk, names)?;
@@ -149,15 +149,15 @@ fn push_needed(
     names: &mut Vec<NameId>,
     units: &mut Vec<u32>,
 ) -> Result<(), AllocError>
-    requires consistent { IsConsistent tree.now.whole }
-    requires unit { u < length tree.now.whole.units }
-    requires modules { modules.now ≡ modules_symbol tree.now.whole }
-    requires there { IfSome modules.now (λ s. s < length tree.now.whole.symbols) }
+    requires consistent { IsConsistent tree.now.tree }
+    requires unit { u < length tree.now.tree.units }
+    requires modules { modules.now ≡ modules_symbol tree.now.tree }
+    requires there { IfSome modules.now (λ s. s < length tree.now.tree.symbols) }
     requires found { HasFound tree.now.exprs walk.old names.old.items }
     requires no_names { names.old.items ≡ [] }
     requires no_units { units.old.items ≡ [] }
-    ensures units { (d : ℕ) → OnOk result (has units.new.items d ≡ has (needed_by tree.now.whole (slice_get tree.now.whole.units u)) d) }
-    ensures below { OnOk result (AreUnits tree.now.whole units.new.items) }
+    ensures units { (d : ℕ) → OnOk result (has units.new.items d ≡ has (needed_by tree.now.tree (slice_get tree.now.tree.units u)) d) }
+    ensures below { OnOk result (AreUnits tree.now.tree units.new.items) }
     ensures room { OnOk result (length walk.new ≡ length tree.now.exprs.nodes) }
 {
     match tree.unit(u) {
@@ -175,12 +175,12 @@ fn needed(
     names: &mut Vec<NameId>,
     units: &mut Vec<u32>,
 ) -> Result<(), AllocError>
-    requires consistent { IsConsistent tree.now.whole }
-    requires unit { u < length tree.now.whole.units }
-    requires modules { modules.now ≡ modules_symbol tree.now.whole }
-    requires there { IfSome modules.now (λ s. s < length tree.now.whole.symbols) }
+    requires consistent { IsConsistent tree.now.tree }
+    requires unit { u < length tree.now.tree.units }
+    requires modules { modules.now ≡ modules_symbol tree.now.tree }
+    requires there { IfSome modules.now (λ s. s < length tree.now.tree.symbols) }
     requires room { length walk.old ≡ length tree.now.exprs.nodes }
-    ensures needed { OnOk result (units.new.items ≡ dependencies tree.now.whole u) }
+    ensures needed { OnOk result (units.new.items ≡ dependencies tree.now.tree u) }
     ensures room { OnOk result (length walk.new ≡ length tree.now.exprs.nodes) }
 {
     names.clear();
@@ -222,7 +222,7 @@ fn link(links: &mut Links, units: &[u32]) -> Result<(), AllocError>
 
 /// The dependencies of all units.
 pub(crate) fn links_of(alloc: Global, tree: &Tree) -> Result<Links, AllocError>
-    ensures { IfOk result (λ l. AreLinks tree.now.whole l.starts.items l.links.items) }
+    ensures { IfOk result (λ l. AreLinks tree.now.tree l.starts.items l.links.items) }
 {
     let modules = modules_of(tree);
     let mut made = Links {

@@ -1,7 +1,7 @@
 //! Values of units by their rules.
 ghost use Rattle.std.specs.Prelude.{◌≡◌, ◌<◌, length, IfOk, IfSome, IsTrue};
 ghost use Rattle.std.specs.Option.{option_copied};
-ghost use Rattle.kc_tree.specs.Views.{symbol_view, SymbolFits};
+ghost use Rattle.kc_tree.specs.between.Views.{symbol_view, SymbolFits};
 ghost use Rattle.kc_rules_model.specs.Rule.{rule, symbol_rule, assigned_tri, assigned_text, assigned_member};
 ghost use Rattle.kc_rules_model.specs.Shapes.{user_fits};
 ghost use Rattle.kc_rules.specs.checker.ValuationView.{valuation_tree, valuation_exprs, valuation_values};
@@ -70,9 +70,9 @@ pub(crate) fn value_of(
     user: Option<&UserValue>,
     values: &[UnitValue],
 ) -> Result<UnitValue, AllocError>
-    requires unit { u < length rules.now.tree.whole.units }
-    requires user { IfSome (option_copied user) (λ x. IsTrue (user_fits rules.now.tree.whole u x)) }
-    ensures { IfOk result (λ value. value ≡ rule rules.now.profile rules.now.tree.whole u (option_copied user.entry) values.now) }
+    requires unit { u < length rules.now.tree.tree.units }
+    requires user { IfSome (option_copied user) (λ x. IsTrue (user_fits rules.now.tree.tree u x)) }
+    ensures { IfOk result (λ value. value ≡ rule rules.now.profile rules.now.tree.tree u (option_copied user.entry) values.now) }
 {
     let under = &Valuation { rules, values };
     match rules.tree.unit(u) {

@@ -7,11 +7,11 @@ use super::rules::{Rules, Settled};
 use kc_system::Graph;
 
 impl Graph for Rules {
-    ghost size = { λ r. length r.tree.whole.units };
+    ghost size = { λ r. length r.tree.tree.units };
 
-    ghost dependencies = { λ r u. dependencies r.tree.whole u };
+    ghost dependencies = { λ r u. dependencies r.tree.tree u };
 
-    ghost graph = { λ r. rules_graph r.tree.whole };
+    ghost graph = { λ r. rules_graph r.tree.tree };
 
     fn len(&self) -> u32 {
         self.tree.len()
@@ -25,11 +25,11 @@ impl Graph for Rules {
 }
 
 impl Graph for Settled {
-    ghost size = { λ s. length s.rules.tree.whole.units };
+    ghost size = { λ s. length s.rules.tree.tree.units };
 
-    ghost dependencies = { λ s u. dependencies s.rules.tree.whole u };
+    ghost dependencies = { λ s u. dependencies s.rules.tree.tree u };
 
-    ghost graph = { λ s. rules_graph s.rules.tree.whole };
+    ghost graph = { λ s. rules_graph s.rules.tree.tree };
 
     fn len(&self) -> u32 {
         self.rules.tree.len()

@@ -7,9 +7,9 @@ use kc_tree::{Sym, Tree};
 
 /// The symbol `MODULES`, if it is defined.
 pub(crate) fn modules_of(tree: &Tree) -> Option<Sym>
-    ensures consistent { IsConsistent tree.now.whole }
-    ensures modules { result ≡ modules_symbol tree.now.whole }
-    ensures there { IfSome result (λ s. s < length tree.now.whole.symbols) }
+    ensures consistent { IsConsistent tree.now.tree }
+    ensures modules { result ≡ modules_symbol tree.now.tree }
+    ensures there { IfSome result (λ s. s < length tree.now.tree.symbols) }
 {
     let name = tree.arena().find("MODULES")?;
     tree.symbol_at(name)

@@ -1,9 +1,9 @@
 //! The names that units mention. A condition that several attributes of a unit share is walked once.
 ghost use Rattle.std.specs.Prelude.{◌≡◌, ◌<◌, ◌||◌, ℕ, Bool, List, length, OnOk, Some};
 ghost use Rattle.std.specs.List.{list_any};
-ghost use Rattle.kc_expr.specs.Arena.{node_expr};
-ghost use Rattle.kc_expr.specs.Visits.{passes_some_name, mentions, HasFound};
-ghost use Rattle.kc_tree.specs.Views.{SymbolFits, ChoiceFits};
+ghost use Rattle.kc_expr.specs.between.Arena.{node_expr};
+ghost use Rattle.kc_expr.specs.between.Visits.{passes_some_name, mentions, HasFound};
+ghost use Rattle.kc_tree.specs.between.Views.{SymbolFits, ChoiceFits};
 ghost use Rattle.kc_rules_model.specs.Dependencies.{names_in_member_prompts};
 ghost use Rattle.kc_rules.specs.checker.StoredRules.{AreNodes, AreDefaults, AreRanges, AreReverseDependencies, AreMemberDefaults, AreMembers};
 ghost use Rattle.kc_rules.specs.checker.Links.{in_exprs, in_defaults, in_ranges, in_reverse_dependencies, in_symbol, in_member_defaults, in_members, in_prompt, in_choice};
@@ -91,7 +91,7 @@ fn push_conditions(
     walk: &mut VisitedSet,
     names: &mut Vec<NameId>,
 ) -> Result<(), AllocError>
-    requires fits { AreReverseDependencies tree.now.exprs tree.now.whole all.now }
+    requires fits { AreReverseDependencies tree.now.exprs tree.now.tree all.now }
     requires found { HasFound tree.now.exprs walk.old names.old.items }
     ensures names { (p : List ℕ → Bool) → OnOk result (passes_some_name tree.now.exprs p names.new.items ≡ (passes_some_name tree.now.exprs p names.old.items || in_reverse_dependencies tree.now.exprs p all.now)) }
     ensures found { OnOk result (HasFound tree.now.exprs walk.new names.new.items) }
@@ -109,7 +109,7 @@ pub(crate) fn push_symbol(
     walk: &mut VisitedSet,
     names: &mut Vec<NameId>,
 ) -> Result<(), AllocError>
-    requires fits { SymbolFits tree.now.exprs (length tree.now.whole.symbols) symbol.now }
+    requires fits { SymbolFits tree.now.exprs (length tree.now.tree.symbols) symbol.now }
     requires found { HasFound tree.now.exprs walk.old names.old.items }
     ensures names { (p : List ℕ → Bool) → OnOk result (passes_some_name tree.now.exprs p names.new.items ≡ (passes_some_name tree.now.exprs p names.old.items || in_symbol tree.now.exprs p symbol.now)) }
     ensures found { OnOk result (HasFound tree.now.exprs walk.new names.new.items) }
@@ -129,9 +129,9 @@ fn push_prompts(
     walk: &mut VisitedSet,
     names: &mut Vec<NameId>,
 ) -> Result<(), AllocError>
-    requires fits { member < length tree.now.whole.symbols }
+    requires fits { member < length tree.now.tree.symbols }
     requires found { HasFound tree.now.exprs walk.old names.old.items }
-    ensures names { (p : List ℕ → Bool) → OnOk result (passes_some_name tree.now.exprs p names.new.items ≡ (passes_some_name tree.now.exprs p names.old.items || list_any p (names_in_member_prompts tree.now.whole member))) }
+    ensures names { (p : List ℕ → Bool) → OnOk result (passes_some_name tree.now.exprs p names.new.items ≡ (passes_some_name tree.now.exprs p names.old.items || list_any p (names_in_member_prompts tree.now.tree member))) }
     ensures found { OnOk result (HasFound tree.now.exprs walk.new names.new.items) }
 {
     push_exprs(tree, tree.symbol(member).prompts, walk, names)
@@ -144,9 +144,9 @@ fn push_member_defaults(
     walk: &mut VisitedSet,
     names: &mut Vec<NameId>,
 ) -> Result<(), AllocError>
-    requires fits { AreMemberDefaults tree.now.exprs tree.now.whole defaults.now }
+    requires fits { AreMemberDefaults tree.now.exprs tree.now.tree defaults.now }
     requires found { HasFound tree.now.exprs walk.old names.old.items }
-    ensures names { (p : List ℕ → Bool) → OnOk result (passes_some_name tree.now.exprs p names.new.items ≡ (passes_some_name tree.now.exprs p names.old.items || in_member_defaults tree.now.whole tree.now.exprs p defaults.now)) }
+    ensures names { (p : List ℕ → Bool) → OnOk result (passes_some_name tree.now.exprs p names.new.items ≡ (passes_some_name tree.now.exprs p names.old.items || in_member_defaults tree.now.tree tree.now.exprs p defaults.now)) }
     ensures found { OnOk result (HasFound tree.now.exprs walk.new names.new.items) }
 {
     for default in defaults {
@@ -163,9 +163,9 @@ fn push_members(
     walk: &mut VisitedSet,
     names: &mut Vec<NameId>,
 ) -> Result<(), AllocError>
-    requires fits { AreMembers tree.now.whole members.now }
+    requires fits { AreMembers tree.now.tree members.now }
     requires found { HasFound tree.now.exprs walk.old names.old.items }
-    ensures names { (p : List ℕ → Bool) → OnOk result (passes_some_name tree.now.exprs p names.new.items ≡ (passes_some_name tree.now.exprs p names.old.items || in_members tree.now.whole p members.now)) }
+    ensures names { (p : List ℕ → Bool) → OnOk result (passes_some_name tree.now.exprs p names.new.items ≡ (passes_some_name tree.now.exprs p names.old.items || in_members tree.now.tree p members.now)) }
     ensures found { OnOk result (HasFound tree.now.exprs walk.new names.new.items) }
 {
     for member in members {
@@ -200,9 +200,9 @@ pub(crate) fn push_choice(
     walk: &mut VisitedSet,
     names: &mut Vec<NameId>,
 ) -> Result<(), AllocError>
-    requires fits { ChoiceFits tree.now.exprs (length tree.now.whole.symbols) choice.now }
+    requires fits { ChoiceFits tree.now.exprs (length tree.now.tree.symbols) choice.now }
     requires found { HasFound tree.now.exprs walk.old names.old.items }
-    ensures names { (p : List ℕ → Bool) → OnOk result (passes_some_name tree.now.exprs p names.new.items ≡ (passes_some_name tree.now.exprs p names.old.items || in_choice tree.now.whole tree.now.exprs p choice.now)) }
+    ensures names { (p : List ℕ → Bool) → OnOk result (passes_some_name tree.now.exprs p names.new.items ≡ (passes_some_name tree.now.exprs p names.old.items || in_choice tree.now.tree tree.now.exprs p choice.now)) }
     ensures found { OnOk result (HasFound tree.now.exprs walk.new names.new.items) }
 {
     push_prompt(tree, choice.prompt, walk, names)?;

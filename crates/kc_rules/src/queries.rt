@@ -1,6 +1,6 @@
 //! Queries on a settled tree.
 ghost use Rattle.std.specs.Prelude.{◌≡◌, ◌<◌, length, Some, option_map};
-ghost use Rattle.kc_expr.specs.Arena.{node_expr};
+ghost use Rattle.kc_expr.specs.between.Arena.{node_expr};
 ghost use Rattle.kc_expr.specs.Lookup.{symbol_value_of};
 ghost use Rattle.kc_rules_model.specs.SymbolValues.{value_of_symbol, condition};
 ghost use Rattle.kc_rules_model.specs.Dependencies.{dependencies};

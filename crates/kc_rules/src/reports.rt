@@ -1,7 +1,7 @@
 //! Tests of whether a symbol is written or unmet, given the values of the units.
 ghost use Rattle.std.specs.Prelude.{◌≡◌, ◌<◌, ◌++◌, ◌∷◌, [], length, nat_lt, IfOk, OnOk, if◌then◌else◌};
 ghost use Rattle.kc_value.specs.Tri.{rank};
-ghost use Rattle.kc_tree.specs.Views.{SymbolFits, symbol_view};
+ghost use Rattle.kc_tree.specs.between.Views.{SymbolFits, symbol_view};
 ghost use Rattle.kc_rules_model.specs.Reports.{has_default, is_written_symbol, is_written, is_unmet_symbol, is_unmet, unmet};
 ghost use Rattle.kc_rules.specs.SettledViews.{tree_of_settled};
 ghost use Rattle.kc_rules.specs.checker.ValuationView.{valuation_tree, valuation_exprs, valuation_values};

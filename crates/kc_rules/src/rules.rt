@@ -19,9 +19,9 @@ pub struct Rules {
     pub(crate) modules: Option<Sym>,
     pub(crate) starts: Vec<u32>,
     pub(crate) links: Vec<u32>,
-    ghost consistent: { ∥ IsConsistent tree.whole ∥₁ },
-    ghost modules_is: { modules ≡ modules_symbol tree.whole },
-    ghost links_are: { AreLinks tree.whole starts.items links.items },
+    ghost consistent: { ∥ IsConsistent tree.tree ∥₁ },
+    ghost modules_is: { modules ≡ modules_symbol tree.tree },
+    ghost links_are: { AreLinks tree.tree starts.items links.items },
 }
 
 /// A tree and an order of its units.
@@ -29,6 +29,6 @@ pub struct Rules {
 pub struct Settled {
     pub(crate) rules: Rules,
     pub(crate) order: Order,
-    ghost ordered: { ∥ IsOrder (length rules.tree.whole.units) (dependencies rules.tree.whole) order ∥₁ },
-    ghost acyclic: { HasNoCycle (length rules.tree.whole.units) (dependencies rules.tree.whole) },
+    ghost ordered: { ∥ IsOrder (length rules.tree.tree.units) (dependencies rules.tree.tree) order ∥₁ },
+    ghost acyclic: { HasNoCycle (length rules.tree.tree.units) (dependencies rules.tree.tree) },
 }

@@ -30,9 +30,9 @@ fn fault_of(fault: OrderFault) -> SettleFault
 fn ordered(alloc: Global, rules: Rules) -> Result<Settled, (Tree, SettleFault)>
     ensures tree { IfOk result (λ s. tree_model_of s ≡ rules.tree) }
     ensures profile { IfOk result (λ s. profile_of s ≡ rules.profile) }
-    ensures acyclic { IfOk result (λ s. HasNoCycle (length rules.tree.whole.units) (dependencies rules.tree.whole)) }
+    ensures acyclic { IfOk result (λ s. HasNoCycle (length rules.tree.tree.units) (dependencies rules.tree.tree)) }
     ensures back { IfErr result (λ e. e.0 ≡ rules.tree) }
-    ensures cycle { IfErr result (λ e. ReportsTreeCycle (length rules.tree.whole.units) (dependencies rules.tree.whole) e.1) }
+    ensures cycle { IfErr result (λ e. ReportsTreeCycle (length rules.tree.tree.units) (dependencies rules.tree.tree) e.1) }
 {
     let found = order(alloc, &rules);
     match found {
@@ -49,9 +49,9 @@ fn ordered(alloc: Global, rules: Rules) -> Result<Settled, (Tree, SettleFault)>
 pub fn settle(alloc: Global, tree: Tree, profile: Profile) -> Result<Settled, (Tree, SettleFault)>
     ensures tree { IfOk result (λ s. tree_model_of s ≡ tree) }
     ensures profile { IfOk result (λ s. profile_of s ≡ profile) }
-    ensures settled { IfOk result (λ s. IsSettledTree tree.whole) }
+    ensures settled { IfOk result (λ s. IsSettledTree tree.tree) }
     ensures back { IfErr result (λ e. e.0 ≡ tree) }
-    ensures cycle { IfErr result (λ e. ReportsTreeCycle (length tree.whole.units) (dependencies tree.whole) e.1) }
+    ensures cycle { IfErr result (λ e. ReportsTreeCycle (length tree.tree.units) (dependencies tree.tree) e.1) }
 {
     let made = links_of(alloc, &tree);
     match made {

@@ -1,7 +1,7 @@
 //! Values of symbols and expressions.
 ghost use Rattle.std.specs.Prelude.{◌≡◌, ◌<◌, length, Some, option_map};
 ghost use Rattle.std.specs.Option.{option_copied};
-ghost use Rattle.kc_expr.specs.Arena.{node_expr};
+ghost use Rattle.kc_expr.specs.between.Arena.{node_expr};
 ghost use Rattle.kc_expr.specs.Expr.{letter, symbol_tri};
 ghost use Rattle.kc_expr.specs.Lookup.{symbol_value_of};
 ghost use Rattle.kc_rules_model.specs.Kinds.{is_n};

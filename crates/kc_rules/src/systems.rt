@@ -25,11 +25,11 @@ impl System for Settled {
 
     type Meter = Steps;
 
-    ghost rule = { λ s u x values. rule s.rules.profile s.rules.tree.whole u x values };
+    ghost rule = { λ s u x values. rule s.rules.profile s.rules.tree.tree u x values };
 
-    ghost fits_value = { λ s u x. IsTrue (value_fits s.rules.tree.whole u x) };
+    ghost fits_value = { λ s u x. IsTrue (value_fits s.rules.tree.tree u x) };
 
-    ghost fits_user = { λ s u x. IsTrue (user_fits s.rules.tree.whole u x) };
+    ghost fits_user = { λ s u x. IsTrue (user_fits s.rules.tree.tree u x) };
 
     ghost as_user = { as_user };
 
@@ -45,9 +45,9 @@ impl System for Settled {
 
     ghost counts = { λ m. let within = m.counts in Prim.search rules };
 
-    ghost frame = { λ s. rules_frame s.rules.profile s.rules.tree.whole };
+    ghost frame = { λ s. rules_frame s.rules.profile s.rules.tree.tree };
 
-    ghost restore = { λ s. rules_restore s.rules.profile s.rules.tree.whole };
+    ghost restore = { λ s. rules_restore s.rules.profile s.rules.tree.tree };
 
     fn eval(
         &self,

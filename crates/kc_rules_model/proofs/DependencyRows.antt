@@ -3,7 +3,8 @@ use Rattle.std.proofs.Common.{◌≡◌, [], ◌∷◌, Some, refl}
 use Rattle.std.specs.Prelude.{codes}
 use Rattle.kc_value.specs.declared.value.Kind.TheVariants.{Bool as Boolean, Tristate}
 use Rattle.kc_expr.specs.Expr.{shown, both}
-use Rattle.kc_tree_model.specs.Trees.{Tree, of_choice, choice_begins, definition}
+use Rattle.kc_tree_model.specs.Trees.{Tree, choice_begins, definition}
+use Rattle.kc_tree_model.specs.declared.ids.Unit.TheVariants.{Choice as of_choice}
 use Rattle.kc_rules_model.specs.Dependencies.{dependencies}
 use Rattle.kc_rules_model.proofs.RowTrees.{always, name, otherwise, plain, member, one_symbol, two_symbols, tree_pick, tree_imply, tree_chain}
 

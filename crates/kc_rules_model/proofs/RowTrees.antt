@@ -8,7 +8,8 @@ use Rattle.kc_value.specs.declared.value.Kind.{Kind}
 use Rattle.kc_value.specs.declared.value.Kind.TheVariants.{Bool as Boolean, Tristate, Text, Int, Hex}
 use Rattle.kc_expr.specs.declared.token.Relop.TheVariants.{Equal}
 use Rattle.kc_expr.specs.Expr.{Expr, alone, related, negated, both, shown, constant, named, quoted}
-use Rattle.kc_tree_model.specs.Trees.{Tree, Symbol, Default, of_symbol, of_choice, definition, choice_begins, menu_begins, menu_ends, comment}
+use Rattle.kc_tree_model.specs.Trees.{Tree, Symbol, Default, definition, choice_begins, menu_begins, menu_ends, comment}
+use Rattle.kc_tree_model.specs.declared.ids.Unit.TheVariants.{Symbol as of_symbol, Choice as of_choice}
 use Rattle.kc_system.specs.Solutions.{user_of}
 use Rattle.kc_rules_model.specs.declared.profile.Profile.{Profile}
 use Rattle.kc_rules_model.specs.declared.values.UnitValue.{UnitValue}

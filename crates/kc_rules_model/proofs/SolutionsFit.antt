@@ -7,7 +7,9 @@ use Rattle.std.specs.Option.{option_map}
 use Rattle.kc_value.specs.declared.tri.Tri.TheVariants.{N}
 use Rattle.kc_value.specs.declared.value.Kind.{Kind}
 use Rattle.kc_value.specs.declared.value.Kind.TheVariants.{Bool as Boolean, Tristate, Text, Int, Hex}
-use Rattle.kc_tree_model.specs.Trees.{Tree, Symbol, TreeUnit, of_symbol, of_choice}
+use Rattle.kc_tree_model.specs.Trees.{Tree, Symbol}
+use Rattle.kc_tree_model.specs.declared.ids.Unit.{Unit as TreeUnit}
+use Rattle.kc_tree_model.specs.declared.ids.Unit.TheVariants.{Symbol as of_symbol, Choice as of_choice}
 use Rattle.kc_system.specs.Solutions.{user_of, Solves, FitsUsers, FitsValues}
 use Rattle.kc_system.proofs.Lists.{get-some, each_set}
 use Rattle.kc_system.proofs.OneSolution as solving

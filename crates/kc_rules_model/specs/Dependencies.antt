@@ -4,9 +4,11 @@ use Rattle.std.specs.List.{list_any, filter_map, flat_map, range_with_len}
 use Rattle.std.specs.Option.{option_map}
 use Rattle.kc_expr.specs.Expr.{Expr, modules}
 use Rattle.kc_expr.specs.NamesIn.{operand_names, names_in}
-use Rattle.kc_tree_model.specs.Trees.{Tree, Symbol, Choice, Default, Range, ReverseDependency, MemberDefault, TreeUnit, of_symbol, of_choice}
+use Rattle.kc_tree_model.specs.Trees.{Tree, Symbol, Choice, Default, Range, ReverseDependency, MemberDefault}
+use Rattle.kc_tree_model.specs.declared.ids.Unit.{Unit as TreeUnit}
+use Rattle.kc_tree_model.specs.declared.ids.Unit.TheVariants.{Symbol as of_symbol, Choice as of_choice}
 use Rattle.kc_tree_model.specs.TreeLookup.{unit_of, symbol_named}
-use Rattle.kc_rules_model.specs.Kinds.{is_tristate}
+use Rattle.kc_value.specs.Kinds.{is_tristate}
 
 -- the units of those names that are defined
 abbrev pub units_named : Tree → List (List ℕ) → List ℕ

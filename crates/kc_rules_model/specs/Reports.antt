@@ -3,10 +3,12 @@ use Rattle.std.specs.Prelude.{◌≡◌, ◌≢◌, ℕ, Bool, true, false, not,
 use Rattle.std.specs.List.{range_with_len}
 use Rattle.std.specs.Option.{option_map}
 use Rattle.kc_value.specs.Tri.{rank}
-use Rattle.kc_tree_model.specs.Trees.{Tree, Symbol, of_symbol}
+use Rattle.kc_tree_model.specs.Trees.{Tree, Symbol}
+use Rattle.kc_tree_model.specs.declared.ids.Unit.TheVariants.{Symbol as of_symbol}
 use Rattle.kc_rules_model.specs.declared.profile.Profile.{Profile}
 use Rattle.kc_rules_model.specs.declared.values.UnitValue.{UnitValue}
-use Rattle.kc_rules_model.specs.Kinds.{is_n, is_tri_kind, is_tristate}
+use Rattle.kc_rules_model.specs.Kinds.{is_n}
+use Rattle.kc_value.specs.Kinds.{is_tri_kind, is_tristate}
 use Rattle.kc_rules_model.specs.Rule.{rule, as_user, is_visible, selected, implied, direct_dependency, active_default, default_tri}
 
 -- the numbers of the symbols, in order of first definition

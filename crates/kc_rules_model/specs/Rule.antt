@@ -7,14 +7,18 @@ use Rattle.kc_value.specs.declared.value.Kind.{Kind}
 use Rattle.kc_value.specs.declared.value.Kind.TheVariants.{Bool as Boolean, Tristate, Text}
 use Rattle.kc_value.specs.Tri.{tri_and, tri_or}
 use Rattle.kc_expr.specs.Expr.{Expr, alone, Operand, operand_text, symbol_tri, modules}
-use Rattle.kc_tree_model.specs.Trees.{Tree, Symbol, Choice, Default, Range, ReverseDependency, MemberDefault, TreeUnit, of_symbol, of_choice}
+use Rattle.kc_tree_model.specs.Trees.{Tree, Symbol, Choice, Default, Range, ReverseDependency, MemberDefault}
+use Rattle.kc_tree_model.specs.declared.ids.Unit.{Unit as TreeUnit}
+use Rattle.kc_tree_model.specs.declared.ids.Unit.TheVariants.{Symbol as of_symbol, Choice as of_choice}
 use Rattle.kc_rules_model.specs.declared.profile.Profile.{Profile}
 use Rattle.kc_rules_model.specs.declared.profile.Profile.TheVariants.{Present, Classic}
 use Rattle.kc_rules_model.specs.declared.values.UnitValue.{UnitValue}
 use Rattle.kc_rules_model.specs.declared.values.UnitValue.TheVariants.{Tri as TriValue, Text as TextValue, Member as MemberValue}
 use Rattle.kc_rules_model.specs.declared.values.UserValue.{UserValue}
 use Rattle.kc_rules_model.specs.declared.values.UserValue.TheVariants.{Tri as TriUser, Text as TextUser, Member as MemberUser}
-use Rattle.kc_rules_model.specs.Kinds.{is_n, is_y, y_for_m, largest, is_bool, is_tristate}
+use Rattle.kc_rules_model.specs.Kinds.{is_n, is_y, largest}
+use Rattle.kc_value.specs.Tri.{y_for_m}
+use Rattle.kc_value.specs.Kinds.{is_bool, is_tristate}
 use Rattle.kc_value.specs.Number.{number_of_text, number_spelling}
 use Rattle.kc_rules_model.specs.SymbolValues.{environment, value_of_symbol, condition}
 

@@ -5,7 +5,9 @@ use Rattle.std.specs.Str.{is_utf8}
 use Rattle.kc_value.specs.declared.tri.Tri.{Tri}
 use Rattle.kc_value.specs.declared.value.Kind.{Kind}
 use Rattle.kc_value.specs.declared.value.Kind.TheVariants.{Bool as Boolean, Tristate, Text}
-use Rattle.kc_tree_model.specs.Trees.{Tree, Symbol, Choice, TreeUnit, of_symbol, of_choice}
+use Rattle.kc_tree_model.specs.Trees.{Tree, Symbol, Choice}
+use Rattle.kc_tree_model.specs.declared.ids.Unit.{Unit as TreeUnit}
+use Rattle.kc_tree_model.specs.declared.ids.Unit.TheVariants.{Symbol as of_symbol, Choice as of_choice}
 use Rattle.kc_tree_model.specs.TreeLookup.{has_newline}
 use Rattle.kc_rules_model.specs.Kinds.{is_m}
 use Rattle.kc_rules_model.specs.declared.values.UnitValue.{UnitValue}

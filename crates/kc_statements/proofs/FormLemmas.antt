@@ -5,7 +5,7 @@ use Rattle.std.specs.Prelude.{codes, slice_index_or, take}
 use Rattle.std.proofs.lemmas.Bool.{false≢true}
 use Rattle.std.proofs.lemmas.Bool.Decides.{nat_tests}
 use Rattle.kc_expr.specs.Token.{Lexeme, lexeme_of, lexemes_of}
-use Rattle.kc_expr.specs.ParseResults.{RefusesExpr, expr_tokens, expr_end}
+use Rattle.kc_expr.specs.between.ParseResults.{RefusesExpr, expr_tokens, expr_end}
 use Rattle.kc_expr.specs.declared.fault.ExprFault.{ExprFault}
 use Rattle.kc_expr.specs.declared.fault.ExprKind.TheVariants as expr_kinds
 use Rattle.kc_expr.specs.declared.token.Token.{Token as CodeToken}
@@ -17,12 +17,11 @@ use Rattle.kc_tree_model.specs.declared.fault.TreeKind.{TreeKind}
 use Rattle.kc_tree_model.specs.declared.fault.TreeKind.TheVariants.{Malformed, OutOfMemory}
 use Rattle.kc_tree_model.specs.Forms.{last_condition, optional_if, no_more, kind_of_fault, ParsedExpr, ◌>>=◌}
 use Rattle.kc_tree_model.specs.Keywords.{is_the_word}
-use Rattle.kc_expr.specs.Arena.{Exprs}
+use Rattle.kc_expr.specs.between.Arena.{Exprs}
 use Rattle.kc_tree_model.specs.Forms.{statement_of}
-use Rattle.kc_statements.specs.declared.keyword.Keyword.{Keyword as CodeKeyword}
+use Rattle.kc_tree_model.specs.declared.keyword.Keyword.{Keyword}
 use Rattle.kc_statements.specs.declared.statement.Statement.{Statement as CodeStatement}
-use Rattle.kc_statements.specs.KeywordViews.{keyword_view}
-use Rattle.kc_statements.specs.StatementViews.{ReturnsOrFails, statement_in}
+use Rattle.kc_statements.specs.between.StatementViews.{ReturnsOrFails, statement_in}
 
 more : {A : Type 0} (x : A) (ts : List Lexeme) → 0 < length ts → no_more x ts ≡ Err Malformed
 more x [] h = absurd (omega arith)
@@ -108,8 +107,8 @@ there zero b e f = absurd (false≢true (sym f ∙ e))
 there (suc n) b e f = omega arith
 
 -- the statement of a line, by its keyword
-pub by_keyword : (e : Exprs) (r : Result CodeStatement TreeKind) (ps : List Lexeme) {k l : CodeKeyword} → k ≡ l → ReturnsOrFails (statement_in e) r (statement_of (keyword_view l) ps) → ReturnsOrFails (statement_in e) r (statement_of (keyword_view k) ps)
-by_keyword e r ps {k} {l} q g = along (statement_in e) r (statement_of (keyword_view k) ps) (statement_of (keyword_view l) ps) (ap (λ w. statement_of (keyword_view w) ps) q) g
+pub by_keyword : (e : Exprs) (r : Result CodeStatement TreeKind) (ps : List Lexeme) {k l : Keyword} → k ≡ l → ReturnsOrFails (statement_in e) r (statement_of l ps) → ReturnsOrFails (statement_in e) r (statement_of k ps)
+by_keyword e r ps {k} {l} q g = along (statement_in e) r (statement_of k ps) (statement_of l ps) (ap (λ w. statement_of w ps) q) g
 
 -- no tokens where their number is 0
 equal : (m n : ℕ) → (m == n) ≡ true → m ≡ n

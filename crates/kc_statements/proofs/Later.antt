@@ -2,7 +2,7 @@
 use Rattle.std.proofs.Common.{◌≡◌, ℕ, ◌<◌, ◌≤◌, List, [], ◌++◌, length, get_or, take, drop, refl, ap, sym, ◌∙◌, arith, Option, Some, None}
 use Rattle.std.proofs.lemmas.List.{take-append-drop, length-take, get_or_append_left}
 use Rattle.kc_value.specs.declared.tri.Tri.TheVariants.{N}
-use Rattle.kc_expr.specs.Arena.{Exprs, node_expr, Grows}
+use Rattle.kc_expr.specs.between.Arena.{Exprs, node_expr, Grows}
 use Rattle.kc_expr.specs.Expr.{Expr, alone, constant}
 use Rattle.kc_tree_model.specs.Statements.{DefaultAttribute, TargetAttribute, typed_prompt, typed_default, prompt, default, depends, select, imply, range, visible, condition}
 use Rattle.kc_statements.specs.declared.statement.Head.{Head as CodeHead}
@@ -12,7 +12,7 @@ use Rattle.kc_statements.specs.declared.statement.TargetAttribute.{TargetAttribu
 use Rattle.kc_statements.specs.declared.statement.RangeAttribute.{RangeAttribute as CodeBounded}
 use Rattle.kc_statements.specs.declared.statement.Attribute.{Attribute as CodeAttribute}
 use Rattle.kc_statements.specs.declared.statement.Attribute.TheVariants as attributes
-use Rattle.kc_statements.specs.StatementViews.{if_in, operand_of_expr, operand_or_n, default_in, target_in, range_in, attribute_in, head_in, NodeExists, IfNodeExists, OperandNodeExists, DefaultNodesExist, TargetNodesExist, RangeNodesExist, AttributeNodesExist, HeadNodesExist}
+use Rattle.kc_statements.specs.between.StatementViews.{if_in, operand_of_expr, operand_or_n, default_in, target_in, range_in, attribute_in, head_in, NodeExists, IfNodeExists, OperandNodeExists, DefaultNodesExist, TargetNodesExist, RangeNodesExist, AttributeNodesExist, HeadNodesExist}
 
 front_long : {X : Type 0} (xs ys : List X) → take (length xs) ys ≡ xs → length xs ≤ length ys
 front_long xs ys e = omega (arith, ap length e, length-take (length xs) ys)

@@ -2,7 +2,7 @@
 use Rattle.std.proofs.Common.{◌≡◌, ℕ, ◌<◌, Bool, true, false, ◌==◌, not, List, [], ◌∷◌, length, drop, refl, ap, sym, ◌∙◌, arith, Option, Some, None, Result, Ok, Err}
 use Rattle.std.specs.Prelude.{codes, slice_index_or}
 use Rattle.std.specs.Bool.{if◌then◌else◌}
-use Rattle.kc_expr.specs.Arena.{Exprs, Grows}
+use Rattle.kc_expr.specs.between.Arena.{Exprs, Grows}
 use Rattle.kc_expr.specs.Expr.{Expr}
 use Rattle.kc_expr.specs.Token.{Lexeme, lexeme_of, lexemes_of}
 use Rattle.kc_expr.specs.declared.token.Token.{Token as CodeToken}
@@ -12,7 +12,7 @@ use Rattle.kc_tree_model.specs.Forms.{condition_line, prompt_line, target_line, 
 use Rattle.kc_tree_model.specs.Keywords.{is_the_word, is_name, is_quoted_kind}
 use Rattle.kc_tree_model.specs.Placement.{first_is}
 use Rattle.kc_tree_model.specs.Statements.{Attribute, TargetAttribute, Statement, attribute, head, config, source, modules}
-use Rattle.kc_statements.specs.StatementViews.{if_in, target_in, IfNodeExists}
+use Rattle.kc_statements.specs.between.StatementViews.{if_in, target_in, IfNodeExists}
 use Rattle.kc_statements.proofs.FormLemmas.{first_of, none_there, stepped}
 use Rattle.kc_statements.proofs.Later.{if_same}
 

@@ -9,7 +9,7 @@ use Rattle.kc_tree_model.specs.declared.fault.TreeKind.{TreeKind}
 use Rattle.kc_tree_model.specs.declared.fault.TreeKind.TheVariants.{OutOfMemory}
 use Rattle.kc_tree_model.specs.Forms.{titled_line}
 use Rattle.kc_tree_model.specs.Statements.{Head, Statement, head}
-use Rattle.kc_statements.specs.StatementViews.{ReturnsOrFails}
+use Rattle.kc_statements.specs.between.StatementViews.{ReturnsOrFails}
 use Rattle.kc_statements.specs.checker.Titles.{is_one_quoted}
 use Rattle.kc_statements.proofs.FormLemmas.{first_of}
 

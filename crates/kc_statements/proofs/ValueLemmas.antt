@@ -1,7 +1,7 @@
 -- Values of defaults, and operands.
 use Rattle.std.proofs.Common.{◌≡◌, ℕ, ◌+◌, true, ◌==◌, List, [], ◌∷◌, length, drop, refl, ap, sym, ◌∙◌, arith, Option, Some, Result, Ok, Err}
 use Rattle.std.proofs.lemmas.Bool.{false≢true}
-use Rattle.kc_expr.specs.Arena.{Exprs, Represents, node_expr, Grows}
+use Rattle.kc_expr.specs.between.Arena.{Exprs, Represents, node_expr, Grows}
 use Rattle.kc_expr.specs.Expr.{Expr, Operand, alone, named, quoted}
 use Rattle.kc_expr.specs.Grammar.{extent, read_expr, operand_of_lexeme, operand_of_kind, is_operand_kind, constant_or, quoted_text}
 use Rattle.kc_expr.specs.Token.{Lexeme}
@@ -11,7 +11,7 @@ use Rattle.kc_expr.specs.declared.token.TokenKind.TheVariants.{Word, Quoted, Rel
 use Rattle.kc_tree_model.specs.declared.fault.TreeKind.{TreeKind}
 use Rattle.kc_tree_model.specs.Forms.{default_line, optional_if}
 use Rattle.kc_tree_model.specs.Statements.{Statement, Attribute, DefaultAttribute, attribute}
-use Rattle.kc_statements.specs.StatementViews.{if_in, operand_or_n, operand_of_expr, default_in, OperandNodeExists}
+use Rattle.kc_statements.specs.between.StatementViews.{if_in, operand_or_n, operand_of_expr, default_in, OperandNodeExists}
 use Rattle.kc_statements.proofs.AttributeLemmas.{default_is}
 use Rattle.kc_statements.proofs.FormLemmas.{stepped}
 use Rattle.kc_statements.proofs.Later.{node_same}

@@ -4,7 +4,8 @@ use Rattle.std.specs.Str.{bytes_eq}
 use Rattle.std.specs.Bool.{if◌then◌else◌}
 use Rattle.std.proofs.lemmas.Slice.Eq.{bytes_eq-Decides}
 use Rattle.std.proofs.lemmas.Bool.Decides.{nat_tests}
-use Rattle.kc_tree_model.specs.Keywords.{Keyword, keyword_in_table, keywords}
+use Rattle.kc_tree_model.specs.Keywords.{keyword_in_table, keywords}
+use Rattle.kc_tree_model.specs.declared.keyword.Keyword.{Keyword}
 use Rattle.kc_statements.specs.checker.WordLengths.{of_length}
 
 -- a test that is true only of equal texts fails on others

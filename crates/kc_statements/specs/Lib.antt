@@ -1,3 +1,2 @@
-pub mod KeywordViews
-pub mod StatementViews
+pub mod between
 pub mod checker

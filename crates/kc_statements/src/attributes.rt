@@ -1,11 +1,11 @@
 //! The forms of attributes, by the tokens after their first words ("Menu attributes").
 ghost use Rattle.std.specs.Prelude.{Option, IfOk, codes};
-ghost use Rattle.kc_expr.specs.Arena.{Exprs, Grows, node_expr};
+ghost use Rattle.kc_expr.specs.between.Arena.{Exprs, Grows, node_expr};
 ghost use Rattle.kc_expr.specs.Expr.{Expr};
 ghost use Rattle.kc_expr.specs.Token.{lexemes_of};
 ghost use Rattle.kc_tree_model.specs.Forms.{type_line, prompt_line, default_line, target_line, condition_line, option_line, no_more};
 ghost use Rattle.kc_tree_model.specs.Statements.{Attribute as DefinedAttribute, DefaultAttribute as DefinedValued, TargetAttribute as DefinedAimed, attribute, prompt, default, typed_default, depends, visible, select, imply, help, modules};
-ghost use Rattle.kc_statements.specs.StatementViews.{ReturnsOrFails, StatementNodesExist, NodeExists, IfNodeExists, DefaultNodesExist, TargetNodesExist, statement_in, if_in, default_in, target_in};
+ghost use Rattle.kc_statements.specs.between.StatementViews.{ReturnsOrFails, StatementNodesExist, NodeExists, IfNodeExists, DefaultNodesExist, TargetNodesExist, statement_in, if_in, default_in, target_in};
 
 use super::condition::{last_condition, optional_if};
 use super::fault::tree_kind_of;

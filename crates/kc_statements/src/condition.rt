@@ -1,9 +1,9 @@
 //! Conditions at the ends of lines.
 ghost use Rattle.std.specs.Prelude.{◌≤◌, length, drop, IfOk};
-ghost use Rattle.kc_expr.specs.Arena.{Grows, node_expr};
+ghost use Rattle.kc_expr.specs.between.Arena.{Grows, node_expr};
 ghost use Rattle.kc_expr.specs.Token.{lexemes_of};
 ghost use Rattle.kc_tree_model.specs.Forms.{last_condition, optional_if};
-ghost use Rattle.kc_statements.specs.StatementViews.{ReturnsOrFails, NodeExists, IfNodeExists, if_in};
+ghost use Rattle.kc_statements.specs.between.StatementViews.{ReturnsOrFails, NodeExists, IfNodeExists, if_in};
 
 use super::fault::tree_kind_of;
 use super::token::is_the_word;

@@ -1,10 +1,9 @@
 //! What lines say, by their keywords and the tokens after them.
 ghost use Rattle.std.specs.Prelude.{IfOk};
-ghost use Rattle.kc_expr.specs.Arena.{Grows};
+ghost use Rattle.kc_expr.specs.between.Arena.{Grows};
 ghost use Rattle.kc_expr.specs.Token.{lexemes_of};
 ghost use Rattle.kc_tree_model.specs.Forms.{statement_of as defined_statement};
-ghost use Rattle.kc_statements.specs.KeywordViews.{keyword_view};
-ghost use Rattle.kc_statements.specs.StatementViews.{ReturnsOrFails, StatementNodesExist, statement_in};
+ghost use Rattle.kc_statements.specs.between.StatementViews.{ReturnsOrFails, StatementNodesExist, statement_in};
 
 use super::attributes::{
     default_line, depends_line, help_line, imply_line, modules_line, option_line, prompt_line,
@@ -14,11 +13,10 @@ use super::heads::{
     choice_line, comment_line, config_line, end_line, if_line, mainmenu_line, menu_line,
     source_line,
 };
-use super::keyword::Keyword;
 use super::range::range_line;
 use super::statement::Statement;
 use kc_expr::{Arena, Token};
-use kc_tree_model::TreeKind;
+use kc_tree_model::{Keyword, TreeKind};
 use std::alloc::Global;
 
 /// What a line with this keyword says, by the tokens after its first ("Kconfig syntax", "Menu attributes").
@@ -33,7 +31,7 @@ pub fn statement_of<'a>(
     tokens: &[Token<'a>],
 ) -> Result<Statement<'a>, TreeKind>
     ensures grows { Grows arena.old arena.new }
-    ensures gives { ReturnsOrFails (statement_in arena.new) result (defined_statement (keyword_view keyword) (lexemes_of tokens.now)) }
+    ensures gives { ReturnsOrFails (statement_in arena.new) result (defined_statement keyword (lexemes_of tokens.now)) }
     ensures held { IfOk result (StatementNodesExist arena.new) }
 {
     match keyword {

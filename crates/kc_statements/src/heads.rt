@@ -1,21 +1,19 @@
 //! The forms of statements that close the open entry, by the tokens after their first words ("Kconfig syntax").
 ghost use Rattle.std.specs.Prelude.{◌≡◌, ℕ, List, IfOk, IfErr};
-ghost use Rattle.kc_expr.specs.Arena.{Exprs, Grows};
+ghost use Rattle.kc_expr.specs.between.Arena.{Exprs, Grows};
 ghost use Rattle.kc_expr.specs.Grammar.{quoted_text as text_meant};
 ghost use Rattle.kc_expr.specs.Token.{lexemes_of, lexeme_of};
 ghost use Rattle.kc_tree_model.specs.declared.fault.TreeKind.TheVariants.{OutOfMemory};
 ghost use Rattle.kc_tree_model.specs.Forms.{config_line, choice_line, titled_line, source_line, statement_of, no_more, path_of};
-ghost use Rattle.kc_tree_model.specs.Keywords.{if_word};
 ghost use Rattle.kc_tree_model.specs.Statements.{Head as DefinedHead, head, menu, comment, mainmenu, ends};
-ghost use Rattle.kc_statements.specs.KeywordViews.{block_view};
 ghost use Rattle.kc_statements.specs.checker.Titles.{is_one_quoted};
-ghost use Rattle.kc_statements.specs.StatementViews.{ReturnsOrFails, StatementNodesExist, statement_in};
+ghost use Rattle.kc_statements.specs.between.StatementViews.{ReturnsOrFails, StatementNodesExist, statement_in};
 
 use super::condition::last_condition;
-use super::statement::{Block, Head, Statement};
+use super::statement::{Head, Statement};
 use super::token::{is_name, is_quoted, is_word};
 use kc_expr::{Arena, Token, quoted_text};
-use kc_tree_model::TreeKind;
+use kc_tree_model::{Block, Keyword, TreeKind};
 use kc_value::Text;
 use std::alloc::{AllocError, Global};
 
@@ -149,7 +147,7 @@ pub(crate) fn if_line<'a>(
     tokens: &[Token<'_>],
 ) -> Result<Statement<'a>, TreeKind>
     ensures grows { Grows arena.old arena.new }
-    ensures gives { ReturnsOrFails (statement_in arena.new) result (statement_of if_word (lexemes_of tokens.now)) }
+    ensures gives { ReturnsOrFails (statement_in arena.new) result (statement_of Keyword.If (lexemes_of tokens.now)) }
     ensures held { IfOk result (StatementNodesExist arena.new) }
 {
     match last_condition(arena, tokens, 0) {
@@ -160,7 +158,7 @@ pub(crate) fn if_line<'a>(
 
 /// Nothing may follow `endmenu`, `endif` and `endchoice`.
 pub(crate) fn end_line<'a>(block: Block, tokens: &[Token<'_>]) -> Result<Statement<'a>, TreeKind>
-    ensures gives { (e : Exprs) → ReturnsOrFails (statement_in e) result (no_more (head (ends (block_view block))) (lexemes_of tokens.now)) }
+    ensures gives { (e : Exprs) → ReturnsOrFails (statement_in e) result (no_more (head (ends block)) (lexemes_of tokens.now)) }
     ensures held { (e : Exprs) → IfOk result (StatementNodesExist e) }
 {
     if tokens.is_empty() {

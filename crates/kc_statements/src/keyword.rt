@@ -2,44 +2,16 @@
 ghost use Rattle.std.specs.Prelude.{◌≡◌, length, option_map};
 ghost use Rattle.kc_expr.specs.Token.{lexeme_of};
 ghost use Rattle.kc_tree_model.specs.Keywords.{keyword_in_table, keywords, keyword_of as defined_keyword};
-ghost use Rattle.kc_statements.specs.KeywordViews.{keyword_view};
 ghost use Rattle.kc_statements.specs.checker.WordLengths.{of_length};
 
-use super::statement::Block;
 use kc_expr::{Token, TokenKind};
+use kc_tree_model::{Block, Keyword};
 use kc_value::Kind;
-
-/// What a first word means; `menuconfig` means what `config` means.
-#[derive(Clone, Copy, Debug, PartialEq, Eq)]
-pub enum Keyword {
-    Config,
-    Choice,
-    Menu,
-    If,
-    Comment,
-    Source,
-    Mainmenu,
-    End(Block),
-    Type(Kind),
-    DefaultType(Kind),
-    Prompt,
-    Default,
-    Depends,
-    Select,
-    Imply,
-    Range,
-    Visible,
-    Help,
-    Modules,
-    Option,
-    /// A word of the language that this project leaves out.
-    LeftOut,
-}
 
 /// The keyword of a line by its first token; `None` where no statement and no attribute begins so ("Kconfig syntax",
 /// "Menu attributes").
 pub fn keyword_of(token: &Token<'_>) -> Option<Keyword>
-    ensures { option_map keyword_view result ≡ defined_keyword (lexeme_of token.now) }
+    ensures { result ≡ defined_keyword (lexeme_of token.now) }
 {
     match token.kind {
         TokenKind::Word => keyword_named(token.text),
@@ -49,7 +21,7 @@ pub fn keyword_of(token: &Token<'_>) -> Option<Keyword>
 
 /// The keyword that a word is: by its length first.
 fn keyword_named(word: &str) -> Option<Keyword>
-    ensures { option_map keyword_view result ≡ keyword_in_table keywords word.now }
+    ensures { result ≡ keyword_in_table keywords word.now }
 {
     match word.len() {
         2 => keyword_of_two(word),
@@ -69,7 +41,7 @@ fn keyword_named(word: &str) -> Option<Keyword>
 /// The keywords of two letters.
 fn keyword_of_two(word: &str) -> Option<Keyword>
     requires { length word.now ≡ 2 }
-    ensures { option_map keyword_view result ≡ keyword_in_table (of_length 2) word.now }
+    ensures { result ≡ keyword_in_table (of_length 2) word.now }
 {
     match word {
         "if" => Some(Keyword::If),
@@ -80,7 +52,7 @@ fn keyword_of_two(word: &str) -> Option<Keyword>
 /// The keywords of three letters.
 fn keyword_of_three(word: &str) -> Option<Keyword>
     requires { length word.now ≡ 3 }
-    ensures { option_map keyword_view result ≡ keyword_in_table (of_length 3) word.now }
+    ensures { result ≡ keyword_in_table (of_length 3) word.now }
 {
     match word {
         "int" => Some(Keyword::Type(Kind::Int)),
@@ -92,7 +64,7 @@ fn keyword_of_three(word: &str) -> Option<Keyword>
 /// The keywords of four letters.
 fn keyword_of_four(word: &str) -> Option<Keyword>
     requires { length word.now ≡ 4 }
-    ensures { option_map keyword_view result ≡ keyword_in_table (of_length 4) word.now }
+    ensures { result ≡ keyword_in_table (of_length 4) word.now }
 {
     match word {
         "bool" => Some(Keyword::Type(Kind::Bool)),
@@ -105,7 +77,7 @@ fn keyword_of_four(word: &str) -> Option<Keyword>
 /// The keywords of five letters.
 fn keyword_of_five(word: &str) -> Option<Keyword>
     requires { length word.now ≡ 5 }
-    ensures { option_map keyword_view result ≡ keyword_in_table (of_length 5) word.now }
+    ensures { result ≡ keyword_in_table (of_length 5) word.now }
 {
     match word {
         "endif" => Some(Keyword::End(Block::If)),
@@ -118,7 +90,7 @@ fn keyword_of_five(word: &str) -> Option<Keyword>
 /// The keywords of six letters.
 fn keyword_of_six(word: &str) -> Option<Keyword>
     requires { length word.now ≡ 6 }
-    ensures { option_map keyword_view result ≡ keyword_in_table (of_length 6) word.now }
+    ensures { result ≡ keyword_in_table (of_length 6) word.now }
 {
     match word {
         "config" => Some(Keyword::Config),
@@ -135,7 +107,7 @@ fn keyword_of_six(word: &str) -> Option<Keyword>
 /// The keywords of seven letters.
 fn keyword_of_seven(word: &str) -> Option<Keyword>
     requires { length word.now ≡ 7 }
-    ensures { option_map keyword_view result ≡ keyword_in_table (of_length 7) word.now }
+    ensures { result ≡ keyword_in_table (of_length 7) word.now }
 {
     match word {
         "depends" => Some(Keyword::Depends),
@@ -152,7 +124,7 @@ fn keyword_of_seven(word: &str) -> Option<Keyword>
 /// The keywords of eight letters.
 fn keyword_of_eight(word: &str) -> Option<Keyword>
     requires { length word.now ≡ 8 }
-    ensures { option_map keyword_view result ≡ keyword_in_table (of_length 8) word.now }
+    ensures { result ≡ keyword_in_table (of_length 8) word.now }
 {
     match word {
         "tristate" => Some(Keyword::Type(Kind::Tristate)),
@@ -166,7 +138,7 @@ fn keyword_of_eight(word: &str) -> Option<Keyword>
 /// The keywords of nine letters.
 fn keyword_of_nine(word: &str) -> Option<Keyword>
     requires { length word.now ≡ 9 }
-    ensures { option_map keyword_view result ≡ keyword_in_table (of_length 9) word.now }
+    ensures { result ≡ keyword_in_table (of_length 9) word.now }
 {
     match word {
         "endchoice" => Some(Keyword::End(Block::Choice)),
@@ -177,7 +149,7 @@ fn keyword_of_nine(word: &str) -> Option<Keyword>
 /// The keywords of ten letters.
 fn keyword_of_ten(word: &str) -> Option<Keyword>
     requires { length word.now ≡ 10 }
-    ensures { option_map keyword_view result ≡ keyword_in_table (of_length 10) word.now }
+    ensures { result ≡ keyword_in_table (of_length 10) word.now }
 {
     match word {
         "menuconfig" => Some(Keyword::Config),
@@ -190,7 +162,7 @@ fn keyword_of_ten(word: &str) -> Option<Keyword>
 /// The keywords of twelve letters.
 fn keyword_of_twelve(word: &str) -> Option<Keyword>
     requires { length word.now ≡ 12 }
-    ensures { option_map keyword_view result ≡ keyword_in_table (of_length 12) word.now }
+    ensures { result ≡ keyword_in_table (of_length 12) word.now }
 {
     match word {
         "def_tristate" => Some(Keyword::DefaultType(Kind::Tristate)),

@@ -14,8 +14,8 @@ mod token;
 
 pub use fault::tree_kind_of;
 pub use forms::statement_of;
-pub use keyword::{Keyword, keyword_of};
-pub use placement::{OpenEntry, allows_attribute, is_left_out};
+pub use keyword::keyword_of;
+pub use placement::{allows_attribute, is_left_out};
 pub use statement::{
-    Attribute, Block, DefaultAttribute, Head, RangeAttribute, Statement, TargetAttribute,
+    Attribute, DefaultAttribute, Head, RangeAttribute, Statement, TargetAttribute,
 };

@@ -3,26 +3,16 @@ ghost use Rattle.std.specs.Prelude.{◌≡◌, ◌||◌, ◌==◌, List};
 ghost use Rattle.std.specs.List.{list_any};
 ghost use Rattle.kc_expr.specs.Token.{lexemes_of, lexeme_of};
 ghost use Rattle.kc_tree_model.specs.Blocks.{Group};
-ghost use Rattle.kc_tree_model.specs.Placement.{is_left_out, is_choice_open, open_entry, is_glob_path, allows_attribute, config_open, choice_open};
-ghost use Rattle.kc_statements.specs.KeywordViews.{keyword_view, open_entry_view};
+ghost use Rattle.kc_tree_model.specs.Placement.{is_left_out, is_choice_open, open_entry, is_glob_path, allows_attribute};
 
-use super::keyword::Keyword;
 use super::token::{is_left_out_option, is_operand, is_word};
 use kc_expr::Token;
+use kc_tree_model::{Keyword, OpenEntry};
 use kc_value::Kind;
-
-/// The entry that is open.
-#[derive(Clone, Copy, Debug, PartialEq, Eq)]
-pub enum OpenEntry {
-    Config,
-    Choice,
-    Menu,
-    Comment,
-}
 
 /// Whether an entry takes an attribute ("Kconfig syntax": config, choice, menu, comment).
 pub fn allows_attribute(entry: OpenEntry, keyword: Keyword) -> bool
-    ensures { result ≡ allows_attribute (open_entry_view entry) (keyword_view keyword) }
+    ensures { result ≡ allows_attribute entry keyword }
 {
     match entry {
         OpenEntry::Config => config_allows(keyword),
@@ -34,7 +24,7 @@ pub fn allows_attribute(entry: OpenEntry, keyword: Keyword) -> bool
 
 /// Whether a `config` takes an attribute.
 fn config_allows(keyword: Keyword) -> bool
-    ensures { result ≡ allows_attribute config_open (keyword_view keyword) }
+    ensures { result ≡ allows_attribute OpenEntry.Config keyword }
 {
     matches!(
         keyword,
@@ -54,7 +44,7 @@ fn config_allows(keyword: Keyword) -> bool
 
 /// Whether a `choice` takes an attribute.
 fn choice_allows(keyword: Keyword) -> bool
-    ensures { result ≡ allows_attribute choice_open (keyword_view keyword) }
+    ensures { result ≡ allows_attribute OpenEntry.Choice keyword }
 {
     matches!(
         keyword,
@@ -92,7 +82,7 @@ fn is_glob_path(token: &Token<'_>) -> bool
 /// choice: its first word, options, named and tristate choices, and paths that are patterns ("Kconfig syntax").
 pub fn is_left_out(keyword: Keyword, tokens: &[Token<'_>], choice_is_open: bool) -> bool
     ensures { (read : List Group) → is_choice_open (open_entry read) ≡ choice_is_open
-        → result ≡ is_left_out read (keyword_view keyword) (lexemes_of tokens.now) }
+        → result ≡ is_left_out read keyword (lexemes_of tokens.now) }
 {
     match keyword {
         Keyword::LeftOut => true,

@@ -1,11 +1,11 @@
 //! The form of ranges, by the tokens after `range` ("Menu attributes").
 ghost use Rattle.std.specs.Prelude.{◌≡◌, true, Some, IfOk, IfErr};
-ghost use Rattle.kc_expr.specs.Arena.{Grows};
+ghost use Rattle.kc_expr.specs.between.Arena.{Grows};
 ghost use Rattle.kc_expr.specs.Grammar.{is_operand_kind, operand_of_lexeme};
 ghost use Rattle.kc_expr.specs.Token.{lexemes_of, lexeme_of};
 ghost use Rattle.kc_tree_model.specs.declared.fault.TreeKind.TheVariants.{OutOfMemory};
 ghost use Rattle.kc_tree_model.specs.Forms.{range_line};
-ghost use Rattle.kc_statements.specs.StatementViews.{ReturnsOrFails, StatementNodesExist, OperandNodeExists, statement_in, operand_or_n};
+ghost use Rattle.kc_statements.specs.between.StatementViews.{ReturnsOrFails, StatementNodesExist, OperandNodeExists, statement_in, operand_or_n};
 
 use super::condition::optional_if;
 use super::statement::{Attribute, RangeAttribute, Statement};

@@ -1,14 +1,7 @@
 //! What the lines of a tree say.
 use kc_expr::{ExprId, NameId};
+use kc_tree_model::Block;
 use kc_value::{Kind, Text};
-
-/// The blocks that a statement opens and an end closes ("Menu structure").
-#[derive(Clone, Copy, Debug, PartialEq, Eq)]
-pub enum Block {
-    Menu,
-    If,
-    Choice,
-}
 
 /// A statement that closes the open entry ("Kconfig syntax").
 #[derive(Drop)]

@@ -1,6 +1,6 @@
 //! Names of expressions, and the names of faults.
 ghost use Rattle.std.specs.Prelude.{◌<◌, ◌≤◌, ◌^◌, length, IfOk, OnOk, []};
-ghost use Rattle.kc_expr.specs.Visits.{HasFound};
+ghost use Rattle.kc_expr.specs.between.Visits.{HasFound};
 
 use kc_expr::{Arena, ExprFault, ExprId, ExprKind, NameId, Operand, Token, VisitedSet, tokens};
 use kc_value::Tri;

@@ -36,6 +36,8 @@ mod configurations;
 #[cfg(test)]
 mod expressions;
 #[cfg(test)]
+mod fault_names;
+#[cfg(test)]
 mod loads;
 #[cfg(test)]
 mod minimal;

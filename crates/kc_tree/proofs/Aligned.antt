@@ -4,12 +4,12 @@ use Rattle.std.specs.Prelude.{slice_get, slice_range, nat_lt}
 use Rattle.std.proofs.Math.Seq.{drop-length}
 use Rattle.std.proofs.lemmas.Bool.{lt-ltb}
 use Rattle.std.proofs.lemmas.List.{get_or-reverse, length-reverse}
-use Rattle.kc_expr.specs.Arena.{Exprs}
+use Rattle.kc_expr.specs.between.Arena.{Exprs}
 use Rattle.kc_tree_model.specs.Blocks.{Group, open_blocks}
 use Rattle.kc_tree_model.specs.Conditions.{GroupInContext, group_in_context, groups_in_context}
 use Rattle.kc_listing.specs.declared.listing.Group.{Group as CodeGroup}
 use Rattle.kc_listing.specs.declared.listing.Line.{Line as CodeLine}
-use Rattle.kc_listing.specs.ListingView.{RepresentsGroup, RepresentsGroups}
+use Rattle.kc_listing.specs.between.ListingView.{RepresentsGroup, RepresentsGroups}
 use Rattle.kc_tree.specs.checker.Summaries.{read_before, group_at, attributes_end, no_group}
 
 -- a group among what was read, and how it is kept

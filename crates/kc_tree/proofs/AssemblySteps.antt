@@ -4,7 +4,7 @@ use Rattle.std.specs.Prelude.{All, filter, filter_map, flat_map, slice_get, opti
 use Rattle.std.specs.List.{cons_option}
 use Rattle.std.proofs.lemmas.List.{length-map}
 use Rattle.std.proofs.lemmas.List.Elements.{All-append, All-cons, All-nil}
-use Rattle.kc_expr.specs.Arena.{Exprs}
+use Rattle.kc_expr.specs.between.Arena.{Exprs}
 use Rattle.kc_expr.specs.Lookup.{index_of_name}
 use Rattle.kc_tree_model.specs.Trees as tree
 use Rattle.kc_tree_model.specs.TreeFiles.{Files}
@@ -23,10 +23,10 @@ use Rattle.kc_tree_model.specs.TreeFaults.{first_tree_fault, tree_faults}
 use Rattle.kc_tree_model.proofs.Consistency.Lists.{get_below, place-get, number-get, map-get}
 use Rattle.kc_tree_model.proofs.Consistency.Units.{number_is}
 use Rattle.kc_listing.specs.declared.listing.Listing.{Listing}
-use Rattle.kc_listing.specs.SymbolTable.{text_of_name}
-use Rattle.kc_listing.specs.ListingView.{RepresentsListing}
+use Rattle.kc_listing.specs.between.SymbolTable.{text_of_name}
+use Rattle.kc_listing.specs.between.ListingView.{RepresentsListing}
 use Rattle.kc_tree.specs.TreeModel.{TreeModel}
-use Rattle.kc_tree.specs.Views.{unit_view, member_default_view}
+use Rattle.kc_tree.specs.between.Views.{member_default_view}
 use Rattle.kc_tree.specs.checker.Assembly.{AreSymbolParts, AreChoiceParts, IsGathering}
 use Rattle.kc_tree.specs.checker.ChoiceDefaults.{choice_defaults_of}
 use Rattle.kc_tree.specs.checker.ChoiceRows.{opens, IsChoiceRow, AreChoiceRows}
@@ -228,7 +228,7 @@ module _ (files : Files) (root : List ℕ) (l : Listing) (symbols : SymbolParts)
   entries : map (entry_from_row g.arena g.titles.items) g.entries.items ≡ (tree_of_groups read).entries
   entries = rw (arena_is, titles_is, entries_is) k.entries
 
-  units : map unit_view g.units.items ≡ units_read c
+  units : g.units.items ≡ units_read c
   units = rw units_is s.units
 
   pub whole : gathered_tree g ≡ tree_of_groups read
@@ -257,7 +257,7 @@ module _ (files : Files) (root : List ℕ) (l : Listing) (symbols : SymbolParts)
   few_units : length g.units.items < 2 ^ 32
   few_units =
       let a = few_mapped (unit_read c) c.places in
-      let n : length g.units.items ≡ length (units_read c) = sym (length-map g.units.items unit_view) ∙ ap length units in
+      let n : length g.units.items ≡ length (units_read c) = ap length units in
       omega (arith, a, many_places, few, n)
 
   few_names : length c.names < 2 ^ 32
@@ -295,6 +295,6 @@ unfolding tree_of_files
 consistent_of files root g h k = subst IsConsistent (sym k.whole) (tree_is_consistent files root h)
 
 -- what a tree of it shows
-pub whole_is : (files : Files) (root : List ℕ) (g : Gathered) (t : TreeModel) → IsGathering (reading files root).read g → t ≡ record { exprs = g.arena; whole = gathered_tree g } → t.whole ≡ tree_of_files files root
+pub whole_is : (files : Files) (root : List ℕ) (g : Gathered) (t : TreeModel) → IsGathering (reading files root).read g → t ≡ record { exprs = g.arena; tree = gathered_tree g } → t.tree ≡ tree_of_files files root
 unfolding tree_of_files
-whole_is files root g t k e = ap (λ (h : TreeModel). h.whole) e ∙ k.whole
+whole_is files root g t k e = ap (λ (h : TreeModel). h.tree) e ∙ k.whole

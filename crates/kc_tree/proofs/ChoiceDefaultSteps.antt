@@ -7,17 +7,17 @@ use Rattle.std.proofs.lemmas.List.{map-append, length-map}
 use Rattle.std.proofs.lemmas.Option.{slice_get_within, slice_get_past}
 use Rattle.std.proofs.lemmas.List.Concat.{flat_map-cons}
 use Rattle.std.proofs.lemmas.List.Elements.{All-append, All-cons, All-nil}
-use Rattle.kc_expr.specs.Arena.{Exprs, node_expr}
+use Rattle.kc_expr.specs.between.Arena.{Exprs, node_expr}
 use Rattle.kc_expr.specs.Expr.{Expr}
 use Rattle.kc_expr.specs.Lookup.{index_of_name}
-use Rattle.kc_expr.specs.Names.{name_alone}
-use Rattle.kc_statements.specs.StatementViews.{attribute_in, default_in, AttributeNodesExist}
+use Rattle.kc_expr.specs.between.Names.{name_alone}
+use Rattle.kc_statements.specs.between.StatementViews.{attribute_in, default_in, AttributeNodesExist}
 use Rattle.kc_statements.specs.declared.statement.Attribute.{Attribute as CodeAttribute}
 use Rattle.kc_statements.specs.declared.statement.Attribute.TheVariants as attributes
 use Rattle.kc_listing.specs.declared.listing.Line.{Line as CodeLine}
 use Rattle.kc_listing.specs.declared.listing.SymbolTable.{SymbolTable}
-use Rattle.kc_listing.specs.SymbolTable.{number_in, HasNames}
-use Rattle.kc_listing.specs.ListingView.{line_in, RepresentsListing, RepresentsHead}
+use Rattle.kc_listing.specs.between.SymbolTable.{number_in, HasNames}
+use Rattle.kc_listing.specs.between.ListingView.{line_in, RepresentsListing, RepresentsHead}
 use Rattle.kc_listing.specs.declared.listing.Listing.{Listing}
 use Rattle.kc_listing.specs.declared.listing.GroupHead.{GroupHead as CodeWhat}
 use Rattle.kc_listing.specs.declared.listing.GroupHead.TheVariants as codes
@@ -32,7 +32,7 @@ use Rattle.kc_tree_model.specs.Conditions.{GroupInContext, group_in_context, gro
 use Rattle.kc_tree_model.specs.Contents.{Contents, contents_of, bare_name, member_named, member_names, member_default, name_among}
 use Rattle.kc_tree_model.proofs.Consistency.Lists.{place-get}
 use Rattle.kc_tree_model.specs.TreeFaults.{when, second_prompt, choice_faults, is_no_member, faults_at, faults_of_lines, faults_of_group, tree_faults}
-use Rattle.kc_tree.specs.Views.{member_default_view, MemberDefaultFits}
+use Rattle.kc_tree.specs.between.Views.{member_default_view, MemberDefaultFits}
 use Rattle.kc_tree.specs.checker.ChoiceDefaults.{default_value_view, symbol_bare, member_default_row, member_default_rows, group_default_rows, choice_defaults_of, AreDefaultsOf, IsWalkOf}
 use Rattle.kc_tree.specs.checker.ChoiceRows.{opens}
 use Rattle.kc_tree.specs.checker.Conditioned.{own_conditions}
@@ -286,7 +286,7 @@ choices_few x n = by (is_choice_code x) (choices_by x n)
     by true e = omega (arith, e)
     by false e = omega (arith, e)
 
-choice_said : (exprs : Exprs) (names texts : List (List ℕ)) (c : CodeWhat) (m : Group) → RepresentsHead exprs names texts c m.what → is_choice_code c ≡ true → m.what ≡ of_head choice
+choice_said : (exprs : Exprs) (names texts : List (List ℕ)) (c : CodeWhat) (m : Group) → RepresentsHead exprs names texts c m.head → is_choice_code c ≡ true → m.head ≡ of_head choice
 choice_said exprs names texts (codes.Config s) m h e = cc
 choice_said exprs names texts codes.Choice m h e = h
 choice_said exprs names texts (codes.Menu t) m h e = cc
@@ -297,7 +297,7 @@ choice_said exprs names texts codes.Mainmenu m h e = cc
 choice_said exprs names texts (codes.Ends b) m h e = cc
 choice_said exprs names texts codes.FileEnd m h e = cc
 
-choice_group_faults : (c : Contents) (p : GroupInContext) → p.group.what ≡ of_head choice → faults_of_group c p ≡ faults_of_lines p.group (choice_faults (member_names c p.group.number)) false p.group.attributes
+choice_group_faults : (c : Contents) (p : GroupInContext) → p.group.head ≡ of_head choice → faults_of_group c p ≡ faults_of_lines p.group (choice_faults (member_names c p.group.number)) false p.group.attributes
 choice_group_faults c p e = rw e refl
 
 -- the defaults of the choices among the groups that were gone through
@@ -318,7 +318,7 @@ module _ (l : Listing) (groups : List GroupConditions) (conditions : List ℕ) (
     are = λ k. rw e (ap (λ r. choice_defaults_of (contents_of read) (slice_get (filter opens (groups_in_context r)) k)) (sym (none_before read)));
   }
 
-  same_defaults : (i n : ℕ) (old new : Keyed MemberDefault) → i < length l.groups.items → is_choice_code (group_at l.groups.items i).what ≡ false → new.keys.items ≡ old.keys.items → new.items.items ≡ old.items.items → AreTo i n old → AreTo (i + 1) n new
+  same_defaults : (i n : ℕ) (old new : Keyed MemberDefault) → i < length l.groups.items → is_choice_code (group_at l.groups.items i).head ≡ false → new.keys.items ≡ old.keys.items → new.items.items ≡ old.items.items → AreTo i n old → AreTo (i + 1) n new
   same_defaults i n old new h b e f d =
       let same = places_more l l.names.arena groups conditions read w.shows w.shown i h false b ∙ append-nil (filter opens (groups_in_context (read_before i read))) in
       record {
@@ -327,7 +327,7 @@ module _ (l : Listing) (groups : List GroupConditions) (conditions : List ℕ) (
         are = λ k. rw (e, f) (d.are k) ∙ ap (λ ps. choice_defaults_of (contents_of read) (slice_get ps k)) (sym same);
       }
 
-  own_defaults : (i : ℕ) (h : i < length l.groups.items) → is_choice_code (group_at l.groups.items i).what ≡ true → tree_faults read ≡ []
+  own_defaults : (i : ℕ) (h : i < length l.groups.items) → is_choice_code (group_at l.groups.items i).head ≡ true → tree_faults read ≡ []
       → map (member_default_view l.names.arena) (member_default_rows l.names (own_lines l i) (own_conditions groups conditions i))
       ≡ choice_defaults_of (contents_of read) (Some (group_in_context (open_blocks 0 (read_before i read)) (both_at l l.names.arena groups conditions read w.shows w.shown i h).group))
   unfolding RepresentsListing tree_faults
@@ -336,7 +336,7 @@ module _ (l : Listing) (groups : List GroupConditions) (conditions : List ℕ) (
       let p : GroupInContext = group_in_context (open_blocks 0 (read_before i read)) x.group in
       let n = count_is l.names.arena (names_defined read) l.texts.items l.lines.items l.groups.items read w.shows.groups_are in
       let faults = flat_none (faults_of_group (contents_of read)) (groups_in_context read) i p none (place_numbered read i x.group (omega (arith, n, h)) x.now) in
-      let what = choice_said l.names.arena (names_defined read) l.texts.items (group_at l.groups.items i).what x.group x.shown.what b in
+      let what = choice_said l.names.arena (names_defined read) l.texts.items (group_at l.groups.items i).head x.group x.shown.head b in
       let lines : faults_of_lines p.group (choice_faults (member_names (contents_of read) p.group.number)) false p.group.attributes ≡ [] = sym (choice_group_faults (contents_of read) p what) ∙ faults in
       let own : map (node_expr l.names.arena) (own_conditions groups conditions i) ≡ map (condition_at p) (map (line_in l.names.arena) (own_lines l i)) = x.conditioned.own_are ∙ ap (map (condition_at p)) x.shown.attributes in
       all_defaults l.names l.names.symbols.items (contents_of read) w.shows.names p (own_lines l i) (own_conditions groups conditions i) false own (ap (λ ls. faults_of_lines p.group (choice_faults (member_names (contents_of read) p.group.number)) false ls) (sym x.shown.attributes) ∙ lines)
@@ -361,7 +361,7 @@ module _ (l : Listing) (groups : List GroupConditions) (conditions : List ℕ) (
   by_key m k false F p old xs e n o x =
       append-nil old ∙ o ∙ ap (choice_defaults_of (contents_of read)) (sym (get_other F p k (λ same. false≢true (sym e ∙ eq-eqb m k (n ∙ sym same)))))
 
-  more_defaults : (i n : ℕ) (old new : Keyed MemberDefault) → i < length l.groups.items → is_choice_code (group_at l.groups.items i).what ≡ true → n ≡ length (filter opens (groups_in_context (read_before i read))) → tree_faults read ≡ []
+  more_defaults : (i n : ℕ) (old new : Keyed MemberDefault) → i < length l.groups.items → is_choice_code (group_at l.groups.items i).head ≡ true → n ≡ length (filter opens (groups_in_context (read_before i read))) → tree_faults read ≡ []
       → new.keys.items ≡ old.keys.items ++ map (λ (_ : MemberDefault). n) (member_default_rows l.names (own_lines l i) (own_conditions groups conditions i))
       → new.items.items ≡ old.items.items ++ member_default_rows l.names (own_lines l i) (own_conditions groups conditions i) → AreTo i n old → AreTo (i + 1) (n + 1) new
   more_defaults i n old new h b c none e f d =
@@ -379,7 +379,7 @@ module _ (l : Listing) (groups : List GroupConditions) (conditions : List ℕ) (
       }
 
   -- one group more
-  pub one_more : (i n n2 : ℕ) (what : CodeWhat) (old new : Keyed MemberDefault) → i < length l.groups.items → what ≡ (group_at l.groups.items i).what → n ≡ length (numbers_of_choices (read_before i read)) → n2 ≡ choices_after what n → tree_faults read ≡ []
+  pub one_more : (i n n2 : ℕ) (what : CodeWhat) (old new : Keyed MemberDefault) → i < length l.groups.items → what ≡ (group_at l.groups.items i).head → n ≡ length (numbers_of_choices (read_before i read)) → n2 ≡ choices_after what n → tree_faults read ≡ []
       → new.keys.items ≡ old.keys.items ++ map (λ (_ : MemberDefault). n) (group_default_rows what l.names (own_lines l i) (own_conditions groups conditions i))
       → new.items.items ≡ old.items.items ++ group_default_rows what l.names (own_lines l i) (own_conditions groups conditions i) → AreTo i n old → AreTo (i + 1) n2 new
   one_more i n n2 what old new h v c m none e f d =

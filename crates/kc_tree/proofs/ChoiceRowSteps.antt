@@ -3,9 +3,9 @@ use Rattle.std.proofs.Common.{◌≡◌, ℕ, suc, ◌+◌, ◌<◌, Bool, true,
 use Rattle.std.specs.Prelude.{All, filter, filter_map, slice_get, option_map}
 use Rattle.std.proofs.lemmas.List.{length-map}
 use Rattle.std.proofs.lemmas.List.Elements.{filter-append}
-use Rattle.kc_expr.specs.Arena.{Exprs, node_expr}
+use Rattle.kc_expr.specs.between.Arena.{Exprs, node_expr}
 use Rattle.kc_expr.specs.Expr.{Expr}
-use Rattle.kc_statements.specs.StatementViews.{attribute_in}
+use Rattle.kc_statements.specs.between.StatementViews.{attribute_in}
 use Rattle.kc_statements.specs.declared.statement.Attribute.{Attribute as CodeAttribute}
 use Rattle.kc_statements.specs.declared.statement.Attribute.TheVariants as attributes
 use Rattle.kc_tree_model.specs.Statements.{prompt_of}
@@ -13,7 +13,7 @@ use Rattle.kc_tree_model.specs.Blocks.{Group, Line, open_blocks}
 use Rattle.kc_tree_model.specs.Conditions.{GroupInContext, group_in_context, groups_in_context, prompt_condition, prompts_of}
 use Rattle.kc_listing.specs.declared.listing.Line.{Line as CodeLine}
 use Rattle.kc_listing.specs.declared.listing.Listing.{Listing}
-use Rattle.kc_listing.specs.ListingView.{RepresentsListing, line_in, RepresentsGroup}
+use Rattle.kc_listing.specs.between.ListingView.{RepresentsListing, line_in, RepresentsGroup}
 use Rattle.kc_tree_model.specs.Limits.{names_defined}
 use Rattle.kc_tree.specs.checker.ChoiceRows.{IsGoneThrough, choice_row, opens, IsChoiceRow, AreChoiceRows}
 use Rattle.kc_tree.specs.checker.Conditioned.{conditions_at, own_conditions, IsConditioned}
@@ -136,23 +136,23 @@ module _ (l : Listing) (exprs : Exprs) (groups : List GroupConditions) (conditio
   abbrev pub AreRowsTo : ℕ → List ChoiceRow → Type 0
   AreRowsTo i rows = AreChoiceRows exprs (filter opens (groups_in_context (read_before i read))) rows
 
-  pub places_more : (i : ℕ) (h : i < length l.groups.items) (b : Bool) → is_choice_code (group_at l.groups.items i).what ≡ b
+  pub places_more : (i : ℕ) (h : i < length l.groups.items) (b : Bool) → is_choice_code (group_at l.groups.items i).head ≡ b
       → filter opens (groups_in_context (read_before (i + 1) read)) ≡ filter opens (groups_in_context (read_before i read)) ++ cond b (group_in_context (open_blocks 0 (read_before i read)) (both_at i h).group ∷ []) []
   places_more i h b e =
       let x = both_at i h in
       let p : GroupInContext = group_in_context (open_blocks 0 (read_before i read)) x.group in
       ap (filter opens) (placed_more read i x.group x.now)
       ∙ filter-append opens (groups_in_context (read_before i read)) (p ∷ [])
-      ∙ ap (λ t. filter opens (groups_in_context (read_before i read)) ++ cond t (p ∷ []) []) (begins_is l.names.arena (names_defined read) l.texts.items (group_at l.groups.items i).what x.group x.shown.what ∙ e)
+      ∙ ap (λ t. filter opens (groups_in_context (read_before i read)) ++ cond t (p ∷ []) []) (begins_is l.names.arena (names_defined read) l.texts.items (group_at l.groups.items i).head x.group x.shown.head ∙ e)
 
-  pub rows_more : (i : ℕ) (rows : List ChoiceRow) → i < length l.groups.items → is_choice_code (group_at l.groups.items i).what ≡ true → AreRowsTo i rows
+  pub rows_more : (i : ℕ) (rows : List ChoiceRow) → i < length l.groups.items → is_choice_code (group_at l.groups.items i).head ≡ true → AreRowsTo i rows
       → AreRowsTo (i + 1) (rows ++ choice_row (group_at l.groups.items i) (own_lines l i) (own_conditions groups conditions i) ∷ [])
   rows_more i rows h e r =
       let p : GroupInContext = group_in_context (open_blocks 0 (read_before i read)) (both_at i h).group in
       let row = choice_row (group_at l.groups.items i) (own_lines l i) (own_conditions groups conditions i) in
       subst (λ ps. AreChoiceRows exprs ps (rows ++ row ∷ [])) (sym (places_more i h true e)) (rows_put exprs (filter opens (groups_in_context (read_before i read))) rows p row r (row_shown i h))
 
-  pub rows_same : (i : ℕ) (rows : List ChoiceRow) → i < length l.groups.items → is_choice_code (group_at l.groups.items i).what ≡ false → AreRowsTo i rows → AreRowsTo (i + 1) rows
+  pub rows_same : (i : ℕ) (rows : List ChoiceRow) → i < length l.groups.items → is_choice_code (group_at l.groups.items i).head ≡ false → AreRowsTo i rows → AreRowsTo (i + 1) rows
   rows_same i rows h e r = subst (λ ps. AreChoiceRows exprs ps rows) (sym (places_more i h false e ∙ append-nil (filter opens (groups_in_context (read_before i read))))) r
 
   pub no_rows : AreRowsTo 0 []

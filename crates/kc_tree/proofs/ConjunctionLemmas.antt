@@ -1,7 +1,7 @@
 -- Conjunctions with one more.
 use Rattle.std.proofs.Common.{◌≡◌, ℕ, ◌<◌, List, [], ◌∷◌, ◌++◌, length, length-append, Option, Some, None, refl, ap, sym, subst, ◌∙◌, arith}
 use Rattle.std.proofs.lemmas.List.{append-nil}
-use Rattle.kc_expr.specs.Arena.{Exprs, Represents, node_expr}
+use Rattle.kc_expr.specs.between.Arena.{Exprs, Represents, node_expr}
 use Rattle.kc_expr.specs.Expr.{Expr, both}
 use Rattle.kc_tree_model.specs.Conditions.{conjunction_from, conjunction_of}
 use Rattle.kc_tree.specs.checker.Conjunctions.{Conjoins, conjunct}

@@ -6,12 +6,12 @@ use Rattle.std.proofs.lemmas.List.{length-map, map-append, reverse-append, rever
 use Rattle.std.proofs.lemmas.List.Elements.{All-append, All-cons, All-nil}
 use Rattle.std.proofs.lemmas.Option.{get_or_from_slice_get}
 use Rattle.std.proofs.Math.Seq.{drop-length}
-use Rattle.kc_expr.specs.Arena.{Exprs, Represents, node_expr}
+use Rattle.kc_expr.specs.between.Arena.{Exprs, Represents, node_expr}
 use Rattle.kc_expr.specs.Expr.{Expr}
 use Rattle.kc_expr.specs.Lookup.{index_of_name}
-use Rattle.kc_statements.specs.declared.statement.Block.TheVariants as blocks
+use Rattle.kc_tree_model.specs.declared.keyword.Block.TheVariants as blocks
 use Rattle.kc_tree_model.specs.Trees as tree
-use Rattle.kc_tree_model.specs.Statements.{choice_block, block_of_head, title_of_head, visible_of}
+use Rattle.kc_tree_model.specs.Statements.{block_of_head, title_of_head, visible_of}
 use Rattle.kc_tree_model.specs.Blocks.{Group, GroupHead, opening, closing, side_of, from_head, is_some_block, open_blocks, opens_choice}
 use Rattle.kc_tree_model.specs.Conditions.{GroupInContext, group_in_context, groups_in_context, dependency_of, conjunction_of, attribute_values}
 use Rattle.kc_tree_model.specs.Contents.{Contents, contents_of, choice_number, index_of_number, entry_of_head, menu_end_of, tree_of_groups}
@@ -23,8 +23,8 @@ use Rattle.kc_listing.specs.declared.listing.Line.{Line as CodeLine}
 use Rattle.kc_listing.specs.declared.listing.Listing.{Listing}
 use Rattle.kc_listing.specs.declared.listing.GroupHead.{GroupHead as CodeWhat}
 use Rattle.kc_listing.specs.declared.listing.GroupHead.TheVariants as codes
-use Rattle.kc_listing.specs.SymbolTable.{text_of_name}
-use Rattle.kc_listing.specs.ListingView.{RepresentsListing, RepresentsHead, RepresentsGroups}
+use Rattle.kc_listing.specs.between.SymbolTable.{text_of_name}
+use Rattle.kc_listing.specs.between.ListingView.{RepresentsListing, RepresentsHead, RepresentsGroups}
 use Rattle.kc_tree.specs.checker.Entries.{entry_row, choices_after, entries_from}
 use Rattle.kc_tree.specs.checker.StoredParts.{EntryRowFits}
 use Rattle.kc_tree.specs.checker.PartsView.{entry_from_row}
@@ -36,33 +36,33 @@ use Rattle.kc_tree.specs.declared.group_walk.GroupConditions.{GroupConditions}
 -- the entries of groups, the newest first
 abbrev count_back : List CodeGroup → ℕ
 count_back [] = 0
-count_back (g ∷ gs) = choices_after g.what (count_back gs)
+count_back (g ∷ gs) = choices_after g.head (count_back gs)
 
 abbrev entries_back : List CodeGroup → List GroupConditions → List EntryRow
 entries_back [] cs = []
 entries_back (g ∷ gs) [] = []
-entries_back (g ∷ gs) (c ∷ cs) = entries_back gs cs ++ option_to_list (entry_row g.what c (count_back gs))
+entries_back (g ∷ gs) (c ∷ cs) = entries_back gs cs ++ option_to_list (entry_row g.head c (count_back gs))
 
 abbrev count_from : ℕ → List CodeGroup → ℕ
 count_from n [] = n
-count_from n (g ∷ gs) = count_from (choices_after g.what n) gs
+count_from n (g ∷ gs) = count_from (choices_after g.head n) gs
 
-count-append : (n : ℕ) (gs : List CodeGroup) (g : CodeGroup) → count_from n (gs ++ g ∷ []) ≡ choices_after g.what (count_from n gs)
+count-append : (n : ℕ) (gs : List CodeGroup) (g : CodeGroup) → count_from n (gs ++ g ∷ []) ≡ choices_after g.head (count_from n gs)
 count-append n [] g = refl
-count-append n (h ∷ gs) g = count-append (choices_after h.what n) gs g
+count-append n (h ∷ gs) g = count-append (choices_after h.head n) gs g
 
 count_reverse : (gs : List CodeGroup) → count_from 0 (reverse gs) ≡ count_back gs
 count_reverse [] = refl
-count_reverse (g ∷ gs) = ap (count_from 0) (reverse-append (g ∷ []) gs) ∙ count-append 0 (reverse gs) g ∙ ap (choices_after g.what) (count_reverse gs)
+count_reverse (g ∷ gs) = ap (count_from 0) (reverse-append (g ∷ []) gs) ∙ count-append 0 (reverse gs) g ∙ ap (choices_after g.head) (count_reverse gs)
 
 from-append : (n : ℕ) (gs : List CodeGroup) (cs : List GroupConditions) (g : CodeGroup) (c : GroupConditions) → length gs ≡ length cs
-    → entries_from n (gs ++ g ∷ []) (cs ++ c ∷ []) ≡ entries_from n gs cs ++ option_to_list (entry_row g.what c (count_from n gs))
-from-append n [] [] g c e = append-nil (option_to_list (entry_row g.what c n))
+    → entries_from n (gs ++ g ∷ []) (cs ++ c ∷ []) ≡ entries_from n gs cs ++ option_to_list (entry_row g.head c (count_from n gs))
+from-append n [] [] g c e = append-nil (option_to_list (entry_row g.head c n))
 from-append n [] (d ∷ cs) g c e = absurd (omega (arith, e))
 from-append n (h ∷ gs) [] g c e = absurd (omega (arith, e))
 from-append n (h ∷ gs) (d ∷ cs) g c e =
-    ap (λ t. option_to_list (entry_row h.what d n) ++ t) (from-append (choices_after h.what n) gs cs g c (omega (arith, e)))
-    ∙ sym (append_assoc (option_to_list (entry_row h.what d n)) (entries_from (choices_after h.what n) gs cs) (option_to_list (entry_row g.what c (count_from (choices_after h.what n) gs))))
+    ap (λ t. option_to_list (entry_row h.head d n) ++ t) (from-append (choices_after h.head n) gs cs g c (omega (arith, e)))
+    ∙ sym (append_assoc (option_to_list (entry_row h.head d n)) (entries_from (choices_after h.head n) gs cs) (option_to_list (entry_row g.head c (count_from (choices_after h.head n) gs))))
 
 from_reverse : (gs : List CodeGroup) (cs : List GroupConditions) → length gs ≡ length cs → entries_from 0 (reverse gs) (reverse cs) ≡ entries_back gs cs
 from_reverse [] cs e = refl
@@ -72,8 +72,8 @@ from_reverse (g ∷ gs) (c ∷ cs) e =
     ap (λ xs. entries_from 0 xs (reverse (c ∷ cs))) (reverse-append (g ∷ []) gs)
     ∙ ap (λ xs. entries_from 0 (reverse gs ++ g ∷ []) xs) (reverse-append (c ∷ []) cs)
     ∙ from-append 0 (reverse gs) (reverse cs) g c (length-reverse gs ∙ f ∙ sym (length-reverse cs))
-    ∙ ap (λ t. t ++ option_to_list (entry_row g.what c (count_from 0 (reverse gs)))) (from_reverse gs cs f)
-    ∙ ap (λ n. entries_back gs cs ++ option_to_list (entry_row g.what c n)) (count_reverse gs)
+    ∙ ap (λ t. t ++ option_to_list (entry_row g.head c (count_from 0 (reverse gs)))) (from_reverse gs cs f)
+    ∙ ap (λ n. entries_back gs cs ++ option_to_list (entry_row g.head c n)) (count_reverse gs)
 
 -- the numbers of the choices
 abbrev opens : GroupInContext → Bool
@@ -153,9 +153,9 @@ map_option f (Some x) = refl
 -- what a group counts
 module _ (e : Exprs) (names texts : List (List ℕ)) (m : Group) (n : ℕ) where
   abbrev counted : GroupHead → ℕ
-  counted v = cond (is_some_block choice_block (from_head block_of_head v)) (n + 1) n
+  counted v = cond (is_some_block blocks.Choice (from_head block_of_head v)) (n + 1) n
 
-  pub counts : (w : CodeWhat) → RepresentsHead e names texts w m.what → choices_after w n ≡ cond (opens_choice m) (n + 1) n
+  pub counts : (w : CodeWhat) → RepresentsHead e names texts w m.head → choices_after w n ≡ cond (opens_choice m) (n + 1) n
   counts (codes.Config s) h = sym (ap counted h.2)
   counts codes.Choice h = sym (ap counted h)
   counts (codes.Menu t) h = sym (ap counted h.2)
@@ -177,8 +177,8 @@ module _ (e : Exprs) (names texts : List (List ℕ)) (lines : List CodeLine) whe
   count_is : (end : ℕ) (gs : List CodeGroup) (ms : List Group) → RepresentsGroups e names texts lines end gs ms → count_back gs ≡ length (numbers ms)
   count_is end [] [] h = refl
   count_is end (g ∷ gs) (m ∷ ms) h =
-      ap (choices_after g.what) (count_is g.attributes gs ms h.2)
-      ∙ counts e names texts m (length (numbers ms)) g.what h.0.what
+      ap (choices_after g.head) (count_is g.attributes gs ms h.2)
+      ∙ counts e names texts m (length (numbers ms)) g.head h.0.head
       ∙ sym (ap length (numbers_more m ms) ∙ long_by (opens_choice m) (numbers ms) m.number)
   count_is end [] (m ∷ ms) h = absurd h
   count_is end (g ∷ gs) [] h = absurd h
@@ -208,7 +208,7 @@ module _ (C : Contents) (m : Group) (ms : List Group) (rest : List ℕ) (c : C.c
   before = c ∙ ap (λ ns. ns ++ rest) (numbers_more m ms) ∙ append_assoc (numbers ms) (cond (opens_choice m) (m.number ∷ []) []) rest
 
 abbrev entry_at : Contents → GroupInContext → Option tree.Entry
-entry_at C p = from_head (entry_of_head C p) p.group.what
+entry_at C p = from_head (entry_of_head C p) p.group.head
 
 -- an entry stands for what the definition has
 module _ (e e2 : Exprs) (texts : List (List ℕ)) (C : Contents) (d : Differ C.names) (p : GroupInContext) (n : ℕ) where
@@ -218,7 +218,7 @@ module _ (e e2 : Exprs) (texts : List (List ℕ)) (C : Contents) (d : Differ C.n
   text_is : (t : ℕ) (title : List ℕ) → slice_get texts t ≡ Some title → slice_index_or texts t [] ≡ title
   text_is t title h = get_or_from_slice_get texts t title [] h
 
-  stands : (id : ℕ) (x : Expr) → side_of p.group.what ≡ closing ⊎ Represents e2 id x → (side_of p.group.what ≡ closing → ⊥) → Represents e2 id x
+  stands : (id : ℕ) (x : Expr) → side_of p.group.head ≡ closing ⊎ Represents e2 id x → (side_of p.group.head ≡ closing → ⊥) → Represents e2 id x
   stands id x (inl a) away = absurd (away a)
   stands id x (inr s) away = s
 
@@ -226,14 +226,14 @@ module _ (e e2 : Exprs) (texts : List (List ℕ)) (C : Contents) (d : Differ C.n
   end_shown None a v x h = sym h
   end_shown (Some t) a v x h = ap (λ title. Some (tree.menu_ends title (node_expr e2 a) (node_expr e2 v))) (text_is t h.0 h.1) ∙ sym h.4
 
-  pub entry_shown : (w : CodeWhat) (c : GroupConditions) (own : List ℕ) → RepresentsHead e C.names texts w p.group.what → RepresentsConditions e2 texts own c p
+  pub entry_shown : (w : CodeWhat) (c : GroupConditions) (own : List ℕ) → RepresentsHead e C.names texts w p.group.head → RepresentsConditions e2 texts own c p
       → (opens_choice p.group ≡ true → choice_number C p.group.number ≡ Some n) → option_map (entry_from_row e2 texts) (entry_row w c n) ≡ entry_at C p
   entry_shown (codes.Config s) c own h k o = sym (ap at_place h.2 ∙ ap (option_map tree.definition) (place_is C.names h.0 s d h.1))
   entry_shown codes.Choice c own h k o =
-      let opened : opens_choice p.group ≡ true = ap (λ v. is_some_block choice_block (from_head block_of_head v)) h in
+      let opened : opens_choice p.group ≡ true = ap (λ v. is_some_block blocks.Choice (from_head block_of_head v)) h in
       sym (ap at_place h ∙ ap (option_map tree.choice_begins) (o opened))
   entry_shown (codes.Menu t) c own h k o =
-      let away : side_of p.group.what ≡ closing → ⊥ = λ q. let z : opening ≡ closing = sym (ap side_of h.2) ∙ q in cc in
+      let away : side_of p.group.head ≡ closing → ⊥ = λ q. let z : opening ≡ closing = sym (ap side_of h.2) ∙ q in cc in
       let a = stands c.dependency (dependency_of p.enclosing p.group) k.dependency_is away in
       let v = stands c.visible (conjunction_of (p.enclosing.visibles ++ attribute_values visible_of p.group)) k.visible_is away in
       ap (λ title. Some (tree.menu_begins title (node_expr e2 c.dependency) (node_expr e2 c.visible))) (text_is t h.0 h.1)
@@ -242,7 +242,7 @@ module _ (e e2 : Exprs) (texts : List (List ℕ)) (C : Contents) (d : Differ C.n
       ∙ sym (ap at_place h.2 ∙ ap (λ w. option_map (λ title. tree.menu_begins title (dependency_of p.enclosing p.group) (conjunction_of (p.enclosing.visibles ++ attribute_values visible_of p.group))) (from_head title_of_head w)) h.2)
   entry_shown (codes.Condition id) c own h k o = sym (ap at_place h.1)
   entry_shown (codes.Comment t) c own h k o =
-      let away : side_of p.group.what ≡ closing → ⊥ = λ q. let z = sym (ap side_of h.2) ∙ q in cc in
+      let away : side_of p.group.head ≡ closing → ⊥ = λ q. let z = sym (ap side_of h.2) ∙ q in cc in
       let a = stands c.dependency (dependency_of p.enclosing p.group) k.dependency_is away in
       ap (λ title. Some (tree.comment title (node_expr e2 c.dependency))) (text_is t h.0 h.1)
       ∙ ap (λ x. Some (tree.comment h.0 x)) a.is
@@ -265,19 +265,19 @@ module _ (e e2 : Exprs) (texts : List (List ℕ)) (C : Contents) (d : Differ C.n
   end_fits None a v x h = All-nil Fits
   end_fits (Some t) a v x h = one_fits (MenuEnds t a v) (get_below texts t h.0 h.1, h.2, h.3)
 
-  pub entry_fits : (w : CodeWhat) (c : GroupConditions) (own : List ℕ) → RepresentsHead e C.names texts w p.group.what → RepresentsConditions e2 texts own c p
+  pub entry_fits : (w : CodeWhat) (c : GroupConditions) (own : List ℕ) → RepresentsHead e C.names texts w p.group.head → RepresentsConditions e2 texts own c p
       → (opens_choice p.group ≡ true → n < length C.choices) → All Fits (option_to_list (entry_row w c n))
   entry_fits (codes.Config s) c own h k o = one_fits (Definition s) (get_below C.names s h.0 h.1)
   entry_fits codes.Choice c own h k o =
-      let opened : opens_choice p.group ≡ true = ap (λ v. is_some_block choice_block (from_head block_of_head v)) h in
+      let opened : opens_choice p.group ≡ true = ap (λ v. is_some_block blocks.Choice (from_head block_of_head v)) h in
       one_fits (ChoiceBegins n) (o opened)
   entry_fits (codes.Menu t) c own h k o =
-      let away : side_of p.group.what ≡ closing → ⊥ = λ q. let z : opening ≡ closing = sym (ap side_of h.2) ∙ q in cc in
+      let away : side_of p.group.head ≡ closing → ⊥ = λ q. let z : opening ≡ closing = sym (ap side_of h.2) ∙ q in cc in
       one_fits (MenuBegins t c.dependency c.visible)
       (get_below texts t h.0 h.1, (stands c.dependency (dependency_of p.enclosing p.group) k.dependency_is away).within, (stands c.visible (conjunction_of (p.enclosing.visibles ++ attribute_values visible_of p.group)) k.visible_is away).within)
   entry_fits (codes.Condition id) c own h k o = All-nil Fits
   entry_fits (codes.Comment t) c own h k o =
-      let away : side_of p.group.what ≡ closing → ⊥ = λ q. let z = sym (ap side_of h.2) ∙ q in cc in
+      let away : side_of p.group.head ≡ closing → ⊥ = λ q. let z = sym (ap side_of h.2) ∙ q in cc in
       one_fits (Comment t c.dependency) (get_below texts t h.0 h.1, (stands c.dependency (dependency_of p.enclosing p.group) k.dependency_is away).within)
   entry_fits (codes.Source t) c own h k o = All-nil Fits
   entry_fits codes.Mainmenu c own h k o = All-nil Fits
@@ -297,10 +297,10 @@ module _ (e e2 : Exprs) (texts : List (List ℕ)) (lines : List CodeLine) (condi
       let p : GroupInContext = group_in_context (open_blocks 0 ms) m in
       let n = count_is e C.names texts lines g.attributes gs ms h.2 in
       let b = numbers_below e C.names texts lines g.attributes gs ms h.2 in
-      map-append f (entries_back gs xs) (option_to_list (entry_row g.what x (count_back gs)))
-      ∙ ap (λ t. t ++ map f (option_to_list (entry_row g.what x (count_back gs)))) (all_entries g.attributes x.first gs xs ms (cond (opens_choice m) (m.number ∷ []) [] ++ rest) h.2 k.2 (before C m ms rest c))
-      ∙ ap (λ t. filter_map (entry_at C) (groups_in_context ms) ++ t) (map_option f (entry_row g.what x (count_back gs)))
-      ∙ ap (λ o. filter_map (entry_at C) (groups_in_context ms) ++ option_to_list o) (entry_shown e e2 texts C d p (count_back gs) g.what x _ h.0.what k.0 (λ o. numbered C m ms rest c h.0.number_is b o ∙ ap Some (sym n)))
+      map-append f (entries_back gs xs) (option_to_list (entry_row g.head x (count_back gs)))
+      ∙ ap (λ t. t ++ map f (option_to_list (entry_row g.head x (count_back gs)))) (all_entries g.attributes x.first gs xs ms (cond (opens_choice m) (m.number ∷ []) [] ++ rest) h.2 k.2 (before C m ms rest c))
+      ∙ ap (λ t. filter_map (entry_at C) (groups_in_context ms) ++ t) (map_option f (entry_row g.head x (count_back gs)))
+      ∙ ap (λ o. filter_map (entry_at C) (groups_in_context ms) ++ option_to_list o) (entry_shown e e2 texts C d p (count_back gs) g.head x _ h.0.head k.0 (λ o. numbered C m ms rest c h.0.number_is b o ∙ ap Some (sym n)))
       ∙ sym (filter_map-snoc (entry_at C) (groups_in_context ms) p)
   all_entries end end2 [] cs (m ∷ ms) rest h k c = absurd h
   all_entries end end2 (g ∷ gs) cs [] rest h k c = absurd h
@@ -314,9 +314,9 @@ module _ (e e2 : Exprs) (texts : List (List ℕ)) (lines : List CodeLine) (condi
   all_fit end end2 (g ∷ gs) (x ∷ xs) (m ∷ ms) rest h k c =
       let p : GroupInContext = group_in_context (open_blocks 0 ms) m in
       let n = count_is e C.names texts lines g.attributes gs ms h.2 in
-      All-append (EntryRowFits (length e2.nodes) (length C.names) (length C.choices) (length texts)) (entries_back gs xs) (option_to_list (entry_row g.what x (count_back gs)))
+      All-append (EntryRowFits (length e2.nodes) (length C.names) (length C.choices) (length texts)) (entries_back gs xs) (option_to_list (entry_row g.head x (count_back gs)))
       (all_fit g.attributes x.first gs xs ms (cond (opens_choice m) (m.number ∷ []) [] ++ rest) h.2 k.2 (before C m ms rest c))
-      (entry_fits e e2 texts C d p (count_back gs) g.what x _ h.0.what k.0 (λ o. let t = there C m ms rest c o in omega (arith, t, n)))
+      (entry_fits e e2 texts C d p (count_back gs) g.head x _ h.0.head k.0 (λ o. let t = there C m ms rest c o in omega (arith, t, n)))
   all_fit end end2 [] cs (m ∷ ms) rest h k c = absurd h
   all_fit end end2 (g ∷ gs) cs [] rest h k c = absurd h
   all_fit end end2 [] (x ∷ xs) [] rest h k c = absurd k

@@ -5,7 +5,7 @@ use Rattle.std.specs.Option.{option_or}
 use Rattle.std.proofs.Math.Seq.{drop-cons}
 use Rattle.std.proofs.lemmas.List.{drop_all}
 use Rattle.kc_value.specs.declared.value.Kind.{Kind}
-use Rattle.kc_expr.specs.Arena.{Exprs}
+use Rattle.kc_expr.specs.between.Arena.{Exprs}
 use Rattle.kc_expr.specs.Expr.{modules as modules_name}
 use Rattle.kc_tree_model.specs.declared.fault.TreeKind.{TreeKind}
 use Rattle.kc_tree_model.specs.declared.fault.TreeKind.TheVariants.{SecondPrompt}
@@ -15,9 +15,9 @@ use Rattle.kc_tree_model.specs.Blocks.{Group, Line}
 use Rattle.kc_tree_model.specs.Conditions.{GroupInContext}
 use Rattle.kc_tree_model.specs.Contents.{Contents, choice_of_symbol, is_first_definition, type_given}
 use Rattle.kc_tree_model.specs.TreeFaults.{when, definition_faults, attribute_faults, choice_faults, faults_at, faults_of_lines, is_no_member, is_wrong_reverse_dependency}
-use Rattle.kc_statements.specs.StatementViews.{attribute_in}
+use Rattle.kc_statements.specs.between.StatementViews.{attribute_in}
 use Rattle.kc_listing.specs.declared.listing.Line.{Line as CodeLine}
-use Rattle.kc_listing.specs.ListingView.{line_in}
+use Rattle.kc_listing.specs.between.ListingView.{line_in}
 use Rattle.kc_tree.specs.checker.Kinds.{definition_kind, typed_kind, choice_kind}
 use Rattle.kc_tree.specs.declared.summary.SymbolSummary.{SymbolSummary}
 use Rattle.kc_tree.proofs.SymbolSummaries.{first_of_both}

@@ -7,7 +7,7 @@ use Rattle.std.proofs.lemmas.Bool.{ltb-true}
 use Rattle.std.proofs.lemmas.Grind.{flat_map-append}
 use Rattle.std.proofs.lemmas.List.{get_or_past, length-map}
 use Rattle.std.proofs.lemmas.Option.{get_or_from_slice_get}
-use Rattle.kc_expr.specs.Arena.{Exprs}
+use Rattle.kc_expr.specs.between.Arena.{Exprs}
 use Rattle.kc_expr.specs.Expr.{modules as modules_name}
 use Rattle.kc_expr.specs.Lookup.{index_of_name}
 use Rattle.kc_tree_model.specs.declared.fault.TreeFault.{TreeFault}
@@ -22,8 +22,8 @@ use Rattle.kc_listing.specs.declared.listing.Group.{Group as CodeGroup}
 use Rattle.kc_listing.specs.declared.listing.Line.{Line as CodeLine}
 use Rattle.kc_listing.specs.declared.listing.GroupHead.{GroupHead as CodeWhat}
 use Rattle.kc_listing.specs.declared.listing.GroupHead.TheVariants as codes
-use Rattle.kc_listing.specs.SymbolTable.{HasNames, text_of_name}
-use Rattle.kc_listing.specs.ListingView.{RepresentsGroups, RepresentsHead, line_in}
+use Rattle.kc_listing.specs.between.SymbolTable.{HasNames, text_of_name}
+use Rattle.kc_listing.specs.between.ListingView.{RepresentsGroups, RepresentsHead, line_in}
 use Rattle.kc_tree.specs.checker.GroupedItems.{items_at, items_of}
 use Rattle.kc_tree.specs.checker.Kinds.{definition_kind}
 use Rattle.kc_tree.specs.checker.Marks.{AreMarked, WereMarked}
@@ -44,7 +44,7 @@ pub record IsPlaceAt (e : Exprs) (names texts : List (List ℕ)) (lines : List C
   pub number : p.group.number ≡ i
   pub file : p.group.at.file ≡ (group_at groups i).file
   pub line : p.group.at.line ≡ (group_at groups i).line
-  pub what : RepresentsHead e names texts (group_at groups i).what p.group.what
+  pub head : RepresentsHead e names texts (group_at groups i).head p.group.head
   pub attributes : p.group.attributes ≡ map (line_in e) (slice_range lines (group_at groups i).attributes (attributes_end groups lines i))
   pub has : Has p (groups_in_context read)
 
@@ -60,7 +60,7 @@ module _ (e : Exprs) (names texts : List (List ℕ)) (lines : List CodeLine) (gr
         number = sym (ap (λ (g : Group). g.number) group) ∙ t.shown.number_is;
         file = sym (ap (λ (g : Group). g.at.file) group) ∙ t.shown.file_is;
         line = sym (ap (λ (g : Group). g.at.line) group) ∙ t.shown.line_is;
-        what = subst (λ (g : Group). RepresentsHead e names texts (group_at groups i).what g.what) group t.shown.what;
+        head = subst (λ (g : Group). RepresentsHead e names texts (group_at groups i).head g.head) group t.shown.head;
         attributes = sym (ap (λ (g : Group). g.attributes) group) ∙ t.shown.attributes;
         has = has-at p (groups_in_context read) i at;
       }
@@ -116,7 +116,7 @@ definition_told read p name i about is_member is_first is_modules has n a m f o 
     o
 
 -- the first fault of a definition with its attributes
-pub config_first : (c : Contents) (p : GroupInContext) (name : List ℕ) → p.group.what ≡ of_head (config name)
+pub config_first : (c : Contents) (p : GroupInContext) (name : List ℕ) → p.group.head ≡ of_head (config name)
     → slice_get (faults_of_group c p) 0
     ≡ option_or (option_map (fault_of p.group p.group.at.line) (slice_get (definition_faults c p name) 0)) (slice_get (faults_of_lines p.group (attribute_faults c name (kind_of c name)) false p.group.attributes) 0)
 config_first c p name e =
@@ -124,25 +124,25 @@ config_first c p name e =
     ∙ first_of_both (faults_at p.group p.group.at.line (definition_faults c p name)) (faults_of_lines p.group (attribute_faults c name (kind_of c name)) false p.group.attributes)
     ∙ ap (λ o. option_or o (slice_get (faults_of_lines p.group (attribute_faults c name (kind_of c name)) false p.group.attributes) 0)) (first_mapped (fault_of p.group p.group.at.line) (definition_faults c p name))
 
-pub choice_first : (c : Contents) (p : GroupInContext) → p.group.what ≡ of_head choice
+pub choice_first : (c : Contents) (p : GroupInContext) → p.group.head ≡ of_head choice
     → slice_get (faults_of_group c p) 0 ≡ slice_get (faults_of_lines p.group (choice_faults (member_names c p.group.number)) false p.group.attributes) 0
 choice_first c p e = ap (λ w. slice_get (elim w as (λ _. List TreeFault) [ of_head h ↦ faults_of_head c p h | file_end ↦ [] ]) 0) e
 
 -- the members of a choice at a place are those with its mark
 module _ (e : Exprs) (texts : List (List ℕ)) (lines : List CodeLine) (groups : List CodeGroup) (read : List Group) (h : RepresentsGroups e (names_defined read) texts lines (length lines) (reverse groups) read) where
-  pub choice_counted : (i choices : ℕ) (p : GroupInContext) → i < length groups → (group_at groups i).what ≡ codes.Choice → slice_get (groups_in_context read) i ≡ Some p → choices ≡ choices_before i read → choice_number (contents_of read) p.group.number ≡ Some choices
+  pub choice_counted : (i choices : ℕ) (p : GroupInContext) → i < length groups → (group_at groups i).head ≡ codes.Choice → slice_get (groups_in_context read) i ≡ Some p → choices ≡ choices_before i read → choice_number (contents_of read) p.group.number ≡ Some choices
   choice_counted i choices p l w at c =
       let t = shown_at e (names_defined read) texts lines groups read h i l in
       let n = count_is e (names_defined read) texts lines groups read h in
       let a = are_numbers e (names_defined read) texts lines (length lines) (reverse groups) read h in
-      let what = subst (λ v. RepresentsHead e (names_defined read) texts v t.group.what) w t.shown.what in
+      let what = subst (λ v. RepresentsHead e (names_defined read) texts v t.group.head) w t.shown.head in
       let begins : opens_choice t.group ≡ true = begins_is e (names_defined read) texts codes.Choice t.group what in
       let found = place_numbered read i t.group (omega arith) t.now in
       let same : group_in_context (open_blocks 0 (read_before i read)) t.group ≡ p = cc in
       sym (ap (λ (q : GroupInContext). choice_number (contents_of read) q.group.number) same)
       ∙ number_counts read i t.group a (numbers_before (length read - (i + 1)) read a) t.now begins ∙ ap Some (sym c)
 
-  pub choice_below : (i choices : ℕ) → i < length groups → (group_at groups i).what ≡ codes.Choice → choices ≡ choices_before i read → choices < length (contents_of read).choices
+  pub choice_below : (i choices : ℕ) → i < length groups → (group_at groups i).head ≡ codes.Choice → choices ≡ choices_before i read → choices < length (contents_of read).choices
   choice_below i choices l w c =
       let t = shown_at e (names_defined read) texts lines groups read h i l in
       let n = count_is e (names_defined read) texts lines groups read h in
@@ -150,7 +150,7 @@ module _ (e : Exprs) (texts : List (List ℕ)) (lines : List CodeLine) (groups :
       let p : GroupInContext = group_in_context (open_blocks 0 (read_before i read)) t.group in
       get_below (contents_of read).choices choices p.group.number (number-get p.group.number (contents_of read).choices choices (choice_counted i choices p l w found c))
 
-  pub members_kept : (s : Summary) (starts items : List ℕ) (i choices : ℕ) (p : GroupInContext) → IsSummaryOf (contents_of read) s → HasMembers s starts items → i < length groups → (group_at groups i).what ≡ codes.Choice → slice_get (groups_in_context read) i ≡ Some p → choices ≡ choices_before i read
+  pub members_kept : (s : Summary) (starts items : List ℕ) (i choices : ℕ) (p : GroupInContext) → IsSummaryOf (contents_of read) s → HasMembers s starts items → i < length groups → (group_at groups i).head ≡ codes.Choice → slice_get (groups_in_context read) i ≡ Some p → choices ≡ choices_before i read
       → items_at starts items choices ≡ filter_map (λ x. index_of_name x (names_defined read)) (member_names (contents_of read) p.group.number)
   members_kept s starts items i choices p known m l w at c =
       let below = choice_below i choices l w c in
@@ -210,10 +210,10 @@ pub no_fault_yet : (read : List Group) → slice_get (flat_map (faults_of_group 
 no_fault_yet read = ap (λ r. slice_get (flat_map (faults_of_group (contents_of read)) (groups_in_context r)) 0) (none_before read)
 
 -- other groups have no fault
-other_first : (c : Contents) (p : GroupInContext) (w : GroupHead) → p.group.what ≡ w → slice_get (faults_of_group c p) 0 ≡ slice_get (elim w as (λ _. List TreeFault) [ of_head h ↦ faults_of_head c p h | file_end ↦ [] ]) 0
+other_first : (c : Contents) (p : GroupInContext) (w : GroupHead) → p.group.head ≡ w → slice_get (faults_of_group c p) 0 ≡ slice_get (elim w as (λ _. List TreeFault) [ of_head h ↦ faults_of_head c p h | file_end ↦ [] ]) 0
 other_first c p w e = ap (λ v. slice_get (elim v as (λ _. List TreeFault) [ of_head h ↦ faults_of_head c p h | file_end ↦ [] ]) 0) e
 
-pub nothing_told : (e : Exprs) (names texts : List (List ℕ)) (code : CodeWhat) (c : Contents) (p : GroupInContext) → RepresentsHead e names texts code p.group.what → ((s : ℕ) → code ≡ codes.Config s → ⊥) → (code ≡ codes.Choice → ⊥) → slice_get (faults_of_group c p) 0 ≡ None
+pub nothing_told : (e : Exprs) (names texts : List (List ℕ)) (code : CodeWhat) (c : Contents) (p : GroupInContext) → RepresentsHead e names texts code p.group.head → ((s : ℕ) → code ≡ codes.Config s → ⊥) → (code ≡ codes.Choice → ⊥) → slice_get (faults_of_group c p) 0 ≡ None
 nothing_told e names texts (codes.Config s) c p h n m = absurd (n s refl)
 nothing_told e names texts codes.Choice c p h n m = absurd (m refl)
 nothing_told e names texts (codes.Menu t) c p h n m = other_first c p _ h.2

@@ -12,9 +12,9 @@ use Rattle.kc_expr.specs.Lookup.{index_of_name, AreDistinct}
 use Rattle.kc_expr.proofs.Places.{place_at}
 use Rattle.kc_tree_model.specs.Trees as tree
 use Rattle.kc_tree_model.specs.Trees.{Tree}
-use Rattle.kc_tree_model.specs.Trees.{of_choice}
+use Rattle.kc_tree_model.specs.declared.ids.Unit.TheVariants.{Choice as of_choice}
 use Rattle.kc_tree_model.specs.TreeLookup.{IsConsistent, unit_of, index_of_unit, symbol_named}
-use Rattle.kc_tree.specs.Views.{DefaultFits, RangeFits, HasOperands, ReverseDependencyFits, MemberDefaultFits, unit_view}
+use Rattle.kc_tree.specs.between.Views.{DefaultFits, RangeFits, HasOperands, ReverseDependencyFits, MemberDefaultFits}
 use Rattle.kc_tree.specs.checker.GatheredAttributes.{AreGrouped}
 use Rattle.kc_tree.specs.checker.GatheredFits.{GatheredFit}
 use Rattle.kc_tree.specs.checker.GatheredView.{gathered_tree, symbol_gathered, choice_gathered}
@@ -163,7 +163,7 @@ module _ (p : Parts) (A : Attributes) (M : Keyed ℕ) (D : Keyed MemberDefault) 
       choices_many = choices_count (gathered_in p A M D) sound
 
       units_many : length (gathered_tree (gathered_in p A M D)).units ≡ length p.units.items
-      units_many = length-map p.units.items unit_view
+      units_many = refl
 
       have_places : HasPlaces p
       have_places = record {

@@ -3,7 +3,7 @@ use Rattle.std.proofs.Common.{◌≡◌, inl, inr, ℕ, ◌+◌, ◌<◌, List, 
 use Rattle.std.specs.Prelude.{slice_range, filter_map, option_map, unwrap_or, All, IfSome}
 use Rattle.std.proofs.lemmas.List.{length-map}
 use Rattle.std.proofs.lemmas.List.Elements.{All-nil, All-cons}
-use Rattle.kc_expr.specs.Arena.{Exprs, Represents, node_expr}
+use Rattle.kc_expr.specs.between.Arena.{Exprs, Represents, node_expr}
 use Rattle.kc_expr.specs.Expr.{Expr}
 use Rattle.kc_tree_model.specs.Trees as tree
 use Rattle.kc_tree_model.specs.Statements.{Attribute, DefaultAttribute, RangeAttribute, config, name_of_head, prompt_of, default_of, range_of}
@@ -17,10 +17,10 @@ use Rattle.kc_listing.specs.declared.listing.Line.{Line as CodeLine}
 use Rattle.kc_listing.specs.declared.listing.Listing.{Listing}
 use Rattle.kc_listing.specs.declared.listing.SymbolTable.{SymbolTable}
 use Rattle.kc_listing.specs.declared.listing.GroupHead.TheVariants as codes
-use Rattle.kc_listing.specs.SymbolTable.{HasNames}
-use Rattle.kc_listing.specs.ListingView.{RepresentsGroups, RepresentsHead, LineNodesExist, line_in, RepresentsListing}
-use Rattle.kc_tree.specs.Views.{DefaultFits, ReverseDependencyFits}
-use Rattle.kc_tree.specs.Views as told
+use Rattle.kc_listing.specs.between.SymbolTable.{HasNames}
+use Rattle.kc_listing.specs.between.ListingView.{RepresentsGroups, RepresentsHead, LineNodesExist, line_in, RepresentsListing}
+use Rattle.kc_tree.specs.between.Views.{DefaultFits, ReverseDependencyFits}
+use Rattle.kc_tree.specs.between.Views as told
 use Rattle.kc_tree.specs.checker.ChoiceDefaults.{IsWalkOf}
 use Rattle.kc_tree.specs.checker.Conditioned.{conditions_at, own_conditions}
 use Rattle.kc_tree.specs.checker.Definitions.{HasDefinition, AreAttributes}
@@ -170,7 +170,7 @@ open_still w x e c = let d : inside ≡ closing = sym (ap side_of e) ∙ c in cc
 -- group by group
 module _ (n : SymbolTable) (read : List Group) (h : HasNames n.arena n.symbols.items n.numbers.items (names_defined read)) (texts : List (List ℕ)) (lines : List CodeLine) (groups : List CodeGroup) (conditioned : List GroupConditions) (conditions : List ℕ)
     (shown : RepresentsGroups n.arena (names_defined read) texts lines (length lines) (reverse groups) read) (walked : RepresentsAllConditions n.arena texts conditions (length conditions) (reverse conditioned) read) where
-  pub gathered_definition : (i s : ℕ) (old new : Attributes) → i < length groups → i < length conditioned → (group_at groups i).what ≡ codes.Config s → All (LineNodesExist n.arena) (slice_range lines (group_at groups i).attributes (attributes_end groups lines i))
+  pub gathered_definition : (i s : ℕ) (old new : Attributes) → i < length groups → i < length conditioned → (group_at groups i).head ≡ codes.Config s → All (LineNodesExist n.arena) (slice_range lines (group_at groups i).attributes (attributes_end groups lines i))
       → AreGathered n.arena (names_defined read) (groups_in_context (read_before i read)) old
       → HasDefinition n s old new (slice_range lines (group_at groups i).attributes (attributes_end groups lines i)) (own_conditions conditioned conditions i) (conditions_at conditioned i).dependency
       → AreGathered n.arena (names_defined read) (groups_in_context (read_before (i + 1) read)) new
@@ -184,22 +184,22 @@ module _ (n : SymbolTable) (read : List Group) (h : HasNames n.arena n.symbols.i
       let ls : List CodeLine = slice_range lines (group_at groups i).attributes (attributes_end groups lines i) in
       let cs : List ℕ = own_conditions conditioned conditions i in
       let c = subst (λ k. RepresentsConditions n.arena texts cs (conditions_at conditioned i) (group_in_context (open_blocks 0 prior) k)) same q.shown in
-      let what = subst (λ v. RepresentsHead n.arena (names_defined read) texts v t.group.what) w t.shown.what in
+      let what = subst (λ v. RepresentsHead n.arena (names_defined read) texts v t.group.head) w t.shown.head in
       let name : defined_name t.group ≡ Some what.0 = ap (from_head name_of_head) what.2 in
       let number : number_of (names_defined read) what.0 ≡ s = ap (λ o. unwrap_or o 0) (number_is (names_defined read) what.0 s (Differ-once (filter_map defined_name read)) what.1) in
       let conds : map (node_expr n.arena) cs ≡ map (condition_at p) (map (line_in n.arena) ls) = c.own_are ∙ ap (map (condition_at p)) t.shown.attributes in
       let many : length cs ≡ length ls = sym (length-map cs (node_expr n.arena)) ∙ ap length conds ∙ length-map (map (line_in n.arena) ls) (condition_at p) ∙ length-map ls (line_in n.arena) in
-      let stands : Represents n.arena (conditions_at conditioned i).dependency (dependency_meant p) = elim c.dependency_is [ inl closes ↦ absurd (open_still t.group.what what.0 what.2 closes) | inr d ↦ d ] in
+      let stands : Represents n.arena (conditions_at conditioned i).dependency (dependency_meant p) = elim c.dependency_is [ inl closes ↦ absurd (open_still t.group.head what.0 what.2 closes) | inr d ↦ d ] in
       subst (λ ps. AreGathered n.arena (names_defined read) ps new) (sym (placed_more read i t.group t.now))
       (definition_step n (names_defined read) h (groups_in_context prior) p what.0 s ls cs name number (get_below (names_defined read) s what.0 what.1) many held c.held t.shown.attributes conds (conditions_at conditioned i).dependency old new g more stands)
 
-  pub gathered_other : (i : ℕ) (a : Attributes) → i < length groups → ((s : ℕ) → (group_at groups i).what ≡ codes.Config s → ⊥) → AreGathered n.arena (names_defined read) (groups_in_context (read_before i read)) a → AreGathered n.arena (names_defined read) (groups_in_context (read_before (i + 1) read)) a
+  pub gathered_other : (i : ℕ) (a : Attributes) → i < length groups → ((s : ℕ) → (group_at groups i).head ≡ codes.Config s → ⊥) → AreGathered n.arena (names_defined read) (groups_in_context (read_before i read)) a → AreGathered n.arena (names_defined read) (groups_in_context (read_before (i + 1) read)) a
   gathered_other i a l w g =
       let t = shown_at n.arena (names_defined read) texts lines groups read shown i l in
       let prior : List Group = read_before i read in
       let p : GroupInContext = group_in_context (open_blocks 0 prior) t.group in
       subst (λ ps. AreGathered n.arena (names_defined read) ps a) (sym (placed_more read i t.group t.now))
-      (nothing_more n.arena (names_defined read) (groups_in_context prior) p a (nameless n.arena (names_defined read) texts (group_at groups i).what t.group.what t.shown.what w) g)
+      (nothing_more n.arena (names_defined read) (groups_in_context prior) p a (nameless n.arena (names_defined read) texts (group_at groups i).head t.group.head t.shown.head w) g)
 
   pub definition_many : (i : ℕ) → i < length groups → i < length conditioned → length (own_conditions conditioned conditions i) ≡ length (slice_range lines (group_at groups i).attributes (attributes_end groups lines i))
   definition_many i l m =

@@ -3,14 +3,14 @@ use Rattle.std.proofs.Common.{◌≡◌, ℕ, suc, ◌<◌, Bool, true, false, c
 use Rattle.std.specs.Prelude.{filter_map, option_map, option_and_then, All, IfSome, is_some}
 use Rattle.std.specs.List.{cons_option}
 use Rattle.std.proofs.lemmas.List.Elements.{All-nil, All-cons}
-use Rattle.kc_expr.specs.Arena.{Exprs, node_expr}
+use Rattle.kc_expr.specs.between.Arena.{Exprs, node_expr}
 use Rattle.kc_expr.specs.Expr.{Expr, Operand}
 use Rattle.kc_expr.specs.Lookup.{index_of_name}
-use Rattle.kc_expr.specs.Operand.{operand_alone}
+use Rattle.kc_expr.specs.between.Operand.{operand_alone}
 use Rattle.kc_statements.specs.declared.statement.Attribute.{Attribute as CodeAttribute}
 use Rattle.kc_statements.specs.declared.statement.Attribute.TheVariants as attributes
-use Rattle.kc_statements.specs.StatementViews.{attribute_in, AttributeNodesExist}
-use Rattle.kc_statements.specs.StatementViews as said
+use Rattle.kc_statements.specs.between.StatementViews.{attribute_in, AttributeNodesExist}
+use Rattle.kc_statements.specs.between.StatementViews as said
 use Rattle.kc_tree_model.specs.Trees as tree
 use Rattle.kc_tree_model.specs.Statements.{Attribute, DefaultAttribute, RangeAttribute, TargetAttribute, prompt_of, default_of, range_of, select_of, imply_of}
 use Rattle.kc_tree_model.specs.Blocks.{Line}
@@ -18,10 +18,10 @@ use Rattle.kc_tree_model.specs.Conditions.{GroupInContext, prompt_condition, att
 use Rattle.kc_tree_model.proofs.Consistency.Lists.{get_below, place-get}
 use Rattle.kc_listing.specs.declared.listing.Line.{Line as CodeLine}
 use Rattle.kc_listing.specs.declared.listing.SymbolTable.{SymbolTable}
-use Rattle.kc_listing.specs.SymbolTable.{HasNames, number_in, text_of_name}
-use Rattle.kc_listing.specs.ListingView.{LineNodesExist, line_in}
-use Rattle.kc_tree.specs.Views.{DefaultFits, RangeFits, HasOperands, ReverseDependencyFits}
-use Rattle.kc_tree.specs.Views as told
+use Rattle.kc_listing.specs.between.SymbolTable.{HasNames, number_in, text_of_name}
+use Rattle.kc_listing.specs.between.ListingView.{LineNodesExist, line_in}
+use Rattle.kc_tree.specs.between.Views.{DefaultFits, RangeFits, HasOperands, ReverseDependencyFits}
+use Rattle.kc_tree.specs.between.Views as told
 use Rattle.kc_tree.specs.checker.Conjuncts.{is_prompt}
 use Rattle.kc_tree.specs.checker.GatheredItems.{gathered_prompt, gathered_default, gathered_range, gathered_target_name, gathered_target, gathered_reverse_dependency, own_key, aimed_at, gathered_items}
 use Rattle.kc_tree.specs.checker.Walks.{condition_at}

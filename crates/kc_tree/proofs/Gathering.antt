@@ -2,11 +2,9 @@
 use Rattle.std.proofs.Common.{◌≡◌, ℕ, zero, suc, ◌<◌, List, [], ◌∷◌, length, map, Option, Some, None, refl, ap, sym, subst, ◌∙◌, arith}
 use Rattle.std.specs.Prelude.{All, slice_get, slice_index, option_map}
 use Rattle.std.proofs.lemmas.Option.{slice_get-map, slice_get_within, get_or_from_slice_get}
-use Rattle.kc_tree_model.specs.declared.ids.Unit.{Unit as ToldUnit}
-use Rattle.kc_tree_model.specs.declared.ids.Unit.TheVariants.{Symbol as SymbolUnit, Choice as ChoiceUnit}
-use Rattle.kc_tree_model.specs.Trees.{TreeUnit, of_symbol, of_choice}
+use Rattle.kc_tree_model.specs.declared.ids.Unit.{Unit as TreeUnit}
+use Rattle.kc_tree_model.specs.declared.ids.Unit.TheVariants.{Symbol as of_symbol, Choice as of_choice}
 use Rattle.kc_tree_model.specs.TreeLookup.{IsConsistent, unit_of, index_of_unit}
-use Rattle.kc_tree.specs.Views.{unit_view}
 use Rattle.kc_tree.specs.checker.GatheredView.{gathered_tree, symbol_gathered, choice_gathered}
 use Rattle.kc_tree.specs.checker.Numbered.{AreNumbered, own_or_choice}
 use Rattle.kc_tree.specs.checker.Units.{HasUnits}
@@ -24,25 +22,9 @@ got (x ∷ xs) (suc i) h = got xs i (omega arith)
 pub all_got : {X : Type 0} (P : X → Type 0) (xs : List X) (i : ℕ) (x : X) → All P xs → slice_get xs i ≡ Some x → P x
 all_got P xs i x h e = subst P (get_or_from_slice_get xs i x x e) (h i x (slice_get_within xs i x e))
 
-told_unit : (units : List ToldUnit) (u : ℕ) (t : TreeUnit) → slice_get (map unit_view units) u ≡ Some t → (unit : ToldUnit) × (slice_get units u ≡ Some unit) × (unit_view unit ≡ t)
-told_unit [] u t e = cc
-told_unit (x ∷ xs) zero t e = (x, refl, cc)
-told_unit (x ∷ xs) (suc u) t e = told_unit xs u t e
-
-symbol_told : (unit : ToldUnit) (s : ℕ) → unit_view unit ≡ of_symbol s → unit ≡ SymbolUnit s
-symbol_told (SymbolUnit t) s e = cc
-symbol_told (ChoiceUnit c) s e = cc
-
-choice_told : (unit : ToldUnit) (c : ℕ) → unit_view unit ≡ of_choice c → unit ≡ ChoiceUnit c
-choice_told (SymbolUnit t) c e = cc
-choice_told (ChoiceUnit d) c e = cc
-
 module _ (g : Gathered) (sound : IsConsistent (gathered_tree g)) where
   pub symbol_at : (s : ℕ) (r : SymbolRow) → slice_get g.symbols.items s ≡ Some r → slice_get (gathered_tree g).symbols s ≡ Some (symbol_gathered g s r)
   symbol_at s r e = seen_get (symbol_gathered g) 0 g.symbols.items s s r (omega arith) e
-
-  unit_at : (u : ℕ) (unit : ToldUnit) → slice_get g.units.items u ≡ Some unit → slice_get (gathered_tree g).units u ≡ Some (unit_view unit)
-  unit_at u unit e = slice_get-map unit_view g.units.items u ∙ ap (option_map unit_view) e
 
   pub symbols_count : length (gathered_tree g).symbols ≡ length g.symbols.items
   symbols_count = seen_length (symbol_gathered g) 0 g.symbols.items
@@ -50,18 +32,18 @@ module _ (g : Gathered) (sound : IsConsistent (gathered_tree g)) where
   pub choices_count : length (gathered_tree g).choices ≡ length g.choices.items
   choices_count = seen_length (choice_gathered g) 0 g.choices.items
 
-  pub symbols_there : (u s : ℕ) → slice_get g.units.items u ≡ Some (SymbolUnit s) → s < length g.symbols.items
+  pub symbols_there : (u s : ℕ) → slice_get g.units.items u ≡ Some (of_symbol s) → s < length g.symbols.items
   symbols_there u s e =
-      let t = sound.symbol_units u s (unit_at u (SymbolUnit s) e) in
+      let t = sound.symbol_units u s e in
       omega (arith, slice_get_within (gathered_tree g).symbols s t.0 t.1, symbols_count)
 
-  pub choices_there : (u c : ℕ) → slice_get g.units.items u ≡ Some (ChoiceUnit c) → c < length g.choices.items
+  pub choices_there : (u c : ℕ) → slice_get g.units.items u ≡ Some (of_choice c) → c < length g.choices.items
   choices_there u c e =
-      let t = sound.choice_units u c (unit_at u (ChoiceUnit c) e) in
+      let t = sound.choice_units u c e in
       omega (arith, slice_get_within (gathered_tree g).choices c t.0 t.1, choices_count)
 
-  pub units_apart : (u w : ℕ) (unit : ToldUnit) → slice_get g.units.items u ≡ Some unit → slice_get g.units.items w ≡ Some unit → u ≡ w
-  units_apart u w unit e f = sound.units_differ u w (unit_view unit) (unit_at u unit e) (unit_at w unit f)
+  pub units_apart : (u w : ℕ) (unit : TreeUnit) → slice_get g.units.items u ≡ Some unit → slice_get g.units.items w ≡ Some unit → u ≡ w
+  units_apart u w unit e f = sound.units_differ u w unit e f
 
   pub members_there : (s c : ℕ) (r : SymbolRow) → slice_get g.symbols.items s ≡ Some r → r.choice ≡ Some c → c < length g.choices.items
   members_there s c r e f =
@@ -71,14 +53,10 @@ module _ (g : Gathered) (sound : IsConsistent (gathered_tree g)) where
   module _ (own choices new : List ℕ) (n : AreNumbered (length g.symbols.items) (length g.choices.items) g.units.items (length g.units.items) own choices) (same : length new ≡ length own)
       (m : (s : ℕ) (r : SymbolRow) → slice_get g.symbols.items s ≡ Some r → slice_index new s ≡ own_or_choice (slice_index own s) choices r.choice) where
     symbol_number : (s u : ℕ) → slice_get (gathered_tree g).units u ≡ Some (of_symbol s) → slice_index own s ≡ u
-    symbol_number s u e =
-        let t = told_unit g.units.items u (of_symbol s) e in
-        n.symbol_units u s (slice_get_within g.units.items u t.0 t.1) (t.1 ∙ ap Some (symbol_told t.0 s t.2))
+    symbol_number s u e = n.symbol_units u s (slice_get_within g.units.items u (of_symbol s) e) e
 
     choice_number : (c u : ℕ) → slice_get (gathered_tree g).units u ≡ Some (of_choice c) → slice_index choices c ≡ u
-    choice_number c u e =
-        let t = told_unit g.units.items u (of_choice c) e in
-        n.choice_units u c (slice_get_within g.units.items u t.0 t.1) (t.1 ∙ ap Some (choice_told t.0 c t.2))
+    choice_number c u e = n.choice_units u c (slice_get_within g.units.items u (of_choice c) e) e
 
     unit_had : (s : ℕ) (r : SymbolRow) (o : Option ℕ) → slice_get g.symbols.items s ≡ Some r → r.choice ≡ o → (slice_index new s ≡ unit_of (gathered_tree g) s) × (slice_index new s < length (gathered_tree g).units)
     unit_had s r None e f =

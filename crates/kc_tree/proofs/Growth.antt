@@ -3,16 +3,16 @@ use Rattle.std.proofs.Common.{◌≡◌, ℕ, ◌<◌, Bool, true, false, cond, 
 use Rattle.std.specs.Prelude.{All, IfSome}
 use Rattle.std.proofs.lemmas.List.{map-append, take_more}
 use Rattle.std.proofs.lemmas.List.Elements.{All-append, All-cons, All-nil}
-use Rattle.kc_expr.specs.Arena.{Exprs, Represents, node_expr, Grows}
+use Rattle.kc_expr.specs.between.Arena.{Exprs, Represents, node_expr, Grows}
 use Rattle.kc_expr.specs.Expr.{Expr}
 use Rattle.kc_expr.proofs.StoreLemmas.{stands_on}
-use Rattle.kc_statements.specs.StatementViews.{AttributeNodesExist, IfNodeExists}
+use Rattle.kc_statements.specs.between.StatementViews.{AttributeNodesExist, IfNodeExists}
 use Rattle.kc_statements.specs.declared.statement.Attribute.{Attribute as CodeAttribute}
 use Rattle.kc_statements.specs.declared.statement.Attribute.TheVariants as attributes
 use Rattle.kc_statements.proofs.Growing.{grows_on}
 use Rattle.kc_statements.proofs.Later.{node_held, node_same}
 use Rattle.kc_listing.specs.declared.listing.Line.{Line as CodeLine}
-use Rattle.kc_listing.specs.ListingView.{LineNodesExist}
+use Rattle.kc_listing.specs.between.ListingView.{LineNodesExist}
 use Rattle.kc_tree_model.specs.Conditions.{conjunction_of, visible_conjunct}
 use Rattle.kc_tree.specs.checker.Conjunctions.{Conjoins, conjunct}
 use Rattle.kc_tree.specs.checker.Conjuncts.{if_view, is_prompt, conjunct_view, conjunct_views, AreJoined, AreAppended, condition_view, line_condition}

@@ -3,7 +3,7 @@ use Rattle.std.proofs.Common.{◌≡◌, ℕ, List, [], ◌∷◌, ◌++◌, len
 use Rattle.std.specs.Prelude.{filter, filter_map}
 use Rattle.std.proofs.lemmas.List.{reverse-reverse, reverse-append}
 use Rattle.std.proofs.Math.Seq.{drop-length}
-use Rattle.kc_expr.specs.Arena.{Exprs}
+use Rattle.kc_expr.specs.between.Arena.{Exprs}
 use Rattle.kc_tree_model.specs.TreeFiles.{Files}
 use Rattle.kc_tree_model.specs.Statements.{path_of_head}
 use Rattle.kc_tree_model.specs.Blocks.{Group, GroupHead, from_head, sourced_path}
@@ -13,7 +13,7 @@ use Rattle.kc_listing.specs.declared.listing.Line.{Line as CodeLine}
 use Rattle.kc_listing.specs.declared.listing.Listing.{Listing}
 use Rattle.kc_listing.specs.declared.listing.GroupHead.{GroupHead as CodeWhat}
 use Rattle.kc_listing.specs.declared.listing.GroupHead.TheVariants as codes
-use Rattle.kc_listing.specs.ListingView.{RepresentsListing, RepresentsHead, RepresentsGroups}
+use Rattle.kc_listing.specs.between.ListingView.{RepresentsListing, RepresentsHead, RepresentsGroups}
 use Rattle.kc_tree.specs.checker.MissingPaths.{is_absent, with_absent, path_in, with_all}
 use Rattle.kc_tree.proofs.MissingPaths.{once_kept}
 
@@ -33,18 +33,18 @@ module _ (files : Files) (texts : List (List ℕ)) where
   -- the same with the newest first
   abbrev with_back : List (List ℕ) → List CodeGroup → List (List ℕ)
   with_back paths [] = paths
-  with_back paths (g ∷ before) = with_absent files (with_back paths before) (path_in texts g.what)
+  with_back paths (g ∷ before) = with_absent files (with_back paths before) (path_in texts g.head)
 
-  all-append : (paths : List (List ℕ)) (gs : List CodeGroup) (g : CodeGroup) → with_all files texts paths (gs ++ g ∷ []) ≡ with_absent files (with_all files texts paths gs) (path_in texts g.what)
+  all-append : (paths : List (List ℕ)) (gs : List CodeGroup) (g : CodeGroup) → with_all files texts paths (gs ++ g ∷ []) ≡ with_absent files (with_all files texts paths gs) (path_in texts g.head)
   all-append paths [] g = refl
-  all-append paths (h ∷ gs) g = all-append (with_absent files paths (path_in texts h.what)) gs g
+  all-append paths (h ∷ gs) g = all-append (with_absent files paths (path_in texts h.head)) gs g
 
   all_back : (paths : List (List ℕ)) (gs : List CodeGroup) → with_all files texts paths (reverse gs) ≡ with_back paths gs
   all_back paths [] = refl
   all_back paths (g ∷ gs) =
       ap (with_all files texts paths) (reverse-append (g ∷ []) gs)
       ∙ all-append paths (reverse gs) g
-      ∙ ap (λ ps. with_absent files ps (path_in texts g.what)) (all_back paths gs)
+      ∙ ap (λ ps. with_absent files ps (path_in texts g.head)) (all_back paths gs)
 
   one_more : (o : Option (List ℕ)) (root : List ℕ) (ms : List Group) (all : List (List ℕ)) (e : all ≡ filter_map sourced_path ms ++ root ∷ [])
       → with_absent files (filter (is_absent files) (without_repeats all)) o ≡ filter (is_absent files) (without_repeats (elim o [ None ↦ all | Some path ↦ path ∷ all ]))
@@ -64,8 +64,8 @@ module _ (files : Files) (texts : List (List ℕ)) where
   back_shown exprs names lines root end [] [] h = once_kept (is_absent files) root []
   back_shown exprs names lines root end (g ∷ gs) (m ∷ ms) h =
       let all = filter_map sourced_path ms ++ root ∷ [] in
-      ap (λ ps. with_absent files ps (path_in texts g.what)) (back_shown exprs names lines root g.attributes gs ms h.2)
-      ∙ ap (with_absent files (filter (is_absent files) (without_repeats all))) (source_shown exprs names texts g.what m.what h.0.what)
+      ap (λ ps. with_absent files ps (path_in texts g.head)) (back_shown exprs names lines root g.attributes gs ms h.2)
+      ∙ ap (with_absent files (filter (is_absent files) (without_repeats all))) (source_shown exprs names texts g.head m.head h.0.head)
       ∙ one_more (sourced_path m) root ms all refl
       ∙ ap (λ ps. filter (is_absent files) (without_repeats ps)) (more_sources (sourced_path m) (filter_map sourced_path ms) root ∙ ap (λ ps. ps ++ root ∷ []) (sources_of m ms (sourced_path m) refl))
   back_shown exprs names lines root end [] (m ∷ ms) h = absurd h

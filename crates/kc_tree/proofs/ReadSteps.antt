@@ -8,8 +8,8 @@ use Rattle.kc_tree_model.specs.Limits.{without_repeats}
 use Rattle.kc_tree_model.specs.Reading.{Outcome, reading, lenient_reading, wanted_by, paths_or_fault, files_wanted}
 use Rattle.kc_tree_model.specs.TreeFaults.{tree_faults, first_tree_fault, first_fault_after}
 use Rattle.kc_listing.specs.declared.listing.Listing.{Listing}
-use Rattle.kc_listing.specs.ListingView.{RepresentsListing}
-use Rattle.kc_listing.specs.MemoryFaults.{no_memory}
+use Rattle.kc_listing.specs.between.ListingView.{RepresentsListing}
+use Rattle.kc_listing.specs.between.MemoryFaults.{no_memory}
 use Rattle.kc_tree.specs.checker.Summaries.{IsRepresented}
 use Rattle.kc_tree.specs.checker.Surface.{IsOfTree}
 use Rattle.kc_tree.specs.checker.MissingPaths.{is_absent}

@@ -4,7 +4,7 @@ use Rattle.std.specs.Prelude.{option_and_then, option_map, ◌==◌}
 use Rattle.std.proofs.lemmas.Bool.{eq-eqb, eqb-true}
 use Rattle.std.proofs.lemmas.List.{map-append}
 use Rattle.std.proofs.lemmas.List.Elements.{filter-append}
-use Rattle.kc_expr.specs.Arena.{Exprs}
+use Rattle.kc_expr.specs.between.Arena.{Exprs}
 use Rattle.kc_tree_model.specs.Statements.{choice, menu, source}
 use Rattle.kc_tree_model.specs.Blocks.{Group, GroupHead, of_head, side_of, opening, closing, inside, open_blocks, opens_choice}
 use Rattle.kc_tree_model.specs.Conditions.{Context, context, inner_context_of_group_head, GroupInContext, group_in_context, groups_in_context}
@@ -17,7 +17,7 @@ use Rattle.kc_listing.specs.declared.listing.GroupHead.{GroupHead as CodeWhat}
 use Rattle.kc_listing.specs.declared.listing.GroupHead.TheVariants as codes
 use Rattle.kc_listing.specs.declared.listing.Group.{Group as CodeGroup}
 use Rattle.kc_listing.specs.declared.listing.Line.{Line as CodeLine}
-use Rattle.kc_listing.specs.ListingView.{RepresentsHead, RepresentsGroups}
+use Rattle.kc_listing.specs.between.ListingView.{RepresentsHead, RepresentsGroups}
 use Rattle.kc_tree.specs.checker.Summaries.{read_before, group_at, innermost_choice, choices_opened_after, is_choice_code, enclosing_choice, open_choices}
 use Rattle.kc_tree.proofs.Aligned.{AreNumbers, all_before, are_numbers, numbers_before, none_before, placed_before, placed_more, shown_at}
 
@@ -119,7 +119,7 @@ dropped : (c : Contents) (opened : List Group) → open_choices c (drop 1 opened
 dropped c [] = refl
 dropped c (g ∷ outer) = refl
 
-opens_same : (c : Contents) (g : Group) (before : List Group) (w : GroupHead) → g.what ≡ w → side_of w ≡ opening → ((enclosing : Context) → (inner_context_of_group_head w enclosing g).choice ≡ enclosing.choice)
+opens_same : (c : Contents) (g : Group) (before : List Group) (w : GroupHead) → g.head ≡ w → side_of w ≡ opening → ((enclosing : Context) → (inner_context_of_group_head w enclosing g).choice ≡ enclosing.choice)
     → open_choices c (open_blocks 0 (g ∷ before)) ≡ innermost_choice (open_choices c (open_blocks 0 before)) ∷ open_choices c (open_blocks 0 before)
 opens_same c g before w e side stays =
     let outer : List Group = open_blocks 0 before in
@@ -127,20 +127,20 @@ opens_same c g before w e side stays =
     ∙ ap (λ o. o ∷ open_choices c outer)
     (ap (option_and_then (choice_number c)) (ap (λ v. (inner_context_of_group_head v (context outer) g).choice) e ∙ stays (context outer)) ∙ sym (innermost_is c outer))
 
-opens_own : (c : Contents) (g : Group) (before : List Group) (n : ℕ) → g.what ≡ of_head choice → choice_number c g.number ≡ Some n
+opens_own : (c : Contents) (g : Group) (before : List Group) (n : ℕ) → g.head ≡ of_head choice → choice_number c g.number ≡ Some n
     → open_choices c (open_blocks 0 (g ∷ before)) ≡ Some n ∷ open_choices c (open_blocks 0 before)
 opens_own c g before n e number =
     let outer : List Group = open_blocks 0 before in
     ap (open_choices c) (pushed g before (ap side_of e))
     ∙ ap (λ o. o ∷ open_choices c outer) (ap (option_and_then (choice_number c)) (ap (λ v. (inner_context_of_group_head v (context outer) g).choice) e) ∙ number)
 
-closes : (c : Contents) (g : Group) (before : List Group) → side_of g.what ≡ closing → open_choices c (open_blocks 0 (g ∷ before)) ≡ drop 1 (open_choices c (open_blocks 0 before))
+closes : (c : Contents) (g : Group) (before : List Group) → side_of g.head ≡ closing → open_choices c (open_blocks 0 (g ∷ before)) ≡ drop 1 (open_choices c (open_blocks 0 before))
 closes c g before e = ap (open_choices c) (popped g before e) ∙ dropped c (open_blocks 0 before)
 
-stays : (c : Contents) (g : Group) (before : List Group) → side_of g.what ≡ inside → open_choices c (open_blocks 0 (g ∷ before)) ≡ open_choices c (open_blocks 0 before)
+stays : (c : Contents) (g : Group) (before : List Group) → side_of g.head ≡ inside → open_choices c (open_blocks 0 (g ∷ before)) ≡ open_choices c (open_blocks 0 before)
 stays c g before e = ap (open_choices c) (open_inside 0 g before e)
 
-pub opened_is : (c : Contents) (e : Exprs) (names texts : List (List ℕ)) (what : CodeWhat) (g : Group) (before : List Group) (n : ℕ) → RepresentsHead e names texts what g.what
+pub opened_is : (c : Contents) (e : Exprs) (names texts : List (List ℕ)) (what : CodeWhat) (g : Group) (before : List Group) (n : ℕ) → RepresentsHead e names texts what g.head
     → (is_choice_code what ≡ true → choice_number c g.number ≡ Some n)
     → open_choices c (open_blocks 0 (g ∷ before)) ≡ choices_opened_after what n (open_choices c (open_blocks 0 before))
 opened_is c e names texts (codes.Config s) g before n h number = stays c g before (ap side_of h.2)
@@ -154,7 +154,7 @@ opened_is c e names texts (codes.Ends b) g before n h number = closes c g before
 opened_is c e names texts codes.FileEnd g before n h number = closes c g before (ap side_of h)
 
 -- whether a choice begins
-pub begins_is : (e : Exprs) (names texts : List (List ℕ)) (what : CodeWhat) (g : Group) → RepresentsHead e names texts what g.what → opens_choice g ≡ is_choice_code what
+pub begins_is : (e : Exprs) (names texts : List (List ℕ)) (what : CodeWhat) (g : Group) → RepresentsHead e names texts what g.head → opens_choice g ≡ is_choice_code what
 begins_is e names texts (codes.Config s) g h = rw h.2 refl
 begins_is e names texts codes.Choice g h = rw h refl
 begins_is e names texts (codes.Menu t) g h = rw h.2 refl
@@ -185,14 +185,14 @@ counted read i m true n now o e = ap (λ k. k + 1) e ∙ sym (ap (λ r. length (
 counted read i m false n now o e = e ∙ sym (ap (λ r. length (numbers_of_choices r)) now ∙ ap length (choices_same m (read_before i read) o))
 
 module _ (e : Exprs) (names texts : List (List ℕ)) (lines : List CodeLine) (groups : List CodeGroup) (read : List Group) (h : RepresentsGroups e names texts lines (length lines) (reverse groups) read) where
-  pub round_more : (i : ℕ) (enclosing inner around2 inner2 : List (Option ℕ)) (choices choices2 : ℕ) (what : CodeWhat) → i < length groups → what ≡ (group_at groups i).what → AreRound read i enclosing inner choices
+  pub round_more : (i : ℕ) (enclosing inner around2 inner2 : List (Option ℕ)) (choices choices2 : ℕ) (what : CodeWhat) → i < length groups → what ≡ (group_at groups i).head → AreRound read i enclosing inner choices
       → around2 ≡ enclosing ++ innermost_choice (reverse inner) ∷ [] → reverse inner2 ≡ choices_opened_after what choices (reverse inner) → choices2 ≡ cond (is_choice_code what) (choices + 1) choices → AreRound read (i + 1) around2 inner2 choices2
   round_more i enclosing inner around2 inner2 choices choices2 what l w r ae oe ce =
       let s = shown_at e names texts lines groups read h i l in
       let c : Contents = contents_of read in
       let prior : List Group = read_before i read in
       let a = are_numbers e names texts lines (length lines) (reverse groups) read h in
-      let shown : RepresentsHead e names texts what s.group.what = subst (λ v. RepresentsHead e names texts v s.group.what) (sym w) s.shown.what in
+      let shown : RepresentsHead e names texts what s.group.head = subst (λ v. RepresentsHead e names texts v s.group.head) (sym w) s.shown.head in
       let begins = begins_is e names texts what s.group shown in
       record {
         around_is = ae
@@ -213,11 +213,11 @@ all_round read i enclosing inner choices e r = r.around_is ∙ ap (λ x. map (en
 pub none_counted : (read : List Group) → 0 ≡ length (numbers_of_choices (read_before 0 read))
 none_counted read = sym (ap (λ r. length (numbers_of_choices r)) (none_before read))
 
-pub one_counted : (e : Exprs) (names texts : List (List ℕ)) (lines : List CodeLine) (groups : List CodeGroup) (read : List Group) → RepresentsGroups e names texts lines (length lines) (reverse groups) read → (i n n2 : ℕ) (what : CodeWhat) → i < length groups → what ≡ (group_at groups i).what
+pub one_counted : (e : Exprs) (names texts : List (List ℕ)) (lines : List CodeLine) (groups : List CodeGroup) (read : List Group) → RepresentsGroups e names texts lines (length lines) (reverse groups) read → (i n n2 : ℕ) (what : CodeWhat) → i < length groups → what ≡ (group_at groups i).head
     → n ≡ length (numbers_of_choices (read_before i read)) → n2 ≡ cond (is_choice_code what) (n + 1) n → n2 ≡ length (numbers_of_choices (read_before (i + 1) read))
 one_counted e names texts lines groups read h i n n2 what l w c k =
     let s = shown_at e names texts lines groups read h i l in
-    let shown : RepresentsHead e names texts what s.group.what = subst (λ v. RepresentsHead e names texts v s.group.what) (sym w) s.shown.what in
+    let shown : RepresentsHead e names texts what s.group.head = subst (λ v. RepresentsHead e names texts v s.group.head) (sym w) s.shown.head in
     k ∙ counted read i s.group (is_choice_code what) n s.now (begins_is e names texts what s.group shown) c
 
 pub all_counted : (read : List Group) (i : ℕ) → i ≡ length read → length (numbers_of_choices (read_before i read)) ≡ length (contents_of read).choices

@@ -3,7 +3,7 @@ use Rattle.std.proofs.Common.{◌≡◌, inl, inr, ℕ, suc, ◌+◌, ◌<◌, �
 use Rattle.std.specs.Prelude.{slice_get, flat_map, unwrap_or, option_map, All}
 use Rattle.std.proofs.Math.Seq.{drop-cons, drop-length}
 use Rattle.std.proofs.lemmas.List.{length-reverse, reverse-append}
-use Rattle.kc_expr.specs.Arena.{Exprs}
+use Rattle.kc_expr.specs.between.Arena.{Exprs}
 use Rattle.kc_tree_model.specs.Blocks.{Group}
 use Rattle.kc_tree_model.specs.Conditions.{GroupInContext, groups_in_context}
 use Rattle.kc_tree_model.specs.Contents.{contents_of, defines, definitions_of}
@@ -12,8 +12,8 @@ use Rattle.kc_tree_model.proofs.Consistency.Lists.{Has, has-filter}
 use Rattle.kc_tree_model.proofs.Consistency.Places.{group-placed}
 use Rattle.kc_listing.specs.declared.listing.Group.{Group as CodeGroup}
 use Rattle.kc_listing.specs.declared.listing.Line.{Line as CodeLine}
-use Rattle.kc_listing.specs.SymbolTable.{text_of_name}
-use Rattle.kc_listing.specs.ListingView.{RepresentsGroups, RepresentsLists, RepresentsListing}
+use Rattle.kc_listing.specs.between.SymbolTable.{text_of_name}
+use Rattle.kc_listing.specs.between.ListingView.{RepresentsGroups, RepresentsLists, RepresentsListing}
 use Rattle.kc_listing.specs.declared.listing.Listing.{Listing}
 use Rattle.kc_listing.proofs.NameLemmas.{as_many_names}
 use Rattle.kc_listing.proofs.Growing.{get_more, get_last}

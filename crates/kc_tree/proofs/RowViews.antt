@@ -5,7 +5,6 @@ use Rattle.std.proofs.lemmas.List.{length-map}
 use Rattle.std.proofs.lemmas.List.Elements.{All-take, All-drop}
 use Rattle.kc_tree.specs.checker.GroupedItems.{items_at}
 use Rattle.kc_tree.specs.checker.PartsView.{from_rows, tree_from_rows, symbol_from_row, choice_from_row, entry_from_row}
-use Rattle.kc_tree.specs.Views.{unit_view}
 use Rattle.kc_tree.specs.declared.parts.Parts.{Parts}
 
 pub seen_get : {A B : Type 0} (f : ℕ → A → B) (n : ℕ) (xs : List A) (i j : ℕ) (x : A) → j ≡ n + i → slice_get xs i ≡ Some x → slice_get (from_rows f n xs) i ≡ Some (f j x)
@@ -35,4 +34,4 @@ pub entries_length : (p : Parts) → length (tree_from_rows p).entries ≡ lengt
 entries_length p = length-map p.entries.items (entry_from_row p.arena p.titles.items)
 
 pub units_length : (p : Parts) → length (tree_from_rows p).units ≡ length p.units.items
-units_length p = length-map p.units.items unit_view
+units_length p = refl

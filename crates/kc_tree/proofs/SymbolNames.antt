@@ -9,7 +9,7 @@ use Rattle.kc_expr.specs.Lookup.{index_of_name}
 use Rattle.kc_expr.proofs.Places.{place_there}
 use Rattle.kc_tree_model.specs.Trees.{Tree, Symbol}
 use Rattle.kc_tree_model.specs.TreeLookup.{symbol_named}
-use Rattle.kc_tree.specs.Views.{symbol_of_name_id}
+use Rattle.kc_tree.specs.between.Views.{symbol_of_name_id}
 
 found_there : (p n : ℕ) (b : Bool) → ltb p n ≡ b → IfSome (cond b (Some p) None) (λ s. s < n)
 found_there p n true e = ltb-true p n e

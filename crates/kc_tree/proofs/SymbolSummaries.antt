@@ -8,8 +8,8 @@ use Rattle.std.proofs.lemmas.List.{drop_all}
 use Rattle.std.proofs.lemmas.Grind.{flat_map-append}
 use Rattle.std.proofs.lemmas.List.Elements.{filter-append}
 use Rattle.kc_value.specs.declared.value.Kind.{Kind}
-use Rattle.kc_expr.specs.Arena.{Exprs}
-use Rattle.kc_statements.specs.StatementViews.{attribute_in}
+use Rattle.kc_expr.specs.between.Arena.{Exprs}
+use Rattle.kc_statements.specs.between.StatementViews.{attribute_in}
 use Rattle.kc_tree_model.specs.Statements.{config, name_of_head, type_of}
 use Rattle.kc_tree_model.specs.Blocks.{Line, of_head, from_head, defined_name}
 use Rattle.kc_tree_model.specs.Conditions.{GroupInContext, attribute_values}
@@ -88,7 +88,7 @@ map_same f h [] k = refl
 map_same f h (x ∷ xs) k = rw (k x, map_same f h xs k) refl
 
 -- whether a place defines a name
-pub defines_by : (p : GroupInContext) (name y : List ℕ) → p.group.what ≡ of_head (config name) → defines y p ≡ bytes_eq name y
+pub defines_by : (p : GroupInContext) (name y : List ℕ) → p.group.head ≡ of_head (config name) → defines y p ≡ bytes_eq name y
 defines_by p name y e = ap (λ w. elim (from_head name_of_head w) as (λ _. Bool) [ None ↦ false | Some x ↦ bytes_eq x y ]) e
 
 pub defines_none : (p : GroupInContext) (y : List ℕ) → defined_name p.group ≡ None → defines y p ≡ false
@@ -99,7 +99,7 @@ not_same true h = absurd (h refl)
 not_same false h = refl
 
 -- what is known of all symbols by one place more
-pub abouts_more : (c : Contents) (ps : List GroupInContext) (p : GroupInContext) (name : List ℕ) (s : ℕ) → Differ c.names → p.group.what ≡ of_head (config name) → slice_get c.names s ≡ Some name
+pub abouts_more : (c : Contents) (ps : List GroupInContext) (p : GroupInContext) (name : List ℕ) (s : ℕ) → Differ c.names → p.group.head ≡ of_head (config name) → slice_get c.names s ≡ Some name
     → symbol_summaries c (ps ++ p ∷ []) ≡ set (symbol_summaries c ps) s (first_summary (summary_in c ps name) (about_at c p))
 abouts_more c ps p name s differ w at =
     map_changed (summary_in c ps) (summary_in c (ps ++ p ∷ [])) c.names s name at

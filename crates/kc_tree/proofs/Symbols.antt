@@ -6,16 +6,17 @@ use Rattle.std.proofs.lemmas.Grind.{flat_map-append}
 use Rattle.std.proofs.lemmas.List.{length-map}
 use Rattle.std.proofs.lemmas.Option.{get_or_from_slice_get}
 use Rattle.kc_value.specs.declared.value.Kind.{Kind}
-use Rattle.kc_expr.specs.Arena.{Exprs}
+use Rattle.kc_expr.specs.between.Arena.{Exprs}
 use Rattle.kc_expr.specs.Expr.{Expr, named, quoted, constant, alone}
 use Rattle.kc_expr.specs.Lookup.{index_of_name}
-use Rattle.kc_expr.specs.Names.{name_alone}
+use Rattle.kc_expr.specs.between.Names.{name_alone}
 use Rattle.kc_tree_model.specs.Statements.{Attribute, select, imply, DefaultAttribute, name_of_head, type_of}
 use Rattle.kc_tree_model.specs.Blocks.{Group, Line, GroupHead, from_head, defined_name, open_blocks}
 use Rattle.kc_tree_model.specs.Conditions.{GroupInContext, group_in_context, groups_in_context, attribute_values}
 use Rattle.kc_tree_model.specs.Contents.{Contents, contents_of, bare_name, choice_number, choice_of_symbol, defines, definitions_of, member_named, name_among, type_given}
 use Rattle.kc_tree_model.specs.Limits.{names_defined}
-use Rattle.kc_tree_model.specs.TreeFaults.{kind_of, kind_or_bool, is_logical, is_selectable, is_wrong_reverse_dependency}
+use Rattle.kc_tree_model.specs.TreeFaults.{kind_of, kind_or_bool, is_selectable, is_wrong_reverse_dependency}
+use Rattle.kc_value.specs.Kinds.{is_tri_kind}
 use Rattle.kc_tree_model.proofs.Consistency.Definitions.{defined}
 use Rattle.kc_tree_model.proofs.Consistency.Lists.{Has, Differ, Differ-once, at_most_once, has-at, get_below, has-filter, has-place, map-get, place-get, once-has, filter_map-has}
 use Rattle.kc_tree_model.proofs.Consistency.Places.{group-placed}
@@ -23,7 +24,7 @@ use Rattle.kc_listing.specs.declared.listing.Group.{Group as CodeGroup}
 use Rattle.kc_listing.specs.declared.listing.Line.{Line as CodeLine}
 use Rattle.kc_listing.specs.declared.listing.GroupHead.{GroupHead as CodeWhat}
 use Rattle.kc_listing.specs.declared.listing.GroupHead.TheVariants as codes
-use Rattle.kc_listing.specs.ListingView.{RepresentsGroups, RepresentsHead, line_in}
+use Rattle.kc_listing.specs.between.ListingView.{RepresentsGroups, RepresentsHead, line_in}
 use Rattle.kc_tree.specs.checker.Attributes.{aim_of}
 use Rattle.kc_tree.specs.checker.Summaries.{summary_in, first_summary, symbol_summaries, attributes_end, enclosing_choice, choices_at, group_at, member_in, member_key, member_keys_at, members_at, read_before, type_in}
 use Rattle.kc_tree.specs.declared.summary.SymbolSummary.{SymbolSummary}
@@ -54,13 +55,13 @@ kind_by c ds = kind_or_bool (slice_get (flat_map (λ (p : GroupInContext). attri
 
 selectable_by : (o : Option Kind) → Bool
 selectable_by None = true
-selectable_by (Some k) = is_logical k
+selectable_by (Some k) = is_tri_kind k
 
 selectable_is : (c : Contents) (name : List ℕ) → is_selectable c name ≡ selectable_by (kind_of c name)
 unfolding selectable_by
 selectable_is c name = by_kind (kind_of c name)
   where
-    by_kind : (o : Option Kind) → elim o as (λ _. Bool) [ None ↦ true | Some k ↦ is_logical k ] ≡ selectable_by o
+    by_kind : (o : Option Kind) → elim o as (λ _. Bool) [ None ↦ true | Some k ↦ is_tri_kind k ] ≡ selectable_by o
     by_kind None = refl
     by_kind (Some k) = refl
 
@@ -68,7 +69,7 @@ pub undefined_selectable : (read : List Group) (name : List ℕ) → index_of_na
 unfolding selectable_by
 undefined_selectable read name n = selectable_is (contents_of read) name ∙ ap selectable_by (ap (kind_by (contents_of read)) (no_definitions read name n))
 
-pub selectable_some : (c : Contents) (name : List ℕ) (k : Kind) → kind_of c name ≡ Some k → is_selectable c name ≡ is_logical k
+pub selectable_some : (c : Contents) (name : List ℕ) (k : Kind) → kind_of c name ≡ Some k → is_selectable c name ≡ is_tri_kind k
 unfolding selectable_by
 selectable_some c name k e = selectable_is c name ∙ ap selectable_by e
 
@@ -120,9 +121,9 @@ module _ (read : List Group) (symbols : List SymbolSummary) (h : symbols ≡ sym
   about_is s name d e = get_or_from_slice_get symbols s _ d (ap (λ xs. slice_get xs s) h ∙ map-get (summary_in (contents_of read) (groups_in_context read)) (names_defined read) s name e)
 
 -- what is selected or implied
-pub force_some : (c : Contents) (k : Kind) (a : Attribute) (x : List ℕ) → aim_of a ≡ Some x → is_wrong_reverse_dependency c k a ≡ (not (is_logical k) || not (is_selectable c x))
-force_some c k (select s) x e = let same : s.name ≡ x = cc in ap (λ y. not (is_logical k) || not (is_selectable c y)) same
-force_some c k (imply s) x e = let same : s.name ≡ x = cc in ap (λ y. not (is_logical k) || not (is_selectable c y)) same
+pub force_some : (c : Contents) (k : Kind) (a : Attribute) (x : List ℕ) → aim_of a ≡ Some x → is_wrong_reverse_dependency c k a ≡ (not (is_tri_kind k) || not (is_selectable c x))
+force_some c k (select s) x e = let same : s.name ≡ x = cc in ap (λ y. not (is_tri_kind k) || not (is_selectable c y)) same
+force_some c k (imply s) x e = let same : s.name ≡ x = cc in ap (λ y. not (is_tri_kind k) || not (is_selectable c y)) same
 force_some c k a x e = cc
 
 pub force_none : (c : Contents) (k : Kind) (a : Attribute) → aim_of a ≡ None → is_wrong_reverse_dependency c k a ≡ false
@@ -165,7 +166,7 @@ module _ (e : Exprs) (texts : List (List ℕ)) (lines : List CodeLine) (groups :
   types_at : (m : Group) (own : List CodeLine) → m.attributes ≡ map (line_in e) own → attribute_values type_of m ≡ filter_map (type_in e) own
   types_at m own a = ap (filter_map (λ (l : Line). type_of l.attribute)) a ∙ types_of_lines e own
 
-  pub symbols_more : (i s : ℕ) (symbols : List SymbolSummary) (enclosing : List (Option ℕ)) (old here : SymbolSummary) → i < length groups → (group_at groups i).what ≡ codes.Config s → symbols ≡ symbol_summaries (contents_of read) (groups_in_context (read_before i read))
+  pub symbols_more : (i s : ℕ) (symbols : List SymbolSummary) (enclosing : List (Option ℕ)) (old here : SymbolSummary) → i < length groups → (group_at groups i).head ≡ codes.Config s → symbols ≡ symbol_summaries (contents_of read) (groups_in_context (read_before i read))
       → enclosing ≡ map (enclosing_choice (contents_of read)) (groups_in_context read) → old ≡ get_or symbols s old
       → here ≡ record { first = Some i; given = slice_get (filter_map (type_in e) (slice_range lines (group_at groups i).attributes (attributes_end groups lines i))) 0; choice = get_or enclosing i None }
       → set symbols s (first_summary old here) ≡ symbol_summaries (contents_of read) (groups_in_context (read_before (i + 1) read))
@@ -173,7 +174,7 @@ module _ (e : Exprs) (texts : List (List ℕ)) (lines : List CodeLine) (groups :
       let c = contents_of read in
       let t = shown_at e (names_defined read) texts lines groups read h i l in
       let n = count_is e (names_defined read) texts lines groups read h in
-      let what = subst (λ v. RepresentsHead e (names_defined read) texts v t.group.what) w t.shown.what in
+      let what = subst (λ v. RepresentsHead e (names_defined read) texts v t.group.head) w t.shown.head in
       let prior : List Group = read_before i read in
       let p : GroupInContext = group_in_context (open_blocks 0 prior) t.group in
       let at = place_numbered read i t.group (omega arith) t.now in
@@ -189,18 +190,18 @@ module _ (e : Exprs) (texts : List (List ℕ)) (lines : List CodeLine) (groups :
       ∙ ap (λ xs. set xs s (first_summary (summary_in c (groups_in_context prior) what.0) (about_at c p))) a
       ∙ sym (ap (symbol_summaries c) (placed_more read i t.group t.now) ∙ abouts_more c (groups_in_context prior) p what.0 s (Differ-once (filter_map defined_name read)) what.2 what.1)
 
-  pub symbols_kept : (i : ℕ) → i < length groups → ((s : ℕ) → (group_at groups i).what ≡ codes.Config s → ⊥) → symbol_summaries (contents_of read) (groups_in_context (read_before i read)) ≡ symbol_summaries (contents_of read) (groups_in_context (read_before (i + 1) read))
+  pub symbols_kept : (i : ℕ) → i < length groups → ((s : ℕ) → (group_at groups i).head ≡ codes.Config s → ⊥) → symbol_summaries (contents_of read) (groups_in_context (read_before i read)) ≡ symbol_summaries (contents_of read) (groups_in_context (read_before (i + 1) read))
   symbols_kept i l w =
       let c = contents_of read in
       let t = shown_at e (names_defined read) texts lines groups read h i l in
       let prior : List Group = read_before i read in
       let p : GroupInContext = group_in_context (open_blocks 0 prior) t.group in
-      sym (ap (symbol_summaries c) (placed_more read i t.group t.now) ∙ abouts_same c (groups_in_context prior) p (nameless e (names_defined read) texts (group_at groups i).what t.group.what t.shown.what w))
+      sym (ap (symbol_summaries c) (placed_more read i t.group t.now) ∙ abouts_same c (groups_in_context prior) p (nameless e (names_defined read) texts (group_at groups i).head t.group.head t.shown.head w))
 
-  pub symbol_there : (i s : ℕ) → i < length groups → (group_at groups i).what ≡ codes.Config s → s < length (names_defined read)
+  pub symbol_there : (i s : ℕ) → i < length groups → (group_at groups i).head ≡ codes.Config s → s < length (names_defined read)
   symbol_there i s l w =
       let t = shown_at e (names_defined read) texts lines groups read h i l in
-      let what = subst (λ v. RepresentsHead e (names_defined read) texts v t.group.what) w t.shown.what in
+      let what = subst (λ v. RepresentsHead e (names_defined read) texts v t.group.head) w t.shown.head in
       get_below (names_defined read) s what.0 what.1
 
 -- nothing is known yet
@@ -271,13 +272,13 @@ module _ (e : Exprs) (texts : List (List ℕ)) (lines : List CodeLine) (groups :
   unnamed c (Some k) = refl
 
   -- a member, and what is none
-  pub member_more : (i s k : ℕ) (enclosing : List (Option ℕ)) (keys members : List ℕ) → i < length groups → (group_at groups i).what ≡ codes.Config s → enclosing ≡ map (enclosing_choice (contents_of read)) (groups_in_context read) → get_or enclosing i None ≡ Some k
+  pub member_more : (i s k : ℕ) (enclosing : List (Option ℕ)) (keys members : List ℕ) → i < length groups → (group_at groups i).head ≡ codes.Config s → enclosing ≡ map (enclosing_choice (contents_of read)) (groups_in_context read) → get_or enclosing i None ≡ Some k
       → AreMembers read i keys members → AreMembers read (i + 1) (keys ++ k ∷ []) (members ++ s ∷ [])
   member_more i s k enclosing keys members l w r a m =
       let c = contents_of read in
       let t = shown_at e (names_defined read) texts lines groups read h i l in
       let n = count_is e (names_defined read) texts lines groups read h in
-      let what = subst (λ v. RepresentsHead e (names_defined read) texts v t.group.what) w t.shown.what in
+      let what = subst (λ v. RepresentsHead e (names_defined read) texts v t.group.head) w t.shown.head in
       let p : GroupInContext = group_in_context (open_blocks 0 (read_before i read)) t.group in
       let at = place_numbered read i t.group (omega arith) t.now in
       let chosen : enclosing_choice c p ≡ Some k = sym (round_at e texts lines groups read h i enclosing p r at) ∙ a in
@@ -297,12 +298,12 @@ module _ (e : Exprs) (texts : List (List ℕ)) (lines : List CodeLine) (groups :
       let at = place_numbered read i t.group (omega arith) t.now in
       none_more i t.group keys members t.now (ap (λ o. member_in c o (defined_name p.group)) (sym (round_at e texts lines groups read h i enclosing p r at) ∙ a)) m
 
-  pub nameless_more : (i : ℕ) (keys members : List ℕ) → i < length groups → ((s : ℕ) → (group_at groups i).what ≡ codes.Config s → ⊥) → AreMembers read i keys members → AreMembers read (i + 1) keys members
+  pub nameless_more : (i : ℕ) (keys members : List ℕ) → i < length groups → ((s : ℕ) → (group_at groups i).head ≡ codes.Config s → ⊥) → AreMembers read i keys members → AreMembers read (i + 1) keys members
   nameless_more i keys members l w m =
       let c = contents_of read in
       let t = shown_at e (names_defined read) texts lines groups read h i l in
       let p : GroupInContext = group_in_context (open_blocks 0 (read_before i read)) t.group in
-      none_more i t.group keys members t.now (ap (member_in c (enclosing_choice c p)) (nameless e (names_defined read) texts (group_at groups i).what t.group.what t.shown.what w) ∙ unnamed c (enclosing_choice c p)) m
+      none_more i t.group keys members t.now (ap (member_in c (enclosing_choice c p)) (nameless e (names_defined read) texts (group_at groups i).head t.group.head t.shown.head w) ∙ unnamed c (enclosing_choice c p)) m
 
 pub members_same : (read : List Group) (i : ℕ) (keys members keys2 members2 : List ℕ) → keys2 ≡ keys → members2 ≡ members → AreMembers read i keys members → AreMembers read i keys2 members2
 members_same read i keys members keys2 members2 k m a = record { keys_are = k ∙ a.keys_are; members_are = m ∙ a.members_are }

@@ -3,15 +3,15 @@ use Rattle.std.proofs.Common.{◌≡◌, inl, inr, ℕ, suc, ◌+◌, ◌-◌, �
 use Rattle.std.specs.Prelude.{All, IfSome, slice_get, slice_range, option_to_list, filter_map}
 use Rattle.std.proofs.lemmas.List.{reverse-append, take_all, take-append-le, drop-append-le}
 use Rattle.std.proofs.Math.Seq.{drop-append_seam}
-use Rattle.kc_expr.specs.Arena.{Exprs, Represents, node_expr, Grows}
+use Rattle.kc_expr.specs.between.Arena.{Exprs, Represents, node_expr, Grows}
 use Rattle.kc_expr.specs.Expr.{Expr}
-use Rattle.kc_statements.specs.StatementViews.{attribute_in, AttributeNodesExist}
+use Rattle.kc_statements.specs.between.StatementViews.{attribute_in, AttributeNodesExist}
 use Rattle.kc_statements.specs.declared.statement.Attribute.{Attribute as CodeAttribute}
 use Rattle.kc_statements.specs.declared.statement.Attribute.TheVariants as attributes
 use Rattle.kc_listing.specs.declared.listing.Line.{Line as CodeLine}
 use Rattle.kc_listing.specs.declared.listing.GroupHead.{GroupHead as CodeWhat}
 use Rattle.kc_listing.specs.declared.listing.GroupHead.TheVariants as codes
-use Rattle.kc_listing.specs.ListingView.{LineNodesExist, RepresentsHead, line_in}
+use Rattle.kc_listing.specs.between.ListingView.{LineNodesExist, RepresentsHead, line_in}
 use Rattle.kc_listing.proofs.Growing.{lines_held}
 use Rattle.kc_statements.proofs.Later.{attribute_same, node_held, node_same}
 use Rattle.kc_listing.proofs.AppendSteps.{grows_same}
@@ -49,7 +49,7 @@ first_here lines conditions i x d h e f g =
     rw (l, c, f) (ap Some g)
 
 -- the inside of an `if`, a menu and a sourced file
-pub if_inside : (old new : Exprs) (texts : List (List ℕ)) (y id : ℕ) (d : Option ℕ) (m : Group) (a : EnclosingConditions) (opened : List Group) → Grows old new → m.what ≡ of_head (condition (node_expr old id)) → RepresentsEnclosing old texts y a opened
+pub if_inside : (old new : Exprs) (texts : List (List ℕ)) (y id : ℕ) (d : Option ℕ) (m : Group) (a : EnclosingConditions) (opened : List Group) → Grows old new → m.head ≡ of_head (condition (node_expr old id)) → RepresentsEnclosing old texts y a opened
     → ((es : List Expr) → Conjoins old a.dependencies es → Conjoins new d (es ++ conjunct old (Some id)))
     → RepresentsEnclosing new texts y (record { dependencies = d; visibles = a.visibles; title = None }) (m ∷ opened)
 if_inside old new texts y id d m a opened g e h f = record {
@@ -58,7 +58,7 @@ if_inside old new texts y id d m a opened g e h f = record {
   ends = rw e refl;
 }
 
-pub menu_inside : (exprs : Exprs) (texts : List (List ℕ)) (y t : ℕ) (title : List ℕ) (m : Group) (c : EntryConditions) (opened : List Group) → m.what ≡ of_head (menu title) → slice_get texts t ≡ Some title
+pub menu_inside : (exprs : Exprs) (texts : List (List ℕ)) (y t : ℕ) (title : List ℕ) (m : Group) (c : EntryConditions) (opened : List Group) → m.head ≡ of_head (menu title) → slice_get texts t ≡ Some title
     → AreJoined exprs c (dependencies_of (context opened) m) (context opened).visibles (attribute_values visible_of m) → Represents exprs y (conjunction_of [])
     → RepresentsEnclosing exprs texts y (record { dependencies = c.dependencies; visibles = c.visibles; title = Some t }) (m ∷ opened)
 menu_inside exprs texts y t title m c opened e s j h =
@@ -70,7 +70,7 @@ menu_inside exprs texts y t title m c opened e s j h =
       ends = (title, s, d.within, v.within, rw (e, d.is, v.is) refl);
     }
 
-pub source_inside : (exprs : Exprs) (texts : List (List ℕ)) (y : ℕ) (path : List ℕ) (m : Group) (a : EnclosingConditions) (opened : List Group) → m.what ≡ of_head (source path) → RepresentsEnclosing exprs texts y a opened
+pub source_inside : (exprs : Exprs) (texts : List (List ℕ)) (y : ℕ) (path : List ℕ) (m : Group) (a : EnclosingConditions) (opened : List Group) → m.head ≡ of_head (source path) → RepresentsEnclosing exprs texts y a opened
     → RepresentsEnclosing exprs texts y (record { dependencies = a.dependencies; visibles = a.visibles; title = None }) (m ∷ opened)
 source_inside exprs texts y path m a opened e h = record {
   dependencies_are = rw e h.dependencies_are;
@@ -196,7 +196,7 @@ put_shown exprs texts xs own c cs before m e h rest = (
   subst (λ n. RepresentsAllConditions exprs texts (xs ++ own) n cs before) (sym e) (all_kept exprs texts xs own (length xs) (omega arith) cs before rest),
 )
 
-pub end_side : (exprs : Exprs) (names texts : List (List ℕ)) (what : CodeWhat) (m : Group) → RepresentsHead exprs names texts what m.what → is_end what ≡ true → side_of m.what ≡ closing
+pub end_side : (exprs : Exprs) (names texts : List (List ℕ)) (what : CodeWhat) (m : Group) → RepresentsHead exprs names texts what m.head → is_end what ≡ true → side_of m.head ≡ closing
 end_side exprs names texts (codes.Config s) m h e = cc
 end_side exprs names texts codes.Choice m h e = cc
 end_side exprs names texts (codes.Menu t) m h e = cc
@@ -207,7 +207,7 @@ end_side exprs names texts codes.Mainmenu m h e = cc
 end_side exprs names texts (codes.Ends b) m h e = rw h refl
 end_side exprs names texts codes.FileEnd m h e = rw h refl
 
-pub other_side : (exprs : Exprs) (names texts : List (List ℕ)) (what : CodeWhat) (m : Group) → RepresentsHead exprs names texts what m.what → is_end what ≡ false → side_of m.what ≡ closing → ⊥
+pub other_side : (exprs : Exprs) (names texts : List (List ℕ)) (what : CodeWhat) (m : Group) → RepresentsHead exprs names texts what m.head → is_end what ≡ false → side_of m.head ≡ closing → ⊥
 other_side exprs names texts (codes.Config s) m h e f = let k : inside ≡ closing = ap side_of (sym h.2) ∙ f in cc
 other_side exprs names texts codes.Choice m h e f = let k : opening ≡ closing = ap side_of (sym h) ∙ f in cc
 other_side exprs names texts (codes.Menu t) m h e f = let k : opening ≡ closing = ap side_of (sym h.2) ∙ f in cc
@@ -221,15 +221,15 @@ other_side exprs names texts codes.FileEnd m h e f = cc
 reverse_push : {A : Type 0} (xs : List A) (x : A) → reverse (xs ++ x ∷ []) ≡ x ∷ reverse xs
 reverse_push xs x = reverse-append xs (x ∷ [])
 
-not_opened : (exprs : Exprs) (texts : List (List ℕ)) (y : ℕ) (stack : List EnclosingConditions) (m : Group) (before : List Group) (side : Side) → side_of m.what ≡ side → (side ≡ closing → ⊥) → (side ≡ opening → ⊥)
+not_opened : (exprs : Exprs) (texts : List (List ℕ)) (y : ℕ) (stack : List EnclosingConditions) (m : Group) (before : List Group) (side : Side) → side_of m.head ≡ side → (side ≡ closing → ⊥) → (side ≡ opening → ⊥)
     → RepresentsEnclosings exprs texts y (reverse stack) (open_blocks 0 before) → RepresentsEnclosings exprs texts y (reverse (stack ++ [])) (open_blocks 0 (m ∷ before))
 not_opened exprs texts y stack m before opening e f g h = absurd (g refl)
 not_opened exprs texts y stack m before closing e f g h = absurd (f refl)
 not_opened exprs texts y stack m before inside e f g h = rw (open_inside 0 m before e, append-nil stack) h
 
-stack_entered : (exprs : Exprs) (texts : List (List ℕ)) (y : ℕ) (stack : List EnclosingConditions) (o : Option EnclosingConditions) (m : Group) (before : List Group) → (side_of m.what ≡ closing → ⊥) → RepresentsInside exprs texts y m (open_blocks 0 before) o
+stack_entered : (exprs : Exprs) (texts : List (List ℕ)) (y : ℕ) (stack : List EnclosingConditions) (o : Option EnclosingConditions) (m : Group) (before : List Group) → (side_of m.head ≡ closing → ⊥) → RepresentsInside exprs texts y m (open_blocks 0 before) o
     → RepresentsEnclosings exprs texts y (reverse stack) (open_blocks 0 before) → RepresentsEnclosings exprs texts y (reverse (stack ++ option_to_list o)) (open_blocks 0 (m ∷ before))
-stack_entered exprs texts y stack None m before side h s = not_opened exprs texts y stack m before (side_of m.what) refl side h s
+stack_entered exprs texts y stack None m before side h s = not_opened exprs texts y stack m before (side_of m.head) refl side h s
 stack_entered exprs texts y stack (Some a) m before side h s = rw (pushed m before h.0, reverse_push stack a) (h.1, s)
 
 -- the attributes' conditions in an entry
@@ -264,7 +264,7 @@ module _ (w new : GroupWalk) (texts : List (List ℕ)) (before : List Group) (m 
         (subst (λ cs. RepresentsAllConditions later texts (w.conditions.items ++ b.own) (length (w.conditions.items ++ b.own)) cs (m ∷ before)) (sym (ap reverse groups ∙ reverse_push w.groups.items c)) h)
 
     -- an end
-    pub ended : (c : GroupConditions) → side_of m.what ≡ closing
+    pub ended : (c : GroupConditions) → side_of m.head ≡ closing
         → c ≡ record { dependency = or_yes w.yes (innermost_enclosing (reverse w.stack.items)).dependencies; visible = or_yes w.yes (innermost_enclosing (reverse w.stack.items)).visibles; ended = (innermost_enclosing (reverse w.stack.items)).title; first = length w.conditions.items }
         → new.groups.items ≡ w.groups.items ++ c ∷ [] → reverse new.stack.items ≡ drop 1 (reverse w.stack.items) → HasWalked texts new (m ∷ before)
     ended c side is groups stack = λ later g.
@@ -284,7 +284,7 @@ module _ (w new : GroupWalk) (texts : List (List ℕ)) (before : List Group) (m 
         }
 
     -- an entry, a block or a sourced file
-    pub entered : (c : GroupConditions) (o : Option EnclosingConditions) → (side_of m.what ≡ closing → ⊥) → AreJoined mid e (dependencies_of (context (open_blocks 0 before)) m) (context (open_blocks 0 before)).visibles (attribute_values visible_of m)
+    pub entered : (c : GroupConditions) (o : Option EnclosingConditions) → (side_of m.head ≡ closing → ⊥) → AreJoined mid e (dependencies_of (context (open_blocks 0 before)) m) (context (open_blocks 0 before)).visibles (attribute_values visible_of m)
         → c ≡ record { dependency = or_yes w.yes e.dependencies; visible = or_yes w.yes e.visibles; ended = None; first = length w.conditions.items }
         → new.groups.items ≡ w.groups.items ++ c ∷ [] → new.stack.items ≡ w.stack.items ++ option_to_list o → ((later : Exprs) → Grows new.arena later → RepresentsInside later texts w.yes m (open_blocks 0 before) o) → HasWalked texts new (m ∷ before)
     entered c o side j is groups stack opened = λ later g.

@@ -1,3 +1,3 @@
 pub mod TreeModel
-pub mod Views
+pub mod between
 pub mod checker

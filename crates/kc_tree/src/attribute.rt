@@ -1,10 +1,10 @@
 //! The values of attributes.
 ghost use Rattle.std.specs.Prelude.{◌≡◌, ◌<◌, IfSome, is_some, length, option_map};
-ghost use Rattle.kc_expr.specs.Arena.{Exprs};
+ghost use Rattle.kc_expr.specs.between.Arena.{Exprs};
 ghost use Rattle.kc_tree_model.specs.Statements.{type_of, prompt_of, default_of, range_of, is_modules as modules};
-ghost use Rattle.kc_statements.specs.StatementViews.{attribute_in, AttributeNodesExist, default_in, DefaultNodesExist};
+ghost use Rattle.kc_statements.specs.between.StatementViews.{attribute_in, AttributeNodesExist, default_in, DefaultNodesExist};
 ghost use Rattle.kc_tree.specs.checker.Attributes.{aim_of};
-ghost use Rattle.kc_listing.specs.SymbolTable.{text_of_name};
+ghost use Rattle.kc_listing.specs.between.SymbolTable.{text_of_name};
 
 use kc_expr::NameId;
 use kc_statements::{Attribute, DefaultAttribute};

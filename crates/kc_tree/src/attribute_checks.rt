@@ -5,8 +5,8 @@ ghost use Rattle.kc_tree_model.specs.Blocks.{Group as Read};
 ghost use Rattle.kc_tree_model.specs.Contents.{contents_of};
 ghost use Rattle.kc_tree_model.specs.Limits.{names_defined};
 ghost use Rattle.kc_tree_model.specs.TreeFaults.{attribute_faults, choice_faults, faults_of_lines};
-ghost use Rattle.kc_statements.specs.StatementViews.{attribute_in, AttributeNodesExist};
-ghost use Rattle.kc_listing.specs.ListingView.{RepresentsListing, line_in, LineNodesExist};
+ghost use Rattle.kc_statements.specs.between.StatementViews.{attribute_in, AttributeNodesExist};
+ghost use Rattle.kc_listing.specs.between.ListingView.{RepresentsListing, line_in, LineNodesExist};
 ghost use Rattle.kc_tree.specs.checker.Marks.{AreMarked};
 ghost use Rattle.kc_tree.specs.checker.Summaries.{AreSymbolSummaries, IsRepresented};
 

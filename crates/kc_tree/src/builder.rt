@@ -7,7 +7,7 @@ ghost use Rattle.kc_tree_model.specs.Contents.{tree_of_groups, tree_of_files};
 ghost use Rattle.kc_tree_model.specs.Reading.{reading};
 ghost use Rattle.kc_tree_model.specs.TreeFaults.{first_tree_fault};
 ghost use Rattle.kc_tree_model.specs.TreeLookup.{IsConsistent};
-ghost use Rattle.kc_listing.specs.ListingView.{RepresentsListing};
+ghost use Rattle.kc_listing.specs.between.ListingView.{RepresentsListing};
 ghost use Rattle.kc_tree.specs.checker.Assembly.{IsWalk, AreFew, AreSymbolParts, AreChoiceParts, AreAllParts, IsGathering};
 ghost use Rattle.kc_tree.specs.checker.GatheredFits.{GatheredFit};
 ghost use Rattle.kc_tree.specs.checker.GatheredView.{gathered_tree};
@@ -169,7 +169,7 @@ fn gathered_of(alloc: Global, walked: WalkedListing) -> Result<Gathered, AllocEr
 pub(crate) fn tree_of(alloc: Global, listing: Listing) -> Result<Tree, AllocError>
     requires { IsOfTree listing }
     ensures { (files : Files) (root : List ℕ) → first_tree_fault files root ≡ None → RepresentsListing listing (reading files root).read
-        → IfOk result (λ t. t.whole ≡ tree_of_files files root) }
+        → IfOk result (λ t. t.tree ≡ tree_of_files files root) }
 {
     let Ok(walked) = walk_all(alloc, listing) else {
         return Err(AllocError);

@@ -1,6 +1,6 @@
 //! The defaults of choices.
 ghost use Rattle.std.specs.Prelude.{◌≡◌, ◌<◌, ◌++◌, ◌^◌, [], All, IfOk, List, OnOk, length, map, option_to_list};
-ghost use Rattle.kc_listing.specs.ListingView.{LineNodesExist};
+ghost use Rattle.kc_listing.specs.between.ListingView.{LineNodesExist};
 ghost use Rattle.kc_tree_model.specs.Blocks.{Group as Read};
 ghost use Rattle.kc_tree_model.specs.Conditions.{groups_in_context};
 ghost use Rattle.kc_tree_model.specs.Contents.{contents_of};
@@ -87,17 +87,17 @@ fn push_defaults(
 fn push_group_defaults(
     found: &mut Keyed<MemberDefault>,
     names: &SymbolTable,
-    what: &GroupHead,
+    head: &GroupHead,
     choice: u32,
     lines: &[Line],
     conditions: &[ExprId],
 ) -> Result<(), AllocError>
     requires many { length conditions.now ≡ length lines.now }
     requires held { All (LineNodesExist names.now.arena) lines.now }
-    ensures keys { OnOk result (found.new.keys.items ≡ found.old.keys.items ++ map (λ _. choice) (group_default_rows what.now names.now lines.now conditions.now)) }
-    ensures items { OnOk result (found.new.items.items ≡ found.old.items.items ++ group_default_rows what.now names.now lines.now conditions.now) }
+    ensures keys { OnOk result (found.new.keys.items ≡ found.old.keys.items ++ map (λ _. choice) (group_default_rows head.now names.now lines.now conditions.now)) }
+    ensures items { OnOk result (found.new.items.items ≡ found.old.items.items ++ group_default_rows head.now names.now lines.now conditions.now) }
 {
-    if begins_choice(what) {
+    if begins_choice(head) {
         return push_defaults(found, names, choice, lines, conditions);
     }
     Ok(())
@@ -118,11 +118,11 @@ pub(crate) fn member_defaults(
     let mut found = Keyed::new(alloc);
     let mut choices = 0;
     for i in 0..listing.groups.len() {
-        let what = &listing.groups[i].what;
+        let head = &listing.groups[i].head;
         let lines = lines_of(listing, i);
         let own = conditions_of(groups, conditions, i);
-        push_group_defaults(&mut found, &listing.names, what, choices, lines, own)?;
-        choices = count_choices(what, choices);
+        push_group_defaults(&mut found, &listing.names, head, choices, lines, own)?;
+        choices = count_choices(head, choices);
     }
     Ok(found)
 }

@@ -1,9 +1,9 @@
 //! The rows of choices.
 ghost use Rattle.std.specs.Prelude.{◌≡◌, ◌<◌, List, IfOk, filter, length, reverse};
-ghost use Rattle.kc_expr.specs.Arena.{Exprs};
+ghost use Rattle.kc_expr.specs.between.Arena.{Exprs};
 ghost use Rattle.kc_tree_model.specs.Blocks.{Group as Read};
 ghost use Rattle.kc_tree_model.specs.Conditions.{groups_in_context};
-ghost use Rattle.kc_listing.specs.ListingView.{RepresentsListing};
+ghost use Rattle.kc_listing.specs.between.ListingView.{RepresentsListing};
 ghost use Rattle.kc_tree.specs.checker.ChoiceRows.{opens, choice_row, AreChoiceRows, IsGoneThrough};
 ghost use Rattle.kc_tree.specs.checker.Conditioned.{own_conditions};
 ghost use Rattle.kc_tree.specs.checker.Summaries.{group_at, own_lines};
@@ -60,7 +60,7 @@ pub(crate) fn choice_rows(
 {
     let mut rows = Vec::new(alloc);
     for i in 0..listing.groups.len() {
-        if begins_choice(&listing.groups[i].what) {
+        if begins_choice(&listing.groups[i].head) {
             rows.push(row_at(listing, groups, conditions, i))?;
         }
     }

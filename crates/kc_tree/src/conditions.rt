@@ -1,10 +1,10 @@
 //! The conditions of entries and attributes.
 ghost use Rattle.std.specs.Prelude.{◌≡◌, ◌<◌, ◌++◌, ◌+◌, [], List, All, IfOk, IfErr, IfSome, OnOk, OnErr, length};
-ghost use Rattle.kc_expr.specs.Arena.{Grows, Represents};
+ghost use Rattle.kc_expr.specs.between.Arena.{Grows, Represents};
 ghost use Rattle.kc_expr.specs.Expr.{Expr};
 ghost use Rattle.kc_expr.specs.declared.fault.ExprKind.TheVariants.{OutOfMemory};
-ghost use Rattle.kc_statements.specs.StatementViews.{AttributeNodesExist};
-ghost use Rattle.kc_listing.specs.ListingView.{LineNodesExist};
+ghost use Rattle.kc_statements.specs.between.StatementViews.{AttributeNodesExist};
+ghost use Rattle.kc_listing.specs.between.ListingView.{LineNodesExist};
 ghost use Rattle.kc_tree_model.specs.Conditions.{conjunction_of, visible_conjunct};
 ghost use Rattle.kc_tree.specs.checker.Conjunctions.{Conjoins, conjunct};
 ghost use Rattle.kc_tree.specs.checker.Conjuncts.{if_view, is_prompt, conjunct_view, conjunct_views, condition_view, AreJoined, AreAppended};

@@ -1,7 +1,7 @@
 //! The prompts, defaults, ranges and reverse dependencies that a definition's attributes give.
 ghost use Rattle.std.specs.Prelude.{◌≡◌, ◌<◌, All, OnOk, length};
-ghost use Rattle.kc_listing.specs.ListingView.{LineNodesExist};
-ghost use Rattle.kc_statements.specs.StatementViews.{AttributeNodesExist};
+ghost use Rattle.kc_listing.specs.between.ListingView.{LineNodesExist};
+ghost use Rattle.kc_statements.specs.between.StatementViews.{AttributeNodesExist};
 ghost use Rattle.kc_tree.specs.checker.GatheredItems.{gathered_target_name, aimed_at, gathered_prompt, gathered_default, gathered_range, own_key, gathered_target, gathered_reverse_dependency, HasAppended};
 
 use super::conditions::is_prompt_attribute;

@@ -2,7 +2,7 @@
 ghost use Rattle.std.specs.Prelude.{◌≡◌, ◌<◌, [], List, All, IfOk, OnOk, length};
 ghost use Rattle.kc_tree_model.specs.Blocks.{Group as Read};
 ghost use Rattle.kc_tree_model.specs.Contents.{contents_of};
-ghost use Rattle.kc_listing.specs.ListingView.{LineNodesExist};
+ghost use Rattle.kc_listing.specs.between.ListingView.{LineNodesExist};
 ghost use Rattle.kc_tree.specs.checker.ChoiceDefaults.{IsWalkOf};
 ghost use Rattle.kc_tree.specs.checker.Conditioned.{conditions_at};
 ghost use Rattle.kc_tree.specs.checker.Definitions.{HasDefinition, AreAttributes};
@@ -94,7 +94,7 @@ pub(crate) fn gather_attributes(
 {
     let mut found = no_attributes(alloc);
     for i in 0..listing.groups.len() {
-        if let GroupHead::Config(s) = listing.groups[i].what {
+        if let GroupHead::Config(s) = listing.groups[i].head {
             let lines = lines_of(listing, i);
             let own = conditions_of(groups, conditions, i);
             let dependency = dependency_of(groups, i);

@@ -3,7 +3,7 @@ ghost use Rattle.std.specs.Prelude.{◌≡◌, ◌<◌, ◌^◌, ◌∷◌, ◌+
 ghost use Rattle.kc_tree_model.specs.Blocks.{Group as Read};
 ghost use Rattle.kc_tree_model.specs.Conditions.{groups_in_context};
 ghost use Rattle.kc_tree_model.specs.Contents.{contents_of};
-ghost use Rattle.kc_listing.specs.ListingView.{RepresentsListing};
+ghost use Rattle.kc_listing.specs.between.ListingView.{RepresentsListing};
 ghost use Rattle.kc_tree.specs.checker.Summaries.{innermost_choice, choices_opened_after, enclosing_choice, is_choice_code};
 
 use kc_listing::{GroupHead, Listing};
@@ -20,21 +20,21 @@ fn innermost(inside: &[Option<u32>]) -> Option<u32>
 }
 
 /// Whether a choice begins.
-pub(crate) fn begins_choice(what: &GroupHead) -> bool
-    ensures { result ≡ is_choice_code what.now }
+pub(crate) fn begins_choice(head: &GroupHead) -> bool
+    ensures { result ≡ is_choice_code head.now }
 {
-    matches!(*what, GroupHead::Choice)
+    matches!(*head, GroupHead::Choice)
 }
 
 /// Pushes the block that a statement opens, or pops the one that it ends; `choices` counts the choices before it.
 fn push_or_pop(
     inside: &mut Vec<Option<u32>>,
-    what: &GroupHead,
+    head: &GroupHead,
     choices: u32,
 ) -> Result<(), AllocError>
-    ensures { OnOk result (reverse inside.new.items ≡ choices_opened_after what.now choices (reverse inside.old.items)) }
+    ensures { OnOk result (reverse inside.new.items ≡ choices_opened_after head.now choices (reverse inside.old.items)) }
 {
-    match *what {
+    match *head {
         GroupHead::Choice => inside.push(Some(choices))?,
         GroupHead::Menu(_) | GroupHead::Condition(_) | GroupHead::Source(_) => {
             let choice = innermost(inside);
@@ -52,14 +52,14 @@ fn push_or_pop(
 fn push_enclosing(
     enclosing: &mut Vec<Option<u32>>,
     inside: &mut Vec<Option<u32>>,
-    what: &GroupHead,
+    head: &GroupHead,
     choices: u32,
 ) -> Result<(), AllocError>
     ensures enclosing { OnOk result (enclosing.new.items ≡ enclosing.old.items ++ innermost_choice (reverse inside.old.items) ∷ []) }
-    ensures inside { OnOk result (reverse inside.new.items ≡ choices_opened_after what.now choices (reverse inside.old.items)) }
+    ensures inside { OnOk result (reverse inside.new.items ≡ choices_opened_after head.now choices (reverse inside.old.items)) }
 {
     enclosing.push(innermost(inside))?;
-    push_or_pop(inside, what, choices)
+    push_or_pop(inside, head, choices)
 }
 
 /// The number of the enclosing choice of each group, if there is one.
@@ -74,8 +74,8 @@ pub(crate) fn choices_enclosing(
     let mut inside = Vec::new(alloc);
     let mut choices = 0;
     for group in &listing.groups {
-        push_enclosing(&mut enclosing, &mut inside, &group.what, choices)?;
-        if begins_choice(&group.what) {
+        push_enclosing(&mut enclosing, &mut inside, &group.head, choices)?;
+        if begins_choice(&group.head) {
             choices += 1;
         }
     }
@@ -88,7 +88,7 @@ pub(crate) fn choice_count(listing: &Listing) -> usize
 {
     let mut choices = 0;
     for group in &listing.groups {
-        if begins_choice(&group.what) {
+        if begins_choice(&group.head) {
             choices += 1;
         }
     }

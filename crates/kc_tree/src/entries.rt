@@ -1,9 +1,9 @@
 //! The entries of a tree, in reading order.
 ghost use Rattle.std.specs.Prelude.{◌≡◌, ◌≤◌, ◌<◌, ◌+◌, ◌^◌, ◌++◌, ℕ, List, All, IfOk, OnOk, length, map, reverse, option_to_list};
-ghost use Rattle.kc_expr.specs.Arena.{Exprs};
+ghost use Rattle.kc_expr.specs.between.Arena.{Exprs};
 ghost use Rattle.kc_tree_model.specs.Blocks.{Group as Read};
 ghost use Rattle.kc_tree_model.specs.Contents.{contents_of, tree_of_groups};
-ghost use Rattle.kc_listing.specs.ListingView.{RepresentsListing};
+ghost use Rattle.kc_listing.specs.between.ListingView.{RepresentsListing};
 ghost use Rattle.kc_tree.specs.checker.Entries.{entry_row, choices_after};
 ghost use Rattle.kc_tree.specs.checker.StoredParts.{EntryRowFits};
 ghost use Rattle.kc_tree.specs.checker.PartsView.{entry_from_row};
@@ -13,8 +13,7 @@ ghost use Rattle.kc_tree.specs.declared.parts.EntryRow.TheVariants.{MenuBegins, 
 use super::group_walk::GroupConditions;
 use super::parts::EntryRow;
 use kc_listing::{GroupHead, Listing};
-use kc_statements::Block;
-use kc_tree_model::Sym;
+use kc_tree_model::{Block, Sym};
 use std::alloc::{AllocError, Global};
 
 /// The index of a text as `u32`; out of memory if it doesn't fit.
@@ -61,13 +60,13 @@ fn comment(title: usize, group: &GroupConditions) -> Result<EntryRow, AllocError
 
 /// The entry of a group, if it has one; `choices` counts the choices before it.
 fn entry_of(
-    what: &GroupHead,
+    head: &GroupHead,
     group: &GroupConditions,
     choices: u32,
 ) -> Result<Option<EntryRow>, AllocError>
-    ensures { IfOk result (λ row. row ≡ entry_row what.now group.now choices) }
+    ensures { IfOk result (λ row. row ≡ entry_row head.now group.now choices) }
 {
-    match *what {
+    match *head {
         GroupHead::Config(s) => Ok(Some(EntryRow::Definition(Sym::at(s)))),
         GroupHead::Choice => Ok(Some(EntryRow::ChoiceBegins(choices))),
         GroupHead::Menu(title) => Ok(Some(menu_begin(title, group)?)),
@@ -81,11 +80,11 @@ fn entry_of(
 }
 
 /// The count of choices before the next group.
-pub(crate) fn count_choices(what: &GroupHead, choices: u32) -> u32
+pub(crate) fn count_choices(head: &GroupHead, choices: u32) -> u32
     requires { choices + 1 < 2 ^ 32 }
-    ensures { result ≡ choices_after what.now choices }
+    ensures { result ≡ choices_after head.now choices }
 {
-    match *what {
+    match *head {
         GroupHead::Choice => choices + 1,
         _ => choices,
     }
@@ -94,13 +93,13 @@ pub(crate) fn count_choices(what: &GroupHead, choices: u32) -> u32
 /// Appends the entry of a group, if it has one.
 fn push_entry(
     rows: &mut Vec<EntryRow>,
-    what: &GroupHead,
+    head: &GroupHead,
     group: &GroupConditions,
     choices: u32,
 ) -> Result<(), AllocError>
-    ensures { OnOk result (rows.new.items ≡ rows.old.items ++ option_to_list (entry_row what.now group.now choices)) }
+    ensures { OnOk result (rows.new.items ≡ rows.old.items ++ option_to_list (entry_row head.now group.now choices)) }
 {
-    match entry_of(what, group, choices)? {
+    match entry_of(head, group, choices)? {
         Some(row) => {
             rows.push(row)?;
             Ok(())
@@ -127,9 +126,9 @@ pub(crate) fn entries_of(
     let mut rows = Vec::new(alloc);
     let mut choices = 0;
     for i in 0..listing.groups.len() {
-        let what = &listing.groups[i].what;
-        push_entry(&mut rows, what, &groups[i], choices)?;
-        choices = count_choices(what, choices);
+        let head = &listing.groups[i].head;
+        push_entry(&mut rows, head, &groups[i], choices)?;
+        choices = count_choices(head, choices);
     }
     Ok(rows)
 }

@@ -1,9 +1,10 @@
 //! The kind of fault of a definition, or of an attribute.
 ghost use Rattle.std.specs.Prelude.{◌≡◌, ◌&&◌, is_some, not};
-ghost use Rattle.kc_expr.specs.Arena.{Exprs};
-ghost use Rattle.kc_tree_model.specs.TreeFaults.{is_number as number, is_shapeless as shapeless};
+ghost use Rattle.kc_expr.specs.between.Arena.{Exprs};
+ghost use Rattle.kc_tree_model.specs.TreeFaults.{is_shapeless as shapeless};
+ghost use Rattle.kc_value.specs.Kinds.{is_number as number};
 ghost use Rattle.kc_tree_model.specs.Statements.{default_of, is_modules as modules, prompt_of, range_of};
-ghost use Rattle.kc_statements.specs.StatementViews.{attribute_in};
+ghost use Rattle.kc_statements.specs.between.StatementViews.{attribute_in};
 ghost use Rattle.kc_tree.specs.checker.Kinds.{definition_kind, typed_kind, choice_kind};
 
 use super::attribute::{default_given, is_modules, is_prompt, is_range, type_given};

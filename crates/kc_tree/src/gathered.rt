@@ -184,7 +184,7 @@ impl Gathered {
         requires fits { GatheredFit self }
         requires distinct { AreDistinct self.arena.names }
         requires consistent { IsConsistent (gathered_tree self) }
-        ensures { IfOk result (λ t. t ≡ record { exprs = self.arena; whole = gathered_tree self }) }
+        ensures { IfOk result (λ t. t ≡ record { exprs = self.arena; tree = gathered_tree self }) }
     {
         let made = self.made(alloc)?;
         Ok(Tree::of(self.into_parts(made)))

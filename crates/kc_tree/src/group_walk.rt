@@ -1,9 +1,9 @@
 //! The walk that joins each group's conditions with the enclosing ones.
 ghost use Rattle.std.specs.Prelude.{◌≡◌, ◌⊎◌, ◌∷◌, ◌<◌, ◌++◌, ◌+◌, ℕ, [], List, All, Some, None, IfOk, IfSome, OnOk, Option, drop, length, map, option_map, option_to_list, reverse, slice_get, unwrap_or};
 ghost use Rattle.kc_value.specs.declared.tri.Tri.TheVariants.{N};
-ghost use Rattle.kc_expr.specs.Arena.{Grows, Represents, node_expr};
+ghost use Rattle.kc_expr.specs.between.Arena.{Grows, Represents, node_expr};
 ghost use Rattle.kc_expr.specs.Expr.{Expr, alone, constant, shown};
-ghost use Rattle.kc_listing.specs.ListingView.{LineNodesExist, RepresentsHead, line_in};
+ghost use Rattle.kc_listing.specs.between.ListingView.{LineNodesExist, RepresentsHead, line_in};
 ghost use Rattle.kc_tree_model.specs.Blocks.{Group as Read, of_head};
 ghost use Rattle.kc_tree_model.specs.Conditions.{conjunction_of, context, attribute_values, dependencies_of, prompts_of};
 ghost use Rattle.kc_tree_model.specs.Statements.{choice, condition as condition_head, visible_of};
@@ -55,10 +55,10 @@ pub(crate) fn first_condition(lines: &[Line], conditions: &[ExprId]) -> Option<E
 }
 
 /// Whether a block or a file ends.
-fn ends(what: &GroupHead) -> bool
-    ensures { result ≡ is_end what.now }
+fn ends(head: &GroupHead) -> bool
+    ensures { result ≡ is_end head.now }
 {
-    matches!(*what, GroupHead::Ends(_) | GroupHead::FileEnd)
+    matches!(*head, GroupHead::Ends(_) | GroupHead::FileEnd)
 }
 
 /// The condition inside a choice whose prompt has this condition.
@@ -87,7 +87,7 @@ fn inside_choice(
     requires { IfSome prompt (λ i. i < length arena.old.nodes) }
     ensures grows { Grows arena.old arena.new }
     ensures shown { (texts : List (List ℕ)) (yes : ℕ) (m : Read) (opened : List Read)
-        → m.what ≡ of_head choice → RepresentsPrompt arena.old prompt (slice_get (prompts_of (context opened) m) 0) → Represents arena.old no (alone (constant N))
+        → m.head ≡ of_head choice → RepresentsPrompt arena.old prompt (slice_get (prompts_of (context opened) m) 0) → Represents arena.old no (alone (constant N))
         → IfOk result (λ a. RepresentsEnclosing arena.new texts yes a (m ∷ opened)) }
 {
     let shown = shown_condition(arena, no, prompt)?;
@@ -108,7 +108,7 @@ fn inside_if(
     requires condition { condition < length arena.old.nodes }
     ensures grows { Grows arena.old arena.new }
     ensures shown { (texts : List (List ℕ)) (yes : ℕ) (m : Read) (opened : List Read)
-        → m.what ≡ of_head (condition_head (node_expr arena.old condition)) → RepresentsEnclosing arena.old texts yes enclosing.now opened
+        → m.head ≡ of_head (condition_head (node_expr arena.old condition)) → RepresentsEnclosing arena.old texts yes enclosing.now opened
         → IfOk result (λ a. RepresentsEnclosing arena.new texts yes a (m ∷ opened)) }
 {
     let dependencies = join_optional(arena, enclosing.dependencies, Some(condition))?;
@@ -123,24 +123,24 @@ fn inside_if(
 fn inside(
     arena: &mut Arena,
     no: ExprId,
-    what: &GroupHead,
+    head: &GroupHead,
     enclosing: &EnclosingConditions,
     entry: &EntryConditions,
     prompt: Option<ExprId>,
 ) -> Result<Option<EnclosingConditions>, ExprFault>
     requires prompt { IfSome prompt (λ i. i < length arena.old.nodes) }
     requires enclosing { IfSome enclosing.now.dependencies (λ i. i < length arena.old.nodes) }
-    requires held { GroupHeadNodesExist (length arena.old.nodes) what.now }
+    requires held { GroupHeadNodesExist (length arena.old.nodes) head.now }
     ensures grows { Grows arena.old arena.new }
     ensures shown { (names texts : List (List ℕ)) (yes : ℕ) (m : Read) (opened : List Read)
-        → RepresentsHead arena.old names texts what.now m.what
+        → RepresentsHead arena.old names texts head.now m.head
         → RepresentsEnclosing arena.old texts yes enclosing.now opened
         → AreJoined arena.old entry.now (dependencies_of (context opened) m) (context opened).visibles (attribute_values visible_of m)
         → RepresentsPrompt arena.old prompt (slice_get (prompts_of (context opened) m) 0)
         → Represents arena.old yes (conjunction_of []) → Represents arena.old no (alone (constant N))
         → IfOk result (RepresentsInside arena.new texts yes m opened) }
 {
-    match *what {
+    match *head {
         GroupHead::Choice => Ok(Some(inside_choice(arena, no, prompt)?)),
         GroupHead::Menu(title) => Ok(Some(EnclosingConditions {
             dependencies: entry.dependencies,
@@ -275,13 +275,13 @@ impl GroupWalk {
     }
 
     /// Walks a group, which has these attributes.
-    pub(crate) fn step(&mut self, what: &GroupHead, lines: &[Line]) -> Result<(), ExprFault>
+    pub(crate) fn step(&mut self, head: &GroupHead, lines: &[Line]) -> Result<(), ExprFault>
         requires walked { (texts : List (List ℕ)) × (before : List Read) × HasWalked texts self.old before }
-        requires what { GroupHeadNodesExist (length self.old.arena.nodes) what.now }
+        requires head { GroupHeadNodesExist (length self.old.arena.nodes) head.now }
         requires lines { All (LineNodesExist self.old.arena) lines.now }
         ensures grows { Grows self.old.arena self.new.arena }
         ensures walked { (names texts : List (List ℕ)) (before : List Read) (m : Read) → HasWalked texts self.old before
-            → RepresentsHead self.old.arena names texts what.now m.what → m.attributes ≡ map (line_in self.old.arena) lines.now
+            → RepresentsHead self.old.arena names texts head.now m.head → m.attributes ≡ map (line_in self.old.arena) lines.now
             → OnOk result (HasWalked texts self.new (m ∷ before)) }
         ensures more { OnOk result (length self.new.groups.items ≡ length self.old.groups.items + 1) }
     {
@@ -295,11 +295,11 @@ impl GroupWalk {
             lines,
             &mut self.conditions,
         )?;
-        if ends(what) {
+        if ends(head) {
             return self.end(&enclosing, first);
         }
         let prompt = self.first_prompt_condition(lines, first);
-        let opened = inside(&mut self.arena, self.no, what, &enclosing, &entry, prompt)?;
+        let opened = inside(&mut self.arena, self.no, head, &enclosing, &entry, prompt)?;
         self.enter(opened)?;
         self.put(entry.dependencies, entry.visibles, None, first)
     }

@@ -1,6 +1,7 @@
 //! Tests of types.
 ghost use Rattle.std.specs.Prelude.{◌≡◌};
-ghost use Rattle.kc_tree_model.specs.TreeFaults.{is_logical as logical, is_number as number, is_other_kind as other_kind, same_kind as same};
+ghost use Rattle.kc_tree_model.specs.TreeFaults.{is_other_kind as other_kind};
+ghost use Rattle.kc_value.specs.Kinds.{is_tri_kind as logical, is_number as number, same_kind as same};
 
 use kc_value::Kind;
 

@@ -1,7 +1,7 @@
 //! The walk over a whole listing.
 ghost use Rattle.std.specs.Prelude.{◌≡◌, ◌≤◌, ◌<◌, ℕ, All, IfOk, List, length, reverse, slice_range};
-ghost use Rattle.kc_expr.specs.Arena.{Grows};
-ghost use Rattle.kc_listing.specs.ListingView.{RepresentsGroups, LineNodesExist, RepresentsListing};
+ghost use Rattle.kc_expr.specs.between.Arena.{Grows};
+ghost use Rattle.kc_listing.specs.between.ListingView.{RepresentsGroups, LineNodesExist, RepresentsListing};
 ghost use Rattle.kc_tree_model.specs.Blocks.{Group as Read};
 ghost use Rattle.kc_tree.specs.checker.Summaries.{attributes_end, group_at, IsRepresented};
 ghost use Rattle.kc_tree.specs.checker.Walks.{RepresentsAllConditions, HasWalked};
@@ -46,7 +46,7 @@ fn walk_through(
 {
     let mut walk = GroupWalk::new(alloc, arena)?;
     for i in 0..groups.len() {
-        walk.step(&groups[i].what, lines_at(groups, lines, i))?;
+        walk.step(&groups[i].head, lines_at(groups, lines, i))?;
     }
     Ok(walk)
 }

@@ -4,8 +4,8 @@ ghost use Rattle.kc_tree_model.specs.declared.fault.TreeKind.TheVariants.{OutOfM
 ghost use Rattle.kc_tree_model.specs.Blocks.{Group, sourced_path};
 ghost use Rattle.kc_tree_model.specs.Limits.{without_repeats};
 ghost use Rattle.kc_tree_model.specs.Reading.{lenient_reading, paths_or_fault, files_wanted};
-ghost use Rattle.kc_listing.specs.ListingView.{RepresentsListing};
-ghost use Rattle.kc_listing.specs.MemoryFaults.{no_memory};
+ghost use Rattle.kc_listing.specs.between.ListingView.{RepresentsListing};
+ghost use Rattle.kc_listing.specs.between.MemoryFaults.{no_memory};
 ghost use Rattle.kc_tree.specs.checker.MissingPaths.{paths_in, is_absent, with_absent, path_in};
 
 use super::paths::Paths;
@@ -37,10 +37,10 @@ fn is_out_of_memory(fault: Option<TreeFault>) -> bool
 }
 
 /// The path that a group sources.
-fn path_of<'a>(texts: &'a [Text], what: &GroupHead) -> Option<&'a str>
-    ensures { option_map (λ p. p.now) result ≡ path_in texts.now what.now }
+fn path_of<'a>(texts: &'a [Text], head: &GroupHead) -> Option<&'a str>
+    ensures { option_map (λ p. p.now) result ≡ path_in texts.now head.now }
 {
-    match what {
+    match head {
         GroupHead::Source(place) => match texts.get(*place) {
             Some(text) => Some(text.as_str()),
             None => None,
@@ -64,11 +64,11 @@ fn push_source(
     paths: &mut Paths,
     texts: &Texts,
     wanted_or_fault: &[Text],
-    what: &GroupHead,
+    head: &GroupHead,
 ) -> Result<(), AllocError>
-    ensures { OnOk result (paths_in paths.new ≡ with_absent texts.now (paths_in paths.old) (path_in wanted_or_fault.now what.now)) }
+    ensures { OnOk result (paths_in paths.new ≡ with_absent texts.now (paths_in paths.old) (path_in wanted_or_fault.now head.now)) }
 {
-    match path_of(wanted_or_fault, what) {
+    match path_of(wanted_or_fault, head) {
         Some(path) => push_absent(paths, texts, path),
         None => Ok(()),
     }
@@ -87,7 +87,7 @@ fn absent_paths(
     let mut paths = Paths::new(alloc, texts.seed());
     push_absent(&mut paths, texts, root)?;
     for group in &listing.groups {
-        push_source(&mut paths, texts, &listing.texts, &group.what)?;
+        push_source(&mut paths, texts, &listing.texts, &group.head)?;
     }
     Ok(paths)
 }

@@ -5,8 +5,8 @@ ghost use Rattle.kc_tree_model.specs.Contents.{contents_of, member_named};
 ghost use Rattle.kc_tree_model.specs.Limits.{names_defined};
 ghost use Rattle.kc_tree_model.specs.TreeFaults.{is_selectable as selectable, is_wrong_reverse_dependency as wrong};
 ghost use Rattle.kc_expr.specs.Lookup.{index_of_name};
-ghost use Rattle.kc_statements.specs.StatementViews.{attribute_in, AttributeNodesExist, default_in, DefaultNodesExist};
-ghost use Rattle.kc_listing.specs.ListingView.{RepresentsListing};
+ghost use Rattle.kc_statements.specs.between.StatementViews.{attribute_in, AttributeNodesExist, default_in, DefaultNodesExist};
+ghost use Rattle.kc_listing.specs.between.ListingView.{RepresentsListing};
 ghost use Rattle.kc_tree.specs.checker.Summaries.{AreSymbolSummaries, IsRepresented};
 ghost use Rattle.kc_tree.specs.checker.Marks.{AreMarked};
 

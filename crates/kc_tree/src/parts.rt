@@ -1,7 +1,7 @@
 //! How a tree is kept: flat lists, in which what belongs to one symbol or choice stands together.
 ghost use Rattle.std.specs.Prelude.{◌≡◌, ◌<◌, ℕ, [], length, Some, slice_get, slice_index_or, option_map};
 ghost use Rattle.kc_tree_model.specs.TreeLookup.{unit_of, index_of_unit};
-ghost use Rattle.kc_tree_model.specs.Trees.{of_choice};
+ghost use Rattle.kc_tree_model.specs.declared.ids.Unit.TheVariants.{Choice as of_choice};
 ghost use Rattle.kc_tree_model.specs.declared.ids.Unit.TheVariants.{Symbol as SymbolUnit, Choice as ChoiceUnit};
 
 use super::entry::Entry;
@@ -74,7 +74,7 @@ pub(crate) struct Parts {
 }
 
 impl Parts {
-    ghost use Rattle.kc_tree.specs.Views.{symbol_view, choice_view, entry_view, unit_view, SymbolFits, ChoiceFits, EntryFits};
+    ghost use Rattle.kc_tree.specs.between.Views.{symbol_view, choice_view, entry_view, SymbolFits, ChoiceFits, EntryFits};
     ghost use Rattle.kc_tree.specs.checker.PartsView.{tree_from_rows};
     ghost use Rattle.kc_tree.specs.checker.StoredParts.{AreSoundParts};
 
@@ -128,7 +128,7 @@ impl Parts {
     pub(crate) fn unit(&self, u: usize) -> Unit
         requires kept { AreSoundParts self.now }
         requires there { u < length self.now.units.items }
-        ensures unit { slice_get (tree_from_rows self.now).units u ≡ Some (unit_view result) }
+        ensures unit { slice_get (tree_from_rows self.now).units u ≡ Some result }
         ensures symbol { (s : ℕ) → result ≡ SymbolUnit s → s < length self.now.symbols.items }
         ensures choice { (c : ℕ) → result ≡ ChoiceUnit c → c < length self.now.choices.items }
     {

@@ -2,7 +2,7 @@
 ghost use Rattle.std.specs.Prelude.{◌≡◌, ◌⊎◌, Some, None, IfOk, IfErr};
 ghost use Rattle.kc_tree_model.specs.Contents.{tree_of_files};
 ghost use Rattle.kc_tree_model.specs.TreeFaults.{first_tree_fault};
-ghost use Rattle.kc_listing.specs.MemoryFaults.{no_memory};
+ghost use Rattle.kc_listing.specs.between.MemoryFaults.{no_memory};
 
 use super::builder::tree_of;
 use super::missing_files::out_of_memory;
@@ -25,7 +25,7 @@ use std::alloc::Global;
 /// type. Where memory runs out, `OutOfMemory` with no file.
 pub fn read_tree(alloc: Global, texts: &Texts, root: &str) -> Result<Tree, TreeFault>
     ensures accepted { IfOk result (λ tree. first_tree_fault texts.now root.now ≡ None) }
-    ensures tree { IfOk result (λ tree. tree.whole ≡ tree_of_files texts.now root.now) }
+    ensures tree { IfOk result (λ tree. tree.tree ≡ tree_of_files texts.now root.now) }
     ensures fault { IfErr result (λ fault. (fault ≡ no_memory) ⊎ (first_tree_fault texts.now root.now ≡ Some fault)) }
 {
     let (listing, fault) = read_files(alloc, texts, root);

@@ -3,7 +3,7 @@ ghost use Rattle.std.specs.Prelude.{◌≡◌, List, IfOk};
 ghost use Rattle.kc_tree_model.specs.Blocks.{Group as Read};
 ghost use Rattle.kc_tree_model.specs.Contents.{contents_of};
 ghost use Rattle.kc_tree_model.specs.Limits.{names_defined};
-ghost use Rattle.kc_listing.specs.ListingView.{RepresentsListing};
+ghost use Rattle.kc_listing.specs.between.ListingView.{RepresentsListing};
 ghost use Rattle.kc_tree.specs.checker.Rows.{place_of_group_number, row_of_symbol, AreRowsOf};
 ghost use Rattle.kc_tree.specs.checker.Summaries.{AreSymbolSummaries, IsRepresented};
 

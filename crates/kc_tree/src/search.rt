@@ -6,7 +6,7 @@ ghost use Rattle.kc_tree_model.specs.Conditions.{GroupInContext, groups_in_conte
 ghost use Rattle.kc_tree_model.specs.Contents.{contents_of, member_names};
 ghost use Rattle.kc_tree_model.specs.Limits.{names_defined};
 ghost use Rattle.kc_tree_model.specs.TreeFaults.{faults_of_group, tree_faults};
-ghost use Rattle.kc_listing.specs.ListingView.{RepresentsListing};
+ghost use Rattle.kc_listing.specs.between.ListingView.{RepresentsListing};
 ghost use Rattle.kc_listing.specs.declared.listing.GroupHead.TheVariants as codes;
 ghost use Rattle.kc_tree.specs.checker.Marks.{AreMarked};
 ghost use Rattle.kc_tree.specs.checker.FaultSearch.{AreSmall, CountsChoices, HasMembers};
@@ -48,7 +48,7 @@ fn config_fault(listing: &Listing, summary: &Summary, s: u32, i: usize) -> Optio
     requires shown { IsRepresented listing.now }
     requires summary { IsSummed listing.now summary.now }
     requires here { i < length listing.now.groups.items }
-    requires what { (group_at listing.now.groups.items i).what ≡ codes.Config s }
+    requires head { (group_at listing.now.groups.items i).head ≡ codes.Config s }
     ensures { (read : List Read) (p : GroupInContext) → RepresentsListing listing.now read → slice_get (groups_in_context read) i ≡ Some p → result ≡ slice_get (faults_of_group (contents_of read) p) 0 }
 {
     let about = summary.symbols[s as usize];
@@ -75,7 +75,7 @@ fn choice_fault(listing: &Listing, marks: &[u32], mark: u32, i: usize) -> Option
     requires shown { IsRepresented listing.now }
     requires many { length marks.now ≡ length listing.now.names.symbols.items }
     requires here { i < length listing.now.groups.items }
-    requires what { (group_at listing.now.groups.items i).what ≡ codes.Choice }
+    requires head { (group_at listing.now.groups.items i).head ≡ codes.Choice }
     ensures { (read : List Read) (p : GroupInContext) → RepresentsListing listing.now read → slice_get (groups_in_context read) i ≡ Some p
         → AreMarked (names_defined read) (member_names (contents_of read) p.group.number) marks.now mark → result ≡ slice_get (faults_of_group (contents_of read) p) 0 }
 {
@@ -102,9 +102,9 @@ fn group_fault(
     requires few { choices < 4294967295 }
     ensures fault { (read : List Read) (p : GroupInContext) → RepresentsListing listing.now read → slice_get (groups_in_context read) i ≡ Some p → result ≡ slice_get (faults_of_group (contents_of read) p) 0 }
     ensures many { length marks.new.items ≡ length listing.now.names.symbols.items }
-    ensures marks { AreSmall marks.new.items (if is_choice_code (group_at listing.now.groups.items i).what then choices + 1 else choices) }
+    ensures marks { AreSmall marks.new.items (if is_choice_code (group_at listing.now.groups.items i).head then choices + 1 else choices) }
 {
-    match listing.groups[i].what {
+    match listing.groups[i].head {
         GroupHead::Config(s) => config_fault(listing, summary, s, i),
         GroupHead::Choice => {
             mark_members(marks, members.get(choices as usize), choices + 1);
@@ -128,7 +128,7 @@ pub(crate) fn first_fault(alloc: Global, listing: &Listing) -> Result<Option<Tre
         if fault.is_some() {
             return Ok(fault);
         }
-        if begins_choice(&listing.groups[i].what) {
+        if begins_choice(&listing.groups[i].head) {
             choices += 1;
         }
     }

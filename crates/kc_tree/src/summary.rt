@@ -1,11 +1,11 @@
 //! Summaries of symbols and choices, before conditions are joined.
 ghost use Rattle.std.specs.Prelude.{◌≡◌, ◌≤◌, ◌<◌, ◌^◌, List, IfOk, is_some, length, map, filter_map, flat_map, slice_get};
-ghost use Rattle.kc_expr.specs.Arena.{Exprs};
+ghost use Rattle.kc_expr.specs.between.Arena.{Exprs};
 ghost use Rattle.kc_tree_model.specs.Blocks.{Group as Read};
 ghost use Rattle.kc_tree_model.specs.Conditions.{groups_in_context};
 ghost use Rattle.kc_tree_model.specs.Contents.{contents_of};
 ghost use Rattle.kc_tree_model.specs.TreeFaults.{kind_or_bool};
-ghost use Rattle.kc_listing.specs.ListingView.{RepresentsListing};
+ghost use Rattle.kc_listing.specs.between.ListingView.{RepresentsListing};
 ghost use Rattle.kc_tree.specs.checker.Summaries.{first_summary, symbol_summaries, enclosing_choice, member_keys_at, members_at, type_in, IsRepresented, IsSummary};
 
 use super::attribute::type_given;
@@ -92,7 +92,7 @@ fn symbols_of(
     };
     let mut symbols = vec![in alloc; nothing; listing.names.symbols.len()]?;
     for i in 0..listing.groups.len() {
-        if let GroupHead::Config(s) = listing.groups[i].what {
+        if let GroupHead::Config(s) = listing.groups[i].head {
             let given = first_type(lines_of(listing, i));
             let here = SymbolSummary {
                 first: Some(i as u32),
@@ -120,7 +120,7 @@ fn members_of(
 {
     let mut members = Keyed::new(alloc);
     for i in 0..listing.groups.len() {
-        if let GroupHead::Config(s) = listing.groups[i].what {
+        if let GroupHead::Config(s) = listing.groups[i].head {
             let choice = enclosing[i];
             if let Some(choice) = choice {
                 members.push(choice, Sym::at(s))?;

@@ -2,9 +2,9 @@
 ghost use Rattle.std.specs.Prelude.{◌≡◌, ◌<◌, ◌↔◌, IsTrue, ℕ, List, length, Some, None, IfSome, slice_get, option_map};
 ghost use Rattle.kc_expr.specs.Lookup.{index_of_name};
 ghost use Rattle.kc_tree_model.specs.TreeLookup.{IsConsistent, unit_of, index_of_unit, symbol_named};
-ghost use Rattle.kc_tree_model.specs.Trees.{of_choice};
+ghost use Rattle.kc_tree_model.specs.declared.ids.Unit.TheVariants.{Choice as of_choice};
 ghost use Rattle.kc_tree_model.specs.declared.ids.Unit.TheVariants.{Symbol as SymbolUnit, Choice as ChoiceUnit};
-ghost use Rattle.kc_tree.specs.Views.{symbol_view, choice_view, entry_view, unit_view, symbol_of_name_id, SymbolFits, ChoiceFits, EntryFits};
+ghost use Rattle.kc_tree.specs.between.Views.{symbol_view, choice_view, entry_view, symbol_of_name_id, SymbolFits, ChoiceFits, EntryFits};
 
 use super::entry::Entry;
 use super::parts::Parts;
@@ -44,7 +44,7 @@ impl Tree {
     /// The tree of its lists.
     pub(crate) fn of(parts: Parts) -> Tree
         requires { AreSoundParts parts }
-        ensures { result ≡ record { exprs = parts.arena; whole = tree_from_rows parts } }
+        ensures { result ≡ record { exprs = parts.arena; tree = tree_from_rows parts } }
     {
         Tree { parts }
     }
@@ -52,92 +52,92 @@ impl Tree {
     /// The arena of all names and expressions of the tree. A name that it doesn't hold is no symbol's.
     pub fn arena(&self) -> &Arena
         ensures arena { result.now ≡ self.now.exprs }
-        ensures held { (x : List ℕ) → index_of_name x self.now.exprs.names ≡ None → symbol_named self.now.whole x ≡ None }
-        ensures consistent { IsConsistent self.now.whole }
+        ensures held { (x : List ℕ) → index_of_name x self.now.exprs.names ≡ None → symbol_named self.now.tree x ≡ None }
+        ensures consistent { IsConsistent self.now.tree }
     {
         &self.parts.arena
     }
 
     /// The number of units: symbols outside choices, and choices.
     pub fn len(&self) -> u32
-        ensures { result ≡ length self.now.whole.units }
+        ensures { result ≡ length self.now.tree.units }
     {
         self.parts.units.len() as u32
     }
 
     /// Whether there are no units.
     pub fn is_empty(&self) -> bool
-        ensures { IsTrue result ↔ (length self.now.whole.units ≡ 0) }
+        ensures { IsTrue result ↔ (length self.now.tree.units ≡ 0) }
     {
         self.len() == 0
     }
 
     /// The number of symbols.
     pub fn symbol_count(&self) -> u32
-        ensures { result ≡ length self.now.whole.symbols }
+        ensures { result ≡ length self.now.tree.symbols }
     {
         self.parts.symbols.len() as u32
     }
 
     /// The number of choices.
     pub fn choice_count(&self) -> u32
-        ensures { result ≡ length self.now.whole.choices }
+        ensures { result ≡ length self.now.tree.choices }
     {
         self.parts.choices.len() as u32
     }
 
     /// The number of entries.
     pub fn entry_count(&self) -> usize
-        ensures { result ≡ length self.now.whole.entries }
+        ensures { result ≡ length self.now.tree.entries }
     {
         self.parts.entries.len()
     }
 
     /// A unit, in the order of their numbers.
     pub fn unit(&self, u: u32) -> Unit
-        requires { u < length self.now.whole.units }
-        ensures unit { slice_get self.now.whole.units u ≡ Some (unit_view result) }
-        ensures symbol { (s : ℕ) → result ≡ SymbolUnit s → s < length self.now.whole.symbols }
-        ensures choice { (c : ℕ) → result ≡ ChoiceUnit c → c < length self.now.whole.choices }
+        requires { u < length self.now.tree.units }
+        ensures unit { slice_get self.now.tree.units u ≡ Some result }
+        ensures symbol { (s : ℕ) → result ≡ SymbolUnit s → s < length self.now.tree.symbols }
+        ensures choice { (c : ℕ) → result ≡ ChoiceUnit c → c < length self.now.tree.choices }
     {
         self.parts.unit(u as usize)
     }
 
     /// A symbol, in order of first definition.
     pub fn symbol(&self, s: Sym) -> Symbol<'_>
-        requires { s < length self.now.whole.symbols }
-        ensures symbol { slice_get self.now.whole.symbols s ≡ Some (symbol_view self.now.exprs result) }
-        ensures fits { SymbolFits self.now.exprs (length self.now.whole.symbols) result }
-        ensures unit { result.unit ≡ unit_of self.now.whole s }
-        ensures within { result.unit < length self.now.whole.units }
+        requires { s < length self.now.tree.symbols }
+        ensures symbol { slice_get self.now.tree.symbols s ≡ Some (symbol_view self.now.exprs result) }
+        ensures fits { SymbolFits self.now.exprs (length self.now.tree.symbols) result }
+        ensures unit { result.unit ≡ unit_of self.now.tree s }
+        ensures within { result.unit < length self.now.tree.units }
     {
         self.parts.symbol(s.number() as usize)
     }
 
     /// A choice, in order of their first lines.
     pub fn choice(&self, c: u32) -> Choice<'_>
-        requires { c < length self.now.whole.choices }
-        ensures choice { slice_get self.now.whole.choices c ≡ Some (choice_view self.now.exprs result) }
-        ensures fits { ChoiceFits self.now.exprs (length self.now.whole.symbols) result }
-        ensures unit { result.unit ≡ index_of_unit self.now.whole (of_choice c) }
-        ensures within { result.unit < length self.now.whole.units }
+        requires { c < length self.now.tree.choices }
+        ensures choice { slice_get self.now.tree.choices c ≡ Some (choice_view self.now.exprs result) }
+        ensures fits { ChoiceFits self.now.exprs (length self.now.tree.symbols) result }
+        ensures unit { result.unit ≡ index_of_unit self.now.tree (of_choice c) }
+        ensures within { result.unit < length self.now.tree.units }
     {
         self.parts.choice(c as usize)
     }
 
     /// An entry, in reading order.
     pub fn entry(&self, i: usize) -> Entry<'_>
-        requires { i < length self.now.whole.entries }
-        ensures entry { slice_get self.now.whole.entries i ≡ Some (entry_view self.now.exprs result) }
-        ensures fits { EntryFits (length self.now.exprs.nodes) (length self.now.whole.symbols) (length self.now.whole.choices) result }
+        requires { i < length self.now.tree.entries }
+        ensures entry { slice_get self.now.tree.entries i ≡ Some (entry_view self.now.exprs result) }
+        ensures fits { EntryFits (length self.now.exprs.nodes) (length self.now.tree.symbols) (length self.now.tree.choices) result }
     {
         self.parts.entry(i)
     }
 
     /// The symbol of a name of the arena, if an entry defines it.
     pub fn symbol_at(&self, name: NameId) -> Option<Sym>
-        ensures symbol { result ≡ symbol_of_name_id self.now.whole self.now.exprs.names name }
-        ensures there { IfSome result (λ s. s < length self.now.whole.symbols) }
+        ensures symbol { result ≡ symbol_of_name_id self.now.tree self.now.exprs.names name }
+        ensures there { IfSome result (λ s. s < length self.now.tree.symbols) }
     {
         let index = name.index();
         let count = self.parts.symbol_of_name.len();
@@ -150,8 +150,8 @@ impl Tree {
 
     /// The symbol of a name, if an entry defines it.
     pub fn find(&self, name: &str) -> Option<Sym>
-        ensures symbol { result ≡ symbol_named self.now.whole name.now }
-        ensures there { IfSome result (λ s. s < length self.now.whole.symbols) }
+        ensures symbol { result ≡ symbol_named self.now.tree name.now }
+        ensures there { IfSome result (λ s. s < length self.now.tree.symbols) }
     {
         let id = self.parts.arena.find(name)?;
         self.symbol_at(id)
@@ -159,17 +159,17 @@ impl Tree {
 
     /// The name of a symbol.
     pub fn name(&self, s: Sym) -> &str
-        requires { s < length self.now.whole.symbols }
-        ensures { option_map (λ t. t.name) (slice_get self.now.whole.symbols s) ≡ Some result.now }
+        requires { s < length self.now.tree.symbols }
+        ensures { option_map (λ t. t.name) (slice_get self.now.tree.symbols s) ≡ Some result.now }
     {
         self.parts.name(s.number() as usize)
     }
 
     /// The number of a symbol's unit: a member's is its choice.
     pub fn unit_of(&self, s: Sym) -> u32
-        requires { s < length self.now.whole.symbols }
-        ensures unit { result ≡ unit_of self.now.whole s }
-        ensures within { result < length self.now.whole.units }
+        requires { s < length self.now.tree.symbols }
+        ensures unit { result ≡ unit_of self.now.tree s }
+        ensures within { result < length self.now.tree.units }
     {
         self.parts.unit_of(s.number() as usize)
     }

@@ -2,8 +2,7 @@
 ghost use Rattle.std.specs.Prelude.{◌≡◌, ◌<◌, ◌^◌, List, IfOk, length, map};
 ghost use Rattle.kc_tree_model.specs.Blocks.{Group as Read};
 ghost use Rattle.kc_tree_model.specs.Contents.{contents_of};
-ghost use Rattle.kc_listing.specs.ListingView.{RepresentsListing};
-ghost use Rattle.kc_tree.specs.Views.{unit_view};
+ghost use Rattle.kc_listing.specs.between.ListingView.{RepresentsListing};
 ghost use Rattle.kc_tree.specs.checker.UnitList.{is_unit_at, unit_of_group, units_read};
 ghost use Rattle.kc_tree.specs.checker.Summaries.{AreSymbolSummaries};
 
@@ -24,10 +23,10 @@ fn is_unit_of(about: &SymbolSummary, number: u32) -> bool
 }
 
 /// The unit that begins at a group of this number; `choices` counts the choices before it.
-fn unit_of(what: &GroupHead, number: u32, choices: u32, symbols: &[SymbolSummary]) -> Option<Unit>
-    ensures { result ≡ unit_of_group symbols.now number choices what.now }
+fn unit_of(head: &GroupHead, number: u32, choices: u32, symbols: &[SymbolSummary]) -> Option<Unit>
+    ensures { result ≡ unit_of_group symbols.now number choices head.now }
 {
-    match *what {
+    match *head {
         GroupHead::Choice => Some(Unit::Choice(choices)),
         GroupHead::Config(s) => match symbols.get(s as usize) {
             Some(about) if is_unit_of(about, number) => Some(Unit::Symbol(Sym::at(s))),
@@ -45,16 +44,16 @@ pub(crate) fn units_of(
 ) -> Result<Vec<Unit>, AllocError>
     requires few { length listing.now.groups.items < 2 ^ 32 }
     requires symbols { AreSymbolSummaries listing.now symbols.now }
-    ensures { (read : List Read) → RepresentsListing listing.now read → IfOk result (λ units. map unit_view units.items ≡ units_read (contents_of read)) }
+    ensures { (read : List Read) → RepresentsListing listing.now read → IfOk result (λ units. units.items ≡ units_read (contents_of read)) }
 {
     let mut units = Vec::new(alloc);
     let mut choices = 0;
     for i in 0..listing.groups.len() {
-        let what = &listing.groups[i].what;
-        if let Some(unit) = unit_of(what, i as u32, choices, symbols) {
+        let head = &listing.groups[i].head;
+        if let Some(unit) = unit_of(head, i as u32, choices, symbols) {
             units.push(unit)?;
         }
-        if begins_choice(what) {
+        if begins_choice(head) {
             choices += 1;
         }
     }

@@ -1,4 +1,4 @@
--- What is read without a fault is a consistent tree.
+-- A tree that is read without a fault is consistent.
 pub mod Lists
 pub mod OneLine
 pub mod TokenBytes

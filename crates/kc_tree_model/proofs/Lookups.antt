@@ -1,12 +1,18 @@
--- Where the symbols and units of a consistent tree stand.
+-- The places of the symbols and units of a consistent tree.
 use Rattle.std.proofs.Common.{◌≡◌, inl, inr, ℕ, zero, suc, ◌<◌, true, cond, List, [], ◌∷◌, Option, Some, None, length, get_or, refl, sym, ◌∙◌, ap, arith}
-use Rattle.std.specs.Prelude.{slice_get, bytes_eq}
+use Rattle.std.specs.Prelude.{slice_get, bytes_eq, nat_lt}
 use Rattle.std.proofs.lemmas.Bool.{cases_Bool, false≢true, eqb-true, eq-eqb, lt-ltb}
 use Rattle.std.proofs.lemmas.Option.{get_or_from_slice_get, slice_get-get_or}
 use Rattle.std.proofs.lemmas.List.Sums.{position_or_len_is}
 use Rattle.std.proofs.lemmas.Slice.Eq.{bytes_eq-Decides}
-use Rattle.kc_tree_model.specs.Trees.{Tree, Symbol, TreeUnit, of_symbol, of_choice}
-use Rattle.kc_tree_model.specs.TreeLookup.{IsConsistent, is_same_unit, index_of_unit, unit_in, unit_of_symbol, unit_of, index_if_found, symbol_named}
+use Rattle.kc_tree_model.specs.Trees.{Tree, Symbol}
+use Rattle.kc_tree_model.specs.declared.ids.Unit.{Unit as TreeUnit}
+use Rattle.kc_tree_model.specs.declared.ids.Unit.TheVariants.{Symbol as of_symbol, Choice as of_choice}
+use Rattle.kc_tree_model.specs.TreeLookup.{IsConsistent, is_same_unit, index_of_unit, unit_in, unit_of_symbol, unit_of, symbol_named}
+
+-- an index, if it is below the length of the list
+abbrev pub index_if_found : ℕ → ℕ → Option ℕ
+index_if_found place count = cond (nat_lt place count) (Some place) None
 
 pub inside : {X : Type 0} (xs : List X) (i : ℕ) (x : X) → slice_get xs i ≡ Some x → i < length xs
 inside [] i x e = cc

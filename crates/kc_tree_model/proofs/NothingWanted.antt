@@ -8,7 +8,8 @@ use Rattle.kc_tree_model.specs.TreeFiles.{Files, file_at, index_of_file}
 use Rattle.kc_tree_model.specs.LogicalLines.{LogicalLine, lines_of}
 use Rattle.kc_tree_model.specs.Statements.{Statement, head, attribute, path_of_head}
 use Rattle.kc_tree_model.specs.Blocks.{Group, Position, sourced_path, file_end}
-use Rattle.kc_tree_model.specs.Limits.{FileSource, without_repeats, source_fault, max_bytes, max_open_files}
+use Rattle.kc_tree_model.specs.Limits.{FileSource, without_repeats, source_fault}
+use Rattle.kc_value.specs.declared.limits.TheConstants.{MAX_TREE_BYTES, MAX_OPEN_FILES}
 use Rattle.kc_tree_model.specs.Reading.{statement_on_line, with_statement, with_group, path_to_read, Outcome, continue_after_file, continue_after_source, continue_after_statement, continue_after_line, read_lines, read_file, read_root, reading, lenient_reading, bytes_or_none, wanted_by, paths_or_fault, files_wanted}
 use Rattle.kc_tree_model.proofs.Consistency.Lists.{Has, filter-has, once-has, append-has_left, append-has_right}
 use Rattle.kc_tree_model.proofs.Consistency.Kept.{IsKept, Keeps, lines_kept, whole_file_kept}
@@ -115,7 +116,7 @@ either_same false files x y z h all = h all
 same_root : (files : Files) (root : List ℕ) (o : Option (List ℕ)) → is_some o ≡ true → AllThere files (read_root (empty files root) (Some (elim o [ None ↦ [] | Some bytes ↦ bytes ])))
     → read_root (found files root) o ≡ read_root (empty files root) (Some (elim o [ None ↦ [] | Some bytes ↦ bytes ]))
 same_root files root None there all = cc
-same_root files root (Some bytes) there all = either_same (nat_lt max_bytes (length bytes)) files _ (read_file max_open_files (found files root) root []) (read_file max_open_files (empty files root) root []) (same_file max_open_files files root root []) all
+same_root files root (Some bytes) there all = either_same (nat_lt MAX_TREE_BYTES (length bytes)) files _ (read_file MAX_OPEN_FILES (found files root) root []) (read_file MAX_OPEN_FILES (empty files root) root []) (same_file MAX_OPEN_FILES files root root []) all
 
 -- a path that isn't wanted is there
 there_by : (b : Bool) (path : List ℕ) (test : List ℕ → Bool) (paths : List (List ℕ)) → test path ≡ not b → filter test paths ≡ [] → Has path paths → b ≡ true
@@ -136,7 +137,7 @@ same_reading files root none =
     same_root files root (file_at files root) (there files root none root (append-has_right root (filter_map sourced_path (lenient_reading files root).read) (root ∷ []) (inl refl)))
     (λ path h. there files root none path (append-has_left path (filter_map sourced_path (lenient_reading files root).read) (root ∷ []) h))
 
--- so what is told where nothing is wanted is what reading the files meets
+-- so if nothing is wanted, the fault of `wanted` is that of reading the files
 told_none : (paths : List (List ℕ)) (f : Option TreeFault) → paths_or_fault paths f ≡ Ok [] → (paths ≡ []) × (f ≡ None)
 told_none [] None e = (refl, refl)
 told_none [] (Some f) e = cc

@@ -52,21 +52,17 @@ no_files [] h = refl
 no_files (e ∷ es) h = absurd (omega arith)
 
 -- the number of a path is its position among the keys
-number_by : (b : Bool) (m : ℕ) → cond b 0 (suc m) ≡ cond (not b) (1 + m) 0
-number_by true m = refl
-number_by false m = omega arith
-
 number_of_key : (path : List ℕ) (es : List (String Global × Vec ℕ Global)) → index_of_file (map file_of es) path ≡ position_or_len (λ k. bytes_eq path (string_bytes k)) (keys_of es)
 number_of_key path [] = refl
-number_of_key path (e ∷ es) = ap (λ m. cond (bytes_eq path (string_bytes e.0)) 0 (suc m)) (number_of_key path es) ∙ number_by (bytes_eq path (string_bytes e.0)) (position_or_len (λ k. bytes_eq path (string_bytes k)) (keys_of es))
+number_of_key path (e ∷ es) = ap (λ m. cond (not (bytes_eq path (string_bytes e.0))) (1 + m) 0) (number_of_key path es)
 
-within_by : (b : Bool) (m n : ℕ) → m ≤ n → cond b 0 (suc m) ≤ suc n
+within_by : (b : Bool) (m n : ℕ) → m ≤ n → cond b (1 + m) 0 ≤ suc n
 within_by true m n h = omega arith
 within_by false m n h = omega arith
 
 number_within : (path : List ℕ) (fs : Files) → index_of_file fs path ≤ length fs
 number_within path [] = omega arith
-number_within path (f ∷ fs) = within_by (bytes_eq path f.0) (index_of_file fs path) (length fs) (number_within path fs)
+number_within path (f ∷ fs) = within_by (not (bytes_eq path f.0)) (index_of_file fs path) (length fs) (number_within path fs)
 
 found_by : (b : Bool) (n i : ℕ) → cond b (Some n) None ≡ Some i → i ≡ n
 found_by true n i e = cc

@@ -1,7 +1,9 @@
 -- The statements read so far, newest first, and the blocks that are open there.
 use Rattle.std.specs.Prelude.{ℕ, zero, suc, Bool, false, not, List, [], ◌∷◌, Option, Some, None, option_map}
 use Rattle.std.specs.List.{list_any}
-use Rattle.kc_tree_model.specs.Statements.{Block, choice_block, Head, choice, menu, condition, source, ends, Attribute, block_of_head, name_of_head, path_of_head, same_block}
+use Rattle.kc_tree_model.specs.Statements.{Head, choice, menu, condition, source, ends, Attribute, block_of_head, name_of_head, path_of_head, same_block}
+use Rattle.kc_tree_model.specs.declared.keyword.Block.{Block}
+use Rattle.kc_tree_model.specs.declared.keyword.Block.TheVariants as blocks
 
 -- A statement that closes the open entry, or the end of a sourced file: such a file is a block, which its `source`
 -- opens and its end closes.
@@ -23,7 +25,7 @@ pub record Position : Type 0 where
 pub record Group : Type 0 where
   pub number : ℕ
   pub at : Position
-  pub what : GroupHead
+  pub head : GroupHead
   pub attributes : List Line
 
 -- whether a statement opens a block, closes one, or does neither
@@ -50,7 +52,7 @@ side_of file_end = closing
 -- Ends of all sorts are counted alike, since an end that doesn't match its block is a StrayEnd and never gets here.
 abbrev pub open_blocks : ℕ → List Group → List Group
 open_blocks n [] = []
-open_blocks n (g ∷ before) = elim (side_of g.what) [
+open_blocks n (g ∷ before) = elim (side_of g.head) [
   | opening ↦ elim n [ zero ↦ g ∷ open_blocks 0 before | suc m ↦ open_blocks m before ]
   | closing ↦ open_blocks (suc n) before
   | inside ↦ open_blocks n before
@@ -63,15 +65,15 @@ from_head f file_end = None
 
 -- the block that a group opens, where that is no file
 abbrev pub opened_block : Group → Option Block
-opened_block g = from_head block_of_head g.what
+opened_block g = from_head block_of_head g.head
 
 -- the name that a group defines
 abbrev pub defined_name : Group → Option (List ℕ)
-defined_name g = from_head name_of_head g.what
+defined_name g = from_head name_of_head g.head
 
 -- the path of the file that a group sources
 abbrev pub sourced_path : Group → Option (List ℕ)
-sourced_path g = from_head path_of_head g.what
+sourced_path g = from_head path_of_head g.head
 
 -- whether there is a block, and it is of this sort
 abbrev pub is_some_block : Block → Option Block → Bool
@@ -80,7 +82,7 @@ is_some_block b (Some c) = same_block b c
 
 -- whether a group opens a choice
 abbrev pub opens_choice : Group → Bool
-opens_choice g = is_some_block choice_block (opened_block g)
+opens_choice g = is_some_block blocks.Choice (opened_block g)
 
 -- whether a choice is open, here or in a file that sources this one
 abbrev pub in_choice : List Group → Bool
@@ -95,11 +97,6 @@ innermost_of (g ∷ outer) = option_map (λ b. (g, b)) (opened_block g)
 abbrev pub innermost : List Group → Option (Group × Block)
 innermost read = innermost_of (open_blocks 0 read)
 
--- an end matches a block of its own sort
-abbrev pub is_matched : Block → Option (Group × Block) → Bool
-is_matched b None = false
-is_matched b (Some o) = same_block b o.1
-
 -- an end that doesn't match the innermost open block of its file
 abbrev pub is_stray : List Group → Block → Bool
-is_stray read b = not (is_matched b (innermost read))
+is_stray read b = not (is_some_block b (option_map (λ (o : Group × Block). o.1) (innermost read)))

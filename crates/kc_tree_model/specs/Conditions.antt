@@ -68,7 +68,7 @@ inner_context_of_group_head file_end enclosing g = enclosing
 
 -- one step down into the block that a group opens
 abbrev pub inner_context : Context → Group → Context
-inner_context enclosing g = inner_context_of_group_head g.what enclosing g
+inner_context enclosing g = inner_context_of_group_head g.head enclosing g
 
 -- the conditions at a place, from the blocks open there, innermost first
 abbrev pub context : List Group → Context

@@ -4,9 +4,12 @@ use Rattle.kc_value.specs.declared.value.Kind.{Kind}
 use Rattle.kc_value.specs.declared.value.Kind.TheVariants.{Bool as Boolean}
 use Rattle.kc_expr.specs.Expr.{Expr, named, alone}
 use Rattle.kc_expr.specs.Lookup.{index_of_name}
-use Rattle.kc_tree_model.specs.Trees.{Default, Range, ReverseDependency, Symbol, MemberDefault, Choice, TreeUnit, of_symbol, of_choice, Tree}
+use Rattle.kc_tree_model.specs.Trees.{Default, Range, ReverseDependency, Symbol, MemberDefault, Choice, Tree}
+use Rattle.kc_tree_model.specs.declared.ids.Unit.{Unit as TreeUnit}
+use Rattle.kc_tree_model.specs.declared.ids.Unit.TheVariants.{Symbol as of_symbol, Choice as of_choice}
 use Rattle.kc_tree_model.specs.Trees as tree
-use Rattle.kc_tree_model.specs.Statements.{menu_block, Head, config, choice, menu, comment, ends, Attribute, DefaultAttribute, RangeAttribute, TargetAttribute, title_of_head, type_of, default_of, visible_of, range_of, select_of, imply_of}
+use Rattle.kc_tree_model.specs.Statements.{Head, config, choice, menu, comment, ends, Attribute, DefaultAttribute, RangeAttribute, TargetAttribute, title_of_head, type_of, default_of, visible_of, range_of, select_of, imply_of}
+use Rattle.kc_tree_model.specs.declared.keyword.Block.TheVariants as blocks
 use Rattle.kc_tree_model.specs.Blocks.{Group, from_head, defined_name, opens_choice}
 use Rattle.kc_tree_model.specs.TreeFiles.{Files}
 use Rattle.kc_tree_model.specs.Limits.{names_defined}
@@ -133,7 +136,7 @@ choice_of c p =
 
 -- a menu's beginning or end: its title, its dependency, its `visible if` joined with the enclosing ones
 abbrev pub menu_entry : (List ℕ → Expr → Expr → tree.Entry) → Context → Group → Option tree.Entry
-menu_entry f enclosing g = option_map (λ title. f title (dependency_of enclosing g) (conjunction_of (enclosing.visibles ++ attribute_values visible_of g))) (from_head title_of_head g.what)
+menu_entry f enclosing g = option_map (λ title. f title (dependency_of enclosing g) (conjunction_of (enclosing.visibles ++ attribute_values visible_of g))) (from_head title_of_head g.head)
 
 -- a menu's end, by the menu that it ends
 abbrev pub menu_end_of : List Group → Option tree.Entry
@@ -146,7 +149,7 @@ entry_of_head c p (config name) = option_map tree.definition (index_of_name name
 entry_of_head c p choice = option_map tree.choice_begins (choice_number c p.group.number)
 entry_of_head c p (menu title) = menu_entry tree.menu_begins p.enclosing p.group
 entry_of_head c p (comment title) = Some (tree.comment title (dependency_of p.enclosing p.group))
-entry_of_head c p (ends menu_block) = menu_end_of p.opened
+entry_of_head c p (ends blocks.Menu) = menu_end_of p.opened
 entry_of_head c p h = None
 
 -- whether a place is the first definition of a name
@@ -166,8 +169,8 @@ tree_of_groups read =
     record {
       symbols = map (symbol_of c) c.names;
       choices = map (choice_of c) (filter (λ (p : GroupInContext). opens_choice p.group) c.places);
-      entries = filter_map (λ (p : GroupInContext). from_head (entry_of_head c p) p.group.what) c.places;
-      units = filter_map (λ (p : GroupInContext). from_head (unit_of_head c p) p.group.what) c.places;
+      entries = filter_map (λ (p : GroupInContext). from_head (entry_of_head c p) p.group.head) c.places;
+      units = filter_map (λ (p : GroupInContext). from_head (unit_of_head c p) p.group.head) c.places;
     }
 
 -- what the tree of these files holds

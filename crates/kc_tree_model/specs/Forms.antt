@@ -10,8 +10,11 @@ use Rattle.kc_expr.specs.Grammar.{read_expr, extent, quoted_text, operand_of_lex
 use Rattle.kc_tree_model.specs.declared.fault.TreeKind.{TreeKind}
 use Rattle.kc_tree_model.specs.declared.fault.TreeKind.TheVariants.{BadToken, UnclosedQuote, Malformed, TooDeep, LeftOut, OutOfMemory}
 use Rattle.kc_tree_model.specs.Statements.{Head, config, choice, menu, condition, comment, source, mainmenu, ends, DefaultAttribute, TargetAttribute, Attribute, typed, typed_prompt, typed_default, prompt, default, depends, select, imply, range, visible, help, modules, Statement, head, attribute}
-use Rattle.kc_tree_model.specs.Keywords.{Keyword, config_word, choice_word, menu_word, if_word, comment_word, source_word, mainmenu_word, end_word, type_word, default_type_word, prompt_word, default_word, depends_word, select_word, imply_word, range_word, visible_word, help_word, modules_word, option_word, left_out_word, is_word_kind, is_quoted_kind, is_the_word, is_name}
+use Rattle.kc_tree_model.specs.Keywords.{is_word_kind, is_quoted_kind, is_the_word, is_name}
+use Rattle.kc_tree_model.specs.declared.keyword.Keyword.{Keyword}
+use Rattle.kc_tree_model.specs.declared.keyword.Keyword.TheVariants as words
 
+-- goes on with a value; a fault stays
 infixl 10 ◌>>=◌
 abbrev pub ◌>>=◌ : {A B : Type 0} → Result A TreeKind → (A → Result B TreeKind) → Result B TreeKind
 (Ok x) >>= f = f x
@@ -125,24 +128,24 @@ option_line (t ∷ ts) = if is_the_word (codes "modules") t then no_more (attrib
 
 -- the statement of a line with this keyword and these tokens after it; forms that are left out were refused before
 abbrev pub statement_of : Keyword → List Lexeme → Result Statement TreeKind
-statement_of config_word ts = config_line ts
-statement_of choice_word ts = choice_line ts
-statement_of menu_word ts = titled_line menu ts
-statement_of if_word ts = last_condition ts >>= λ e. Ok (head (condition e))
-statement_of comment_word ts = titled_line comment ts
-statement_of source_word ts = source_line ts
-statement_of mainmenu_word ts = titled_line (λ _. mainmenu) ts
-statement_of (end_word b) ts = no_more (head (ends b)) ts
-statement_of (type_word k) ts = type_line k ts
-statement_of (default_type_word k) ts = default_line (typed_default k) ts
-statement_of prompt_word ts = prompt_line prompt ts
-statement_of default_word ts = default_line default ts
-statement_of depends_word ts = condition_line (codes "on") depends ts
-statement_of select_word ts = target_line select ts
-statement_of imply_word ts = target_line imply ts
-statement_of range_word ts = range_line ts
-statement_of visible_word ts = condition_line (codes "if") visible ts
-statement_of help_word ts = no_more (attribute help) ts
-statement_of modules_word ts = no_more (attribute modules) ts
-statement_of option_word ts = option_line ts
-statement_of left_out_word ts = Err Malformed
+statement_of words.Config ts = config_line ts
+statement_of words.Choice ts = choice_line ts
+statement_of words.Menu ts = titled_line menu ts
+statement_of words.If ts = last_condition ts >>= λ e. Ok (head (condition e))
+statement_of words.Comment ts = titled_line comment ts
+statement_of words.Source ts = source_line ts
+statement_of words.Mainmenu ts = titled_line (λ _. mainmenu) ts
+statement_of (words.End b) ts = no_more (head (ends b)) ts
+statement_of (words.Type k) ts = type_line k ts
+statement_of (words.DefaultType k) ts = default_line (typed_default k) ts
+statement_of words.Prompt ts = prompt_line prompt ts
+statement_of words.Default ts = default_line default ts
+statement_of words.Depends ts = condition_line (codes "on") depends ts
+statement_of words.Select ts = target_line select ts
+statement_of words.Imply ts = target_line imply ts
+statement_of words.Range ts = range_line ts
+statement_of words.Visible ts = condition_line (codes "if") visible ts
+statement_of words.Help ts = no_more (attribute help) ts
+statement_of words.Modules ts = no_more (attribute modules) ts
+statement_of words.Option ts = option_line ts
+statement_of words.LeftOut ts = Err Malformed

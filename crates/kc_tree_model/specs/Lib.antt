@@ -1,3 +1,4 @@
+pub mod FaultNames
 pub mod Trees
 pub mod TreeFiles
 pub mod LogicalLines

@@ -1,42 +1,11 @@
--- The limits of a tree.
+-- Statements and files that pass a limit of a tree; the limits are the constants of `kc_value::limits`.
 use Rattle.std.specs.Prelude.{ℕ, ◌+◌, Bool, false, not, ◌&&◌, ◌||◌, nat_le, nat_lt, List, [], ◌∷◌, ◌++◌, length, filter, filter_map, sum_by, Option, Some, None, is_some, bytes_eq, if◌then◌else◌}
 use Rattle.std.specs.List.{list_any}
+use Rattle.kc_value.specs.declared.limits.TheConstants.{MAX_SYMBOLS, MAX_CHOICES, MAX_FILES, MAX_TREE_BYTES, MAX_NAME_BYTES, MAX_OPEN_FILES, MAX_OPEN_BLOCKS}
 use Rattle.kc_tree_model.specs.declared.fault.TreeKind.{TreeKind}
 use Rattle.kc_tree_model.specs.declared.fault.TreeKind.TheVariants.{MissingFile, SourceLoop, TooDeep, TooMany}
 use Rattle.kc_tree_model.specs.Statements.{Head, config, choice, block_of_head, Attribute, select, imply, Statement, head, attribute}
 use Rattle.kc_tree_model.specs.Blocks.{Group, open_blocks, opened_block, defined_name, sourced_path, opens_choice}
-
--- the limit per tree
-abbrev pub max_symbols : ℕ
-max_symbols = 1000000
-
--- the limit per tree
-abbrev pub max_choices : ℕ
-max_choices = 4096
-
--- the limit of files read for a tree; a file sourced twice counts twice
-abbrev pub max_files : ℕ
-max_files = 4096
-
--- the limit of bytes of all files read for a tree; a file sourced twice counts twice
-abbrev pub max_bytes : ℕ
-max_bytes = 67108864
-
--- the limit of a logical line
-abbrev pub max_line_bytes : ℕ
-max_line_bytes = 65536
-
--- the limit of a name in a `config`, a `select` or an `imply`
-abbrev pub max_name_bytes : ℕ
-max_name_bytes = 256
-
--- the limit of nested open files
-abbrev pub max_open_files : ℕ
-max_open_files = 32
-
--- the limit of nested blocks, over all open files
-abbrev pub max_open_blocks : ℕ
-max_open_blocks = 64
 
 -- whether a text is in a list
 abbrev pub is_in_list : List ℕ → List (List ℕ) → Bool
@@ -53,12 +22,12 @@ names_defined read = without_repeats (filter_map defined_name read)
 
 -- a name that is too long
 abbrev pub is_long_name : List ℕ → Bool
-is_long_name name = nat_lt max_name_bytes (length name)
+is_long_name name = nat_lt MAX_NAME_BYTES (length name)
 
 -- one more symbol or choice than a tree may have, or a name that is too long
 abbrev pub too_many_by_head : List Group → Head → Bool
-too_many_by_head read (config name) = is_long_name name || (not (is_in_list name (filter_map defined_name read)) && nat_le max_symbols (length (names_defined read)))
-too_many_by_head read choice = nat_le max_choices (length (filter opens_choice read))
+too_many_by_head read (config name) = is_long_name name || (not (is_in_list name (filter_map defined_name read)) && nat_le MAX_SYMBOLS (length (names_defined read)))
+too_many_by_head read choice = nat_le MAX_CHOICES (length (filter opens_choice read))
 too_many_by_head read h = false
 
 -- a selected or implied name that is too long
@@ -74,7 +43,7 @@ is_too_many read (attribute a) = too_many_by_attribute a
 
 -- one block more than may be open, over all open files
 abbrev pub is_too_deep : List Group → Statement → Bool
-is_too_deep read (head h) = is_some (block_of_head h) && nat_le max_open_blocks (length (filter_map opened_block (open_blocks 0 read)))
+is_too_deep read (head h) = is_some (block_of_head h) && nat_le MAX_OPEN_BLOCKS (length (filter_map opened_block (open_blocks 0 read)))
 is_too_deep read (attribute a) = false
 
 -- where files come from: the bytes of a path, its number among the files, and the first path
@@ -104,7 +73,7 @@ unfoldable pub source_fault : FileSource → List Group → List ℕ → Option 
 source_fault r read path =
     if is_in_list path (open_files r read) then Some SourceLoop
     else if not (is_some (r.bytes path)) then Some MissingFile
-    else if nat_le max_open_files (length (open_files r read)) then Some TooDeep
-    else if nat_le max_files (length (files_read r read)) then Some TooMany
-    else if nat_lt max_bytes (sum_by (size_in r) (files_read r read) + size_in r path) then Some TooMany
+    else if nat_le MAX_OPEN_FILES (length (open_files r read)) then Some TooDeep
+    else if nat_le MAX_FILES (length (files_read r read)) then Some TooMany
+    else if nat_lt MAX_TREE_BYTES (sum_by (size_in r) (files_read r read) + size_in r path) then Some TooMany
     else None

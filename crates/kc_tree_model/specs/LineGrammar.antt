@@ -1,4 +1,4 @@
--- The lines of a file, apart from how its bytes are gone through.
+-- The lines of a file, apart from how they are read.
 use Rattle.std.specs.Prelude.{◌≡◌, ℕ, ◌+◌, ◌<◌, Bool, true, false, ◌&&◌, ◌||◌, nat_lt, nat_le, List, [], ◌∷◌, ◌++◌, length, map}
 use Rattle.std.specs.List.{list_all}
 use Rattle.kc_tree_model.specs.TreeLookup.{has_newline}

@@ -2,7 +2,9 @@
 use Rattle.std.specs.Prelude.{ℕ, zero, suc, ◌+◌, ◌-◌, ◌*◌, ◌/◌, Bool, true, false, ◌&&◌, ◌||◌, ◌==◌, nat_le, List, [], ◌∷◌, ◌++◌, length, map, take, drop, take_while, slice_index, Option, Some, None, Ok, Err, if◌then◌else◌}
 use Rattle.std.specs.List.{list_all}
 use Rattle.kc_expr.specs.Token.{is_white_byte, lexemes_from, Lexeme}
-use Rattle.kc_tree_model.specs.Keywords.{Keyword, help_word, keyword_of}
+use Rattle.kc_tree_model.specs.Keywords.{keyword_of}
+use Rattle.kc_tree_model.specs.declared.keyword.Keyword.{Keyword}
+use Rattle.kc_tree_model.specs.declared.keyword.Keyword.TheVariants as words
 
 -- a physical line without its newline, and whether a newline ends it
 pub record PhysicalLine : Type 0 where
@@ -84,7 +86,7 @@ pub record LogicalLine : Type 0 where
 
 -- whether a keyword begins a help text
 abbrev pub is_help_word : Option Keyword → Bool
-is_help_word (Some help_word) = true
+is_help_word (Some words.Help) = true
 is_help_word k = false
 
 -- whether there is one token, and its keyword begins a help text

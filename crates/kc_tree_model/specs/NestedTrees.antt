@@ -1,12 +1,13 @@
 -- The nested tree of what was read, and the walk down it.
 use Rattle.std.specs.Prelude.{◌≡◌, ℕ, Bool, true, false, List, [], ◌∷◌, ◌++◌, reverse, Option, None}
-use Rattle.kc_tree_model.specs.Statements.{Block, Head, source, ends, block_of_head}
+use Rattle.kc_tree_model.specs.Statements.{Head, source, ends, block_of_head}
+use Rattle.kc_tree_model.specs.declared.keyword.Block.{Block}
 use Rattle.kc_tree_model.specs.Blocks.{Group, GroupHead, of_head, file_end, side_of, inside, is_some_block}
 use Rattle.kc_tree_model.specs.TreeFiles.{Files}
 use Rattle.kc_tree_model.specs.Reading.{reading}
 use Rattle.kc_tree_model.specs.Conditions.{GroupInContext, group_in_context, groups_in_context}
 
--- A list of entries and blocks ("Menu structure"). A block has the group that opens it, what stands in it and the group
+-- A list of entries and blocks ("Menu structure"). A block has the group that opens it, the items inside it and the group
 -- that ends it; a file that is read in place of a `source` is one.
 pub data Items : Type 0 where
   none : Items
@@ -42,10 +43,10 @@ is_ended_by file_end e = false
 -- each group is where its form allows it
 abbrev pub IsNested : Items → Type 0
 IsNested none = Unit {0}
-IsNested (entry g rest) = (side_of g.what ≡ inside) × IsNested rest
-IsNested (block g within e rest) = (is_ended_by g.what e.what ≡ true) × IsNested within × IsNested rest
+IsNested (entry g rest) = (side_of g.head ≡ inside) × IsNested rest
+IsNested (block g within e rest) = (is_ended_by g.head e.head ≡ true) × IsNested within × IsNested rest
 
--- down the tree from the root, with the blocks on the path, the innermost first; each step gives what stands round the next
+-- down the tree from the root, with the blocks on the path, the innermost first
 abbrev pub walk : List Group → Items → List GroupInContext
 walk path none = []
 walk path (entry g rest) = group_in_context path g ∷ walk path rest

@@ -9,12 +9,14 @@ use Rattle.kc_tree_model.specs.declared.fault.TreeFault.{TreeFault}
 use Rattle.kc_tree_model.specs.TreeFiles.{Files, file_at, index_of_file}
 use Rattle.kc_tree_model.specs.LogicalLines.{LogicalLine, lines_of}
 use Rattle.kc_tree_model.specs.Statements.{path_of_head, Attribute, Statement, head, attribute}
-use Rattle.kc_tree_model.specs.Keywords.{Keyword, keyword_of}
+use Rattle.kc_tree_model.specs.Keywords.{keyword_of}
+use Rattle.kc_tree_model.specs.declared.keyword.Keyword.{Keyword}
 use Rattle.kc_tree_model.specs.Forms.{statement_of, kind_of_fault, ◌>>=◌}
-use Rattle.kc_tree_model.specs.Statements.{Block}
+use Rattle.kc_tree_model.specs.declared.keyword.Block.{Block}
 use Rattle.kc_tree_model.specs.Blocks.{Group, Position, GroupHead, of_head, file_end, innermost, sourced_path}
 use Rattle.kc_tree_model.specs.Placement.{is_allowed, is_left_out, is_stray_end}
-use Rattle.kc_tree_model.specs.Limits.{max_bytes, max_line_bytes, max_open_files, is_too_many, is_too_deep, FileSource, bytes_in, source_fault, without_repeats}
+use Rattle.kc_tree_model.specs.Limits.{is_too_many, is_too_deep, FileSource, bytes_in, source_fault, without_repeats}
+use Rattle.kc_value.specs.declared.limits.TheConstants.{MAX_TREE_BYTES, MAX_LINE_BYTES, MAX_OPEN_FILES}
 
 -- a fault, unless a test is false
 abbrev pub unless : Bool → TreeKind → Result (Unit {0}) TreeKind
@@ -50,7 +52,7 @@ statement_or_fault read (Ok ts) = statement_of_tokens read ts
 -- the statement of a logical line; a help line has none
 unfoldable pub statement_on_line : List Group → LogicalLine → Result (Option Statement) TreeKind
 statement_on_line read l =
-    if nat_lt max_line_bytes (length l.text) then Err LineTooLong
+    if nat_lt MAX_LINE_BYTES (length l.text) then Err LineTooLong
     else if not (is_utf8 l.text) then Err NotUtf8
     else if l.help then Ok None
     else statement_or_fault read (lexemes_from 0 0 l.text)
@@ -60,9 +62,9 @@ abbrev pub with_attribute : ℕ → Attribute → List Group → List Group
 with_attribute line a [] = []
 with_attribute line a (g ∷ before) = record g { attributes = g.attributes ++ record { number = line; attribute = a } ∷ [] } ∷ before
 
--- what was read, with a group that has no attributes yet
+-- the groups read so far, with one that has no attributes yet
 abbrev pub with_group : Position → GroupHead → List Group → List Group
-with_group at what read = record { number = length read; at = at; what = what; attributes = [] } ∷ read
+with_group at group_head read = record { number = length read; at = at; head = group_head; attributes = [] } ∷ read
 
 -- the groups read so far, with a line's statement
 abbrev pub with_statement : Position → Option Statement → List Group → List Group
@@ -126,7 +128,7 @@ read_file (suc n) r path read = read_lines (read_file n r) r (r.number path) (li
 -- the first file, which may be absent or too large
 abbrev pub read_root : FileSource → Option (List ℕ) → Outcome
 read_root r None = record { read = []; fault = Some (record { file = None; line = 0; kind = MissingFile }) }
-read_root r (Some bytes) = if nat_lt max_bytes (length bytes) then ended_by_fault (record { file = r.number r.root; line = 0 }) TooMany [] else read_file max_open_files r r.root []
+read_root r (Some bytes) = if nat_lt MAX_TREE_BYTES (length bytes) then ended_by_fault (record { file = r.number r.root; line = 0 }) TooMany [] else read_file MAX_OPEN_FILES r r.root []
 
 -- the reading of a tree from its first file on
 unfoldable pub reading : Files → List ℕ → Outcome

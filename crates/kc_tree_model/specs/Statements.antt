@@ -2,12 +2,8 @@
 use Rattle.std.specs.Prelude.{ℕ, Bool, true, false, List, Option, Some, None}
 use Rattle.kc_value.specs.declared.value.Kind.{Kind}
 use Rattle.kc_expr.specs.Expr.{Expr, Operand}
-
--- the blocks that a statement opens and an end closes ("Menu structure")
-pub data Block : Type 0 where
-  menu_block : Block
-  if_block : Block
-  choice_block : Block
+use Rattle.kc_tree_model.specs.declared.keyword.Block.{Block}
+use Rattle.kc_tree_model.specs.declared.keyword.Block.TheVariants as blocks
 
 -- a statement that closes the open entry ("Kconfig syntax")
 pub data Head : Type 0 where
@@ -74,16 +70,16 @@ title_of_head h = None
 
 -- the block that a statement opens
 abbrev pub block_of_head : Head → Option Block
-block_of_head choice = Some choice_block
-block_of_head (menu title) = Some menu_block
-block_of_head (condition e) = Some if_block
+block_of_head choice = Some blocks.Choice
+block_of_head (menu title) = Some blocks.Menu
+block_of_head (condition e) = Some blocks.If
 block_of_head h = None
 
 -- whether two blocks are of one sort
 abbrev pub same_block : Block → Block → Bool
-same_block menu_block menu_block = true
-same_block if_block if_block = true
-same_block choice_block choice_block = true
+same_block blocks.Menu blocks.Menu = true
+same_block blocks.If blocks.If = true
+same_block blocks.Choice blocks.Choice = true
 same_block b c = false
 
 -- the type that an attribute gives

@@ -1,7 +1,8 @@
 -- The checks on the whole tree, made if reading met no fault, and which fault is reported.
 use Rattle.std.specs.Prelude.{ℕ, Bool, true, false, not, ◌&&◌, ◌||◌, List, [], ◌∷◌, ◌++◌, map, flat_map, slice_get, Option, Some, None, is_some, is_none, bytes_eq, if◌then◌else◌}
 use Rattle.kc_value.specs.declared.value.Kind.{Kind}
-use Rattle.kc_value.specs.declared.value.Kind.TheVariants.{Bool as Boolean, Tristate, Text, Int, Hex}
+use Rattle.kc_value.specs.declared.value.Kind.TheVariants.{Bool as Boolean}
+use Rattle.kc_value.specs.Kinds.{is_tri_kind, is_number, same_kind}
 use Rattle.kc_expr.specs.Expr.{modules as modules_name}
 use Rattle.kc_tree_model.specs.declared.fault.TreeKind.{TreeKind}
 use Rattle.kc_tree_model.specs.declared.fault.TreeKind.TheVariants.{NoType, TypeConflict, SecondPrompt, DefaultShape, RangeType, SelectType, ChoiceMember, ChoiceDefault, ModulesType}
@@ -17,27 +18,6 @@ use Rattle.kc_tree_model.specs.Reading.{Outcome, reading}
 abbrev pub when : Bool → TreeKind → List TreeKind
 when true k = k ∷ []
 when false k = []
-
--- bools and tristates
-abbrev pub is_logical : Kind → Bool
-is_logical Boolean = true
-is_logical Tristate = true
-is_logical k = false
-
--- ints and hexes
-abbrev pub is_number : Kind → Bool
-is_number Int = true
-is_number Hex = true
-is_number k = false
-
--- whether two types are the same
-abbrev pub same_kind : Kind → Kind → Bool
-same_kind Boolean Boolean = true
-same_kind Tristate Tristate = true
-same_kind Text Text = true
-same_kind Int Int = true
-same_kind Hex Hex = true
-same_kind j k = false
 
 -- a given type other than this one
 abbrev pub is_other_kind : Kind → Option Kind → Bool
@@ -55,7 +35,7 @@ kind_of c name = kind_or_bool (type_given c name) (is_some (choice_of_symbol c n
 
 -- an undefined name, a symbol that has no type, a bool and a tristate may be selected ("Menu attributes", reverse dependencies)
 abbrev pub is_selectable : Contents → List ℕ → Bool
-is_selectable c name = elim (kind_of c name) [ None ↦ true | Some k ↦ is_logical k ]
+is_selectable c name = elim (kind_of c name) [ None ↦ true | Some k ↦ is_tri_kind k ]
 
 -- faults of a definition, at its line
 abbrev pub definition_faults : Contents → GroupInContext → List ℕ → List TreeKind
@@ -69,12 +49,12 @@ definition_faults c p name =
 -- a default of a string, an int or a hex that isn't one operand
 abbrev pub is_shapeless : Kind → Option DefaultAttribute → Bool
 is_shapeless k None = false
-is_shapeless k (Some d) = not (is_logical k) && not d.single
+is_shapeless k (Some d) = not (is_tri_kind k) && not d.single
 
 -- a `select` or an `imply` in, or of, a symbol that is neither bool nor tristate
 abbrev pub is_wrong_reverse_dependency : Contents → Kind → Attribute → Bool
-is_wrong_reverse_dependency c k (select a) = not (is_logical k) || not (is_selectable c a.name)
-is_wrong_reverse_dependency c k (imply a) = not (is_logical k) || not (is_selectable c a.name)
+is_wrong_reverse_dependency c k (select a) = not (is_tri_kind k) || not (is_selectable c a.name)
+is_wrong_reverse_dependency c k (imply a) = not (is_tri_kind k) || not (is_selectable c a.name)
 is_wrong_reverse_dependency c k a = false
 
 -- a second prompt of an entry
@@ -118,7 +98,7 @@ faults_of_head c p h = []
 
 -- faults of what was read at a place
 abbrev pub faults_of_group : Contents → GroupInContext → List TreeFault
-faults_of_group c p = elim p.group.what [ of_head h ↦ faults_of_head c p h | file_end ↦ [] ]
+faults_of_group c p = elim p.group.head [ of_head h ↦ faults_of_head c p h | file_end ↦ [] ]
 
 -- the faults of what was read, in reading order
 unfoldable pub tree_faults : List Group → List TreeFault

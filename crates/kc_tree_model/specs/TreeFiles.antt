@@ -1,6 +1,6 @@
 -- The files of a tree, as a list of paths and their bytes.
-use Rattle.std.specs.Prelude.{ℕ, suc, List, [], ◌∷◌, Option, Some, None, bytes_eq, map, slice_get, option_map, if◌then◌else◌}
-use Rattle.std.specs.List.{IsDistinct}
+use Rattle.std.specs.Prelude.{ℕ, List, [], ◌∷◌, Option, Some, None, bytes_eq, map, slice_get, option_map, if◌then◌else◌}
+use Rattle.std.specs.List.{IsDistinct, position_or_len}
 
 -- paths and their bytes, in order of insertion
 abbrev pub Files : Type 0
@@ -13,8 +13,7 @@ file_at (f ∷ fs) path = if bytes_eq path f.0 then Some f.1 else file_at fs pat
 
 -- the number of a path among the files; of one that is absent their count
 abbrev pub index_of_file : Files → List ℕ → ℕ
-index_of_file [] path = 0
-index_of_file (f ∷ fs) path = if bytes_eq path f.0 then 0 else suc (index_of_file fs path)
+index_of_file files path = position_or_len (λ (f : List ℕ × List ℕ). bytes_eq path f.0) files
 
 -- a new path goes last, and the bytes of one that is there are replaced in place
 abbrev pub with_file : Files → List ℕ → List ℕ → Files

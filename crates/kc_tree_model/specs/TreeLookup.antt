@@ -1,11 +1,13 @@
 -- Indices of units and symbols in a tree.
-use Rattle.std.specs.Prelude.{◌≡◌, ℕ, ◌<◌, ◌≤◌, Bool, true, false, not, ◌&&◌, ◌||◌, List, [], length, Option, Some, None, ◌==◌, nat_lt, nat_le, if◌then◌else◌, slice_get, bytes_eq}
+use Rattle.std.specs.Prelude.{◌≡◌, ℕ, ◌<◌, ◌≤◌, Bool, true, false, not, ◌&&◌, ◌||◌, List, [], length, Option, Some, None, ◌==◌, nat_lt, nat_le, slice_get, bytes_eq}
 use Rattle.std.specs.Str.{is_utf8}
-use Rattle.std.specs.List.{position_or_len, list_all, list_any}
+use Rattle.std.specs.List.{position, position_or_len, list_all, list_any}
 use Rattle.kc_value.specs.declared.value.Kind.TheVariants.{Bool as Boolean}
 use Rattle.kc_expr.specs.Expr.{Expr, alone, named, quoted}
-use Rattle.kc_tree_model.specs.Trees.{Tree, Symbol, Choice, Default, ReverseDependency, MemberDefault, Entry, definition, choice_begins, menu_begins, menu_ends, comment, TreeUnit, of_symbol, of_choice}
-use Rattle.kc_tree_model.specs.Limits.{max_symbols, max_name_bytes}
+use Rattle.kc_tree_model.specs.Trees.{Tree, Symbol, Choice, Default, ReverseDependency, MemberDefault, Entry, definition, choice_begins, menu_begins, menu_ends, comment}
+use Rattle.kc_tree_model.specs.declared.ids.Unit.{Unit as TreeUnit}
+use Rattle.kc_tree_model.specs.declared.ids.Unit.TheVariants.{Symbol as of_symbol, Choice as of_choice}
+use Rattle.kc_value.specs.declared.limits.TheConstants.{MAX_SYMBOLS, MAX_NAME_BYTES}
 
 -- whether two units are the same
 abbrev pub is_same_unit : TreeUnit → TreeUnit → Bool
@@ -32,14 +34,9 @@ unit_of_symbol tree s (Some symbol) = index_of_unit tree (unit_in s symbol.choic
 abbrev pub unit_of : Tree → ℕ → ℕ
 unit_of tree s = unit_of_symbol tree s (slice_get tree.symbols s)
 
--- an index, if it is below the length of the list
-abbrev pub index_if_found : ℕ → ℕ → Option ℕ
-index_if_found place count = if nat_lt place count then Some place else None
-
 -- the symbol of a name, if an entry defines it
 abbrev pub symbol_named : Tree → List ℕ → Option ℕ
-symbol_named tree name =
-    index_if_found (position_or_len (λ (s : Symbol). bytes_eq name s.name) tree.symbols) (length tree.symbols)
+symbol_named tree name = position (λ (s : Symbol). bytes_eq name s.name) tree.symbols
 
 -- a letter, a digit or `_`
 abbrev pub is_name_byte : ℕ → Bool
@@ -101,9 +98,9 @@ pub record IsConsistent (tree : Tree) : Type 0 where
       → list_all (λ (f : ReverseDependency). nat_lt f.by (length tree.symbols)) symbol.impliers ≡ true
   pub units_of_choices : (c : ℕ) (choice : Choice) → slice_get tree.choices c ≡ Some choice
       → (u : ℕ) × (slice_get tree.units u ≡ Some (of_choice c))
-  pub few_symbols : length tree.symbols ≤ max_symbols
+  pub few_symbols : length tree.symbols ≤ MAX_SYMBOLS
   pub short_names : (s : ℕ) (symbol : Symbol) → slice_get tree.symbols s ≡ Some symbol
-      → length symbol.name ≤ max_name_bytes
+      → length symbol.name ≤ MAX_NAME_BYTES
   pub defined : (s : ℕ) (symbol : Symbol) → slice_get tree.symbols s ≡ Some symbol
       → (k : ℕ) × (slice_get tree.entries k ≡ Some (definition s))
   pub entry_symbols : (k s : ℕ) → slice_get tree.entries k ≡ Some (definition s) → s < length tree.symbols

@@ -2,6 +2,7 @@
 use Rattle.std.specs.Prelude.{ℕ, List, Option}
 use Rattle.kc_value.specs.declared.value.Kind.{Kind}
 use Rattle.kc_expr.specs.Expr.{Expr, Operand}
+use Rattle.kc_tree_model.specs.declared.ids.Unit.{Unit as TreeUnit}
 
 -- a default: its value and its condition
 pub record Default : Type 0 where
@@ -54,11 +55,6 @@ pub data Entry : Type 0 where
   menu_begins : (title : List ℕ) (dependency visible : Expr) → Entry
   menu_ends : (title : List ℕ) (dependency visible : Expr) → Entry
   comment : (title : List ℕ) (dependency : Expr) → Entry
-
--- a symbol outside choices, or a choice
-pub data TreeUnit : Type 0 where
-  of_symbol : ℕ → TreeUnit
-  of_choice : ℕ → TreeUnit
 
 -- symbols and choices in order of first definition, entries in reading order, units in the order of their numbers
 pub record Tree : Type 0 where

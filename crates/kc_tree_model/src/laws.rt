@@ -3,7 +3,8 @@ ghost use Rattle.std.specs.Prelude.{◌≡◌, ◌↔◌, ℕ, ◌+◌, List, []
 ghost use Rattle.kc_tree_model.specs.TreeFiles.{Files};
 ghost use Rattle.kc_tree_model.specs.LogicalLines.{LogicalLine, lines_of};
 ghost use Rattle.kc_tree_model.specs.LineGrammar.{IsInLines};
-ghost use Rattle.kc_tree_model.specs.Limits.{FileSource, max_open_files};
+ghost use Rattle.kc_tree_model.specs.Limits.{FileSource};
+ghost use Rattle.kc_value.specs.declared.limits.TheConstants.{MAX_OPEN_FILES};
 ghost use Rattle.kc_tree_model.specs.Reading.{read_file, reading, files_wanted};
 ghost use Rattle.kc_tree_model.specs.declared.fault.TreeFault.{TreeFault};
 ghost use Rattle.kc_tree_model.specs.Contents.{tree_of_files};
@@ -17,26 +18,26 @@ pub fn lines_are_of_the_grammar()
     ensures { (bytes : List ℕ) (lines : List LogicalLine) → (lines_of bytes ≡ lines) ↔ IsInLines bytes lines }
 {}
 
-/// What is read without a fault is the listing of exactly one nested tree of menus, ifs, choices, sourced files and
-/// entries, and the walk down that tree gives each place the conditions that stand around it.
+/// The groups that are read without a fault are the listing of exactly one nested tree of menus, ifs, choices, sourced
+/// files and entries, and the walk down that tree gives each place the conditions that enclose it.
 pub fn reading_is_a_nested_tree()
     ensures { (files : Files) (root : List ℕ) → IsReadAsOneTree files root }
 {}
 
-/// No file is left unread for the bound of files within each other: where more of them might be open, the reading is
-/// the same, since a `source` past the limit is a fault before its file would be read.
+/// No file is left unread for the limit of open files: if more of them might be open, the reading would be the same,
+/// since a `source` past the limit is a fault before its file would be read.
 pub fn each_file_is_read()
-    ensures { (origin : FileSource) (more : ℕ) → read_file (max_open_files + more) origin origin.root [] ≡ read_file max_open_files origin origin.root [] }
+    ensures { (origin : FileSource) (more : ℕ) → read_file (MAX_OPEN_FILES + more) origin origin.root [] ≡ read_file MAX_OPEN_FILES origin origin.root [] }
 {}
 
-/// Where no path is wanted, reading the files meets the fault that is told for `wanted`, and none where none is told: so
-/// the paths that a tree lacks are known before it is read.
+/// If no path is wanted, reading the files meets the fault that `wanted` has, and none if it has none: so the paths that
+/// a tree lacks are known before it is read.
 pub fn nothing_is_missing_after_wanted()
     ensures none { (files : Files) (root : List ℕ) → files_wanted files root ≡ Ok [] → (reading files root).fault ≡ None }
     ensures fault { (files : Files) (root : List ℕ) (fault : TreeFault) → files_wanted files root ≡ Err fault → (reading files root).fault ≡ Some fault }
 {}
 
-/// What is read without a fault is a consistent tree: its names are words and differ, each choice and each symbol
+/// A tree that is read without a fault is consistent: its names are words and differ, each choice and each symbol
 /// outside choices is one unit, the members of a choice are bools of that choice alone and its defaults are members,
 /// titles and the own texts of defaults are one line of UTF-8, each symbol has an entry, selectors, impliers and
 /// entries are symbols and choices of the tree, and the limits of symbols and names hold.

@@ -48,11 +48,11 @@ impl Texts {
         *self.files.hasher()
     }
 
-    /// Puts a new path last, or replaces the bytes of a path that is there in place; both are copied.
+    /// Appends a new path, or replaces the bytes of a path that is there; both are copied.
     ///
     /// # Errors
     ///
-    /// Where memory runs out, nothing is changed.
+    /// `AllocError` if memory runs out; then nothing is changed.
     pub fn insert(&mut self, path: &str, bytes: &[u8]) -> Result<(), AllocError>
         ensures ok { OnOk result (self.new ≡ with_file self.old path.now bytes.now) }
         ensures err { OnErr result (self.new ≡ self.old) }

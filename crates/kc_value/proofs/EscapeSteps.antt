@@ -72,7 +72,7 @@ chars_spell text u = rw (← u.1.1) (ap encode_utf8_all (chars-encodes u.0 u.1.0
 spelled_from : (cs : List ℕ) (n m c : ℕ) → n < length cs → c ≡ get_or cs n c → m ≡ n + 1 → encode_utf8_all (drop n cs) ≡ encode_utf8 c ++ encode_utf8_all (drop m cs)
 spelled_from cs n m c h e k = ap encode_utf8_all (drop_more cs n c h) ∙ ap (λ d. encode_utf8 d ++ encode_utf8_all (drop (n + 1) cs)) (sym e) ∙ ap (λ i. encode_utf8 c ++ encode_utf8_all (drop i cs)) (sym k)
 
--- one character on, where so much was read before it
+-- one character on, after the text read before it
 module _ (cs read all : List ℕ) (escaped : Bool) (n m c : ℕ) (so_far : read ++ unescaped escaped (encode_utf8_all (drop n cs)) ≡ all) (within : n < length cs) (here : c ≡ get_or cs n c) (next_place : m ≡ n + 1) where
   pub step_backslash : c ≡ 92 → escaped ≡ false → read ++ unescaped true (encode_utf8_all (drop m cs)) ≡ all
   step_backslash e f =

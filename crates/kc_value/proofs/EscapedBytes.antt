@@ -1,4 +1,4 @@
--- What stands after the bytes while a text is spelled in quotes.
+-- The bytes appended while a text is spelled in quotes.
 use Rattle.std.proofs.Common.{◌≡◌, ℕ, ◌+◌, ◌<◌, ◌≤◌, ◌||◌, true, false, get_or, List, [], ◌∷◌, ◌++◌, length, take, append_assoc, refl, ap, sym, ◌∙◌}
 use Rattle.std.specs.Prelude.{◌==◌}
 use Rattle.std.specs.List.{flat_map}
@@ -7,7 +7,7 @@ use Rattle.std.proofs.lemmas.List.{flat_map_more, take_all, take_more}
 use Rattle.std.proofs.Math.Seq.{take-append_seam}
 use Rattle.kc_value.specs.Quoted.{escaped_byte, quoted}
 
--- bytes that stand in front stay there
+-- bytes in front stay as they were
 pub still_there : (base more now : List ℕ) → now ≡ base ++ more → take (length base) now ≡ base
 still_there base more now e = ap (λ t. take (length base) t) e ∙ take-append_seam base more
 

@@ -1,4 +1,4 @@
--- Quoted spellings, and what stands between quotes.
+-- Quoted spellings, and the texts between quotes.
 use Rattle.std.proofs.Common.{◌≡◌, ℕ, suc, ◌+◌, ◌≤◌, ◌<◌, Bool, true, false, ◌||◌, cond, eqb, ◌-◌, drop, take, get_or, length-append, length-drop, get_or-drop, List, [], ◌∷◌, ◌++◌, length, Option, Some, None, refl, ap, sym, ◌∙◌, subst, arith}
 use Rattle.std.specs.Prelude.{option_map}
 use Rattle.std.specs.List.{flat_map}
@@ -18,11 +18,11 @@ escapes_body : (text : List ℕ) → IsBody 34 (flat_map escaped_byte text) text
 escapes_body [] = none
 escapes_body (c ∷ cs) = body_at (eqb c 34 || eqb c 92) c (flat_map escaped_byte cs) cs refl (escapes_body cs)
 
--- a quoted spelling stands for its text
+-- a quoted spelling represents its text
 pub spelled : (text : List ℕ) → IsQuoted (quoted text) text
 spelled text = (flat_map escaped_byte text, refl, escapes_body text)
 
--- a body stands for its text without escapes
+-- a body represents its text without escapes
 pub body_means : (quote : ℕ) (body means : List ℕ) → IsBody quote body means → unescaped false body ≡ means
 body_means quote body means none = refl
 body_means quote body means (plain {c = c} {bs = bs} {cs = cs} q s h) = rw s (ap (λ t. c ∷ t) (body_means quote bs cs h))
@@ -31,7 +31,7 @@ body_means quote body means (pair {c = c} {bs = bs} {cs = cs} h) = ap (λ t. c �
 same_tail : (c d : ℕ) (xs ys : List ℕ) → c ∷ xs ≡ d ∷ ys → xs ≡ ys
 same_tail c d xs ys e = cc
 
--- no text stands for two
+-- no text represents two
 pub one_meaning : (whole a b : List ℕ) → IsQuoted whole a → IsQuoted whole b → a ≡ b
 one_meaning whole a b (x, p, h) (y, q, k) =
     let e : x ≡ y = append_cancel_right x y (34 ∷ []) (same_tail 34 34 (x ++ 34 ∷ []) (y ++ 34 ∷ []) (sym p ∙ q)) in
@@ -84,7 +84,7 @@ closed_at false quote c cs n ih e g =
     let (m, k, f) = one_more (closing quote (eqb c 92) cs) n g in
     closed_plain (eqb c 92) quote c cs n m e refl f (ih m k)
 
--- what stands before a closing quote is a body
+-- the bytes before a closing quote are a body
 pub closed : (quote : ℕ) (escaped : Bool) (bytes : List ℕ) (n : ℕ) → closing quote escaped bytes ≡ Some n → IsClosed quote escaped bytes n
 closed quote true [] n h = cc
 closed quote false [] n h = cc
@@ -123,7 +123,7 @@ nil_of : (xs : List ℕ) → length xs ≡ 0 → xs ≡ []
 nil_of [] e = refl
 nil_of (x ∷ xs) e = absurd (omega (arith, e))
 
--- what stands between the quotes of a text that is closed by its last byte
+-- the body of a text that is closed by its last byte
 pub body_between : (text : List ℕ) (n : ℕ) → get_or text 0 0 ≡ 34 → closing 34 false (drop 1 text) ≡ Some n → length text ≤ n + 1 → HasBody text (take (n - 1) (drop 1 text))
 body_between text n e k l = by_parts (closed 34 false (drop 1 text) n k)
   where

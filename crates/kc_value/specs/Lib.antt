@@ -1,3 +1,4 @@
+pub mod Kinds
 pub mod Number
 pub mod NumberGrammar
 pub mod Streams

@@ -1,11 +1,12 @@
--- The number texts of int and hex symbols.
+-- The number texts of int and hex symbols ("Menu attributes", type definition and numerical ranges).
 use Rattle.std.specs.Prelude.{ℕ, false, unsigned_abs, ◌^◌, ◌<◌, ℤ, pos, neg_ℤ, ◌≤ℤ◌, ◌<ℤ◌, ◌&&◌, nat_lt, nat_le, ◌==◌, List, [], ◌∷◌, length, Option, Some, None, option_map, if◌then◌else◌}
 use Rattle.std.specs.Char.{is_digit}
 use Rattle.std.specs.Fmt.{digits, signed_decimal}
 use Rattle.std.specs.List.{list_all}
 use Rattle.std.specs.Str.Parse.{digits_value}
+use Rattle.kc_value.specs.declared.limits.TheConstants.{MAX_NUMBER_BYTES}
 use Rattle.kc_value.specs.declared.value.Kind.{Kind}
-use Rattle.kc_value.specs.declared.value.Kind.TheVariants.{Bool, Tristate, Text, Int, Hex}
+use Rattle.kc_value.specs.declared.value.Kind.TheVariants.{Int, Hex}
 
 -- one or more digits of a base, that write a number below a limit
 abbrev pub magnitude : ℕ → ℕ → List ℕ → Option ℕ
@@ -22,13 +23,13 @@ abbrev pub without_prefix : List ℕ → List ℕ
 without_prefix (a ∷ b ∷ rest) = if a == 48 && (b == 120) then rest else if a == 48 && (b == 88) then rest else (a ∷ b ∷ rest)
 without_prefix rest = rest
 
--- the number of an int text, of at most 64 bytes
+-- the number of an int text
 unfoldable pub int_text : List ℕ → Option ℤ
-int_text text = if nat_le (length text) 64 then signed_text text else None
+int_text text = if nat_le (length text) MAX_NUMBER_BYTES then signed_text text else None
 
 -- the number of a hex text
 unfoldable pub hex_text : List ℕ → Option ℤ
-hex_text text = if nat_le (length text) 64 then option_map pos (magnitude 16 (2 ^ 64) (without_prefix text)) else None
+hex_text text = if nat_le (length text) MAX_NUMBER_BYTES then option_map pos (magnitude 16 (2 ^ 64) (without_prefix text)) else None
 
 -- hex where a text begins with the prefix, else int
 unfoldable pub loose_number : List ℕ → Option ℤ
@@ -38,23 +39,16 @@ loose_number text = if nat_lt (length (without_prefix text)) (length text) then 
 abbrev pub number_of_text : Kind → List ℕ → Option ℤ
 number_of_text Int text = int_text text
 number_of_text Hex text = hex_text text
-number_of_text Bool text = None
-number_of_text Tristate text = None
-number_of_text Text text = None
+number_of_text _ text = None
 
 -- the numbers of a kind that can be printed
 abbrev pub IsPrintable : Kind → ℤ → Type 0
 IsPrintable Int n = unsigned_abs n < 2 ^ 63
 IsPrintable Hex n = (pos 0 ≤ℤ n) × (n <ℤ pos (2 ^ 64))
-IsPrintable Bool n = ⊥
-IsPrintable Tristate n = ⊥
-IsPrintable Text n = ⊥
+IsPrintable _ n = ⊥
 
 -- the one text of a number, without leading zeros: `0x` and lower-case digits for hex, else decimal digits after a
 -- minus where it is negative
 abbrev pub number_spelling : Kind → ℤ → List ℕ
 number_spelling Hex n = 48 ∷ 120 ∷ digits 16 false (unsigned_abs n)
-number_spelling Int n = signed_decimal n
-number_spelling Bool n = signed_decimal n
-number_spelling Tristate n = signed_decimal n
-number_spelling Text n = signed_decimal n
+number_spelling _ n = signed_decimal n

@@ -1,4 +1,4 @@
--- The quoted spelling of a text, and texts between quotes.
+-- The quoted spelling of a text, and texts between quotes ("Menu dependencies", constant symbols).
 use Rattle.std.specs.Prelude.{◌≡◌, ℕ, suc, List, [], ◌∷◌, ◌++◌, Bool, true, false, ◌||◌, ◌==◌, Option, Some, None, option_map, if◌then◌else◌}
 use Rattle.std.specs.List.{flat_map}
 
@@ -10,8 +10,8 @@ escaped_byte c = if c == 34 || (c == 92) then 92 ∷ c ∷ [] else c ∷ []
 abbrev pub quoted : List ℕ → List ℕ
 quoted text = 34 ∷ (flat_map escaped_byte text ++ 34 ∷ [])
 
--- what stands between quotes: characters other than the quote and the backslash, and pairs of a backslash and
--- a character; with the text that it represents
+-- the body between quotes, and the text that it represents: characters other than the quote and the backslash, and
+-- pairs of a backslash and a character
 pub data IsBody (quote : ℕ) : List ℕ → List ℕ → Type 0 where
   none : IsBody quote [] []
   plain : {c : ℕ} {bs cs : List ℕ} → (c == quote) ≡ false → (c == 92) ≡ false → IsBody quote bs cs → IsBody quote (c ∷ bs) (c ∷ cs)

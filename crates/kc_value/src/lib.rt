@@ -1,6 +1,7 @@
 //! Values of symbols, number and quoted texts, and the readers and writers of every crate above.
 #![tactic(auto)]
 
+mod limits;
 mod number;
 mod quoted;
 mod seed;
@@ -9,6 +10,11 @@ mod testing;
 mod tri;
 mod value;
 
+pub use limits::{
+    MAX_BUNDLE_BYTES, MAX_CHOICES, MAX_CONFIG_BYTES, MAX_CONFIG_LINES, MAX_EXPR_DEPTH, MAX_FILES,
+    MAX_LINE_BYTES, MAX_NAME_BYTES, MAX_NUMBER_BYTES, MAX_OPEN_BLOCKS, MAX_OPEN_FILES,
+    MAX_PREFIX_BYTES, MAX_SYMBOLS, MAX_TREE_BYTES,
+};
 pub use number::{hex_of, int_of, loose_number_of, number_text, number_texts_are_the_grammars};
 pub use quoted::{closing_quote, push_escaped, quoted_texts_read_back, read_quoted, unescape};
 pub use seed::Seed;

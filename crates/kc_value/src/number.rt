@@ -4,12 +4,10 @@ ghost use Rattle.kc_value.specs.checker.DigitStep.{with_digit};
 ghost use Rattle.kc_value.specs.Number.{magnitude, int_text, hex_text, loose_number, without_prefix, number_of_text, number_spelling, IsPrintable};
 ghost use Rattle.kc_value.specs.NumberGrammar.{IsInt, IsHex, IsLoose};
 
+use super::limits::MAX_NUMBER_BYTES;
 use super::value::Kind;
 use itoa::Buffer;
 use std::alloc::{AllocError, Global};
-
-/// The most bytes of a number text.
-const MAX_TEXT: usize = 64;
 
 /// One digit more after a number.
 fn push_digit(value: u64, byte: u8, base: u32) -> Option<u64>
@@ -54,7 +52,7 @@ fn strip_prefix(text: &[u8]) -> &[u8]
 pub fn int_of(text: &[u8]) -> Option<i128>
     ensures { result ≡ int_text text.now }
 {
-    if text.len() > MAX_TEXT {
+    if text.len() > MAX_NUMBER_BYTES {
         return None;
     }
     let (negative, rest) = match text {
@@ -78,7 +76,7 @@ pub fn int_of(text: &[u8]) -> Option<i128>
 pub fn hex_of(text: &[u8]) -> Option<i128>
     ensures { result ≡ hex_text text.now }
 {
-    if text.len() > MAX_TEXT {
+    if text.len() > MAX_NUMBER_BYTES {
         return None;
     }
     let value = digits(strip_prefix(text), 16)?;

@@ -5,7 +5,7 @@ ghost use Rattle.kc_value.specs.checker.Bodies.{HasBody};
 
 use std::alloc::{AllocError, Global};
 
-/// Appends the quoted spelling of a text: between two `"`, with a `\` before each `"` and each `\`. An `Err` is want
+/// Appends the quoted spelling of a text: between two `"`, with a `\` before each `"` and each `\`. An `Err` means out
 /// of memory, and leaves the bytes as they were.
 pub fn push_escaped(out: &mut Vec<u8>, text: &str) -> Result<(), AllocError>
     ensures ok { OnOk result (out.new.items ≡ out.old.items ++ quoted text.now) }
@@ -88,7 +88,7 @@ fn body_of(text: &str) -> Option<&str>
     Some(&text[1..n])
 }
 
-/// The text for which a quoted one stands: `"`, then characters other than `"` and `\` or a `\` and any character,
+/// The text that a quoted one represents: `"`, then characters other than `"` and `\` or a `\` and any character,
 /// then `"`. `None` for every other text. An `Err` means out of memory.
 pub fn read_quoted(alloc: Global, text: &str) -> Result<Option<String>, AllocError>
     ensures read { IfOk result (λ o. IfSome o (λ t. IsQuoted text.now (string_bytes t))) }

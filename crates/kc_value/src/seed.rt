@@ -8,14 +8,14 @@ pub struct Seed {
 }
 
 impl Seed {
-    /// The same seed in each run.
+    /// One fixed seed, equal in each run.
     pub fn fixed() -> Seed {
         Seed {
             start: DefaultHasher::new(),
         }
     }
 
-    /// The seed of two numbers.
+    /// The seed that two numbers determine.
     pub fn of(first: u64, second: u64) -> Seed {
         let mut start = DefaultHasher::new();
         start.write_u64(first);

@@ -9,7 +9,7 @@ use Rattle.kc_system.specs.Dependencies.{IsCycle}
 use Rattle.kc_rules_model.specs.Dependencies.{dependencies}
 use Rattle.kc_tree.specs.TreeModel.{TreeModel}
 use Rattle.kc_tree_model.specs.declared.fault.TreeKind.TheVariants.{OutOfMemory}
-use Rattle.kc_listing.specs.MemoryFaults.{no_memory}
+use Rattle.kc_listing.specs.between.MemoryFaults.{no_memory}
 use Rattle.kmin_jobs.specs.Answers.{AreAccepted}
 use Rattle.kmin_jobs.specs.checker.Readings.{IsRead}
 
@@ -31,7 +31,7 @@ told_unless texts first fault (inl e) k = absurd (k (ap (λ (f : TreeFault). f.k
 told_unless texts first fault (inr e) k = e
 
 pub is_read : (texts : Files) (first : List ℕ) (r : Result TreeModel TreeFault) → IfOk r (λ tree. first_tree_fault texts first ≡ None)
-    → IfOk r (λ tree. tree.whole ≡ tree_of_files texts first) → IfErr r (λ fault. (fault ≡ no_memory) ⊎ (first_tree_fault texts first ≡ Some fault))
+    → IfOk r (λ tree. tree.tree ≡ tree_of_files texts first) → IfErr r (λ fault. (fault ≡ no_memory) ⊎ (first_tree_fault texts first ≡ Some fault))
     → IsRead texts first r
 is_read texts first (Ok tree) a b c = (a, b)
 is_read texts first (Err fault) a b c = told_unless texts first fault c

@@ -64,7 +64,7 @@ fn report_unit<E: Sink>(tree: &Tree, unit: u32, console: &mut Console<'_, E>) {
 
 /// The name of a choice's first member.
 fn member_name(tree: &Tree, choice: u32) -> &str
-    requires { choice < length tree.now.whole.choices }
+    requires { choice < length tree.now.tree.choices }
 {
     match tree.choice(choice).members.first() {
         Some(s) if s.number() < tree.symbol_count() => tree.name(*s),

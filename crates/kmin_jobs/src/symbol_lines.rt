@@ -17,7 +17,7 @@ use std::alloc::{AllocError, Global};
 
 /// The name of a symbol, empty where there is none of that number.
 fn name_of(tree: &Tree, s: Sym) -> &str
-    ensures { result.now ≡ name_at tree.now.whole s }
+    ensures { result.now ≡ name_at tree.now.tree s }
 {
     if s.number() < tree.symbol_count() {
         tree.name(s)
@@ -28,7 +28,7 @@ fn name_of(tree: &Tree, s: Sym) -> &str
 
 /// Appends a line with the name of a symbol, after some text.
 fn push_name_line(out: &mut Vec<u8>, front: &str, tree: &Tree, s: Sym) -> Result<(), AllocError>
-    ensures { OnOk result (out.new.items ≡ out.old.items ++ name_line front.now tree.now.whole s) }
+    ensures { OnOk result (out.new.items ≡ out.old.items ++ name_line front.now tree.now.tree s) }
 {
     out.extend_from_slice(front.as_bytes())?;
     out.extend_from_slice(name_of(tree, s).as_bytes())?;
@@ -43,7 +43,7 @@ pub(crate) fn name_lines(
     tree: &Tree,
     symbols: &[Sym],
 ) -> Result<Vec<u8>, AllocError>
-    ensures { IfOk result (λ text. text.items ≡ flat_map (name_line front.now tree.now.whole) symbols.now) }
+    ensures { IfOk result (λ text. text.items ≡ flat_map (name_line front.now tree.now.tree) symbols.now) }
 {
     let mut text = Vec::new(alloc);
     for s in symbols {

@@ -1,7 +1,7 @@
 -- How what contracts see of an arena is stored.
 use Rattle.std.specs.Prelude.{ℕ, List, refl}
 use Rattle.std.specs.Coded.{Coded, code_by, coded×, coded_ℕ, coded_list}
-use Rattle.kc_expr.specs.Arena.{Exprs}
+use Rattle.kc_expr.specs.between.Arena.{Exprs}
 use Rattle.kc_expr.specs.Expr.{Expr}
 use Rattle.kc_expr.specs.checker.ExprCode.{expr_code}
 

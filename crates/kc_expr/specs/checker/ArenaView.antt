@@ -1,6 +1,6 @@
 -- The view of an arena's fields.
 use Rattle.kc_expr.specs.declared.arena.Arena.TheInside.{Inside}
-use Rattle.kc_expr.specs.Arena.{Exprs}
+use Rattle.kc_expr.specs.between.Arena.{Exprs}
 use Rattle.kc_expr.specs.checker.Store.{exprs_in, IsSound}
 
 abbrev pub exprs_view : Inside → Exprs

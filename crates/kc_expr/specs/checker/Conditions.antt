@@ -1,4 +1,4 @@
--- What is read, as a condition or as a value.
+-- An expression as a condition or as a value.
 use Rattle.std.specs.Prelude.{Bool, if◌then◌else◌}
 use Rattle.kc_expr.specs.Expr.{Expr, conditional}
 

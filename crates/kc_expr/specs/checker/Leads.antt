@@ -3,7 +3,7 @@ use Rattle.std.specs.Prelude.{ℕ, ◌-◌, ◌<◌, ◌≤◌, List, length, sl
 use Rattle.kc_expr.specs.declared.token.NextToken.{NextToken}
 use Rattle.kc_expr.specs.declared.token.NextToken.TheVariants.{White, Comment, Token, Fault}
 
--- a token is of bytes that are there and ends after an ASCII byte; a fault stands at a byte that is there
+-- a token has bytes that are there and ends after an ASCII byte; a fault is at a byte that is there
 abbrev pub Reaches : List ℕ → NextToken → Type 0
 Reaches bytes White = slice_index bytes 0 < 128
 Reaches bytes Comment = Unit {0}

@@ -10,7 +10,7 @@ use Rattle.kc_expr.specs.declared.store.Store.{Store}
 use Rattle.kc_expr.specs.declared.token.Relop.{Relop}
 use Rattle.kc_expr.specs.declared.token.TokenKind.{TokenKind}
 use Rattle.kc_expr.specs.declared.token.TokenKind.TheVariants.{Word, Quoted, Relation, Not, And, Or, Open, Close}
-use Rattle.kc_expr.specs.Arena.{Represents}
+use Rattle.kc_expr.specs.between.Arena.{Represents}
 use Rattle.kc_expr.specs.Expr.{Expr, Operand, modules}
 use Rattle.kc_expr.specs.NamesIn.{operand_names}
 use Rattle.kc_expr.specs.checker.Nodes.{operand_of}

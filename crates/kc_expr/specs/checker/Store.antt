@@ -2,10 +2,10 @@
 use Rattle.std.specs.Prelude.{◌≡◌, ℕ, ◌≤◌, ◌^◌, List, length, take, map, string_bytes}
 use Rattle.kc_expr.specs.declared.store.Store.{Store}
 use Rattle.kc_expr.specs.declared.store.Mark.{Mark}
-use Rattle.kc_expr.specs.Arena.{Exprs, node_expr}
+use Rattle.kc_expr.specs.between.Arena.{Exprs, node_expr}
 use Rattle.kc_expr.specs.Lookup.{AreDistinct}
 use Rattle.kc_expr.specs.NamesIn.{names_in}
-use Rattle.kc_expr.specs.Names.{with_names}
+use Rattle.kc_expr.specs.between.Names.{with_names}
 use Rattle.kc_expr.specs.checker.Nodes.{exprs_of, AreNodes}
 
 abbrev pub stored_names : Store → List (List ℕ)

@@ -1,7 +1,7 @@
 -- A walk down a chain of expressions.
 use Rattle.std.specs.Prelude.{◌≡◌, ℕ, ◌<◌, ◌≤◌, Bool, true, ◌||◌, ◌==◌, List, length, map}
-use Rattle.kc_expr.specs.Arena.{Exprs, node_expr}
-use Rattle.kc_expr.specs.Visits.{mentions, passes_some_name, is_visited}
+use Rattle.kc_expr.specs.between.Arena.{Exprs, node_expr}
+use Rattle.kc_expr.specs.between.Visits.{mentions, passes_some_name, is_visited}
 
 -- for each stamp, whether it is that of a turn
 abbrev pub stamped : ℕ → List ℕ → List Bool
@@ -11,7 +11,7 @@ stamped turn stamps = map (λ s. s == turn) stamps
 abbrev pub HasFoundTo : Exprs → ℕ → List Bool → List ℕ → Type 0
 HasFoundTo exprs last walked ids = (node : ℕ) (p : List ℕ → Bool) → node ≤ last → is_visited walked node ≡ true → mentions p (node_expr exprs node) ≡ true → passes_some_name exprs p ids ≡ true
 
--- a node is walked, with no node above it, and the names in its expression stand after those that were there
+-- a node was visited, with no node above it, and the names in its expression come after those that were there
 pub record HasVisited (exprs : Exprs) (last : ℕ) (before after : List Bool) (old new : List ℕ) : Type 0 where
   pub room : length after ≡ length before
   pub walked : is_visited after last ≡ true
@@ -20,7 +20,7 @@ pub record HasVisited (exprs : Exprs) (last : ℕ) (before after : List Bool) (o
   pub exact : (p : List ℕ → Bool) → passes_some_name exprs p new ≡ (passes_some_name exprs p old || mentions p (node_expr exprs last))
   pub found : HasFoundTo exprs last after new
 
--- on the way down from a node, where the names below this one are left to put
+-- on the way down from a node, with the names below this one left to push
 pub record IsWalking (exprs : Exprs) (last : ℕ) (before : List Bool) (old : List ℕ) (at : ℕ) (walked : List Bool) (ids : List ℕ) : Type 0 where
   pub below : at ≤ last
   pub room : length walked ≡ length before

@@ -3,15 +3,13 @@ use Rattle.std.specs.Prelude.{◌-◌, Bool, true, false, not, ◌==◌, List, l
 use Rattle.kc_expr.specs.Token.{Lexeme}
 use Rattle.kc_tree_model.specs.declared.fault.TreeKind.{TreeKind}
 use Rattle.kc_tree_model.specs.declared.fault.TreeKind.TheVariants.{LeftOut, Misplaced, StrayEnd}
-use Rattle.kc_tree_model.specs.Keywords.{Keyword}
+use Rattle.kc_tree_model.specs.declared.keyword.Keyword.{Keyword}
 use Rattle.kc_tree_model.specs.Blocks.{Group, in_choice, open_blocks, opened_block, is_stray}
 use Rattle.kc_tree_model.specs.Placement.{is_allowed, is_left_out, is_stray_end, open_entry_allows}
-use Rattle.kc_statements.specs.declared.keyword.Keyword.{Keyword as CodeKeyword}
-use Rattle.kc_statements.specs.declared.keyword.Keyword.TheVariants as words
-use Rattle.kc_statements.specs.declared.statement.Block.{Block as CodeBlock}
-use Rattle.kc_statements.specs.declared.placement.OpenEntry.{OpenEntry as CodeOpen}
-use Rattle.kc_statements.specs.declared.placement.OpenEntry.TheVariants as entries
-use Rattle.kc_statements.specs.KeywordViews.{block_view}
+use Rattle.kc_tree_model.specs.declared.keyword.Keyword.TheVariants as words
+use Rattle.kc_tree_model.specs.declared.keyword.Block.{Block}
+use Rattle.kc_tree_model.specs.declared.keyword.OpenEntry.{OpenEntry}
+use Rattle.kc_tree_model.specs.declared.keyword.OpenEntry.TheVariants as entries
 use Rattle.kc_listing.specs.declared.listing.Group.{Group as CodeGroup}
 use Rattle.kc_listing.specs.declared.listing.GroupHead.{GroupHead as CodeWhat}
 use Rattle.kc_listing.specs.declared.listing.GroupHead.TheVariants as codes
@@ -19,7 +17,7 @@ use Rattle.kc_listing.specs.declared.placement.Place.{Place}
 use Rattle.kc_listing.specs.declared.placement.Place.TheVariants as places
 
 -- where a line with a keyword is allowed
-abbrev pub place_of_keyword : CodeKeyword → Place
+abbrev pub place_of_keyword : Keyword → Place
 place_of_keyword words.Config = places.Anywhere
 place_of_keyword words.If = places.Anywhere
 place_of_keyword words.Comment = places.Anywhere
@@ -38,27 +36,27 @@ is_allowed_here before places.OutsideBlocks k = length (filter_map opened_block 
 is_allowed_here before places.InEntry k = open_entry_allows before k
 
 -- the block that it ends
-abbrev pub block_ended : CodeKeyword → Option CodeBlock
+abbrev pub block_ended : Keyword → Option Block
 block_ended (words.End b) = Some b
 block_ended k = None
 
-abbrev pub is_stray_block : List Group → Option CodeBlock → Bool
+abbrev pub is_stray_block : List Group → Option Block → Bool
 is_stray_block before None = false
-is_stray_block before (Some b) = is_stray before (block_view b)
+is_stray_block before (Some b) = is_stray before b
 
 -- the entry that a group opens
-abbrev pub entry_opened : CodeWhat → Option CodeOpen
+abbrev pub entry_opened : CodeWhat → Option OpenEntry
 entry_opened (codes.Config s) = Some entries.Config
 entry_opened codes.Choice = Some entries.Choice
 entry_opened (codes.Menu t) = Some entries.Menu
 entry_opened (codes.Comment t) = Some entries.Comment
 entry_opened w = None
 
-abbrev pub entry_of_group : Option CodeGroup → Option CodeOpen
+abbrev pub entry_of_group : Option CodeGroup → Option OpenEntry
 entry_of_group None = None
-entry_of_group (Some g) = entry_opened g.what
+entry_of_group (Some g) = entry_opened g.head
 
-abbrev pub entry_kept : List CodeGroup → Option CodeOpen
+abbrev pub entry_kept : List CodeGroup → Option OpenEntry
 entry_kept groups = entry_of_group (slice_get groups (length groups - 1))
 
 -- the fault of a line that comes before those of its form

@@ -1,7 +1,7 @@
 -- Tests of what is open.
 use Rattle.std.specs.Prelude.{ℕ, ◌-◌, Bool, true, false, List, length, slice_get, bytes_eq, Option, Some, None}
-use Rattle.kc_statements.specs.declared.statement.Block.{Block}
-use Rattle.kc_statements.specs.declared.statement.Block.TheVariants as blocks
+use Rattle.kc_tree_model.specs.declared.keyword.Block.{Block}
+use Rattle.kc_tree_model.specs.declared.keyword.Block.TheVariants as blocks
 use Rattle.kc_listing.specs.declared.state.OpenBlock.{OpenBlock}
 use Rattle.kc_listing.specs.declared.state.OpenBlock.TheVariants as opens
 

@@ -1,11 +1,12 @@
 -- What the reading of the first file answers.
 use Rattle.std.specs.Prelude.{◌≡◌, ◌⊎◌, [], Option, Some}
 use Rattle.kc_tree_model.specs.declared.fault.TreeFault.{TreeFault}
-use Rattle.kc_tree_model.specs.Limits.{FileSource, max_open_files}
+use Rattle.kc_tree_model.specs.Limits.{FileSource}
+use Rattle.kc_value.specs.declared.limits.TheConstants.{MAX_OPEN_FILES}
 use Rattle.kc_tree_model.specs.Reading.{Outcome, read_file}
 use Rattle.kc_listing.specs.declared.listing.Listing.{Listing}
-use Rattle.kc_listing.specs.ListingView.{RepresentsListing}
-use Rattle.kc_listing.specs.MemoryFaults.{no_memory}
+use Rattle.kc_listing.specs.between.ListingView.{RepresentsListing}
+use Rattle.kc_listing.specs.between.MemoryFaults.{no_memory}
 
 -- all that was read, and the fault that ended it, unless memory ran out
 abbrev pub OutcomeRead : Outcome → Listing × Option TreeFault → Type 0
@@ -13,4 +14,4 @@ OutcomeRead o result = (result.1 ≡ Some no_memory) ⊎ ((result.1 ≡ o.fault)
 
 -- the reading of the first file
 unfoldable pub of_first : FileSource → Outcome
-of_first r = read_file max_open_files r r.root []
+of_first r = read_file MAX_OPEN_FILES r r.root []

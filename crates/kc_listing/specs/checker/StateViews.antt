@@ -1,6 +1,5 @@
 -- What the counts and the open blocks of a reading represent.
 use Rattle.std.specs.Prelude.{◌≡◌, ℕ, List, [], ◌∷◌, length, reverse, filter, slice_get, sum_by, Some, None}
-use Rattle.kc_statements.specs.KeywordViews.{block_view}
 use Rattle.kc_tree_model.specs.TreeFiles.{file_at, index_of_file}
 use Rattle.kc_tree_model.specs.Blocks.{Group, GroupHead, Position, open_blocks, opened_block, sourced_path, opens_choice}
 use Rattle.kc_tree_model.specs.Limits.{FileSource, names_defined, files_read, size_in}
@@ -12,11 +11,11 @@ use Rattle.kc_listing.specs.declared.state.ReaderState.{ReaderState}
 use Rattle.kc_listing.specs.declared.state.SourceFiles.{SourceFiles}
 use Rattle.kc_listing.specs.declared.listing.Listing.{Listing}
 use Rattle.kc_listing.specs.declared.listing.GroupHead.{GroupHead as CodeWhat}
-use Rattle.kc_listing.specs.ListingView.{RepresentsListing, RepresentsHead}
+use Rattle.kc_listing.specs.between.ListingView.{RepresentsListing, RepresentsHead}
 
 -- a block that is open, or a file
 abbrev pub RepresentsOpenBlock : List (List ℕ) → OpenBlock → Group → Type 0
-RepresentsOpenBlock texts (opens.Block b line) g = (opened_block g ≡ Some (block_view b)) × (g.at.line ≡ line) × (sourced_path g ≡ None)
+RepresentsOpenBlock texts (opens.Block b line) g = (opened_block g ≡ Some b) × (g.at.line ≡ line) × (sourced_path g ≡ None)
 RepresentsOpenBlock texts (opens.Source t) g = (path : List ℕ) × (slice_get texts t ≡ Some path) × (opened_block g ≡ None) × (sourced_path g ≡ Some path)
 
 -- all that is open, the innermost first

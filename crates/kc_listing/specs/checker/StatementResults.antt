@@ -3,13 +3,13 @@ use Rattle.std.specs.Prelude.{◌≡◌, ◌⊎◌, ℕ, Bool, true, false, List
 use Rattle.kc_expr.specs.Token.{Lexeme}
 use Rattle.kc_tree_model.specs.declared.fault.TreeKind.{TreeKind}
 use Rattle.kc_tree_model.specs.declared.fault.TreeKind.TheVariants.{OutOfMemory}
-use Rattle.kc_tree_model.specs.Keywords.{Keyword}
+use Rattle.kc_tree_model.specs.declared.keyword.Keyword.{Keyword}
 use Rattle.kc_tree_model.specs.LogicalLines.{is_help_word}
 use Rattle.kc_tree_model.specs.Statements.{Statement, head, source}
 use Rattle.kc_tree_model.specs.Blocks.{Group}
 use Rattle.kc_tree_model.specs.Limits.{FileSource}
 use Rattle.kc_tree_model.specs.Reading.{with_statement, path_to_read}
-use Rattle.kc_listing.specs.ListingView.{RepresentsListing}
+use Rattle.kc_listing.specs.between.ListingView.{RepresentsListing}
 use Rattle.kc_listing.specs.checker.StateViews.{Describes, at_line}
 use Rattle.kc_listing.specs.checker.Steps.{limits}
 use Rattle.kc_listing.specs.declared.state.ReaderState.{ReaderState}

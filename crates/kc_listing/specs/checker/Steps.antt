@@ -2,7 +2,7 @@
 use Rattle.std.specs.Prelude.{◌≡◌, ◌⊎◌, ℕ, ◌+◌, ◌<◌, ◌≤◌, Bool, true, false, List, length, drop, take_while, Option, Some, None, is_some, Result, Ok, Err, nat_lt, if◌then◌else◌}
 use Rattle.std.specs.Str.{is_utf8}
 use denote.Bor.{Bor}
-use Rattle.kc_tree_model.specs.Limits.{max_line_bytes}
+use Rattle.kc_value.specs.declared.limits.TheConstants.{MAX_LINE_BYTES}
 use Rattle.kc_tree_model.specs.declared.fault.TreeFault.{TreeFault}
 use Rattle.kc_tree_model.specs.declared.fault.TreeKind.{TreeKind}
 use Rattle.kc_tree_model.specs.declared.fault.TreeKind.TheVariants.{OutOfMemory, MissingFile, TooDeep, TooMany}
@@ -11,7 +11,7 @@ use Rattle.kc_tree_model.specs.Statements.{Statement, Head, Attribute, head, att
 use Rattle.kc_tree_model.specs.Blocks.{Group, of_head, file_end, innermost}
 use Rattle.kc_tree_model.specs.Limits.{FileSource, source_fault, bytes_in, is_too_deep, is_too_many}
 use Rattle.kc_tree_model.specs.Reading.{Outcome, read_lines, read_file, statement_on_line, with_statement, with_group, with_attribute, path_to_read, at_file_end, continue_after_statement}
-use Rattle.kc_listing.specs.ListingView.{RepresentsListing}
+use Rattle.kc_listing.specs.between.ListingView.{RepresentsListing}
 use Rattle.kc_listing.specs.checker.LinePlaces.{is_of_help}
 use Rattle.kc_listing.specs.checker.Faults.{IsMemory}
 use Rattle.kc_listing.specs.checker.StateViews.{Describes, at_line}
@@ -130,7 +130,7 @@ FileOfRead r depth file before new result = (path : List ℕ) → file.number �
 
 -- the text of a line, or the fault of its bytes
 abbrev pub IsText : List ℕ → Result (Bor (List ℕ)) TreeKind → Type 0
-IsText bytes (Ok t) = (nat_lt max_line_bytes (length bytes) ≡ false) × (is_utf8 bytes ≡ true) × (t.now ≡ bytes)
+IsText bytes (Ok t) = (nat_lt MAX_LINE_BYTES (length bytes) ≡ false) × (is_utf8 bytes ≡ true) × (t.now ≡ bytes)
 IsText bytes (Err k) = (r : List Group) → (number : ℕ) → (help : Bool) → statement_on_line r (record { number = number; text = bytes; help = help }) ≡ Err k
 
 -- how many lines from a place on are of a help text that is indented so far

@@ -1,16 +1,16 @@
 -- The number of a symbol that is told.
 use Rattle.std.specs.Prelude.{◌≡◌, ◌⊎◌, ℕ, Bool, true, false, not, ◌&&◌, nat_le, List, length, slice_get, is_some, Some, Result, Ok, Err}
 use Rattle.kc_expr.specs.Lookup.{index_of_name}
-use Rattle.kc_expr.specs.Names.{with_name}
+use Rattle.kc_expr.specs.between.Names.{with_name}
 use Rattle.kc_tree_model.specs.declared.fault.TreeKind.{TreeKind}
 use Rattle.kc_tree_model.specs.declared.fault.TreeKind.TheVariants.{OutOfMemory, TooMany}
-use Rattle.kc_tree_model.specs.Limits.{max_symbols}
+use Rattle.kc_value.specs.declared.limits.TheConstants.{MAX_SYMBOLS}
 use Rattle.kc_listing.specs.declared.listing.SymbolTable.{SymbolTable}
-use Rattle.kc_listing.specs.SymbolTable.{HasNames}
+use Rattle.kc_listing.specs.between.SymbolTable.{HasNames}
 
 -- one more name than there may be
 abbrev pub is_full : List ℕ → List (List ℕ) → Bool
-is_full name names = not (is_some (index_of_name name names)) && nat_le max_symbols (length names)
+is_full name names = not (is_some (index_of_name name names)) && nat_le MAX_SYMBOLS (length names)
 
 -- the names that are kept
 abbrev pub KeepsNames : SymbolTable → List (List ℕ) → Type 0

@@ -3,8 +3,8 @@ use Rattle.std.specs.Prelude.{◌≡◌, ℕ, ◌+◌, ◌-◌, ◌<◌, ◌≤�
 use Rattle.std.specs.List.{list_any}
 use Rattle.std.specs.Option.{option_map}
 use Rattle.kc_value.specs.declared.value.Kind.{Kind}
-use Rattle.kc_expr.specs.Arena.{Exprs, node_expr}
-use Rattle.kc_expr.specs.Visits.{mentions}
+use Rattle.kc_expr.specs.between.Arena.{Exprs, node_expr}
+use Rattle.kc_expr.specs.between.Visits.{mentions}
 use Rattle.kc_tree.specs.declared.symbol.Default.{Default as KeptDefault}
 use Rattle.kc_tree.specs.declared.symbol.Range.{Range as KeptRange}
 use Rattle.kc_tree.specs.declared.symbol.ReverseDependency.{ReverseDependency as KeptForce}
@@ -14,7 +14,7 @@ use Rattle.kc_tree.specs.declared.symbol.MemberDefault.{MemberDefault as KeptMem
 use Rattle.kc_tree_model.specs.Trees.{Tree}
 use Rattle.kc_tree_model.specs.TreeLookup.{unit_of, symbol_named}
 use Rattle.kc_rules_model.specs.Dependencies.{dependencies, names_in_member_prompts}
-use Rattle.kc_rules_model.specs.Kinds.{is_tristate}
+use Rattle.kc_value.specs.Kinds.{is_tristate}
 
 -- the dependencies of the units below this one: each unit's begin at its place in `starts` and end at the next
 -- unit's, and nothing follows them

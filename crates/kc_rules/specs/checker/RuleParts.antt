@@ -5,7 +5,8 @@ use Rattle.kc_value.specs.Tri.{tri_or}
 use Rattle.kc_tree_model.specs.Trees.{Tree, Symbol, Default}
 use Rattle.kc_rules_model.specs.declared.profile.Profile.{Profile}
 use Rattle.kc_rules_model.specs.declared.values.UnitValue.{UnitValue}
-use Rattle.kc_rules_model.specs.Kinds.{is_n, y_for_m}
+use Rattle.kc_rules_model.specs.Kinds.{is_n}
+use Rattle.kc_value.specs.Tri.{y_for_m}
 use Rattle.kc_rules_model.specs.Rule.{base, promoted, selected, leaves_no_m}
 use Rattle.kc_rules_model.specs.SymbolValues.{condition}
 

@@ -5,9 +5,9 @@ use Rattle.kc_tree_model.specs.Trees.{Choice, MemberDefault}
 use Rattle.kc_rules_model.specs.Kinds.{is_n}
 use Rattle.kc_rules_model.specs.SymbolValues.{condition}
 use Rattle.kc_rules_model.specs.Rule.{is_visible_member, is_shown, or_else}
-use Rattle.kc_expr.specs.Arena.{Exprs}
+use Rattle.kc_expr.specs.between.Arena.{Exprs}
 use Rattle.kc_tree_model.specs.Trees.{Tree}
-use Rattle.kc_tree.specs.Views.{RangeFits}
+use Rattle.kc_tree.specs.between.Views.{RangeFits}
 use Rattle.kc_tree.specs.declared.symbol.Default.{Default as KeptDefault}
 use Rattle.kc_tree.specs.declared.symbol.Range.{Range as KeptRange}
 use Rattle.kc_tree.specs.declared.symbol.ReverseDependency.{ReverseDependency as KeptForce}

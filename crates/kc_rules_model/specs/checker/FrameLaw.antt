@@ -10,7 +10,9 @@ use Rattle.kc_value.specs.declared.value.Kind.{Kind}
 use Rattle.kc_value.specs.declared.value.Kind.TheVariants.{Bool as Boolean, Tristate, Text, Int, Hex}
 use Rattle.kc_value.specs.Tri.{tri_and, tri_or}
 use Rattle.kc_expr.specs.Expr.{Expr, alone, related, negated, both, either, shown, operand_text, symbol_tri, modules}
-use Rattle.kc_tree_model.specs.Trees.{Tree, Symbol, Choice, Default, Range, ReverseDependency, MemberDefault, TreeUnit, of_symbol, of_choice}
+use Rattle.kc_tree_model.specs.Trees.{Tree, Symbol, Choice, Default, Range, ReverseDependency, MemberDefault}
+use Rattle.kc_tree_model.specs.declared.ids.Unit.{Unit as TreeUnit}
+use Rattle.kc_tree_model.specs.declared.ids.Unit.TheVariants.{Symbol as of_symbol, Choice as of_choice}
 use Rattle.kc_tree_model.specs.TreeLookup.{unit_of, unit_of_symbol, unit_in, index_of_unit, symbol_named}
 use Rattle.kc_system.specs.Solutions.{KeepsFrame}
 use Rattle.kc_rules_model.specs.declared.profile.Profile.{Profile}
@@ -19,7 +21,9 @@ use Rattle.kc_rules_model.specs.declared.values.UnitValue.{UnitValue}
 use Rattle.kc_rules_model.specs.declared.values.UnitValue.TheVariants.{Tri as TriValue, Text as TextValue, Member as MemberValue}
 use Rattle.kc_rules_model.specs.declared.values.UserValue.{UserValue}
 use Rattle.kc_rules_model.specs.declared.values.UserValue.TheVariants.{Tri as TriUser, Text as TextUser, Member as MemberUser}
-use Rattle.kc_rules_model.specs.Kinds.{is_n, is_y, y_for_m, largest, is_bool, is_tristate, is_tri_kind}
+use Rattle.kc_rules_model.specs.Kinds.{is_n, is_y, largest}
+use Rattle.kc_value.specs.Tri.{y_for_m}
+use Rattle.kc_value.specs.Kinds.{is_bool, is_tristate, is_tri_kind}
 use Rattle.kc_value.specs.Number.{number_of_text, number_spelling}
 use Rattle.kc_rules_model.specs.SymbolValues.{condition, environment, value_of_symbol, value_in_unit, tri_symbol_value, tri_if_selected, member_of, tri_of, text_of}
 use Rattle.kc_rules_model.specs.Rule.{conditions, reverse_dependency_limit, is_visible, expression_text, default_tri, is_within, clamped, promoted, modules_value, visibility, unassigned_value, base, selected, implied, implied_effect, leaves_no_m, direct_dependency, active_default, active_range, assigned_tri, assigned_text, assigned_member, tri_rule, string_rule, number_rule, number_default, default_text, visible_text, symbol_rule, choice_rule, is_shown, or_else, is_visible_member, rule, rule_of_unit, rule_of_symbol, rule_of_choice}

@@ -1,6 +1,7 @@
 -- The keywords of a length.
 use Rattle.std.specs.Prelude.{ℕ, List, ◌==◌, length, filter}
-use Rattle.kc_tree_model.specs.Keywords.{Keyword, keywords}
+use Rattle.kc_tree_model.specs.Keywords.{keywords}
+use Rattle.kc_tree_model.specs.declared.keyword.Keyword.{Keyword}
 
 -- the entries whose words have so many letters
 abbrev pub of_length : ℕ → List (List ℕ × Keyword)

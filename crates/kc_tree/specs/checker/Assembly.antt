@@ -1,6 +1,6 @@
 -- The parts from which a tree is assembled.
 use Rattle.std.specs.Prelude.{◌≡◌, ℕ, ◌<◌, ◌^◌, List, None, length, map, filter, All}
-use Rattle.kc_expr.specs.Arena.{Exprs}
+use Rattle.kc_expr.specs.between.Arena.{Exprs}
 use Rattle.kc_tree_model.specs.Blocks.{Group}
 use Rattle.kc_tree_model.specs.Conditions.{groups_in_context}
 use Rattle.kc_tree_model.specs.Contents.{contents_of, tree_of_groups}
@@ -9,7 +9,6 @@ use Rattle.kc_tree_model.specs.TreeFiles.{Files}
 use Rattle.kc_tree_model.specs.Reading.{reading}
 use Rattle.kc_tree_model.specs.TreeFaults.{first_tree_fault}
 use Rattle.kc_listing.specs.declared.listing.Listing.{Listing}
-use Rattle.kc_tree.specs.Views.{unit_view}
 use Rattle.kc_tree.specs.checker.ChoiceDefaults.{IsWalkOf, AreDefaultsOf}
 use Rattle.kc_tree.specs.checker.ChoiceRows.{opens, AreChoiceRows}
 use Rattle.kc_tree.specs.checker.Definitions.{AreAttributes}
@@ -39,7 +38,7 @@ AreFew w = length w.listing.groups.items < 2 ^ 32
 pub record AreSymbolParts (e : Exprs) (read : List Group) (p : SymbolParts) : Type 0 where
   pub rows : AreRowsOf e (contents_of read) (names_defined read) p.rows.items
   pub attributes : AreAttributes e (contents_of read) p.attributes
-  pub units : map unit_view p.units.items ≡ units_read (contents_of read)
+  pub units : p.units.items ≡ units_read (contents_of read)
 
 -- rows and defaults of the choices, and the entries
 pub record AreChoiceParts (l : Listing) (read : List Group) (p : ChoiceParts) : Type 0 where

@@ -1,22 +1,22 @@
 -- The defaults of choices, as they are gathered.
 use Rattle.std.specs.Prelude.{◌≡◌, ℕ, List, [], ◌∷◌, All, length, map, filter, filter_map, reverse, slice_get, Option, Some, None, option_map, option_and_then, if◌then◌else◌}
 use Rattle.std.specs.List.{cons_option}
-use Rattle.kc_expr.specs.Arena.{node_expr}
-use Rattle.kc_expr.specs.Names.{name_alone}
+use Rattle.kc_expr.specs.between.Arena.{node_expr}
+use Rattle.kc_expr.specs.between.Names.{name_alone}
 use Rattle.kc_statements.specs.declared.statement.Attribute.{Attribute as CodeAttribute}
 use Rattle.kc_statements.specs.declared.statement.Attribute.TheVariants as attributes
 use Rattle.kc_listing.specs.declared.listing.Line.{Line as CodeLine}
 use Rattle.kc_listing.specs.declared.listing.Listing.{Listing}
 use Rattle.kc_listing.specs.declared.listing.SymbolTable.{SymbolTable}
 use Rattle.kc_listing.specs.declared.listing.GroupHead.{GroupHead as CodeWhat}
-use Rattle.kc_listing.specs.SymbolTable.{number_in}
-use Rattle.kc_listing.specs.ListingView.{RepresentsListing}
+use Rattle.kc_listing.specs.between.SymbolTable.{number_in}
+use Rattle.kc_listing.specs.between.ListingView.{RepresentsListing}
 use Rattle.kc_tree_model.specs.Trees as tree
 use Rattle.kc_tree_model.specs.Statements.{default_of}
 use Rattle.kc_tree_model.specs.Blocks.{Group, opens_choice}
 use Rattle.kc_tree_model.specs.Conditions.{GroupInContext, attribute_values}
 use Rattle.kc_tree_model.specs.Contents.{Contents, member_default}
-use Rattle.kc_tree.specs.Views.{member_default_view, MemberDefaultFits}
+use Rattle.kc_tree.specs.between.Views.{member_default_view, MemberDefaultFits}
 use Rattle.kc_tree.specs.checker.GatheredAttributes.{AreKeys}
 use Rattle.kc_tree.specs.checker.GroupedItems.{items_of}
 use Rattle.kc_tree.specs.checker.Summaries.{is_choice_code}

@@ -1,6 +1,6 @@
 -- The conditions of each group's attributes.
 use Rattle.std.specs.Prelude.{ℕ, ◌+◌, None, List, length, nat_lt, reverse, slice_range, slice_index_or, if◌then◌else◌}
-use Rattle.kc_expr.specs.Arena.{Exprs}
+use Rattle.kc_expr.specs.between.Arena.{Exprs}
 use Rattle.kc_tree_model.specs.Blocks.{Group}
 use Rattle.kc_tree.specs.checker.Walks.{RepresentsAllConditions}
 use Rattle.kc_tree.specs.declared.group_walk.GroupConditions.{GroupConditions}

@@ -1,6 +1,6 @@
 -- Conjunctions by the numbers of their expressions.
 use Rattle.std.specs.Prelude.{◌≡◌, ℕ, ◌<◌, List, [], length, Option, Some, None, option_map, option_to_list}
-use Rattle.kc_expr.specs.Arena.{Exprs, Represents, node_expr}
+use Rattle.kc_expr.specs.between.Arena.{Exprs, Represents, node_expr}
 use Rattle.kc_expr.specs.Expr.{Expr}
 use Rattle.kc_tree_model.specs.Conditions.{conjunction_of}
 

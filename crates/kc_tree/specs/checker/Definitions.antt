@@ -1,10 +1,10 @@
 -- What definitions give symbols, by the conditions of groups and of their attributes.
 use Rattle.std.specs.Prelude.{◌≡◌, ℕ, ◌<◌, List, [], ◌∷◌, ◌++◌, length, map, All, Some, slice_get}
-use Rattle.kc_expr.specs.Arena.{Exprs, node_expr}
+use Rattle.kc_expr.specs.between.Arena.{Exprs, node_expr}
 use Rattle.kc_tree_model.specs.Contents.{Contents, symbol_of}
 use Rattle.kc_listing.specs.declared.listing.Line.{Line as CodeLine}
 use Rattle.kc_listing.specs.declared.listing.SymbolTable.{SymbolTable}
-use Rattle.kc_tree.specs.Views.{default_view, range_view, reverse_dependency_view, DefaultFits, RangeFits, HasOperands, ReverseDependencyFits}
+use Rattle.kc_tree.specs.between.Views.{default_view, range_view, reverse_dependency_view, DefaultFits, RangeFits, HasOperands, ReverseDependencyFits}
 use Rattle.kc_tree.specs.checker.GatheredAttributes.{HaveKeys}
 use Rattle.kc_tree.specs.checker.GatheredItems.{gathered_prompt, gathered_default, gathered_range, own_key, aimed_at, gathered_reverse_dependency, HasAppended}
 use Rattle.kc_tree.specs.checker.GroupedItems.{items_of}

@@ -1,6 +1,6 @@
 -- The entries of groups, by what is kept of them.
 use Rattle.std.specs.Prelude.{ℕ, ◌+◌, List, [], ◌∷◌, ◌++◌, Option, Some, None, option_map, option_to_list}
-use Rattle.kc_statements.specs.declared.statement.Block.TheVariants as blocks
+use Rattle.kc_tree_model.specs.declared.keyword.Block.TheVariants as blocks
 use Rattle.kc_listing.specs.declared.listing.Group.{Group}
 use Rattle.kc_listing.specs.declared.listing.GroupHead.{GroupHead}
 use Rattle.kc_listing.specs.declared.listing.GroupHead.TheVariants as codes
@@ -30,4 +30,4 @@ choices_after w n = n
 abbrev pub entries_from : ℕ → List Group → List GroupConditions → List EntryRow
 entries_from n [] cs = []
 entries_from n (g ∷ gs) [] = []
-entries_from n (g ∷ gs) (c ∷ cs) = option_to_list (entry_row g.what c n) ++ entries_from (choices_after g.what n) gs cs
+entries_from n (g ∷ gs) (c ∷ cs) = option_to_list (entry_row g.head c n) ++ entries_from (choices_after g.head n) gs cs

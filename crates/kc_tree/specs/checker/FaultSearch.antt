@@ -5,7 +5,7 @@ use Rattle.kc_tree_model.specs.Conditions.{groups_in_context}
 use Rattle.kc_tree_model.specs.Contents.{contents_of}
 use Rattle.kc_tree_model.specs.TreeFaults.{faults_of_group}
 use Rattle.kc_listing.specs.declared.listing.Listing.{Listing}
-use Rattle.kc_listing.specs.ListingView.{RepresentsListing}
+use Rattle.kc_listing.specs.between.ListingView.{RepresentsListing}
 use Rattle.kc_tree.specs.checker.GroupedItems.{IsGrouped}
 use Rattle.kc_tree.specs.checker.Summaries.{read_before}
 use Rattle.kc_tree.specs.declared.summary.Summary.{Summary}

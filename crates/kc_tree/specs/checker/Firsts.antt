@@ -1,6 +1,6 @@
 -- First prompts, and the conditions inside a block that a group opens.
 use Rattle.std.specs.Prelude.{◌≡◌, ℕ, ◌<◌, Bool, true, false, List, [], ◌∷◌, Option, Some, None, if◌then◌else◌}
-use Rattle.kc_expr.specs.Arena.{Exprs, Represents}
+use Rattle.kc_expr.specs.between.Arena.{Exprs, Represents}
 use Rattle.kc_expr.specs.Expr.{Expr}
 use Rattle.kc_listing.specs.declared.listing.Line.{Line as CodeLine}
 use Rattle.kc_listing.specs.declared.listing.GroupHead.{GroupHead as CodeWhat}
@@ -35,5 +35,5 @@ GroupHeadNodesExist nodes w = Unit {0}
 
 -- the conditions inside a block, if a group opens one
 abbrev pub RepresentsInside : Exprs → List (List ℕ) → ℕ → Group → List Group → Option EnclosingConditions → Type 0
-RepresentsInside exprs texts y m opened None = (side_of m.what ≡ opening → ⊥)
-RepresentsInside exprs texts y m opened (Some a) = (side_of m.what ≡ opening) × RepresentsEnclosing exprs texts y a (m ∷ opened)
+RepresentsInside exprs texts y m opened None = (side_of m.head ≡ opening → ⊥)
+RepresentsInside exprs texts y m opened (Some a) = (side_of m.head ≡ opening) × RepresentsEnclosing exprs texts y a (m ∷ opened)

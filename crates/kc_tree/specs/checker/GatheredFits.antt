@@ -1,6 +1,6 @@
 -- What the lists that were gathered keep.
 use Rattle.std.specs.Prelude.{◌≡◌, ℕ, ◌<◌, ◌^◌, length, All, Some, slice_get}
-use Rattle.kc_tree.specs.Views.{DefaultFits, RangeFits, HasOperands, ReverseDependencyFits, MemberDefaultFits}
+use Rattle.kc_tree.specs.between.Views.{DefaultFits, RangeFits, HasOperands, ReverseDependencyFits, MemberDefaultFits}
 use Rattle.kc_tree.specs.checker.GatheredAttributes.{AreKeys, HaveKeys}
 use Rattle.kc_tree.specs.checker.StoredParts.{EntryRowFits}
 use Rattle.kc_tree.specs.declared.parts.SymbolRow.{SymbolRow}

@@ -5,7 +5,7 @@ use Rattle.kc_statements.specs.declared.statement.Attribute.{Attribute as CodeAt
 use Rattle.kc_statements.specs.declared.statement.Attribute.TheVariants as attributes
 use Rattle.kc_listing.specs.declared.listing.Line.{Line as CodeLine}
 use Rattle.kc_listing.specs.declared.listing.SymbolTable.{SymbolTable}
-use Rattle.kc_listing.specs.SymbolTable.{number_in, text_of_name}
+use Rattle.kc_listing.specs.between.SymbolTable.{number_in, text_of_name}
 use Rattle.kc_tree.specs.checker.Conjuncts.{is_prompt}
 use Rattle.kc_tree.specs.declared.definition_attributes.ReverseKind.{ReverseKind}
 use Rattle.kc_tree.specs.declared.definition_attributes.ReverseKind.TheVariants.{Select, Imply}

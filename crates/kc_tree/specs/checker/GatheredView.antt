@@ -1,9 +1,9 @@
 -- What the lists that were gathered represent.
 use Rattle.std.specs.Prelude.{ℕ, [], map, option_map, slice_index_or}
-use Rattle.kc_expr.specs.Arena.{node_expr}
+use Rattle.kc_expr.specs.between.Arena.{node_expr}
 use Rattle.kc_tree_model.specs.Trees as tree
 use Rattle.kc_tree_model.specs.Trees.{Tree}
-use Rattle.kc_tree.specs.Views.{default_view, range_view, reverse_dependency_view, member_default_view, unit_view}
+use Rattle.kc_tree.specs.between.Views.{default_view, range_view, reverse_dependency_view, member_default_view}
 use Rattle.kc_tree.specs.checker.GroupedItems.{items_of}
 use Rattle.kc_tree.specs.checker.PartsView.{from_rows, entry_from_row}
 use Rattle.kc_tree.specs.declared.parts.SymbolRow.{SymbolRow}
@@ -41,5 +41,5 @@ gathered_tree g = record {
   symbols = from_rows (symbol_gathered g) 0 g.symbols.items;
   choices = from_rows (choice_gathered g) 0 g.choices.items;
   entries = map (entry_from_row g.arena g.titles.items) g.entries.items;
-  units = map unit_view g.units.items;
+  units = g.units.items;
 }

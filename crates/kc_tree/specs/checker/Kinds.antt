@@ -5,7 +5,8 @@ use Rattle.kc_value.specs.declared.value.Kind.TheVariants.{Bool as Boolean}
 use Rattle.kc_tree_model.specs.declared.fault.TreeKind.{TreeKind}
 use Rattle.kc_tree_model.specs.declared.fault.TreeKind.TheVariants.{NoType, TypeConflict, SecondPrompt, DefaultShape, RangeType, SelectType, ChoiceMember, ChoiceDefault, ModulesType}
 use Rattle.kc_tree_model.specs.Statements.{Attribute, type_of, prompt_of, default_of, range_of, is_modules}
-use Rattle.kc_tree_model.specs.TreeFaults.{is_other_kind, kind_or_bool, is_shapeless, is_number}
+use Rattle.kc_tree_model.specs.TreeFaults.{is_other_kind, kind_or_bool, is_shapeless}
+use Rattle.kc_value.specs.Kinds.{is_number}
 use Rattle.kc_tree.specs.declared.summary.SymbolSummary.{SymbolSummary}
 
 -- the fault of a definition, by what is known of its symbol

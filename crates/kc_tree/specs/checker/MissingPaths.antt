@@ -30,4 +30,4 @@ path_in texts w = None
 -- the absent paths of groups after others, in reading order
 abbrev pub with_all : Files → List (List ℕ) → List (List ℕ) → List Group → List (List ℕ)
 with_all files texts paths [] = paths
-with_all files texts paths (g ∷ gs) = with_all files texts (with_absent files paths (path_in texts g.what)) gs
+with_all files texts paths (g ∷ gs) = with_all files texts (with_absent files paths (path_in texts g.head)) gs

@@ -1,10 +1,10 @@
 -- The numbers of units.
 use Rattle.std.specs.Prelude.{◌≡◌, ℕ, ◌<◌, List, length, Option, Some, None, slice_get, slice_index}
-use Rattle.kc_tree_model.specs.declared.ids.Unit.{Unit as ToldUnit}
+use Rattle.kc_tree_model.specs.declared.ids.Unit.{Unit as TreeUnit}
 use Rattle.kc_tree_model.specs.declared.ids.Unit.TheVariants.{Symbol as SymbolUnit, Choice as ChoiceUnit}
 
 -- the first so many units have their numbers
-pub record AreNumbered (symbols choices : ℕ) (units : List ToldUnit) (n : ℕ) (of_symbol of_choice : List ℕ) : Type 0 where
+pub record AreNumbered (symbols choices : ℕ) (units : List TreeUnit) (n : ℕ) (of_symbol of_choice : List ℕ) : Type 0 where
   pub symbols_len : length of_symbol ≡ symbols
   pub choices_len : length of_choice ≡ choices
   pub symbol_units : (u s : ℕ) → u < n → slice_get units u ≡ Some (SymbolUnit s) → slice_index of_symbol s ≡ u

@@ -1,9 +1,9 @@
 -- What the lists of a tree represent.
 use Rattle.std.specs.Prelude.{ℕ, suc, List, [], ◌∷◌, map, option_map, slice_index_or}
-use Rattle.kc_expr.specs.Arena.{Exprs, node_expr}
+use Rattle.kc_expr.specs.between.Arena.{Exprs, node_expr}
 use Rattle.kc_tree_model.specs.Trees as tree
 use Rattle.kc_tree_model.specs.Trees.{Tree}
-use Rattle.kc_tree.specs.Views.{default_view, range_view, reverse_dependency_view, member_default_view, unit_view}
+use Rattle.kc_tree.specs.between.Views.{default_view, range_view, reverse_dependency_view, member_default_view}
 use Rattle.kc_tree.specs.checker.GroupedItems.{items_at}
 use Rattle.kc_tree.specs.declared.parts.SymbolRow.{SymbolRow}
 use Rattle.kc_tree.specs.declared.parts.ChoiceRow.{ChoiceRow}
@@ -55,5 +55,5 @@ tree_from_rows p = record {
   symbols = from_rows (symbol_from_row p) 0 p.symbols.items;
   choices = from_rows (choice_from_row p) 0 p.choices.items;
   entries = map (entry_from_row p.arena p.titles.items) p.entries.items;
-  units = map unit_view p.units.items;
+  units = p.units.items;
 }

@@ -1,11 +1,11 @@
 -- The rows of symbols, by what is known of them.
 use Rattle.std.specs.Prelude.{◌≡◌, ℕ, ◌<◌, List, [], ◌∷◌, length, Option, Some, None, option_map, unwrap_or, slice_get}
 use Rattle.kc_value.specs.declared.value.Kind.TheVariants.{Bool as Boolean}
-use Rattle.kc_expr.specs.Arena.{Exprs}
+use Rattle.kc_expr.specs.between.Arena.{Exprs}
 use Rattle.kc_tree_model.specs.Blocks.{Group}
 use Rattle.kc_tree_model.specs.Contents.{Contents, type_given, first_definition, choice_of_symbol}
 use Rattle.kc_listing.specs.declared.listing.Group.{Group as CodeGroup}
-use Rattle.kc_listing.specs.SymbolTable.{text_of_name}
+use Rattle.kc_listing.specs.between.SymbolTable.{text_of_name}
 use Rattle.kc_tree.specs.declared.parts.SymbolRow.{SymbolRow}
 use Rattle.kc_tree.specs.declared.summary.SymbolSummary.{SymbolSummary}
 

@@ -1,10 +1,9 @@
 -- What the lists of a tree keep.
 use Rattle.std.specs.Prelude.{◌≡◌, ℕ, ◌+◌, ◌<◌, ◌^◌, List, length, map, All, Some, None, slice_get, slice_index}
 use Rattle.kc_expr.specs.Lookup.{index_of_name}
-use Rattle.kc_tree_model.specs.declared.ids.Unit.TheVariants.{Symbol as SymbolUnit, Choice as ChoiceUnit}
-use Rattle.kc_tree_model.specs.Trees.{of_choice}
+use Rattle.kc_tree_model.specs.declared.ids.Unit.TheVariants.{Symbol as of_symbol, Choice as of_choice}
 use Rattle.kc_tree_model.specs.TreeLookup.{IsConsistent, unit_of, index_of_unit, symbol_named}
-use Rattle.kc_tree.specs.Views.{DefaultFits, RangeFits, HasOperands, ReverseDependencyFits, MemberDefaultFits}
+use Rattle.kc_tree.specs.between.Views.{DefaultFits, RangeFits, HasOperands, ReverseDependencyFits, MemberDefaultFits}
 use Rattle.kc_tree.specs.checker.PartsView.{tree_from_rows}
 use Rattle.kc_tree.specs.declared.parts.SymbolRow.{SymbolRow}
 use Rattle.kc_tree.specs.declared.parts.ChoiceRow.{ChoiceRow}
@@ -37,8 +36,8 @@ pub record PartsFit (p : Parts) : Type 0 where
   pub members : All (λ s. s < length p.symbols.items) p.members.items.items
   pub member_defaults : All (MemberDefaultFits (length p.arena.nodes) (length p.symbols.items)) p.member_defaults.items.items
   pub entries : All (EntryRowFits (length p.arena.nodes) (length p.symbols.items) (length p.choices.items) (length p.titles.items)) p.entries.items
-  pub symbol_units : (u s : ℕ) → slice_get p.units.items u ≡ Some (SymbolUnit s) → s < length p.symbols.items
-  pub choice_units : (u c : ℕ) → slice_get p.units.items u ≡ Some (ChoiceUnit c) → c < length p.choices.items
+  pub symbol_units : (u s : ℕ) → slice_get p.units.items u ≡ Some (of_symbol s) → s < length p.symbols.items
+  pub choice_units : (u c : ℕ) → slice_get p.units.items u ≡ Some (of_choice c) → c < length p.choices.items
 
 -- each list by symbols or choices has a place for each of them
 pub record HasPlaces (p : Parts) : Type 0 where

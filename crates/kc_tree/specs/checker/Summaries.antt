@@ -2,9 +2,9 @@
 use Rattle.std.specs.Prelude.{◌≡◌, ℕ, Bool, true, false, ◌-◌, ◌+◌, ◌==◌, List, [], ◌∷◌, drop, length, map, filter, flat_map, slice_get, slice_index_or, slice_range, Option, Some, None, option_and_then, option_to_list, nat_lt, if◌then◌else◌}
 use Rattle.std.specs.Option.{option_or}
 use Rattle.kc_value.specs.declared.value.Kind.{Kind}
-use Rattle.kc_expr.specs.Arena.{Exprs}
+use Rattle.kc_expr.specs.between.Arena.{Exprs}
 use Rattle.kc_expr.specs.Lookup.{index_of_name}
-use Rattle.kc_statements.specs.StatementViews.{attribute_in}
+use Rattle.kc_statements.specs.between.StatementViews.{attribute_in}
 use Rattle.kc_tree_model.specs.Statements.{type_of}
 use Rattle.kc_tree_model.specs.Blocks.{Group, defined_name}
 use Rattle.kc_tree_model.specs.Conditions.{GroupInContext, groups_in_context, context, attribute_values}
@@ -14,7 +14,7 @@ use Rattle.kc_listing.specs.declared.listing.Line.{Line as CodeLine}
 use Rattle.kc_listing.specs.declared.listing.Listing.{Listing}
 use Rattle.kc_listing.specs.declared.listing.GroupHead.{GroupHead as CodeWhat}
 use Rattle.kc_listing.specs.declared.listing.GroupHead.TheVariants as codes
-use Rattle.kc_listing.specs.ListingView.{RepresentsListing}
+use Rattle.kc_listing.specs.between.ListingView.{RepresentsListing}
 use Rattle.kc_tree.specs.declared.summary.SymbolSummary.{SymbolSummary}
 use Rattle.kc_tree.specs.declared.summary.Summary.{Summary}
 
@@ -29,7 +29,7 @@ read_before i read = drop (length read - i) read
 
 -- a group, and where its attributes end
 abbrev pub no_group : CodeGroup
-no_group = record { file = 0; line = 0; what = codes.FileEnd; attributes = 0 }
+no_group = record { file = 0; line = 0; head = codes.FileEnd; attributes = 0 }
 
 abbrev pub group_at : List CodeGroup → ℕ → CodeGroup
 group_at groups i = slice_index_or groups i no_group

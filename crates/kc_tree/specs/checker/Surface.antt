@@ -4,7 +4,7 @@ use Rattle.kc_tree_model.specs.TreeFiles.{Files}
 use Rattle.kc_tree_model.specs.Reading.{reading}
 use Rattle.kc_tree_model.specs.TreeFaults.{first_tree_fault}
 use Rattle.kc_listing.specs.declared.listing.Listing.{Listing}
-use Rattle.kc_listing.specs.ListingView.{RepresentsListing}
+use Rattle.kc_listing.specs.between.ListingView.{RepresentsListing}
 
 -- a listing shows a reading of files over which no fault is told
 pub record IsOfTree (l : Listing) : Type 0 where

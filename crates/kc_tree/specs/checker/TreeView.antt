@@ -5,7 +5,7 @@ use Rattle.kc_tree.specs.checker.PartsView.{tree_from_rows}
 use Rattle.kc_tree.specs.declared.tree.Tree.TheInside.{Inside}
 
 abbrev pub parts_model : Inside → TreeModel
-parts_model t = record { exprs = t.parts.arena; whole = tree_from_rows t.parts }
+parts_model t = record { exprs = t.parts.arena; tree = tree_from_rows t.parts }
 
 abbrev pub IsSoundInside : Inside → Type 0
 IsSoundInside t = AreSoundParts t.parts

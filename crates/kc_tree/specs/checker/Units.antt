@@ -1,6 +1,7 @@
 -- The units of a tree's symbols and choices.
 use Rattle.std.specs.Prelude.{◌≡◌, ℕ, ◌<◌, List, length, slice_index}
-use Rattle.kc_tree_model.specs.Trees.{Tree, of_choice}
+use Rattle.kc_tree_model.specs.Trees.{Tree}
+use Rattle.kc_tree_model.specs.declared.ids.Unit.TheVariants.{Choice as of_choice}
 use Rattle.kc_tree_model.specs.TreeLookup.{unit_of, index_of_unit}
 
 -- each symbol and each choice has the number of its unit

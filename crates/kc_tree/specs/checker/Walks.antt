@@ -1,7 +1,7 @@
 -- The conditions of the walked groups and of their attributes, and those that enclose them.
 use Rattle.std.specs.Prelude.{◌≡◌, ◌⊎◌, ℕ, ◌<◌, ◌≤◌, List, [], ◌∷◌, ◌++◌, length, map, reverse, All, Option, Some, None, slice_get, slice_range, option_to_list, unwrap_or, is_some, if◌then◌else◌}
 use Rattle.kc_value.specs.declared.tri.Tri.TheVariants.{N}
-use Rattle.kc_expr.specs.Arena.{Exprs, Represents, node_expr, Grows}
+use Rattle.kc_expr.specs.between.Arena.{Exprs, Represents, node_expr, Grows}
 use Rattle.kc_expr.specs.Expr.{Expr, alone, constant}
 use Rattle.kc_tree_model.specs.Trees as tree
 use Rattle.kc_tree_model.specs.Statements.{Attribute, typed, typed_prompt, typed_default, prompt, default, depends, select, imply, range, visible, help, modules, prompt_of, visible_of}
@@ -73,9 +73,9 @@ innermost_enclosing (a ∷ outer) = a
 pub record RepresentsConditions (exprs : Exprs) (texts : List (List ℕ)) (own : List ℕ) (c : GroupConditions) (p : GroupInContext) : Type 0 where
   pub own_are : map (node_expr exprs) own ≡ map (condition_at p) p.group.attributes
   pub held : All (λ i. i < length exprs.nodes) own
-  pub dependency_is : side_of p.group.what ≡ closing ⊎ Represents exprs c.dependency (dependency_of p.enclosing p.group)
-  pub visible_is : side_of p.group.what ≡ closing ⊎ Represents exprs c.visible (conjunction_of (p.enclosing.visibles ++ attribute_values visible_of p.group))
-  pub ended_is : side_of p.group.what ≡ closing → RepresentsEnd exprs texts c.ended c.dependency c.visible (menu_end_of p.opened)
+  pub dependency_is : side_of p.group.head ≡ closing ⊎ Represents exprs c.dependency (dependency_of p.enclosing p.group)
+  pub visible_is : side_of p.group.head ≡ closing ⊎ Represents exprs c.visible (conjunction_of (p.enclosing.visibles ++ attribute_values visible_of p.group))
+  pub ended_is : side_of p.group.head ≡ closing → RepresentsEnd exprs texts c.ended c.dependency c.visible (menu_end_of p.opened)
 
 -- the conditions of groups, the newest first, whose attributes' conditions end at a place
 abbrev pub RepresentsAllConditions : Exprs → List (List ℕ) → List ℕ → ℕ → List GroupConditions → List Group → Type 0

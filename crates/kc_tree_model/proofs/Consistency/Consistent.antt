@@ -1,4 +1,4 @@
--- What is read without a fault is a consistent tree.
+-- A tree that is read without a fault is consistent.
 use Rattle.kc_tree_model.specs.Statements.{DefaultAttribute, default_of}
 use Rattle.std.proofs.Common.{◌≡◌, ℕ, ◌<◌, true, List, [], Option, Some, None, refl, ap, sym, ◌∙◌, subst, length, filter, not, cond, Bool, false}
 use Rattle.std.specs.Prelude.{slice_get, filter_map, flat_map, ◌==◌, option_map, option_and_then}
@@ -6,7 +6,9 @@ use Rattle.std.specs.List.{list_any, list_all}
 use Rattle.kc_value.specs.declared.value.Kind.TheVariants.{Bool as Boolean}
 use Rattle.kc_expr.specs.Lookup.{index_of_name}
 use Rattle.kc_tree_model.specs.declared.fault.TreeFault.{TreeFault}
-use Rattle.kc_tree_model.specs.Trees.{Symbol, Choice, TreeUnit, of_symbol, of_choice, Default, MemberDefault}
+use Rattle.kc_tree_model.specs.Trees.{Symbol, Choice, Default, MemberDefault}
+use Rattle.kc_tree_model.specs.declared.ids.Unit.{Unit as TreeUnit}
+use Rattle.kc_tree_model.specs.declared.ids.Unit.TheVariants.{Symbol as of_symbol, Choice as of_choice}
 use Rattle.kc_tree_model.specs.TreeLookup.{IsConsistent, is_name_byte, has_newline, own_text}
 use Rattle.kc_tree_model.specs.TreeFiles.{Files}
 use Rattle.kc_tree_model.specs.Blocks.{defined_name, Line}
@@ -60,14 +62,14 @@ module _ (c : Contents) (s : IsSound c) (none : (p : GroupInContext) → Has p c
   unfolding unit_at
   symbol_units u i h =
       let p = unit_place c u (of_symbol i) h in
-      let r = symbol_unit c p.0 p.0.group.what i refl p.2 in
+      let r = symbol_unit c p.0 p.0.group.head i refl p.2 in
       (symbol_of c r.name, symbol_there c i r.name (place-get r.name c.names i r.number), r.alone)
 
   choice_units : (u k : ℕ) → slice_get (units_of c) u ≡ Some (of_choice k) → (choice : Choice) × (slice_get (choices_of c) k ≡ Some choice)
   unfolding unit_at
   choice_units u k h =
       let p = unit_place c u (of_choice k) h in
-      let n = number-get p.0.group.number c.choices k (choice_unit c p.0 p.0.group.what k refl p.2) in
+      let n = number-get p.0.group.number c.choices k (choice_unit c p.0 p.0.group.head k refl p.2) in
       let q = number_at c s k p.0.group.number n in
       (choice_of c q.0, choice_there_at c k q.0 q.1)
 
@@ -144,7 +146,7 @@ defaults_pass test holds c s i symbol h =
     (all_pass test (symbol_of c r.0).defaults
     (λ d e. let a = has_flat_map defaults_at (definitions_of c r.0) d e in holds d (default_is_plain c s a.0 d (has-filter (defines r.0) c.places a.0 a.1).0 a.2)))
 
--- what is told of a tree without a fault
+-- the reading and the checks of a tree without a fault
 no_reading_fault : (o : Option TreeFault) (t : Option TreeFault) → elim o as (λ _. Option TreeFault) [ None ↦ t | Some f ↦ Some f ] ≡ None → t ≡ None
 no_reading_fault None t h = h
 no_reading_fault (Some f) t h = cc

@@ -7,7 +7,8 @@ use Rattle.kc_value.specs.declared.value.Kind.TheVariants.{Bool as Boolean, Tris
 use Rattle.kc_tree_model.specs.declared.fault.TreeKind.{TreeKind}
 use Rattle.kc_tree_model.specs.declared.fault.TreeKind.TheVariants.{ChoiceMember}
 use Rattle.kc_tree_model.specs.declared.fault.TreeFault.{TreeFault}
-use Rattle.kc_tree_model.specs.Trees.{Symbol, Choice, TreeUnit}
+use Rattle.kc_tree_model.specs.Trees.{Symbol, Choice}
+use Rattle.kc_tree_model.specs.declared.ids.Unit.{Unit as TreeUnit}
 use Rattle.kc_tree_model.specs.Statements.{config}
 use Rattle.kc_tree_model.specs.Blocks.{Group, of_head, file_end, from_head, defined_name, opens_choice}
 use Rattle.kc_tree_model.specs.Conditions.{GroupInContext}
@@ -58,7 +59,7 @@ module _ (c : Contents) (none : (p : GroupInContext) → Has p c.places → faul
   -- a definition has no fault of its own
   pub sound : (p : GroupInContext) (name : List ℕ) → Has p c.places → defined_name p.group ≡ Some name → definition_faults c p name ≡ []
   sound p name h e =
-      let what : p.group.what ≡ of_head (config name) = what_of_name p.group.what name e in
+      let what : p.group.head ≡ of_head (config name) = what_of_name p.group.head name e in
       let here : faults_of_head c p (config name) ≡ [] = sym (ap (λ w. elim w as (λ _. List TreeFault) [ of_head x ↦ faults_of_head c p x | file_end ↦ [] ]) what) ∙ none p h in
       nothing_mapped (λ k. record { file = Some p.group.at.file; line = p.group.at.line; kind = k }) (definition_faults c p name) (nothing_left _ _ here).0
 
@@ -81,7 +82,7 @@ module _ (c : Contents) (none : (p : GroupInContext) → Has p c.places → faul
   pub member_kind : (p : GroupInContext) (name : List ℕ) (n : ℕ) → Has p c.places → defined_name p.group ≡ Some name → p.enclosing.choice ≡ Some n → unwrap_or (type_given c name) Boolean ≡ Boolean
   member_kind p name n h e m = no_other_kind (type_given c name) (right_false _ _ (member_rule p name h e).0 (ap is_some m))
 
--- what `defines` and `is_first_definition` say
+-- `defines` and `is_first_definition`, as facts
 pub defined : (p : GroupInContext) (name : List ℕ) → defines name p ≡ true → defined_name p.group ≡ Some name
 defined p name h = by_name (defined_name p.group) h
   where
@@ -110,7 +111,7 @@ one_number c name p q h k =
     let same : a.0 ≡ b.0 = cc in
     sym a.2 ∙ ap (λ (g : Group). g.number) same ∙ b.2
 
--- what stands in a tree, over its contents
+-- the parts of a tree, by its contents
 unfoldable pub symbols_of : Contents → List Symbol
 symbols_of c = map (symbol_of c) c.names
 
@@ -121,7 +122,7 @@ unfoldable pub choices_of : Contents → List Choice
 choices_of c = map (choice_of c) (choice_places c)
 
 unfoldable pub unit_at : Contents → GroupInContext → Option TreeUnit
-unit_at c p = from_head (unit_of_head c p) p.group.what
+unit_at c p = from_head (unit_of_head c p) p.group.head
 
 unfoldable pub units_of : Contents → List TreeUnit
 units_of c = filter_map (unit_at c) c.places
@@ -143,7 +144,7 @@ sound_contents read r = record {
   names = Differ-once (filter_map defined_name read);
   words = λ name h.
       let g = has-filter_map defined_name read name (has-once name (filter_map defined_name read) h) in
-      subst NamesWord (what_of_name g.0.what name g.2) (word_of_group g.0 read r g.1);
+      subst NamesWord (what_of_name g.0.head name g.2) (word_of_group g.0 read r g.1);
   defined_once = λ name h.
       let g = has-filter_map defined_name read name (has-once name (filter_map defined_name read) h) in
       let p = placed-group g.0 read g.1 in

@@ -5,7 +5,8 @@ use Rattle.kc_expr.specs.Expr.{Expr}
 use Rattle.kc_tree_model.specs.Trees.{Entry, definition, choice_begins, menu_begins, menu_ends}
 use Rattle.kc_tree_model.specs.TreeLookup.{title_of_entry}
 use Rattle.kc_tree_model.specs.TreeFiles.{Files}
-use Rattle.kc_tree_model.specs.Statements.{menu_block, config, choice, menu, condition, comment, source, mainmenu, ends, title_of_head}
+use Rattle.kc_tree_model.specs.Statements.{config, choice, menu, condition, comment, source, mainmenu, ends, title_of_head}
+use Rattle.kc_tree_model.specs.declared.keyword.Block.TheVariants as blocks
 use Rattle.kc_tree_model.specs.Blocks.{Group, GroupHead, of_head, file_end, from_head, open_blocks}
 use Rattle.kc_tree_model.specs.Conditions.{GroupInContext, group_in_context, groups_in_context}
 use Rattle.kc_tree_model.specs.Reading.{reading}
@@ -50,16 +51,16 @@ numbered : (f : ℕ → Entry) → ((n : ℕ) → title_of_entry (f n) ≡ None)
 numbered f none e title told None k = cc
 numbered f none e title told (Some n) k = no_title (f n) e title (none n) told k
 
-end_plain : (opened : List Group) → ((g : Group) → Has g opened → IsPlain g.what) → (e : Entry) (title : List ℕ) → title_of_entry e ≡ Some title → menu_end_of opened ≡ Some e → IsPlainText title
+end_plain : (opened : List Group) → ((g : Group) → Has g opened → IsPlain g.head) → (e : Entry) (title : List ℕ) → title_of_entry e ≡ Some title → menu_end_of opened ≡ Some e → IsPlainText title
 end_plain [] plain e title told k = cc
-end_plain (g ∷ outer) plain e title told k = menu_plain menu_ends (λ t d v. refl) _ _ g.what (plain g (inl refl)) e title told (from_head title_of_head g.what) refl k
+end_plain (g ∷ outer) plain e title told k = menu_plain menu_ends (λ t d v. refl) _ _ g.head (plain g (inl refl)) e title told (from_head title_of_head g.head) refl k
 
-entry_plain : (c : Contents) (p : GroupInContext) (w : GroupHead) → p.group.what ≡ w → IsPlain p.group.what → ((g : Group) → Has g p.opened → IsPlain g.what) → (e : Entry) (title : List ℕ) → title_of_entry e ≡ Some title → from_head (entry_of_head c p) w ≡ Some e → IsPlainText title
+entry_plain : (c : Contents) (p : GroupInContext) (w : GroupHead) → p.group.head ≡ w → IsPlain p.group.head → ((g : Group) → Has g p.opened → IsPlain g.head) → (e : Entry) (title : List ℕ) → title_of_entry e ≡ Some title → from_head (entry_of_head c p) w ≡ Some e → IsPlainText title
 entry_plain c p (of_head (config name)) is plain opened e title told k = absurd (numbered definition (λ n. refl) e title told _ k)
 entry_plain c p (of_head choice) is plain opened e title told k = absurd (numbered choice_begins (λ n. refl) e title told _ k)
-entry_plain c p (of_head (menu x)) is plain opened e title told k = menu_plain menu_begins (λ t d v. refl) _ _ p.group.what plain e title told (from_head title_of_head p.group.what) refl k
+entry_plain c p (of_head (menu x)) is plain opened e title told k = menu_plain menu_begins (λ t d v. refl) _ _ p.group.head plain e title told (from_head title_of_head p.group.head) refl k
 entry_plain c p (of_head (comment x)) is plain opened e title told k = subst IsPlainText (same_title _ e x title refl told k) (plain x (ap (from_head title_in) is))
-entry_plain c p (of_head (ends menu_block)) is plain opened e title told k = end_plain p.opened opened e title told k
+entry_plain c p (of_head (ends blocks.Menu)) is plain opened e title told k = end_plain p.opened opened e title told k
 entry_plain c p w is plain opened e title told k = cc
 
 -- in each tree of files
@@ -69,5 +70,5 @@ entry_titles_plain files root k e title at told =
     let read = (reading files root).read in
     let c = contents_of (reading files root).read in
     let plain = titles_plain files root in
-    let from = has-filter_map (λ (p : GroupInContext). from_head (entry_of_head (contents_of (reading files root).read) p) p.group.what) c.places e (has-at e _ k at) in
-    entry_plain c from.0 from.0.group.what refl (plain_of_group from.0.group read plain (group-placed from.0 read from.1)) (λ g h. plain_of_group g read plain (opened_read from.0 read g from.1 h)) e title told from.2
+    let from = has-filter_map (λ (p : GroupInContext). from_head (entry_of_head (contents_of (reading files root).read) p) p.group.head) c.places e (has-at e _ k at) in
+    entry_plain c from.0 from.0.group.head refl (plain_of_group from.0.group read plain (group-placed from.0 read from.1)) (λ g h. plain_of_group g read plain (opened_read from.0 read g from.1 h)) e title told from.2

@@ -1,4 +1,4 @@
--- What a line says passes no limit of names and symbols.
+-- The statement of a line that is accepted passes no limit of names and symbols.
 use Rattle.std.proofs.Common.{◌≡◌, Bool, true, false, not, cond, List, [], ◌∷◌, Option, Some, None, Result, Ok, Err, subst, length}
 use Rattle.std.specs.Prelude.{nat_lt}
 use Rattle.std.specs.Str.{is_utf8}
@@ -7,15 +7,17 @@ use Rattle.kc_expr.specs.declared.fault.ExprFault.{ExprFault}
 use Rattle.kc_tree_model.specs.declared.fault.TreeKind.TheVariants.{LeftOut, Misplaced, StrayEnd, TooDeep, TooMany, LineTooLong, NotUtf8}
 use Rattle.kc_tree_model.specs.LogicalLines.{LogicalLine}
 use Rattle.kc_tree_model.specs.Statements.{Statement}
-use Rattle.kc_tree_model.specs.Keywords.{Keyword, keyword_of}
+use Rattle.kc_tree_model.specs.Keywords.{keyword_of}
+use Rattle.kc_tree_model.specs.declared.keyword.Keyword.{Keyword}
 use Rattle.kc_tree_model.specs.Forms.{statement_of}
 use Rattle.kc_tree_model.specs.Blocks.{Group}
 use Rattle.kc_tree_model.specs.Placement.{is_allowed, is_left_out, is_stray_end}
-use Rattle.kc_tree_model.specs.Limits.{max_line_bytes, is_too_deep, is_too_many}
+use Rattle.kc_tree_model.specs.Limits.{is_too_deep, is_too_many}
+use Rattle.kc_value.specs.declared.limits.TheConstants.{MAX_LINE_BYTES}
 use Rattle.kc_tree_model.specs.Reading.{statement_by_keyword, statement_of_tokens, statement_by_word, statement_or_fault, statement_on_line}
 use Rattle.kc_tree_model.proofs.NestedTrees.LineFits.{bind_ok, unless_ok, past_test}
 
--- a statement that a line says passes no limit of names and symbols
+-- the statement of a line that is accepted passes no limit of names and symbols
 few_by_keyword : (read : List Group) (k : Keyword) (ts : List Lexeme) (s : Statement) → statement_by_keyword read k ts ≡ Ok (Some s) → is_too_many read s ≡ false
 few_by_keyword read k ts s h =
     let a = unless_ok (is_left_out read k ts) LeftOut _ (Some s) h in
@@ -45,4 +47,4 @@ few_or_help read false r s h = few_lexed read r s h
 
 pub line_few : (read : List Group) (l : LogicalLine) (s : Statement) → statement_on_line read l ≡ Ok (Some s) → is_too_many read s ≡ false
 unfolding statement_on_line
-line_few read l s h = few_or_help read l.help (lexemes_from 0 0 l.text) s (past_test (not (is_utf8 l.text)) NotUtf8 _ (Some s) (past_test (nat_lt max_line_bytes (length l.text)) LineTooLong _ (Some s) h))
+line_few read l s h = few_or_help read l.help (lexemes_from 0 0 l.text) s (past_test (not (is_utf8 l.text)) NotUtf8 _ (Some s) (past_test (nat_lt MAX_LINE_BYTES (length l.text)) LineTooLong _ (Some s) h))

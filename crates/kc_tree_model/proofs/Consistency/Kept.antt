@@ -1,13 +1,15 @@
--- What every step of reading keeps holds of what is read.
+-- A property that every step of reading keeps holds of all that is read.
 use Rattle.std.proofs.Common.{◌≡◌, ℕ, suc, zero, Bool, true, false, cond, List, [], ◌∷◌, Option, Some, None, Result, Ok, Err, refl, length}
 use Rattle.std.specs.Prelude.{nat_lt}
 use Rattle.kc_tree_model.specs.declared.fault.TreeKind.{TreeKind}
 use Rattle.kc_tree_model.specs.declared.fault.TreeFault.{TreeFault}
 use Rattle.kc_tree_model.specs.TreeFiles.{Files, file_at, index_of_file}
 use Rattle.kc_tree_model.specs.LogicalLines.{LogicalLine, lines_of}
-use Rattle.kc_tree_model.specs.Statements.{Block, Statement}
+use Rattle.kc_tree_model.specs.Statements.{Statement}
+use Rattle.kc_tree_model.specs.declared.keyword.Block.{Block}
 use Rattle.kc_tree_model.specs.Blocks.{Group, Position, file_end, innermost}
-use Rattle.kc_tree_model.specs.Limits.{FileSource, bytes_in, source_fault, max_bytes, max_open_files}
+use Rattle.kc_tree_model.specs.Limits.{FileSource, bytes_in, source_fault}
+use Rattle.kc_value.specs.declared.limits.TheConstants.{MAX_TREE_BYTES, MAX_OPEN_FILES}
 use Rattle.kc_tree_model.specs.TreeLookup.{has_newline}
 use Rattle.kc_tree_model.proofs.Consistency.OneLine.{AreOneLine, lines_are_one}
 use Rattle.kc_tree_model.specs.Reading.{statement_on_line, with_statement, with_group, path_to_read, Outcome, at_file_end, continue_after_file, continue_after_source, continue_after_statement, continue_after_line, read_lines, read_file, read_root, reading}
@@ -62,7 +64,7 @@ module _ (P : List Group → Type 0) (kept : IsKept P) where
   root_kept : P [] → (r : FileSource) (o : Option (List ℕ)) → P (read_root r o).read
   unfolding Keeps
   root_kept first r None = first
-  root_kept first r (Some bytes) = either_kept (nat_lt max_bytes (length bytes)) _ (read_file max_open_files r r.root []) first (whole_file_kept max_open_files r r.root [] first)
+  root_kept first r (Some bytes) = either_kept (nat_lt MAX_TREE_BYTES (length bytes)) _ (read_file MAX_OPEN_FILES r r.root []) first (whole_file_kept MAX_OPEN_FILES r r.root [] first)
 
   pub reading_keeps : P [] → (files : Files) (root : List ℕ) → P (reading files root).read
   unfolding reading

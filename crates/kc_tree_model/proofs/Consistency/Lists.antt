@@ -175,7 +175,7 @@ has-place x [] h = absurd h
 has-place x (y ∷ ys) (inl e) = (0, first_place (bytes_eq x y) (index_of_name x ys) (text_same x y (sym e)))
 has-place x (y ∷ ys) (inr h) = let r = has-place x ys h in has_place_by (bytes_eq x y) (index_of_name x ys) r.0 r.1
 
--- no element stands twice
+-- no element occurs twice
 abbrev pub Differ : {A : Type 0} → List A → Type 0
 Differ [] = Unit {0}
 Differ (x ∷ xs) = (Has x xs → ⊥) × Differ xs

@@ -6,7 +6,8 @@ use Rattle.std.proofs.lemmas.List.{length-map}
 use Rattle.kc_tree_model.specs.Trees.{Symbol}
 use Rattle.kc_tree_model.specs.TreeFiles.{Files}
 use Rattle.kc_tree_model.specs.LogicalLines.{LogicalLine}
-use Rattle.kc_tree_model.specs.Limits.{max_symbols, max_name_bytes, is_in_list, is_long_name, names_defined, without_repeats, too_many_by_head}
+use Rattle.kc_tree_model.specs.Limits.{is_in_list, is_long_name, names_defined, without_repeats, too_many_by_head}
+use Rattle.kc_value.specs.declared.limits.TheConstants.{MAX_SYMBOLS, MAX_NAME_BYTES}
 use Rattle.kc_tree_model.specs.Statements.{Head, config, choice, menu, condition, comment, source, mainmenu, ends, Statement, head, attribute, Attribute}
 use Rattle.kc_tree_model.specs.Blocks.{Group, Position, defined_name}
 use Rattle.kc_tree_model.specs.Reading.{statement_on_line, with_statement, with_attribute, reading}
@@ -20,7 +21,7 @@ use Rattle.kc_tree_model.proofs.Consistency.Units.{symbol_at}
 
 -- a group's name is short
 abbrev IsShort : Group → Type 0
-IsShort g = (name : List ℕ) → defined_name g ≡ Some name → length name ≤ max_name_bytes
+IsShort g = (name : List ℕ) → defined_name g ≡ Some name → length name ≤ MAX_NAME_BYTES
 
 abbrev AreShort : List Group → Type 0
 AreShort [] = Unit {0}
@@ -28,20 +29,20 @@ AreShort (g ∷ before) = IsShort g × AreShort before
 
 -- what was read keeps both limits
 abbrev KeepsLimits : List Group → Type 0
-KeepsLimits read = (length (names_defined read) ≤ max_symbols) × AreShort read
+KeepsLimits read = (length (names_defined read) ≤ MAX_SYMBOLS) × AreShort read
 
-one_more_name : (name : List ℕ) (names : List (List ℕ)) → (b : Bool) → is_in_list name names ≡ b → (not (is_in_list name names) && nat_le max_symbols (length (without_repeats names))) ≡ false → length (without_repeats names) ≤ max_symbols
-    → length (cond b (without_repeats names) (without_repeats names ++ name ∷ [])) ≤ max_symbols
+one_more_name : (name : List ℕ) (names : List (List ℕ)) → (b : Bool) → is_in_list name names ≡ b → (not (is_in_list name names) && nat_le MAX_SYMBOLS (length (without_repeats names))) ≡ false → length (without_repeats names) ≤ MAX_SYMBOLS
+    → length (cond b (without_repeats names) (without_repeats names ++ name ∷ [])) ≤ MAX_SYMBOLS
 one_more_name name names true among few small = small
 one_more_name name names false among few small =
-    let room : nat_le max_symbols (length (without_repeats names)) ≡ false = sym (ap (λ b. not b && nat_le max_symbols (length (without_repeats names))) among) ∙ few in
-    omega (arith, leb-false max_symbols (length (without_repeats names)) room, length-append (without_repeats names) (name ∷ []))
+    let room : nat_le MAX_SYMBOLS (length (without_repeats names)) ≡ false = sym (ap (λ b. not b && nat_le MAX_SYMBOLS (length (without_repeats names))) among) ∙ few in
+    omega (arith, leb-false MAX_SYMBOLS (length (without_repeats names)) room, length-append (without_repeats names) (name ∷ []))
 
 head_kept : (read : List Group) (at : Position) (h : Head) → too_many_by_head read h ≡ false → KeepsLimits read → KeepsLimits (with_statement at (Some (head h)) read)
 head_kept read at (config x) few k =
-    let parts = or_parts (is_long_name x) (not (is_in_list x (filter_map defined_name read)) && nat_le max_symbols (length (names_defined read))) few in (
+    let parts = or_parts (is_long_name x) (not (is_in_list x (filter_map defined_name read)) && nat_le MAX_SYMBOLS (length (names_defined read))) few in (
       one_more_name x (filter_map defined_name read) (is_in_list x (filter_map defined_name read)) refl parts.1 k.0,
-      ((λ name e. (let same : x ≡ name = cc in subst (λ n. length n ≤ max_name_bytes) same (ltb-false max_name_bytes (length x) parts.0))), k.1),
+      ((λ name e. (let same : x ≡ name = cc in subst (λ n. length n ≤ MAX_NAME_BYTES) same (ltb-false MAX_NAME_BYTES (length x) parts.0))), k.1),
     )
 head_kept read at choice few k = (k.0, ((λ name e. cc), k.1))
 head_kept read at (menu x) few k = (k.0, ((λ name e. cc), k.1))
@@ -68,15 +69,15 @@ short_of_group g [] r h = absurd h
 short_of_group g (x ∷ before) r (inl e) = subst IsShort e r.0
 short_of_group g (x ∷ before) r (inr h) = short_of_group g before r.1 h
 
--- at most so many symbols
-pub few_symbols : (files : Files) (root : List ℕ) → length (tree_of_files files root).symbols ≤ max_symbols
+-- the limit of symbols
+pub few_symbols : (files : Files) (root : List ℕ) → length (tree_of_files files root).symbols ≤ MAX_SYMBOLS
 unfolding tree_of_files tree_of_groups
 few_symbols files root =
     let c = contents_of (reading files root).read in
     omega (arith, (limits_kept files root).0, length-map c.names (symbol_of c))
 
 -- each of a short name
-pub short_names : (files : Files) (root : List ℕ) (s : ℕ) (symbol : Symbol) → slice_get (tree_of_files files root).symbols s ≡ Some symbol → length symbol.name ≤ max_name_bytes
+pub short_names : (files : Files) (root : List ℕ) (s : ℕ) (symbol : Symbol) → slice_get (tree_of_files files root).symbols s ≡ Some symbol → length symbol.name ≤ MAX_NAME_BYTES
 unfolding tree_of_files tree_of_groups symbols_of
 short_names files root s symbol at =
     let read = (reading files root).read in
@@ -84,5 +85,5 @@ short_names files root s symbol at =
     let sound = sound_contents read (is_read files root) in
     let named = symbol_at c s symbol at in
     let place = sound.defined_once named.0 (has-at named.0 c.names s named.1) in
-    let short : length named.0 ≤ max_name_bytes = short_of_group place.0.group read (limits_kept files root).1 (group-placed place.0 read place.1) named.0 place.2 in
-    subst (λ (x : Symbol). length x.name ≤ max_name_bytes) named.2 short
+    let short : length named.0 ≤ MAX_NAME_BYTES = short_of_group place.0.group read (limits_kept files root).1 (group-placed place.0 read place.1) named.0 place.2 in
+    subst (λ (x : Symbol). length x.name ≤ MAX_NAME_BYTES) named.2 short

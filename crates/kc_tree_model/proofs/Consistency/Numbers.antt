@@ -6,8 +6,10 @@ use Rattle.std.proofs.lemmas.Bool.{lt-ltb}
 use Rattle.std.proofs.lemmas.List.{length-map}
 use Rattle.kc_expr.specs.Expr.{Expr}
 use Rattle.kc_expr.specs.Lookup.{index_of_name}
-use Rattle.kc_tree_model.specs.Trees.{Choice, Entry, ReverseDependency, Symbol, of_choice, definition, choice_begins, menu_begins, menu_ends}
-use Rattle.kc_tree_model.specs.Statements.{TargetAttribute, Attribute, menu_block, config, choice, menu, comment, ends, select_of, imply_of, title_of_head}
+use Rattle.kc_tree_model.specs.Trees.{Choice, Entry, ReverseDependency, Symbol, definition, choice_begins, menu_begins, menu_ends}
+use Rattle.kc_tree_model.specs.declared.ids.Unit.TheVariants.{Choice as of_choice}
+use Rattle.kc_tree_model.specs.Statements.{TargetAttribute, Attribute, config, choice, menu, comment, ends, select_of, imply_of, title_of_head}
+use Rattle.kc_tree_model.specs.declared.keyword.Block.TheVariants as blocks
 use Rattle.kc_tree_model.specs.Blocks.{Group, GroupHead, of_head, from_head, defined_name}
 use Rattle.kc_tree_model.specs.Conditions.{GroupInContext, attribute_condition, attribute_values}
 use Rattle.kc_tree_model.specs.Contents.{Contents, choice_number, choice_of, entry_of_head, reverse_dependencies_of, reverse_dependencies_by, menu_end_of, symbol_of}
@@ -85,7 +87,7 @@ no_menu test f none d v e n told (Some t) k = no_number test (f t d v) e n (none
 
 no_end : (test : Entry → Option ℕ) → ((t : List ℕ) (d v : Expr) → test (menu_ends t d v) ≡ None) → (opened : List Group) (e : Entry) (n : ℕ) → test e ≡ Some n → menu_end_of opened ≡ Some e → ⊥
 no_end test none [] e n told k = cc
-no_end test none (g ∷ outer) e n told k = no_menu test menu_ends none _ _ e n told (from_head title_of_head g.what) k
+no_end test none (g ∷ outer) e n told k = no_menu test menu_ends none _ _ e n told (from_head title_of_head g.head) k
 
 numbered : (test : Entry → Option ℕ) (f : ℕ → Entry) → ((m : ℕ) → test (f m) ≡ Some m) → (e : Entry) (n : ℕ) → test e ≡ Some n → (o : Option ℕ) → option_map f o ≡ Some e → o ≡ Some n
 numbered test f some e n told None k = cc
@@ -94,26 +96,26 @@ numbered test f some e n told (Some m) k = let same : f m ≡ e = cc in sym (som
 symbol_entry : (c : Contents) (p : GroupInContext) (w : GroupHead) (e : Entry) (n : ℕ) → symbol_of_entry e ≡ Some n → from_head (entry_of_head c p) w ≡ Some e → n < length (symbols_of c)
 symbol_entry c p (of_head (config name)) e n told k = below_symbols c name n (numbered symbol_of_entry definition (λ m. refl) e n told (index_of_name name c.names) k)
 symbol_entry c p (of_head choice) e n told k = absurd (no_numbers symbol_of_entry choice_begins (λ m. refl) e n told _ k)
-symbol_entry c p (of_head (menu x)) e n told k = absurd (no_menu symbol_of_entry menu_begins (λ t d v. refl) _ _ e n told (from_head title_of_head p.group.what) k)
+symbol_entry c p (of_head (menu x)) e n told k = absurd (no_menu symbol_of_entry menu_begins (λ t d v. refl) _ _ e n told (from_head title_of_head p.group.head) k)
 symbol_entry c p (of_head (comment x)) e n told k = absurd (no_number symbol_of_entry _ e n refl told k)
-symbol_entry c p (of_head (ends menu_block)) e n told k = absurd (no_end symbol_of_entry (λ t d v. refl) p.opened e n told k)
+symbol_entry c p (of_head (ends blocks.Menu)) e n told k = absurd (no_end symbol_of_entry (λ t d v. refl) p.opened e n told k)
 symbol_entry c p w e n told k = cc
 
 choice_entry : (c : Contents) → IsSound c → (p : GroupInContext) (w : GroupHead) (e : Entry) (n : ℕ) → choice_of_entry e ≡ Some n → from_head (entry_of_head c p) w ≡ Some e → n < length (choices_of c)
 choice_entry c s p (of_head (config name)) e n told k = absurd (no_numbers choice_of_entry definition (λ m. refl) e n told _ k)
 choice_entry c s p (of_head choice) e n told k = below_choices c s p.group.number n (numbered choice_of_entry choice_begins (λ m. refl) e n told (choice_number c p.group.number) k)
-choice_entry c s p (of_head (menu x)) e n told k = absurd (no_menu choice_of_entry menu_begins (λ t d v. refl) _ _ e n told (from_head title_of_head p.group.what) k)
+choice_entry c s p (of_head (menu x)) e n told k = absurd (no_menu choice_of_entry menu_begins (λ t d v. refl) _ _ e n told (from_head title_of_head p.group.head) k)
 choice_entry c s p (of_head (comment x)) e n told k = absurd (no_number choice_of_entry _ e n refl told k)
-choice_entry c s p (of_head (ends menu_block)) e n told k = absurd (no_end choice_of_entry (λ t d v. refl) p.opened e n told k)
+choice_entry c s p (of_head (ends blocks.Menu)) e n told k = absurd (no_end choice_of_entry (λ t d v. refl) p.opened e n told k)
 choice_entry c s p w e n told k = cc
 
 -- what the entries name is there
-pub entry_symbols : (c : Contents) → IsSound c → (k n : ℕ) → slice_get (filter_map (λ (p : GroupInContext). from_head (entry_of_head c p) p.group.what) c.places) k ≡ Some (definition n) → n < length (symbols_of c)
+pub entry_symbols : (c : Contents) → IsSound c → (k n : ℕ) → slice_get (filter_map (λ (p : GroupInContext). from_head (entry_of_head c p) p.group.head) c.places) k ≡ Some (definition n) → n < length (symbols_of c)
 entry_symbols c s k n at =
-    let r = has-filter_map (λ (p : GroupInContext). from_head (entry_of_head c p) p.group.what) c.places (definition n) (has-at (definition n) _ k at) in
-    symbol_entry c r.0 r.0.group.what (definition n) n refl r.2
+    let r = has-filter_map (λ (p : GroupInContext). from_head (entry_of_head c p) p.group.head) c.places (definition n) (has-at (definition n) _ k at) in
+    symbol_entry c r.0 r.0.group.head (definition n) n refl r.2
 
-pub entry_choices : (c : Contents) → IsSound c → (k n : ℕ) → slice_get (filter_map (λ (p : GroupInContext). from_head (entry_of_head c p) p.group.what) c.places) k ≡ Some (choice_begins n) → n < length (choices_of c)
+pub entry_choices : (c : Contents) → IsSound c → (k n : ℕ) → slice_get (filter_map (λ (p : GroupInContext). from_head (entry_of_head c p) p.group.head) c.places) k ≡ Some (choice_begins n) → n < length (choices_of c)
 entry_choices c s k n at =
-    let r = has-filter_map (λ (p : GroupInContext). from_head (entry_of_head c p) p.group.what) c.places (choice_begins n) (has-at (choice_begins n) _ k at) in
-    choice_entry c s r.0 r.0.group.what (choice_begins n) n refl r.2
+    let r = has-filter_map (λ (p : GroupInContext). from_head (entry_of_head c p) p.group.head) c.places (choice_begins n) (has-at (choice_begins n) _ k at) in
+    choice_entry c s r.0 r.0.group.head (choice_begins n) n refl r.2

@@ -103,6 +103,6 @@ ArePieces ts = AllTexts OneText ts
 pub one_lexed : (bytes : List ℕ) (ts : List Lexeme) → has_newline bytes ≡ false → lexemes_from 0 0 bytes ≡ Ok ts → ArePieces ts
 one_lexed bytes ts one h = texts_of_line OneText one_take (λ x xs k. (neither (x == 10) (has_newline xs) k).1) 0 0 bytes ts one h
 
--- nor has the text for which a quoted token stands
+-- nor has the text that a quoted token represents
 pub one_quoted : (text : List ℕ) → has_newline text ≡ false → has_newline (quoted_text text) ≡ false
 one_quoted text h = one_unescaped false (between_quotes text) (one_if _ (take (length text - 2) (drop 1 text)) text (one_take _ (drop 1 text) (one_drop 1 text h)) h)

@@ -1,4 +1,4 @@
--- What each token of a line has and keeps without its quotes, the own text of a default's value has.
+-- A property that each token of a line has, also without its quotes, holds of the own text of a default's value.
 use Rattle.std.proofs.Common.{◌≡◌, ℕ, Bool, true, false, cond, ◌||◌, ◌&&◌, ◌==◌, List, [], ◌∷◌, ◌++◌, Option, Some, None, Result, Ok, Err, refl, ap, ◌∙◌, subst, length, drop}
 use Rattle.kc_value.specs.declared.tri.Tri.{Tri}
 use Rattle.kc_expr.specs.Expr.{Expr, Operand, named, quoted, alone}

@@ -1,4 +1,4 @@
--- The places of what was read: their numbers, their names, and the choices round them.
+-- The groups that were read, each in its context: their numbers, their names, and the enclosing choices.
 use Rattle.std.proofs.Common.{◌≡◌, inl, inr, ◌⊎◌, ℕ, zero, suc, ◌<◌, Bool, true, false, ◌&&◌, List, [], ◌∷◌, ◌++◌, Option, Some, None, Ok, refl, ap, sym, ◌∙◌, subst, length, arith}
 use Rattle.std.specs.Prelude.{nat_lt}
 use Rattle.std.specs.List.{list_all}
@@ -6,7 +6,8 @@ use Rattle.kc_expr.specs.Token.{Lexeme}
 use Rattle.kc_tree_model.specs.TreeLookup.{is_name_byte, own_text, has_newline}
 use Rattle.kc_tree_model.specs.TreeFiles.{Files}
 use Rattle.kc_tree_model.specs.LogicalLines.{LogicalLine}
-use Rattle.kc_tree_model.specs.Statements.{choice_block, Head, config, choice, menu, condition, comment, source, mainmenu, ends, Statement, head, attribute, Attribute, DefaultAttribute, default_of, name_of_head, block_of_head}
+use Rattle.kc_tree_model.specs.Statements.{Head, config, choice, menu, condition, comment, source, mainmenu, ends, Statement, head, attribute, Attribute, DefaultAttribute, default_of, name_of_head, block_of_head}
+use Rattle.kc_tree_model.specs.declared.keyword.Block.TheVariants as blocks
 use Rattle.kc_tree_model.specs.Keywords.{is_name}
 use Rattle.kc_tree_model.specs.Blocks.{Group, Line, Position, GroupHead, of_head, file_end, Side, side_of, opening, closing, inside, from_head, open_blocks, opens_choice, is_some_block}
 use Rattle.kc_tree_model.specs.Reading.{statement_on_line, with_statement, with_attribute, reading}
@@ -32,7 +33,7 @@ AreValues (l ∷ ls) = ((d : DefaultAttribute) → default_of l.attribute ≡ So
 -- each group has its number among all, defines a word if it defines something, and has such values
 abbrev pub IsRead : List Group → Type 0
 IsRead [] = Unit {0}
-IsRead (g ∷ before) = (g.number ≡ length before) × NamesWord g.what × AreValues g.attributes × IsRead before
+IsRead (g ∷ before) = (g.number ≡ length before) × NamesWord g.head × AreValues g.attributes × IsRead before
 
 both_true : (a b : Bool) → (a && b) ≡ true → (a ≡ true) × (b ≡ true)
 both_true true b h = (refl, h)
@@ -93,9 +94,9 @@ placed-group g (x ∷ before) (inl e) = (group_in_context (open_blocks 0 before)
 placed-group g (x ∷ before) (inr h) = let r = placed-group g before h in (r.0, append-has_left r.0 (groups_in_context before) (group_in_context (open_blocks 0 before) x ∷ []) r.1, r.2)
 
 -- words and numbers of groups
-pub word_of_group : (g : Group) (read : List Group) → IsRead read → Has g read → NamesWord g.what
+pub word_of_group : (g : Group) (read : List Group) → IsRead read → Has g read → NamesWord g.head
 word_of_group g [] r h = absurd h
-word_of_group g (x ∷ before) r (inl e) = subst (λ (y : Group). NamesWord y.what) e r.1
+word_of_group g (x ∷ before) r (inl e) = subst (λ (y : Group). NamesWord y.head) e r.1
 word_of_group g (x ∷ before) r (inr h) = word_of_group g before r.3 h
 
 pub values_of_group : (g : Group) (read : List Group) → IsRead read → Has g read → AreValues g.attributes
@@ -131,7 +132,7 @@ same_place (x ∷ xs) p q d (inl a) (inr b) e = absurd (d.0 q b (ap (λ (y : Gro
 same_place (x ∷ xs) p q d (inr a) (inl b) e = absurd (d.0 p a (ap (λ (y : GroupInContext). y.group.number) b ∙ sym e))
 same_place (x ∷ xs) p q d (inr a) (inr b) e = same_place xs p q d.1 a b e
 
--- the choice round a place is one that was read
+-- the choice that encloses a place was read
 open_by : (s : Side) (g x : Group) (n : ℕ) (gs : List Group) → ((m : ℕ) → Has x (open_blocks m gs) → Has x gs) → Has x (elim s [ opening ↦ elim n [ zero ↦ g ∷ open_blocks 0 gs | suc m ↦ open_blocks m gs ] | closing ↦ open_blocks (suc n) gs | inside ↦ open_blocks n gs ]) → Has x (g ∷ gs)
 open_by opening g x zero gs ih (inl e) = inl e
 open_by opening g x zero gs ih (inr h) = inr (ih 0 h)
@@ -141,11 +142,11 @@ open_by inside g x n gs ih h = inr (ih n h)
 
 pub has-open_blocks : (x : Group) (n : ℕ) (gs : List Group) → Has x (open_blocks n gs) → Has x gs
 has-open_blocks x n [] h = h
-has-open_blocks x n (g ∷ gs) h = open_by (side_of g.what) g x n gs (λ m k. has-open_blocks x m gs k) h
+has-open_blocks x n (g ∷ gs) h = open_by (side_of g.head) g x n gs (λ m k. has-open_blocks x m gs k) h
 
-within_by : (w : GroupHead) (enclosing : Context) (g : Group) (n : ℕ) → g.what ≡ w → (inner_context_of_group_head w enclosing g).choice ≡ Some n → ((g.number ≡ n) × (opens_choice g ≡ true)) ⊎ (enclosing.choice ≡ Some n)
+within_by : (w : GroupHead) (enclosing : Context) (g : Group) (n : ℕ) → g.head ≡ w → (inner_context_of_group_head w enclosing g).choice ≡ Some n → ((g.number ≡ n) × (opens_choice g ≡ true)) ⊎ (enclosing.choice ≡ Some n)
 within_by (of_head (config name)) enclosing g n e h = inr h
-within_by (of_head choice) enclosing g n e h = inl (cc, ap (λ w. is_some_block choice_block (from_head block_of_head w)) e)
+within_by (of_head choice) enclosing g n e h = inl (cc, ap (λ w. is_some_block blocks.Choice (from_head block_of_head w)) e)
 within_by (of_head (menu title)) enclosing g n e h = inr h
 within_by (of_head (condition c)) enclosing g n e h = inr h
 within_by (of_head (comment title)) enclosing g n e h = inr h
@@ -156,7 +157,7 @@ within_by file_end enclosing g n e h = inr h
 
 choice-context : (gs : List Group) (n : ℕ) → (context gs).choice ≡ Some n → (x : Group) × Has x gs × (x.number ≡ n) × (opens_choice x ≡ true)
 choice-context [] n h = cc
-choice-context (g ∷ gs) n h = elim (within_by g.what (context gs) g n refl h) [ inl a ↦ (g, inl refl, a.0, a.1) | inr b ↦ let r = choice-context gs n b in (r.0, inr r.1, r.2, r.3) ]
+choice-context (g ∷ gs) n h = elim (within_by g.head (context gs) g n refl h) [ inl a ↦ (g, inl refl, a.0, a.1) | inr b ↦ let r = choice-context gs n b in (r.0, inr r.1, r.2, r.3) ]
 
 pub choice_read : (p : GroupInContext) (read : List Group) (n : ℕ) → Has p (groups_in_context read) → p.enclosing.choice ≡ Some n → (q : GroupInContext) × Has q (groups_in_context read) × (q.group.number ≡ n) × (opens_choice q.group ≡ true)
 choice_read p [] n h e = absurd h
@@ -171,7 +172,7 @@ choice_read p (g ∷ before) n h e = elim (has-append p (groups_in_context befor
   ]
 ]
 
--- what places say they are
+-- the form of each place
 pub what_of_name : (w : GroupHead) (name : List ℕ) → from_head name_of_head w ≡ Some name → w ≡ of_head (config name)
 what_of_name (of_head (config x)) name h = ap (λ y. of_head (config y)) cc
 what_of_name (of_head choice) name h = cc
@@ -183,7 +184,7 @@ what_of_name (of_head mainmenu) name h = cc
 what_of_name (of_head (ends b)) name h = cc
 what_of_name file_end name h = cc
 
-pub what_of_choice : (w : GroupHead) → is_some_block choice_block (from_head block_of_head w) ≡ true → w ≡ of_head choice
+pub what_of_choice : (w : GroupHead) → is_some_block blocks.Choice (from_head block_of_head w) ≡ true → w ≡ of_head choice
 what_of_choice (of_head (config x)) h = cc
 what_of_choice (of_head choice) h = refl
 what_of_choice (of_head (menu title)) h = cc

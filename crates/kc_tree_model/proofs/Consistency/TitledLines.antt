@@ -1,4 +1,4 @@
--- The title that a line says is the text of one of its tokens.
+-- The title of a line's statement is the text of one of its tokens.
 use Rattle.std.proofs.Common.{ap, ◌∙◌, ◌≡◌, Bool, true, false, cond, List, [], ◌∷◌, Option, Some, None, Result, Ok, Err, ℕ, refl, sym}
 use Rattle.kc_expr.specs.Token.{Lexeme, lexemes_from}
 use Rattle.kc_expr.specs.Grammar.{quoted_text}
@@ -6,7 +6,9 @@ use Rattle.kc_tree_model.specs.declared.fault.TreeKind.{TreeKind}
 use Rattle.kc_tree_model.specs.declared.fault.TreeKind.TheVariants.{Malformed}
 use Rattle.kc_tree_model.specs.LogicalLines.{LogicalLine}
 use Rattle.kc_tree_model.specs.Statements.{Head, choice, menu, condition, comment, source, mainmenu, Statement, head}
-use Rattle.kc_tree_model.specs.Keywords.{Keyword, choice_word, menu_word, if_word, comment_word, source_word, mainmenu_word, is_quoted_kind}
+use Rattle.kc_tree_model.specs.Keywords.{is_quoted_kind}
+use Rattle.kc_tree_model.specs.declared.keyword.Keyword.{Keyword}
+use Rattle.kc_tree_model.specs.declared.keyword.Keyword.TheVariants as words
 use Rattle.kc_tree_model.specs.Forms.{statement_of, titled_line, path_of, no_more, last_condition}
 use Rattle.kc_tree_model.specs.Blocks.{Group}
 use Rattle.kc_tree_model.specs.Reading.{statement_on_line}
@@ -48,15 +50,15 @@ no_source [] h title e (Some path) k = not_titled (source path) h title refl e (
 no_source (t ∷ ts) h title e (Some path) k = cc
 
 title_said : (k : Keyword) (ts : List Lexeme) (h : Head) (title : List ℕ) → title_in h ≡ Some title → other_sort ≡ sort_of_word k → statement_of k ts ≡ Ok (head h) → Titled ts title
-title_said menu_word ts h title e s k = titled menu (λ x. refl) ts h title e k
-title_said comment_word ts h title e s k = titled comment (λ x. refl) ts h title e k
-title_said mainmenu_word [] h title e s k = cc
-title_said mainmenu_word (t ∷ ts) h title e s k = absurd (no_main t ts h title e (is_quoted_kind t.kind) k)
-title_said choice_word [] h title e s k = absurd (not_titled choice h title refl e (Ok (head choice)) refl k)
-title_said choice_word (t ∷ ts) h title e s k = cc
-title_said if_word ts h title e s k = let x = bind_ok (last_condition ts) (λ c. Ok (head (condition c))) (head h) k in absurd (not_titled (condition x.0) h title refl e (Ok (head (condition x.0))) refl x.2)
-title_said source_word [] h title e s k = cc
-title_said source_word (t ∷ ts) h title e s k = absurd (no_source ts h title e (path_of t) k)
+title_said words.Menu ts h title e s k = titled menu (λ x. refl) ts h title e k
+title_said words.Comment ts h title e s k = titled comment (λ x. refl) ts h title e k
+title_said words.Mainmenu [] h title e s k = cc
+title_said words.Mainmenu (t ∷ ts) h title e s k = absurd (no_main t ts h title e (is_quoted_kind t.kind) k)
+title_said words.Choice [] h title e s k = absurd (not_titled choice h title refl e (Ok (head choice)) refl k)
+title_said words.Choice (t ∷ ts) h title e s k = cc
+title_said words.If ts h title e s k = let x = bind_ok (last_condition ts) (λ c. Ok (head (condition c))) (head h) k in absurd (not_titled (condition x.0) h title refl e (Ok (head (condition x.0))) refl x.2)
+title_said words.Source [] h title e s k = cc
+title_said words.Source (t ∷ ts) h title e s k = absurd (no_source ts h title e (path_of t) k)
 title_said w ts h title e s k = cc
 
 titled_sort : (h : Head) (title : List ℕ) → title_in h ≡ Some title → sort_of_head h ≡ other_sort
@@ -64,7 +66,7 @@ titled_sort (menu x) title e = refl
 titled_sort (comment x) title e = refl
 titled_sort h title e = cc
 
--- the title that a line says is the text of one of its tokens
+-- the title of a line's statement is the text of one of its tokens
 pub line_titles : (read : List Group) (l : LogicalLine) (h : Head) (title : List ℕ) → title_in h ≡ Some title → statement_on_line read l ≡ Ok (Some (head h))
     → (first : Lexeme) × (t : Lexeme) × (us : List Lexeme) × (lexemes_from 0 0 l.text ≡ Ok (first ∷ t ∷ us)) × (quoted_text t.text ≡ title)
 line_titles read l h title e k =

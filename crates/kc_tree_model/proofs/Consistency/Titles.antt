@@ -18,7 +18,7 @@ IsPlain w = (title : List ℕ) → from_head title_in w ≡ Some title → IsPla
 
 abbrev pub ArePlain : List Group → Type 0
 ArePlain [] = Unit {0}
-ArePlain (g ∷ before) = IsPlain g.what × ArePlain before
+ArePlain (g ∷ before) = IsPlain g.head × ArePlain before
 
 plain_said : (read : List Group) (l : LogicalLine) (h : Head) → has_newline l.text ≡ false → statement_on_line read l ≡ Ok (Some (head h)) → IsPlain (of_head h)
 plain_said read l h one e title has = let r = line_titles read l h title has e in subst IsPlainText r.4 (title_is_plain l.text r.0 r.1 r.2 (one, line_utf8 read l (Some (head h)) e) r.3)
@@ -40,7 +40,7 @@ pub titles_plain : (files : Files) (root : List ℕ) → ArePlain (reading files
 titles_plain files root = reading_keeps ArePlain (record { by_line = line_plain; by_end = λ read at h. (end_plain, h) }) tt files root
 
 -- a group that was read has a plain title
-pub plain_of_group : (g : Group) (read : List Group) → ArePlain read → Has g read → IsPlain g.what
+pub plain_of_group : (g : Group) (read : List Group) → ArePlain read → Has g read → IsPlain g.head
 plain_of_group g [] r h = absurd h
-plain_of_group g (x ∷ before) r (inl e) = subst (λ (y : Group). IsPlain y.what) e r.0
+plain_of_group g (x ∷ before) r (inl e) = subst (λ (y : Group). IsPlain y.head) e r.0
 plain_of_group g (x ∷ before) r (inr h) = plain_of_group g before r.1 h

@@ -1,4 +1,4 @@
--- The tokens of a line that is UTF-8 are UTF-8, and so is the text for which a quoted one stands.
+-- The tokens of a line that is UTF-8 are UTF-8, and so is the text that a quoted one represents.
 use Rattle.std.proofs.Common.{◌≡◌, ℕ, ◌+◌, ◌-◌, ◌<◌, ◌≤◌, Bool, true, false, ◌&&◌, eqb, cond, List, [], ◌∷◌, ◌++◌, length, take, drop, get_or, IsUtf8, Ok, refl, ap, sym, ◌∙◌, subst, append_assoc, length-append, length-drop, take_at, drop_at, arith}
 use Rattle.std.specs.Prelude.{nat_le, slice_index}
 use Rattle.std.specs.List.{list_all}

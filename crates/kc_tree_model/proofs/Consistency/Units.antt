@@ -4,7 +4,9 @@ use Rattle.std.specs.Prelude.{slice_get, filter_map, option_map, option_and_then
 use Rattle.std.specs.List.{cons_option}
 use Rattle.std.proofs.lemmas.Bool.{eqb-true, eq-eqb}
 use Rattle.kc_expr.specs.Lookup.{index_of_name}
-use Rattle.kc_tree_model.specs.Trees.{Symbol, Choice, TreeUnit, of_symbol, of_choice}
+use Rattle.kc_tree_model.specs.Trees.{Symbol, Choice}
+use Rattle.kc_tree_model.specs.declared.ids.Unit.{Unit as TreeUnit}
+use Rattle.kc_tree_model.specs.declared.ids.Unit.TheVariants.{Symbol as of_symbol, Choice as of_choice}
 use Rattle.kc_tree_model.specs.Statements.{config, choice, menu, condition, comment, source, mainmenu, ends, name_of_head}
 use Rattle.kc_tree_model.specs.Blocks.{GroupHead, of_head, file_end, from_head, defined_name, opens_choice}
 use Rattle.kc_tree_model.specs.Conditions.{GroupInContext}
@@ -106,7 +108,7 @@ pub if_some : (b : Bool) (o : Option TreeUnit) (y : TreeUnit) → cond b o None 
 if_some true o y h = (refl, h)
 if_some false o y h = cc
 
-pub symbol_unit : (c : Contents) (p : GroupInContext) (w : GroupHead) (s : ℕ) → p.group.what ≡ w → from_head (unit_of_head c p) w ≡ Some (of_symbol s) → IsSymbolUnit c p s
+pub symbol_unit : (c : Contents) (p : GroupInContext) (w : GroupHead) (s : ℕ) → p.group.head ≡ w → from_head (unit_of_head c p) w ≡ Some (of_symbol s) → IsSymbolUnit c p s
 symbol_unit c p (of_head (config name)) s e h =
     let a = if_some (is_first_definition c name p && is_none (choice_of_symbol c name)) _ (of_symbol s) h in
     let b = two_true (is_first_definition c name p) (is_none (choice_of_symbol c name)) a.0 in
@@ -123,7 +125,7 @@ symbol_unit c p (of_head mainmenu) s e h = cc
 symbol_unit c p (of_head (ends b)) s e h = cc
 symbol_unit c p file_end s e h = cc
 
-pub choice_unit : (c : Contents) (p : GroupInContext) (w : GroupHead) (k : ℕ) → p.group.what ≡ w → from_head (unit_of_head c p) w ≡ Some (of_choice k) → choice_number c p.group.number ≡ Some k
+pub choice_unit : (c : Contents) (p : GroupInContext) (w : GroupHead) (k : ℕ) → p.group.head ≡ w → from_head (unit_of_head c p) w ≡ Some (of_choice k) → choice_number c p.group.number ≡ Some k
 choice_unit c p (of_head (config name)) k e h =
     let a = if_some (is_first_definition c name p && is_none (choice_of_symbol c name)) _ (of_choice k) h in
     let d = mapped_some of_symbol (index_of_name name c.names) (of_choice k) a.1 in cc
@@ -136,19 +138,19 @@ choice_unit c p (of_head mainmenu) k e h = cc
 choice_unit c p (of_head (ends b)) k e h = cc
 choice_unit c p file_end k e h = cc
 
--- one unit stands at one place
+-- one unit is at one place
 pub same_unit : (c : Contents) (s : IsSound c) (v : TreeUnit) (p q : GroupInContext) → unit_at c p ≡ Some v → unit_at c q ≡ Some v → p.group.number ≡ q.group.number
 unfolding unit_at
 same_unit c s (of_symbol n) p q h k =
-    let a = symbol_unit c p p.group.what n refl h in
-    let b = symbol_unit c q q.group.what n refl k in
+    let a = symbol_unit c p p.group.head n refl h in
+    let b = symbol_unit c q q.group.head n refl k in
     let x = place-get a.name c.names n a.number in
     let y = place-get b.name c.names n b.number in
     let same : a.name ≡ b.name = cc in
     one_number c a.name p q a.first (subst (λ x. is_first_definition c x q ≡ true) (sym same) b.first)
 same_unit c s (of_choice n) p q h k =
-    let a = number-get p.group.number c.choices n (choice_unit c p p.group.what n refl h) in
-    let b = number-get q.group.number c.choices n (choice_unit c q q.group.what n refl k) in
+    let a = number-get p.group.number c.choices n (choice_unit c p p.group.head n refl h) in
+    let b = number-get q.group.number c.choices n (choice_unit c q q.group.head n refl k) in
     cc
 
 pub unique_by : (c : Contents) (s : IsSound c) (v : TreeUnit) (p : GroupInContext) (ps : List GroupInContext) (o : Option TreeUnit) (i j : ℕ) → unit_at c p ≡ o → ((q : GroupInContext) → Has q ps → p.group.number ≡ q.group.number → ⊥)
@@ -164,7 +166,7 @@ pub unique_in : (c : Contents) (s : IsSound c) (v : TreeUnit) (ps : List GroupIn
 unique_in c s v [] i j d h k = cc
 unique_in c s v (p ∷ ps) i j d h k = unique_by c s v p ps (unit_at c p) i j refl d.0 (λ m n a b. unique_in c s v ps m n d.1 a b) h k
 
--- a unit that stands at a place is in the list
+-- a unit that is at a place is in the list
 pub unit_listed : (c : Contents) (p : GroupInContext) (v : TreeUnit) → Has p c.places → unit_at c p ≡ Some v → (u : ℕ) × (slice_get (units_of c) u ≡ Some v)
 unfolding units_of
 unit_listed c p v h e = at-has v (filter_map (unit_at c) c.places) (filter_map-has (unit_at c) c.places p v h e)
@@ -177,14 +179,14 @@ unit_place c u v h = has-filter_map (unit_at c) c.places v (has-at v (filter_map
 pub symbol_unit_at : (c : Contents) (p : GroupInContext) (name : List ℕ) (s : ℕ) → defined_name p.group ≡ Some name → is_first_definition c name p ≡ true → choice_of_symbol c name ≡ None → index_of_name name c.names ≡ Some s → unit_at c p ≡ Some (of_symbol s)
 unfolding unit_at
 symbol_unit_at c p name s e f n k =
-    ap (from_head (unit_of_head c p)) (what_of_name p.group.what name e)
+    ap (from_head (unit_of_head c p)) (what_of_name p.group.head name e)
     ∙ ap (λ b. cond (b && is_none (choice_of_symbol c name)) (option_map of_symbol (index_of_name name c.names)) None) f
     ∙ ap (λ o. cond (is_none o) (option_map of_symbol (index_of_name name c.names)) None) n
     ∙ ap (option_map of_symbol) k
 
 pub choice_unit_at : (c : Contents) (p : GroupInContext) (k : ℕ) → opens_choice p.group ≡ true → choice_number c p.group.number ≡ Some k → unit_at c p ≡ Some (of_choice k)
 unfolding unit_at
-choice_unit_at c p k e h = ap (from_head (unit_of_head c p)) (what_of_choice p.group.what e) ∙ ap (option_map of_choice) h
+choice_unit_at c p k e h = ap (from_head (unit_of_head c p)) (what_of_choice p.group.head e) ∙ ap (option_map of_choice) h
 
 -- a symbol has a first definition
 pub first_defined : (c : Contents) (s : IsSound c) (name : List ℕ) → Has name c.names → (p : GroupInContext) × Has p c.places × (defined_name p.group ≡ Some name) × (is_first_definition c name p ≡ true)

@@ -8,12 +8,12 @@ use Rattle.kc_tree_model.proofs.NestedTrees.Walks.{onto, onto-append, open-listi
 -- whether the innermost of these blocks ends so
 abbrev pub ends_first : List Group → GroupHead → Bool
 ends_first [] e = false
-ends_first (g ∷ outer) e = is_ended_by g.what e
+ends_first (g ∷ outer) e = is_ended_by g.head e
 
 -- each end matches the innermost block that is open there
 abbrev pub EndsMatch : List Group → Type 0
 EndsMatch [] = Unit {0}
-EndsMatch (g ∷ before) = (side_of g.what ≡ closing → ends_first (open_blocks 0 before) g.what ≡ true) × EndsMatch before
+EndsMatch (g ∷ before) = (side_of g.head ≡ closing → ends_first (open_blocks 0 before) g.head ≡ true) × EndsMatch before
 
 -- items after items
 append : Items → Items → Items
@@ -45,7 +45,7 @@ listed (level o g t) = listed o ++ g ∷ listing t
 
 abbrev IsNestedSoFar : Unfinished → Type 0
 IsNestedSoFar (root t) = IsNested t
-IsNestedSoFar (level o g t) = IsNestedSoFar o × (side_of g.what ≡ opening) × IsNested t
+IsNestedSoFar (level o g t) = IsNestedSoFar o × (side_of g.head ≡ opening) × IsNested t
 
 abbrev beginnings : Unfinished → List Group
 beginnings (root t) = []
@@ -78,28 +78,28 @@ record Built (read : List Group) : Type 0 where
   nested : IsNestedSoFar tree
   is_listed : onto (listed tree) [] ≡ read
 
-add_entry : (g : Group) (before : List Group) → side_of g.what ≡ inside → Built before → Built (g ∷ before)
+add_entry : (g : Group) (before : List Group) → side_of g.head ≡ inside → Built before → Built (g ∷ before)
 add_entry g before e b = record {
   tree = with_items b.tree (entry g none);
   nested = nested_with_items b.tree (entry g none) b.nested (e, tt);
   is_listed = ap (λ gs. onto gs []) (listed-with_items b.tree (entry g none)) ∙ onto-append (listed b.tree) (g ∷ []) [] ∙ ap (λ r. g ∷ r) b.is_listed;
 }
 
-add_beginning : (g : Group) (before : List Group) → side_of g.what ≡ opening → Built before → Built (g ∷ before)
+add_beginning : (g : Group) (before : List Group) → side_of g.head ≡ opening → Built before → Built (g ∷ before)
 add_beginning g before e b = record {
   tree = level b.tree g none;
   nested = (b.nested, e, tt);
   is_listed = onto-append (listed b.tree) (g ∷ []) [] ∙ ap (λ r. g ∷ r) b.is_listed;
 }
 
-add_end_to : (o : Unfinished) (e : Group) (before : List Group) → IsNestedSoFar o → onto (listed o) [] ≡ before → ends_first (open_blocks 0 before) e.what ≡ true → Built (e ∷ before)
+add_end_to : (o : Unfinished) (e : Group) (before : List Group) → IsNestedSoFar o → onto (listed o) [] ≡ before → ends_first (open_blocks 0 before) e.head ≡ true → Built (e ∷ before)
 add_end_to (root t) e before n l h =
     let none_open : open_blocks 0 before ≡ [] = ap (open_blocks 0) (sym l) ∙ open-listed (root t) n in
-    let not_ended : ends_first (open_blocks 0 before) e.what ≡ false = ap (λ gs. ends_first gs e.what) none_open in
+    let not_ended : ends_first (open_blocks 0 before) e.head ≡ false = ap (λ gs. ends_first gs e.head) none_open in
     cc
 add_end_to (level o g t) e before n l h =
     let innermost : open_blocks 0 before ≡ g ∷ beginnings o = ap (open_blocks 0) (sym l) ∙ open-listed (level o g t) n in
-    let matched : is_ended_by g.what e.what ≡ true = sym (ap (λ gs. ends_first gs e.what) innermost) ∙ h in
+    let matched : is_ended_by g.head e.head ≡ true = sym (ap (λ gs. ends_first gs e.head) innermost) ∙ h in
     record {
       tree = with_items o (block g t e none);
       nested = nested_with_items o (block g t e none) n.0 (matched, n.2, tt);
@@ -110,14 +110,14 @@ add_end_to (level o g t) e before n l h =
           ∙ ap (λ r. e ∷ r) (sym (onto-append (listed o) (g ∷ listing t) []) ∙ l);
     }
 
-add_group : (s : Side) (g : Group) (before : List Group) → side_of g.what ≡ s → (side_of g.what ≡ closing → ends_first (open_blocks 0 before) g.what ≡ true) → Built before → Built (g ∷ before)
+add_group : (s : Side) (g : Group) (before : List Group) → side_of g.head ≡ s → (side_of g.head ≡ closing → ends_first (open_blocks 0 before) g.head ≡ true) → Built before → Built (g ∷ before)
 add_group inside g before e h b = add_entry g before e b
 add_group opening g before e h b = add_beginning g before e b
 add_group closing g before e h b = add_end_to b.tree g before b.nested b.is_listed (h e)
 
 built : (read : List Group) → EndsMatch read → Built read
 built [] h = record { tree = root none; nested = tt; is_listed = refl }
-built (g ∷ before) h = add_group (side_of g.what) g before refl h.0 (built before h.1)
+built (g ∷ before) h = add_group (side_of g.head) g before refl h.0 (built before h.1)
 
 -- with no block open, it is a nested tree
 finished : (o : Unfinished) (read : List Group) → IsNestedSoFar o → onto (listed o) [] ≡ read → open_blocks 0 read ≡ [] → (t : Items) × IsNested t × (onto (listing t) [] ≡ read)

@@ -7,9 +7,11 @@ use Rattle.kc_tree_model.specs.declared.fault.TreeKind.{TreeKind}
 use Rattle.kc_tree_model.specs.declared.fault.TreeKind.TheVariants.{SourceLoop, MissingFile, TooDeep}
 use Rattle.kc_tree_model.specs.declared.fault.TreeFault.{TreeFault}
 use Rattle.kc_tree_model.specs.LogicalLines.{LogicalLine, lines_of}
-use Rattle.kc_tree_model.specs.Statements.{Block, Head, config, choice, menu, condition, comment, source, mainmenu, ends, Statement, head, attribute, block_of_head, path_of_head}
+use Rattle.kc_tree_model.specs.Statements.{Head, config, choice, menu, condition, comment, source, mainmenu, ends, Statement, head, attribute, block_of_head, path_of_head}
+use Rattle.kc_tree_model.specs.declared.keyword.Block.{Block}
 use Rattle.kc_tree_model.specs.Blocks.{Group, Position, GroupHead, of_head, file_end, from_head, open_blocks, sourced_path, innermost}
-use Rattle.kc_tree_model.specs.Limits.{FileSource, bytes_in, is_in_list, open_files, source_fault, max_open_files}
+use Rattle.kc_tree_model.specs.Limits.{FileSource, bytes_in, is_in_list, open_files, source_fault}
+use Rattle.kc_value.specs.declared.limits.TheConstants.{MAX_OPEN_FILES}
 use Rattle.kc_tree_model.specs.Reading.{statement_on_line, with_statement, with_group, path_to_read, Outcome, continue_after_file, continue_after_source, continue_after_statement, continue_after_line, read_lines, read_file}
 use Rattle.kc_tree_model.proofs.NestedTrees.Building.{EndsMatch, ends_first}
 use Rattle.kc_tree_model.proofs.NestedTrees.LineFits.{Fits, line_fits}
@@ -30,9 +32,9 @@ no_file file_end b e = refl
 
 no_files : (gs hs : List Group) → AllBlocks gs → filter_map sourced_path (gs ++ hs) ≡ filter_map sourced_path hs
 no_files [] hs own = refl
-no_files (g ∷ gs) hs own = ap (λ o. cons_option o (filter_map sourced_path (gs ++ hs))) (no_file g.what own.0.0 own.0.1) ∙ no_files gs hs own.1
+no_files (g ∷ gs) hs own = ap (λ o. cons_option o (filter_map sourced_path (gs ++ hs))) (no_file g.head own.0.0 own.0.1) ∙ no_files gs hs own.1
 
--- so many files are open as where the file began
+-- as many files are open as where the file began
 same_files : (r : FileSource) (start read : List Group) → Since start read → length (open_files r read) ≡ length (open_files r start)
 same_files r start read s = ap (λ gs. length (r.root ∷ filter_map sourced_path gs)) s.opened ∙ ap (λ ps. length (r.root ∷ ps)) (no_files s.blocks (open_blocks 0 start) s.own)
 
@@ -46,13 +48,13 @@ past_kind true k o h = cc
 past_kind false k o h = (refl, h)
 
 -- where a `source` has no fault there is room
-has_room : (r : FileSource) (read : List Group) (path : List ℕ) → source_fault r read path ≡ None → length (open_files r read) < max_open_files
+has_room : (r : FileSource) (read : List Group) (path : List ℕ) → source_fault r read path ≡ None → length (open_files r read) < MAX_OPEN_FILES
 unfolding source_fault
 has_room r read path h =
     let a = past_kind (is_in_list path (open_files r read)) SourceLoop _ h in
     let b = past_kind (not (is_some (r.bytes path))) MissingFile _ a.1 in
-    let c = past_kind (nat_le max_open_files (length (open_files r read))) TooDeep _ b.1 in
-    leb-false max_open_files (length (open_files r read)) c.0
+    let c = past_kind (nat_le MAX_OPEN_FILES (length (open_files r read))) TooDeep _ b.1 in
+    leb-false MAX_OPEN_FILES (length (open_files r read)) c.0
 
 -- two readings of lines that agree after what was read since a file began
 abbrev Agree : List Group → (List Group → Outcome) → (List Group → Outcome) → Type 0
@@ -60,7 +62,7 @@ Agree start f g = (read : List Group) → Since start read → f read ≡ g read
 
 -- two readings of files that agree one file further within
 abbrev AgreeWithin : FileSource → List Group → (List ℕ → List Group → Outcome) → (List ℕ → List Group → Outcome) → Type 0
-AgreeWithin r start f g = (path : List ℕ) (inner : List Group) → innermost inner ≡ None → EndsMatch inner → length (open_files r start) < max_open_files
+AgreeWithin r start f g = (path : List ℕ) (inner : List Group) → innermost inner ≡ None → EndsMatch inner → length (open_files r start) < MAX_OPEN_FILES
     → length (open_files r inner) ≡ suc (length (open_files r start)) → f path inner ≡ g path inner
 
 module _ (r : FileSource) (start : List Group) (first : innermost start ≡ None) (f g : List ℕ → List Group → Outcome) (closes : Reads f) (within : AgreeWithin r start f g) where
@@ -70,7 +72,7 @@ module _ (r : FileSource) (start : List Group) (first : innermost start ≡ None
   same_behind p q at read path o (Some k) e agree s c = refl
   same_behind p q at read path o None e agree s c =
       let closed = c e in
-      let back : open_blocks 0 (with_group at file_end o.read) ≡ open_blocks 0 read = popped (record { number = length o.read; at = at; what = file_end; attributes = [] }) o.read refl ∙ ap (drop 1) closed.opened in
+      let back : open_blocks 0 (with_group at file_end o.read) ≡ open_blocks 0 read = popped (record { number = length o.read; at = at; head = file_end; attributes = [] }) o.read refl ∙ ap (drop 1) closed.opened in
       agree (with_group at file_end o.read) (record {
         blocks = s.blocks;
         own = s.own;
@@ -119,7 +121,7 @@ module _ (r : FileSource) (start : List Group) (first : innermost start ≡ None
   same_lines file [] = λ read s. refl
   same_lines file (l ∷ ls) = λ read s. same_line (read_lines f r file ls) (read_lines g r file ls) (record { file = file; line = l.number }) read (statement_on_line read l) (line_fits read l) (same_lines file ls) s
 
-same_file : (m n : ℕ) (r : FileSource) (path : List ℕ) (start : List Group) → m ≤ n → innermost start ≡ None → EndsMatch start → length (open_files r start) ≤ max_open_files → max_open_files < length (open_files r start) + m
+same_file : (m n : ℕ) (r : FileSource) (path : List ℕ) (start : List Group) → m ≤ n → innermost start ≡ None → EndsMatch start → length (open_files r start) ≤ MAX_OPEN_FILES → MAX_OPEN_FILES < length (open_files r start) + m
     → read_file m r path start ≡ read_file n r path start
 same_file zero n r path start le first matched few many = absurd (omega arith)
 same_file (suc m) zero r path start le first matched few many = absurd (omega arith)
@@ -129,5 +131,5 @@ same_file (suc m) (suc n) r path start le first matched few many =
     (r.number path) (lines_of (bytes_in r path)) start (record { blocks = []; own = tt; opened = refl; matched = matched })
 
 -- from the limit on, the reading is the same
-pub each_file_read : (r : FileSource) (more : ℕ) → read_file (max_open_files + more) r r.root [] ≡ read_file max_open_files r r.root []
-each_file_read r more = sym (same_file max_open_files (max_open_files + more) r r.root [] (omega arith) refl tt (omega arith) (omega arith))
+pub each_file_read : (r : FileSource) (more : ℕ) → read_file (MAX_OPEN_FILES + more) r r.root [] ≡ read_file MAX_OPEN_FILES r r.root []
+each_file_read r more = sym (same_file MAX_OPEN_FILES (MAX_OPEN_FILES + more) r r.root [] (omega arith) refl tt (omega arith) (omega arith))

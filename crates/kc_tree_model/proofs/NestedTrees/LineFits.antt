@@ -1,4 +1,4 @@
--- What a line says fits what was read: an end matches the innermost block, and an attribute has an open entry.
+-- A line's statement fits the groups read before: an end matches the innermost block, and an attribute has an open entry.
 use Rattle.std.proofs.Common.{ap, ◌∙◌, ◌≡◌, ℕ, Bool, true, false, not, cond, List, [], ◌∷◌, Option, Some, None, Result, Ok, Err, IsUtf8, refl, sym, subst, length}
 use Rattle.std.specs.Prelude.{nat_lt}
 use Rattle.std.specs.Str.{is_utf8}
@@ -11,12 +11,17 @@ use Rattle.kc_expr.specs.declared.fault.ExprFault.{ExprFault}
 use Rattle.kc_tree_model.specs.declared.fault.TreeKind.{TreeKind}
 use Rattle.kc_tree_model.specs.declared.fault.TreeKind.TheVariants.{Malformed, LeftOut, Misplaced, StrayEnd, TooDeep, TooMany, LineTooLong, NotUtf8}
 use Rattle.kc_tree_model.specs.LogicalLines.{LogicalLine}
-use Rattle.kc_tree_model.specs.Statements.{Block, Head, config, choice, menu, condition, comment, source, mainmenu, ends, DefaultAttribute, TargetAttribute, Attribute, typed_prompt, typed_default, prompt, default, depends, select, imply, range, visible, help, modules, default_of, Statement, head, attribute}
-use Rattle.kc_tree_model.specs.Keywords.{Keyword, config_word, choice_word, menu_word, if_word, comment_word, source_word, mainmenu_word, end_word, type_word, default_type_word, prompt_word, default_word, depends_word, select_word, imply_word, range_word, visible_word, help_word, modules_word, option_word, left_out_word, keyword_of, is_name, is_quoted_kind, is_the_word}
+use Rattle.kc_tree_model.specs.Statements.{Head, config, choice, menu, condition, comment, source, mainmenu, ends, DefaultAttribute, TargetAttribute, Attribute, typed_prompt, typed_default, prompt, default, depends, select, imply, range, visible, help, modules, default_of, Statement, head, attribute}
+use Rattle.kc_tree_model.specs.declared.keyword.Block.{Block}
+use Rattle.kc_tree_model.specs.Keywords.{keyword_of, is_name, is_quoted_kind, is_the_word}
+use Rattle.kc_tree_model.specs.declared.keyword.Keyword.{Keyword}
+use Rattle.kc_tree_model.specs.declared.keyword.Keyword.TheVariants as words
 use Rattle.kc_tree_model.specs.Forms.{ParsedExpr, leading_expr, ◌>>=◌, statement_of, config_line, choice_line, titled_line, source_line, path_of, prompt_line, type_line, default_line, target_line, range_of_operands, range_line, condition_line, option_line, no_more, last_condition, optional_if}
 use Rattle.kc_tree_model.specs.Blocks.{Group, is_stray}
-use Rattle.kc_tree_model.specs.Placement.{OpenEntry, open_entry, allows_attribute, open_entry_allows, is_allowed, is_left_out, is_stray_end}
-use Rattle.kc_tree_model.specs.Limits.{max_line_bytes, is_too_deep, is_too_many}
+use Rattle.kc_tree_model.specs.Placement.{open_entry, allows_attribute, open_entry_allows, is_allowed, is_left_out, is_stray_end}
+use Rattle.kc_tree_model.specs.declared.keyword.OpenEntry.{OpenEntry}
+use Rattle.kc_tree_model.specs.Limits.{is_too_deep, is_too_many}
+use Rattle.kc_value.specs.declared.limits.TheConstants.{MAX_LINE_BYTES}
 use Rattle.kc_tree_model.specs.Reading.{unless, statement_by_keyword, statement_of_tokens, statement_by_word, statement_or_fault, statement_on_line}
 
 -- sorts of statements: definitions, ends, defaults, other attributes, and all others
@@ -42,16 +47,16 @@ sort_of (head h) = sort_of_head h
 sort_of (attribute a) = sort_of_attribute a
 
 abbrev pub sort_of_word : Keyword → Sort
-sort_of_word config_word = config_sort
-sort_of_word choice_word = other_sort
-sort_of_word menu_word = other_sort
-sort_of_word if_word = other_sort
-sort_of_word comment_word = other_sort
-sort_of_word source_word = other_sort
-sort_of_word mainmenu_word = other_sort
-sort_of_word (end_word b) = end_sort b
-sort_of_word default_word = default_sort
-sort_of_word (default_type_word k) = default_sort
+sort_of_word words.Config = config_sort
+sort_of_word words.Choice = other_sort
+sort_of_word words.Menu = other_sort
+sort_of_word words.If = other_sort
+sort_of_word words.Comment = other_sort
+sort_of_word words.Source = other_sort
+sort_of_word words.Mainmenu = other_sort
+sort_of_word (words.End b) = end_sort b
+sort_of_word words.Default = default_sort
+sort_of_word (words.DefaultType k) = default_sort
 sort_of_word k = attribute_sort
 
 -- a line's statement is of this sort, unless it is refused
@@ -124,29 +129,29 @@ gives_option [] = tt
 gives_option (p ∷ ts) = gives_if (is_the_word _ p) attribute_sort (no_more (attribute modules) ts) Malformed (gives_last (attribute modules) ts attribute_sort refl)
 
 gives_statement : (k : Keyword) (ts : List Lexeme) → Gives (sort_of_word k) (statement_of k ts)
-gives_statement config_word ts = gives_config ts
-gives_statement choice_word ts = gives_choice ts
-gives_statement menu_word ts = gives_title menu (λ _. refl) ts
-gives_statement if_word ts = gives_bind (last_condition ts) (λ e. Ok (head (condition e))) other_sort (λ e. refl)
-gives_statement comment_word ts = gives_title comment (λ _. refl) ts
-gives_statement source_word ts = gives_source ts
-gives_statement mainmenu_word ts = gives_title (λ _. mainmenu) (λ _. refl) ts
-gives_statement (end_word b) ts = gives_last (head (ends b)) ts (end_sort b) refl
-gives_statement (type_word k) ts = gives_type k ts
-gives_statement (default_type_word k) ts = gives_default (typed_default k) (λ d. refl) ts
-gives_statement prompt_word ts = gives_prompt prompt (λ c. refl) ts
-gives_statement default_word ts = gives_default default (λ d. refl) ts
-gives_statement depends_word ts = gives_worded _ depends (λ e. refl) ts
-gives_statement select_word ts = gives_aimed select (λ a. refl) ts
-gives_statement imply_word ts = gives_aimed imply (λ a. refl) ts
-gives_statement range_word ts = gives_range ts
-gives_statement visible_word ts = gives_worded _ visible (λ e. refl) ts
-gives_statement help_word ts = gives_last (attribute help) ts attribute_sort refl
-gives_statement modules_word ts = gives_last (attribute modules) ts attribute_sort refl
-gives_statement option_word ts = gives_option ts
-gives_statement left_out_word ts = tt
+gives_statement words.Config ts = gives_config ts
+gives_statement words.Choice ts = gives_choice ts
+gives_statement words.Menu ts = gives_title menu (λ _. refl) ts
+gives_statement words.If ts = gives_bind (last_condition ts) (λ e. Ok (head (condition e))) other_sort (λ e. refl)
+gives_statement words.Comment ts = gives_title comment (λ _. refl) ts
+gives_statement words.Source ts = gives_source ts
+gives_statement words.Mainmenu ts = gives_title (λ _. mainmenu) (λ _. refl) ts
+gives_statement (words.End b) ts = gives_last (head (ends b)) ts (end_sort b) refl
+gives_statement (words.Type k) ts = gives_type k ts
+gives_statement (words.DefaultType k) ts = gives_default (typed_default k) (λ d. refl) ts
+gives_statement words.Prompt ts = gives_prompt prompt (λ c. refl) ts
+gives_statement words.Default ts = gives_default default (λ d. refl) ts
+gives_statement words.Depends ts = gives_worded _ depends (λ e. refl) ts
+gives_statement words.Select ts = gives_aimed select (λ a. refl) ts
+gives_statement words.Imply ts = gives_aimed imply (λ a. refl) ts
+gives_statement words.Range ts = gives_range ts
+gives_statement words.Visible ts = gives_worded _ visible (λ e. refl) ts
+gives_statement words.Help ts = gives_last (attribute help) ts attribute_sort refl
+gives_statement words.Modules ts = gives_last (attribute modules) ts attribute_sort refl
+gives_statement words.Option ts = gives_option ts
+gives_statement words.LeftOut ts = tt
 
--- what a line may say after what was read
+-- the statements that may follow the groups read before
 abbrev FitsHead : List Group → Head → Type 0
 FitsHead read (ends b) = is_stray read b ≡ false
 FitsHead read h = Unit {0}
@@ -172,18 +177,18 @@ attribute_sorted (typed_default k d) = refl
 attribute_sorted a = refl
 
 taken : (read : List Group) (k : Keyword) → is_attribute_sort (sort_of_word k) ≡ true → is_allowed read k ≡ true → open_entry_allows read k ≡ true
-taken read config_word e h = cc
-taken read choice_word e h = cc
-taken read menu_word e h = cc
-taken read if_word e h = cc
-taken read comment_word e h = cc
-taken read source_word e h = cc
-taken read mainmenu_word e h = cc
-taken read (end_word b) e h = cc
+taken read words.Config e h = cc
+taken read words.Choice e h = cc
+taken read words.Menu e h = cc
+taken read words.If e h = cc
+taken read words.Comment e h = cc
+taken read words.Source e h = cc
+taken read words.Mainmenu e h = cc
+taken read (words.End b) e h = cc
 taken read k e h = h
 
 stray_of_word : (read : List Group) (k : Keyword) (b : Block) → sort_of_word k ≡ end_sort b → is_stray_end read k ≡ false → is_stray read b ≡ false
-stray_of_word read (end_word c) b e h = let same : c ≡ b = cc in subst (λ x. is_stray read x ≡ false) same h
+stray_of_word read (words.End c) b e h = let same : c ≡ b = cc in subst (λ x. is_stray read x ≡ false) same h
 stray_of_word read k b e h = cc
 
 fits_statement : (read : List Group) (k : Keyword) (s : Statement) → sort_of s ≡ sort_of_word k → is_allowed read k ≡ true → is_stray_end read k ≡ false → Fits read (Some s)
@@ -204,7 +209,7 @@ pub not_false : (b : Bool) → not b ≡ false → b ≡ true
 not_false true h = refl
 not_false false h = cc
 
--- what a line that says a statement is, by its tokens
+-- the tokens of a line that has a statement
 pub record Said (read : List Group) (tokens : Result (List Lexeme) ExprFault) (s : Statement) : Type 0 where
   pub keyword : Keyword
   pub first : Lexeme
@@ -263,7 +268,7 @@ past_test false e r o h = h
 
 pub line_said : (read : List Group) (l : LogicalLine) (o : Option Statement) → statement_on_line read l ≡ Ok o → SaidIfSome read (lexemes_from 0 0 l.text) o
 unfolding statement_on_line
-line_said read l o h = said_or_help read l.help (lexemes_from 0 0 l.text) o (past_test (not (is_utf8 l.text)) NotUtf8 _ o (past_test (nat_lt max_line_bytes (length l.text)) LineTooLong _ o h))
+line_said read l o h = said_or_help read l.help (lexemes_from 0 0 l.text) o (past_test (not (is_utf8 l.text)) NotUtf8 _ o (past_test (nat_lt MAX_LINE_BYTES (length l.text)) LineTooLong _ o h))
 
 fits_said : (read : List Group) (r : Result (List Lexeme) ExprFault) (o : Option Statement) → SaidIfSome read r o → Fits read o
 fits_said read r None h = tt
@@ -283,7 +288,7 @@ config_named [] name h = cc
 config_named (t ∷ ts) name h = let r = named_well t ts name (is_name t) refl h in (t, r.0, r.1)
 
 config_said : (k : Keyword) (ts : List Lexeme) (name : List ℕ) → config_sort ≡ sort_of_word k → statement_of k ts ≡ Ok (head (config name)) → (t : Lexeme) × (t.text ≡ name) × (is_name t ≡ true)
-config_said config_word ts name e h = config_named ts name h
+config_said words.Config ts name e h = config_named ts name h
 config_said k ts name e h = cc
 
 pub line_names : (read : List Group) (l : LogicalLine) (name : List ℕ) → statement_on_line read l ≡ Ok (Some (head (config name))) → (t : Lexeme) × (t.text ≡ name) × (is_name t ≡ true)
@@ -313,8 +318,8 @@ default_value f g same ts a d e h =
     (x.0, x.1, valued_same (record { value = x.0.expr; single = x.0.single; condition = c.0 }) d told)
 
 default_said : (k : Keyword) (ts : List Lexeme) (a : Attribute) (d : DefaultAttribute) → default_sort ≡ sort_of_word k → default_of a ≡ Some d → statement_of k ts ≡ Ok (attribute a) → (x : ParsedExpr) × (leading_expr ts ≡ Ok x) × (x.expr ≡ d.value)
-default_said default_word ts a d e m h = default_value default default_of (λ d. refl) ts a d m h
-default_said (default_type_word k) ts a d e m h = default_value (typed_default k) default_of (λ d. refl) ts a d m h
+default_said words.Default ts a d e m h = default_value default default_of (λ d. refl) ts a d m h
+default_said (words.DefaultType k) ts a d e m h = default_value (typed_default k) default_of (λ d. refl) ts a d m h
 default_said k ts a d e m h = cc
 
 sorted_default : (a : Attribute) (d : DefaultAttribute) → default_of a ≡ Some d → sort_of_attribute a ≡ default_sort
@@ -328,11 +333,11 @@ line_values read l a d m h =
     let x = default_said s.keyword s.rest a d (sym (sorted_default a d m) ∙ s.sort) m s.form in
     record { first = s.first; rest = s.rest; stand = s.stand; taken = x.0; read_as = x.1; is = x.2 }
 
--- a line that says something is UTF-8
+-- a line that is accepted is UTF-8
 test_passed : (b : Bool) (e : TreeKind) (r : Result (Option Statement) TreeKind) (o : Option Statement) → cond b (Err e) r ≡ Ok o → b ≡ false
 test_passed true e r o h = cc
 test_passed false e r o h = refl
 
 pub line_utf8 : (read : List Group) (l : LogicalLine) (o : Option Statement) → statement_on_line read l ≡ Ok o → IsUtf8 l.text
 unfolding statement_on_line
-line_utf8 read l o h = IsUtf8-from_is_utf8 l.text (not_false (is_utf8 l.text) (test_passed (not (is_utf8 l.text)) NotUtf8 _ o (past_test (nat_lt max_line_bytes (length l.text)) LineTooLong _ o h)))
+line_utf8 read l o h = IsUtf8-from_is_utf8 l.text (not_false (is_utf8 l.text) (test_passed (not (is_utf8 l.text)) NotUtf8 _ o (past_test (nat_lt MAX_LINE_BYTES (length l.text)) LineTooLong _ o h)))

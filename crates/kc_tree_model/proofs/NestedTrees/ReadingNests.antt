@@ -1,14 +1,17 @@
--- What is read without a fault is the listing of just one nested tree.
+-- The groups that are read without a fault are the listing of just one nested tree.
 use Rattle.std.proofs.Common.{◌≡◌, ℕ, suc, zero, Bool, true, false, not, cond, List, [], ◌∷◌, ◌++◌, Option, Some, None, Result, Ok, Err, refl, ap, sym, ◌∙◌, length, drop, reverse}
 use Rattle.std.specs.Prelude.{nat_lt, option_map}
 use Rattle.kc_tree_model.specs.declared.fault.TreeKind.{TreeKind}
 use Rattle.kc_tree_model.specs.declared.fault.TreeFault.{TreeFault}
 use Rattle.kc_tree_model.specs.TreeFiles.{Files, file_at, index_of_file}
 use Rattle.kc_tree_model.specs.LogicalLines.{LogicalLine, lines_of}
-use Rattle.kc_tree_model.specs.Statements.{Block, Head, config, choice, menu, condition, comment, source, mainmenu, ends, Attribute, Statement, head, attribute, block_of_head, path_of_head}
-use Rattle.kc_tree_model.specs.Blocks.{Group, Position, GroupHead, of_head, file_end, side_of, opening, inside, from_head, open_blocks, opened_block, innermost, innermost_of, is_matched, is_stray, is_some_block}
-use Rattle.kc_tree_model.specs.Placement.{OpenEntry, open_entry, opened_by}
-use Rattle.kc_tree_model.specs.Limits.{FileSource, bytes_in, source_fault, max_bytes, max_open_files}
+use Rattle.kc_tree_model.specs.Statements.{Head, config, choice, menu, condition, comment, source, mainmenu, ends, Attribute, Statement, head, attribute, block_of_head, path_of_head}
+use Rattle.kc_tree_model.specs.declared.keyword.Block.{Block}
+use Rattle.kc_tree_model.specs.Blocks.{Group, Position, GroupHead, of_head, file_end, side_of, opening, inside, from_head, open_blocks, opened_block, innermost, innermost_of, is_stray, is_some_block}
+use Rattle.kc_tree_model.specs.Placement.{open_entry, opened_by}
+use Rattle.kc_tree_model.specs.declared.keyword.OpenEntry.{OpenEntry}
+use Rattle.kc_tree_model.specs.Limits.{FileSource, bytes_in, source_fault}
+use Rattle.kc_value.specs.declared.limits.TheConstants.{MAX_TREE_BYTES, MAX_OPEN_FILES}
 use Rattle.kc_tree_model.specs.Conditions.{groups_in_context}
 use Rattle.kc_tree_model.specs.Reading.{statement_on_line, with_statement, with_group, with_attribute, path_to_read, Outcome, at_file_end, continue_after_file, continue_after_source, continue_after_statement, continue_after_line, read_lines, read_file, read_root, reading}
 use Rattle.kc_tree_model.specs.NestedTrees.{Items, listing, IsTreeOf, is_ended_by}
@@ -41,6 +44,9 @@ ended_by_end (of_head (source path)) b h = cc
 ended_by_end (of_head x) b h = h
 ended_by_end file_end b h = cc
 
+abbrev is_matched : Block → Option (Group × Block) → Bool
+is_matched b o = is_some_block b (option_map (λ (q : Group × Block). q.1) o)
+
 matched_first : (g : Group) (outer : List Group) (b : Block) (o : Option Block) → opened_block g ≡ o → is_matched b (option_map (λ c. (g, c)) o) ≡ true → is_some_block b (opened_block g) ≡ true
 matched_first g outer b None e h = cc
 matched_first g outer b (Some c) e h = ap (is_some_block b) e ∙ h
@@ -58,20 +64,20 @@ after_end start read at b [] i own o m h =
 after_end start read at b (g ∷ gs) i own o m h =
     let found : is_matched b (innermost read) ≡ true = not_false (is_matched b (innermost read)) h in
     let here : is_matched b (option_map (λ c. (g, c)) (opened_block g)) ≡ true = sym (ap (λ os. is_matched b (innermost_of os)) o) ∙ found in
-    let ends_it : is_ended_by g.what (of_head (ends b)) ≡ true = ended_by_end g.what b (matched_first g gs b (opened_block g) refl here) in
+    let ends_it : is_ended_by g.head (of_head (ends b)) ≡ true = ended_by_end g.head b (matched_first g gs b (opened_block g) refl here) in
     record {
       blocks = gs;
       own = own.1;
-      opened = popped (record { number = length read; at = at; what = of_head (ends b); attributes = [] }) read refl ∙ ap (drop 1) o;
+      opened = popped (record { number = length read; at = at; head = of_head (ends b); attributes = [] }) read refl ∙ ap (drop 1) o;
       matched = ((λ c. ap (λ os. ends_first os (of_head (ends b))) o ∙ ends_it), m);
     }
 
 -- a statement that is no `source`
 after_head : (start read : List Group) (at : Position) (h : Head) → innermost start ≡ None → Since start read → path_of_head h ≡ None → Fits read (Some (head h)) → Since start (with_group at (of_head h) read)
 after_head start read at (config name) i s p f = record { blocks = s.blocks; own = s.own; opened = s.opened; matched = ((λ c. cc), s.matched) }
-after_head start read at choice i s p f = record { blocks = record { number = length read; at = at; what = of_head choice; attributes = [] } ∷ s.blocks; own = ((_, refl), s.own); opened = ap (λ gs. record { number = length read; at = at; what = of_head choice; attributes = [] } ∷ gs) s.opened; matched = ((λ c. cc), s.matched) }
-after_head start read at (menu title) i s p f = record { blocks = record { number = length read; at = at; what = of_head (menu title); attributes = [] } ∷ s.blocks; own = ((_, refl), s.own); opened = ap (λ gs. record { number = length read; at = at; what = of_head (menu title); attributes = [] } ∷ gs) s.opened; matched = ((λ c. cc), s.matched) }
-after_head start read at (condition e) i s p f = record { blocks = record { number = length read; at = at; what = of_head (condition e); attributes = [] } ∷ s.blocks; own = ((_, refl), s.own); opened = ap (λ gs. record { number = length read; at = at; what = of_head (condition e); attributes = [] } ∷ gs) s.opened; matched = ((λ c. cc), s.matched) }
+after_head start read at choice i s p f = record { blocks = record { number = length read; at = at; head = of_head choice; attributes = [] } ∷ s.blocks; own = ((_, refl), s.own); opened = ap (λ gs. record { number = length read; at = at; head = of_head choice; attributes = [] } ∷ gs) s.opened; matched = ((λ c. cc), s.matched) }
+after_head start read at (menu title) i s p f = record { blocks = record { number = length read; at = at; head = of_head (menu title); attributes = [] } ∷ s.blocks; own = ((_, refl), s.own); opened = ap (λ gs. record { number = length read; at = at; head = of_head (menu title); attributes = [] } ∷ gs) s.opened; matched = ((λ c. cc), s.matched) }
+after_head start read at (condition e) i s p f = record { blocks = record { number = length read; at = at; head = of_head (condition e); attributes = [] } ∷ s.blocks; own = ((_, refl), s.own); opened = ap (λ gs. record { number = length read; at = at; head = of_head (condition e); attributes = [] } ∷ gs) s.opened; matched = ((λ c. cc), s.matched) }
 after_head start read at (comment title) i s p f = record { blocks = s.blocks; own = s.own; opened = s.opened; matched = ((λ c. cc), s.matched) }
 after_head start read at (source path) i s p f = cc
 after_head start read at mainmenu i s p f = record { blocks = s.blocks; own = s.own; opened = s.opened; matched = ((λ c. cc), s.matched) }
@@ -81,11 +87,11 @@ after_head start read at (ends b) i s p f = after_end start read at b s.blocks i
 with_line : Group → ℕ → Attribute → Group
 with_line g line a = record g { attributes = g.attributes ++ record { number = line; attribute = a } ∷ [] }
 
-attribute_inside : (start before : List Group) (g : Group) (line : ℕ) (a : Attribute) → side_of g.what ≡ inside → Since start (g ∷ before) → Since start (with_line g line a ∷ before)
+attribute_inside : (start before : List Group) (g : Group) (line : ℕ) (a : Attribute) → side_of g.head ≡ inside → Since start (g ∷ before) → Since start (with_line g line a ∷ before)
 unfolding with_line
 attribute_inside start before g line a e s = record { blocks = s.blocks; own = s.own; opened = open_inside 0 (with_line g line a) before e ∙ sym (open_inside 0 g before e) ∙ s.opened; matched = s.matched }
 
-attribute_opening : (start before blocks : List Group) (g : Group) (line : ℕ) (a : Attribute) (b : Block) → innermost start ≡ None → side_of g.what ≡ opening → opened_block g ≡ Some b → AllBlocks blocks → open_blocks 0 (g ∷ before) ≡ blocks ++ open_blocks 0 start → EndsMatch (g ∷ before) → Since start (with_line g line a ∷ before)
+attribute_opening : (start before blocks : List Group) (g : Group) (line : ℕ) (a : Attribute) (b : Block) → innermost start ≡ None → side_of g.head ≡ opening → opened_block g ≡ Some b → AllBlocks blocks → open_blocks 0 (g ∷ before) ≡ blocks ++ open_blocks 0 start → EndsMatch (g ∷ before) → Since start (with_line g line a ∷ before)
 unfolding with_line
 attribute_opening start before [] g line a b i e k own o m =
     let first : g ∷ open_blocks 0 before ≡ open_blocks 0 start = sym (pushed g before e) ∙ o in
@@ -101,7 +107,7 @@ attribute_opening start before (x ∷ xs) g line a b i e k own o m =
       matched = m;
     }
 
-attribute_by : (start before : List Group) (g : Group) (w : GroupHead) (line : ℕ) (a : Attribute) (o : OpenEntry) → g.what ≡ w → from_head opened_by w ≡ Some o → innermost start ≡ None → Since start (g ∷ before) → Since start (with_line g line a ∷ before)
+attribute_by : (start before : List Group) (g : Group) (w : GroupHead) (line : ℕ) (a : Attribute) (o : OpenEntry) → g.head ≡ w → from_head opened_by w ≡ Some o → innermost start ≡ None → Since start (g ∷ before) → Since start (with_line g line a ∷ before)
 attribute_by start before g (of_head (config name)) line a o e k i s = attribute_inside start before g line a (ap side_of e) s
 attribute_by start before g (of_head choice) line a o e k i s = attribute_opening start before s.blocks g line a _ i (ap side_of e) (ap (from_head block_of_head) e) s.own s.opened s.matched
 attribute_by start before g (of_head (menu title)) line a o e k i s = attribute_opening start before s.blocks g line a _ i (ap side_of e) (ap (from_head block_of_head) e) s.own s.opened s.matched
@@ -115,7 +121,7 @@ attribute_by start before g file_end line a o e k i s = cc
 after_attribute : (start read : List Group) (line : ℕ) (a : Attribute) (o : OpenEntry) → open_entry read ≡ Some o → innermost start ≡ None → Since start read → Since start (with_attribute line a read)
 unfolding with_line
 after_attribute start [] line a o k i s = cc
-after_attribute start (g ∷ before) line a o k i s = attribute_by start before g g.what line a o refl k i s
+after_attribute start (g ∷ before) line a o k i s = attribute_by start before g g.head line a o refl k i s
 
 -- a line that sources no file
 pub after_said : (start read : List Group) (at : Position) (s : Option Statement) → innermost start ≡ None → Since start read → path_to_read s ≡ None → Fits read s → Since start (with_statement at s read)
@@ -134,7 +140,7 @@ after_file start read file (Some o) e s h = cc
 
 -- the group of a `source`
 unfoldable pub source_group : List Group → Position → List ℕ → Group
-source_group read at path = record { number = length read; at = at; what = of_head (source path); attributes = [] }
+source_group read at path = record { number = length read; at = at; head = of_head (source path); attributes = [] }
 
 unfoldable pub Reads : (List ℕ → List Group → Outcome) → Type 0
 Reads sub = (path : List ℕ) (start : List Group) → innermost start ≡ None → EndsMatch start → (sub path start).fault ≡ None → Closes start (sub path start).read
@@ -148,7 +154,7 @@ unfolding source_group GoesOn
 after_sub start read at path rest o (Some f) e s c g h = cc
 after_sub start read at path rest o None e s c g h =
     let closes = c e in
-    let back : open_blocks 0 (with_group at file_end o.read) ≡ open_blocks 0 read = popped (record { number = length o.read; at = at; what = file_end; attributes = [] }) o.read refl ∙ ap (drop 1) closes.opened in
+    let back : open_blocks 0 (with_group at file_end o.read) ≡ open_blocks 0 read = popped (record { number = length o.read; at = at; head = file_end; attributes = [] }) o.read refl ∙ ap (drop 1) closes.opened in
     g (with_group at file_end o.read) (record {
       blocks = s.blocks;
       own = s.own;
@@ -198,7 +204,7 @@ either_closes false x y f g h = g h
 root_closes : (r : FileSource) (o : Option (List ℕ)) → (read_root r o).fault ≡ None → Closes [] (read_root r o).read
 unfolding Reads
 root_closes r None h = cc
-root_closes r (Some bytes) h = either_closes (nat_lt max_bytes (length bytes)) _ (read_file max_open_files r r.root []) (λ e. cc) (file_closes max_open_files r r.root [] refl tt) h
+root_closes r (Some bytes) h = either_closes (nat_lt MAX_TREE_BYTES (length bytes)) _ (read_file MAX_OPEN_FILES r r.root []) (λ e. cc) (file_closes MAX_OPEN_FILES r r.root [] refl tt) h
 
 tree_of : (read : List Group) → Closes [] read → (t : Items) × IsTreeOf read t
 tree_of read c =

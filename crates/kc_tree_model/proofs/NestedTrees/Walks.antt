@@ -1,4 +1,4 @@
--- What stands round each place of a nested tree is what the open blocks say there.
+-- The context of each place of a nested tree is that of the blocks open there.
 use Rattle.std.proofs.Common.{◌≡◌, ℕ, suc, List, [], ◌∷◌, ◌++◌, reverse, refl, ap, sym, ◌∙◌, append_assoc, append-nil}
 use Rattle.std.proofs.lemmas.List.{reverse-append, reverse-reverse}
 use Rattle.kc_tree_model.specs.Blocks.{Group, side_of, opening, closing, open_blocks}
@@ -42,9 +42,9 @@ open-listing (entry g rest) n before h = open-listing rest n (g ∷ before) h.1 
 open-listing (block g w e rest) n before h =
     ap (open_blocks n) (onto-append (listing w) (e ∷ listing rest) (g ∷ before))
     ∙ open-listing rest n (e ∷ onto (listing w) (g ∷ before)) h.2
-    ∙ open_closing n e (onto (listing w) (g ∷ before)) (ends_closing g.what e.what h.0)
+    ∙ open_closing n e (onto (listing w) (g ∷ before)) (ends_closing g.head e.head h.0)
     ∙ open-listing w (suc n) (g ∷ before) h.1
-    ∙ open_opening n g before (ends_opening g.what e.what h.0)
+    ∙ open_opening n g before (ends_opening g.head e.head h.0)
 
 -- so it is the walk down the tree
 walk-listing : (t : Items) (before : List Group) → IsNested t → behind before (listing t) ≡ walk (open_blocks 0 before) t
@@ -54,8 +54,8 @@ walk-listing (entry g rest) before h =
 walk-listing (block g w e rest) before h =
     let after : List Group = onto (listing w) (g ∷ before) in
     let path : List Group = open_blocks 0 before in
-    let opens : side_of g.what ≡ opening = ends_opening g.what e.what h.0 in
-    let closes : side_of e.what ≡ closing = ends_closing g.what e.what h.0 in
+    let opens : side_of g.head ≡ opening = ends_opening g.head e.head h.0 in
+    let closes : side_of e.head ≡ closing = ends_closing g.head e.head h.0 in
     let there : open_blocks 0 after ≡ g ∷ path = open-listing w 0 (g ∷ before) h.1 ∙ pushed g before opens in
     let back : open_blocks 0 (e ∷ after) ≡ path = open_closing 0 e after closes ∙ open-listing w 1 (g ∷ before) h.1 ∙ open_opening 0 g before opens in
     ap (λ ps. group_in_context path g ∷ ps)

@@ -12,7 +12,8 @@ use Rattle.kc_value.specs.declared.tri.Tri.TheVariants.{N, M}
 use Rattle.kc_value.specs.declared.value.Kind.TheVariants.{Bool as Boolean, Tristate, Int}
 use Rattle.kc_expr.specs.declared.token.Relop.TheVariants.{Equal}
 use Rattle.kc_expr.specs.Expr.{alone, related, negated, both, shown, constant, named}
-use Rattle.kc_tree_model.specs.Trees.{Symbol, Choice, definition, menu_begins, menu_ends, comment, of_symbol, of_choice}
+use Rattle.kc_tree_model.specs.Trees.{Symbol, Choice, definition, menu_begins, menu_ends, comment}
+use Rattle.kc_tree_model.specs.declared.ids.Unit.TheVariants.{Symbol as of_symbol, Choice as of_choice}
 use Rattle.kc_tree_model.specs.Contents.{tree_of_groups}
 use Rattle.kc_tree_model.proofs.Rows.Trees.{whole, word, yes}
 

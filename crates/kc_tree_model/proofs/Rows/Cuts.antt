@@ -14,7 +14,7 @@ use Rattle.kc_tree_model.specs.Trees.{Symbol}
 use Rattle.kc_tree_model.specs.Contents.{tree_of_groups}
 use Rattle.kc_tree_model.proofs.Rows.Trees.{fault, whole}
 
--- the first so many bytes of a small tree
+-- the first `n` bytes of a small tree
 abbrev cut_tree : ℕ → List ℕ
 cut_tree k = take k (codes "config A\n\tbool \"a\"\n")
 

@@ -14,7 +14,7 @@ use Rattle.kc_tree_model.specs.TreeFaults.{tree_faults, first_tree_fault}
 use Rattle.kc_tree_model.specs.TreeFiles.{Files}
 use Rattle.kc_tree_model.proofs.Rows.Trees.{fault}
 
--- a default that stands after so many bytes, and before others
+-- a default with bytes before and after it
 abbrev nested_default : List ℕ → List ℕ → List ℕ
 nested_default before after = codes "config A\n\tbool\n\tdefault " ++ (before ++ (codes "y" ++ after))
 
@@ -34,7 +34,7 @@ parentheses_65 : fault (nested_default (replicate 65 40) (replicate 65 41)) ≡ 
 unfolding next_token is_utf8 chars read_expr lines_of source_fault statement_on_line reading tree_faults first_tree_fault lib.Utf8.encode
 parentheses_65 = refl
 
--- too deep stands at the symbol: without one the expression only ends too early
+-- TooDeep is at the symbol: without one the expression only ends too early
 negations_of_nothing : fault (codes "config A\n\tbool\n\tdefault " ++ replicate 65 33) ≡ Some (3, Malformed)
 unfolding next_token is_utf8 chars read_expr lines_of source_fault statement_on_line reading tree_faults first_tree_fault lib.Utf8.encode
 negations_of_nothing = refl
@@ -87,7 +87,7 @@ files_open_33 : first_tree_fault (sourced_in_a_row 32 0) (codes "f00") ≡ Some 
 unfolding next_token is_utf8 chars read_expr lines_of source_fault statement_on_line reading tree_faults first_tree_fault lib.Utf8.encode
 files_open_33 = refl
 
--- a root that sources an empty file so many times
+-- a root that sources an empty file `n` times
 abbrev sources_of_empty : ℕ → Files
 sources_of_empty n = (codes "Kconfig", lines_again n (codes "source e\n")) ∷ (codes "e", []) ∷ []
 
@@ -103,9 +103,9 @@ line_of_65537_bytes : fault (35 ∷ replicate 65536 120) ≡ Some (1, LineTooLon
 unfolding next_token is_utf8 chars read_expr lines_of source_fault statement_on_line reading tree_faults first_tree_fault lib.Utf8.encode
 line_of_65537_bytes = refl
 
--- what was read of a root that sources one file, or holds one choice, so many times
+-- the groups of a root that sources one file, or has one choice, `n` times
 abbrev here : GroupHead → Group
-here what = record { number = 0; at = record { file = 0; line = 1 }; what = what; attributes = [] }
+here what = record { number = 0; at = record { file = 0; line = 1 }; head = what; attributes = [] }
 
 abbrev sourced_again : ℕ → List Group
 sourced_again zero = []

@@ -8,12 +8,15 @@ use Rattle.kc_expr.specs.Grammar.{read_expr}
 use Rattle.kc_expr.specs.Expr.{alone, both, shown, constant, named}
 use Rattle.kc_tree_model.specs.declared.fault.TreeKind.TheVariants.{ChoiceMember, DefaultShape, LeftOut, LineTooLong, Malformed, Misplaced, MissingFile, NoType, NotUtf8, SecondPrompt, SelectType, TooDeep, TooMany, TypeConflict, Unclosed, UnknownStatement}
 use Rattle.kc_tree_model.specs.LogicalLines.{lines_of}
-use Rattle.kc_tree_model.specs.Statements.{source, choice, condition, ends, choice_block}
+use Rattle.kc_tree_model.specs.Statements.{source, choice, condition, ends}
+use Rattle.kc_tree_model.specs.declared.keyword.Block.TheVariants as blocks
 use Rattle.kc_tree_model.specs.Blocks.{Group, GroupHead, of_head, file_end}
-use Rattle.kc_tree_model.specs.Limits.{FileSource, source_fault, max_symbols, max_choices, max_files, max_bytes, max_line_bytes, max_name_bytes, max_open_files, max_open_blocks}
+use Rattle.kc_tree_model.specs.Limits.{FileSource, source_fault}
+use Rattle.kc_value.specs.declared.limits.TheConstants.{MAX_SYMBOLS, MAX_CHOICES, MAX_FILES, MAX_TREE_BYTES, MAX_LINE_BYTES, MAX_NAME_BYTES, MAX_OPEN_FILES, MAX_OPEN_BLOCKS}
 use Rattle.kc_tree_model.specs.Reading.{statement_on_line, reading}
 use Rattle.kc_tree_model.specs.TreeFaults.{tree_faults, first_tree_fault}
-use Rattle.kc_tree_model.specs.Trees.{Symbol, menu_begins, menu_ends, comment, of_symbol, of_choice}
+use Rattle.kc_tree_model.specs.Trees.{Symbol, menu_begins, menu_ends, comment}
+use Rattle.kc_tree_model.specs.declared.ids.Unit.TheVariants.{Symbol as of_symbol, Choice as of_choice}
 use Rattle.kc_tree_model.specs.Contents.{tree_of_groups}
 use Rattle.kc_tree_model.proofs.Rows.Trees.{fault, whole, yes}
 
@@ -21,9 +24,9 @@ abbrev lines_again : ℕ → List ℕ → List ℕ
 lines_again zero line = []
 lines_again (suc n) line = line ++ lines_again n line
 
--- a group that stands nowhere
+-- a group at no place
 abbrev here : GroupHead → Group
-here what = record { number = 0; at = record { file = 0; line = 1 }; what = what; attributes = [] }
+here what = record { number = 0; at = record { file = 0; line = 1 }; head = what; attributes = [] }
 
 abbrev sourced_again : ℕ → List Group
 sourced_again zero = []
@@ -31,7 +34,7 @@ sourced_again (suc n) = here file_end ∷ here (of_head (source (codes "e"))) �
 
 abbrev closed_choices : ℕ → List Group
 closed_choices zero = []
-closed_choices (suc n) = here (of_head (ends choice_block)) ∷ here (of_head choice) ∷ closed_choices n
+closed_choices (suc n) = here (of_head (ends blocks.Choice)) ∷ here (of_head choice) ∷ closed_choices n
 
 abbrev empty_files : FileSource
 empty_files = record { bytes = λ path. Some []; number = λ path. 0; root = codes "Kconfig" }
@@ -171,7 +174,7 @@ too_many_open_files_before_too_many_files : source_fault empty_files (replicate 
 unfolding source_fault
 too_many_open_files_before_too_many_files = refl
 
-limits : (max_symbols ≡ 1000000) × (max_choices ≡ 4096) × (max_files ≡ 4096) × (max_bytes ≡ 67108864) × (max_line_bytes ≡ 65536) × (max_name_bytes ≡ 256) × (max_open_files ≡ 32) × (max_open_blocks ≡ 64)
+limits : (MAX_SYMBOLS ≡ 1000000) × (MAX_CHOICES ≡ 4096) × (MAX_FILES ≡ 4096) × (MAX_TREE_BYTES ≡ 67108864) × (MAX_LINE_BYTES ≡ 65536) × (MAX_NAME_BYTES ≡ 256) × (MAX_OPEN_FILES ≡ 32) × (MAX_OPEN_BLOCKS ≡ 64)
 limits = (refl, refl, refl, refl, refl, refl, refl, refl)
 
 visible_if_round_a_choice : map (λ (s : Symbol). s.prompts) (whole (codes "menu \"m\"\n\tvisible if V\nchoice\n\tprompt \"p\"\nconfig A\n\tbool \"a\"\nendchoice\nendmenu\n")).symbols ≡ (((shown (alone (named (codes "V")))) ∷ []) ∷ [])

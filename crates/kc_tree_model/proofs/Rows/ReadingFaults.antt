@@ -75,7 +75,7 @@ prompt_of_a_comment : fault (codes "comment \"c\"\n\tprompt \"p\"\n") ≡ Some (
 unfolding next_token is_utf8 chars read_expr lines_of source_fault statement_on_line reading tree_faults first_tree_fault lib.Utf8.encode
 prompt_of_a_comment = refl
 
--- placement is looked at before the form, and what is left out before placement
+-- placement is checked before the form, and forms that are left out before placement
 unknown_option_elsewhere : fault (codes "option foo\n") ≡ Some (1, Misplaced)
 unfolding next_token is_utf8 chars read_expr lines_of source_fault statement_on_line reading tree_faults first_tree_fault lib.Utf8.encode
 unknown_option_elsewhere = refl

@@ -51,7 +51,7 @@ open_file_sourced_again : first_tree_fault ((codes "Kconfig", codes "source \"a\
 unfolding next_token is_utf8 chars read_expr lines_of source_fault statement_on_line reading tree_faults first_tree_fault lib.Utf8.encode
 open_file_sourced_again = refl
 
--- what is told of missing files
+-- the faults of missing files
 abbrev told : Files → Result (List (List ℕ)) TreeFault
 told files = files_wanted files (codes "Kconfig")
 

@@ -1,4 +1,4 @@
--- What each line gives in each place.
+-- The statement or fault of each line in each place.
 use Rattle.std.proofs.Common.{◌≡◌, ℕ, List, [], ◌∷◌, ◌++◌, Option, Some, None, refl, map}
 use Rattle.std.specs.Prelude.{codes, option_map}
 use Rattle.std.specs.Str.{is_utf8, chars}

@@ -1,4 +1,4 @@
--- Rows on the faults that are looked for after reading.
+-- Rows on the checks of the whole tree.
 use Rattle.std.proofs.Common.{◌≡◌, Some, None, refl}
 use Rattle.std.specs.Prelude.{codes}
 use Rattle.std.specs.Str.{is_utf8, chars}

@@ -17,7 +17,7 @@ one_file text = (codes "Kconfig", text) ∷ []
 abbrev pub line_and_kind : TreeFault → ℕ × TreeKind
 line_and_kind f = (f.line, f.kind)
 
--- the line and the kind of the fault that is told of a tree of one file
+-- the line and the kind of the fault of a tree of one file
 abbrev pub fault : List ℕ → Option (ℕ × TreeKind)
 fault text = option_map line_and_kind (first_tree_fault (one_file text) (codes "Kconfig"))
 

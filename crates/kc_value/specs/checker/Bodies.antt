@@ -2,7 +2,7 @@
 use Rattle.std.specs.Prelude.{◌≡◌, ℕ, List, [], ◌∷◌, ◌++◌, false}
 use Rattle.kc_value.specs.Quoted.{IsBody, unescaped}
 
--- a text in quotes, and what stands between them
+-- a text in quotes, and its body between them
 pub record HasBody (text body : List ℕ) : Type 0 where
   pub parts : text ≡ 34 ∷ (body ++ 34 ∷ [])
   pub is_body : IsBody 34 body (unescaped false body)

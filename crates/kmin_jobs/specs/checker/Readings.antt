@@ -9,5 +9,5 @@ use Rattle.kc_tree_model.specs.declared.fault.TreeKind.TheVariants.{OutOfMemory}
 
 -- the tree of the files, if they have no fault, or the reported fault, or out of memory
 abbrev pub IsRead : Files → List ℕ → Result TreeModel TreeFault → Type 0
-IsRead files first (Ok tree) = (first_tree_fault files first ≡ None) × (tree.whole ≡ tree_of_files files first)
+IsRead files first (Ok tree) = (first_tree_fault files first ≡ None) × (tree.tree ≡ tree_of_files files first)
 IsRead files first (Err fault) = fault.kind ≢ OutOfMemory → first_tree_fault files first ≡ Some fault

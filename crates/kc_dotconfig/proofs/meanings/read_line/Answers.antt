@@ -11,18 +11,18 @@ use Rattle.kc_dotconfig.proofs.meanings.read_line.Goals as goal
 
 pub returns-in-Some-clause-said : goal.returns-in-Some-clause-said
 returns-in-Some-clause-said c =
-    value_line_says (prefix_bytes c.args.prefix.now) (tree_of_settled c.args.settled.now) c.tree-tree.result.now.whole (without_white_end c.args.line.now) c.trimmed-line.result.now c.in-Some.name.now c.in-Some.text.now (meaning_view c.in_ok-said.said)
-    (ap (λ (h : TreeModel). h.whole) c.tree-tree.ensures.tree) c.trimmed-line.ensures c.in-Some.ensures.some c.in_ok-said.ensures.said
+    value_line_says (prefix_bytes c.args.prefix.now) (tree_of_settled c.args.settled.now) c.tree-tree.result.now.tree (without_white_end c.args.line.now) c.trimmed-line.result.now c.in-Some.name.now c.in-Some.text.now (meaning_view c.in_ok-said.said)
+    (ap (λ (h : TreeModel). h.tree) c.tree-tree.ensures.tree) c.trimmed-line.ensures c.in-Some.ensures.some c.in_ok-said.ensures.said
 
 pub returns-in-Some-unset_name-clause-said : goal.returns-in-Some-unset_name-clause-said
 returns-in-Some-unset_name-clause-said c =
-    unset_line_says (prefix_bytes c.args.prefix.now) (tree_of_settled c.args.settled.now) c.tree-tree.result.now.whole (without_white_end c.args.line.now) c.trimmed-line.result.now c.in-Some-unset_name.name.now (meaning_view c.read_unset_line.result)
-    (ap (λ (h : TreeModel). h.whole) c.tree-tree.ensures.tree) c.trimmed-line.ensures c.in_default.ensures.none c.in-Some-unset_name.ensures.some c.read_unset_line.ensures.said
+    unset_line_says (prefix_bytes c.args.prefix.now) (tree_of_settled c.args.settled.now) c.tree-tree.result.now.tree (without_white_end c.args.line.now) c.trimmed-line.result.now c.in-Some-unset_name.name.now (meaning_view c.read_unset_line.result)
+    (ap (λ (h : TreeModel). h.tree) c.tree-tree.ensures.tree) c.trimmed-line.ensures c.in_default.ensures.none c.in-Some-unset_name.ensures.some c.read_unset_line.ensures.said
 
 pub returns-clause-said : goal.returns-clause-said
 returns-clause-said c =
-    other_line_says (prefix_bytes c.args.prefix.now) (tree_of_settled c.args.settled.now) c.tree-tree.result.now.whole (without_white_end c.args.line.now) c.trimmed-line.result.now (option_map meaning_view c.read_other_line.result)
-    (ap (λ (h : TreeModel). h.whole) c.tree-tree.ensures.tree) c.trimmed-line.ensures c.in_default.ensures.none c.in_default-unset_name.ensures.none c.read_other_line.ensures.said
+    other_line_says (prefix_bytes c.args.prefix.now) (tree_of_settled c.args.settled.now) c.tree-tree.result.now.tree (without_white_end c.args.line.now) c.trimmed-line.result.now (option_map meaning_view c.read_other_line.result)
+    (ap (λ (h : TreeModel). h.tree) c.tree-tree.ensures.tree) c.trimmed-line.ensures c.in_default.ensures.none c.in_default-unset_name.ensures.none c.read_other_line.ensures.said
 
 pub read_value_line-requires-text-text : goal.read_value_line-requires-text-text
 read_value_line-requires-text-text c = grind (arith, common_steps)

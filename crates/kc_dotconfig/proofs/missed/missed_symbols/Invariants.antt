@@ -5,4 +5,4 @@ use Rattle.kc_dotconfig.proofs.missed.missed_symbols.Given as goal
 
 -- the missed symbols below the number
 abbrev pub invariant-loop-number : goal.invariant-loop-number
-invariant-loop-number l = l.found.items ≡ filter (is_missed l.fn.tree.whole l.fn.users l.fn.values) (range_with_len 0 l.number)
+invariant-loop-number l = l.found.items ≡ filter (is_missed l.fn.tree.tree l.fn.users l.fn.values) (range_with_len 0 l.number)

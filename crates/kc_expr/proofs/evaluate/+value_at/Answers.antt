@@ -1,7 +1,8 @@
 use Rattle.std.proofs.Common.{◌<◌, arith, length, ap, ◌∙◌}
 use Rattle.std.proofs.lemmas.Grind.{common_steps}
 use Rattle.kc_value.specs.Tri.{tri_not}
-use Rattle.kc_expr.specs.Expr.{value, y_unless_n}
+use Rattle.kc_expr.specs.Expr.{value}
+use Rattle.kc_value.specs.Tri.{y_for_m}
 use Rattle.kc_expr.specs.Lookup.{environment_of}
 use Rattle.kc_expr.specs.checker.Store.{stored_names}
 use Rattle.kc_expr.proofs.NodeLemmas.{chain_start, chain_more, ors_start, ors_more}
@@ -18,7 +19,7 @@ pub returns-in-Negated : goal.returns-in-Negated
 returns-in-Negated g t c = rw (node_of c.args.store.now c.args.index _ _ c.requires.sound c.requires.there c.node.ensures c.in-Negated.is) (c.not.ensures.value ∙ ap tri_not c.value_at.ensures)
 
 pub returns-in-Shown : goal.returns-in-Shown
-returns-in-Shown g t c = rw (node_of c.args.store.now c.args.index _ _ c.requires.sound c.requires.there c.node.ensures c.in-Shown.is) (c.shown_value.ensures ∙ ap y_unless_n c.value_at-in-Shown.ensures)
+returns-in-Shown g t c = rw (node_of c.args.store.now c.args.index _ _ c.requires.sound c.requires.there c.node.ensures c.in-Shown.is) (c.shown_value.ensures ∙ ap y_for_m c.value_at-in-Shown.ensures)
 
 pub ands-init : goal.ands-init
 ands-init g t c =

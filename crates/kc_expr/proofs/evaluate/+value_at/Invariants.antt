@@ -1,6 +1,6 @@
 use Rattle.std.proofs.Common.{◌≡◌, ◌<◌}
 use Rattle.kc_value.specs.Tri.{tri_and, tri_or}
-use Rattle.kc_expr.specs.Arena.{node_expr}
+use Rattle.kc_expr.specs.between.Arena.{node_expr}
 use Rattle.kc_expr.specs.Expr.{value}
 use Rattle.kc_expr.specs.Lookup.{environment_of}
 use Rattle.kc_expr.specs.checker.Store.{stored_names, exprs_in}

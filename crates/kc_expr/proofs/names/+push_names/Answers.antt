@@ -5,7 +5,7 @@ use Rattle.std.specs.Prelude.{slice_index_or}
 use Rattle.kc_expr.specs.NamesIn.{operand_names}
 use Rattle.kc_expr.specs.checker.Nodes.{operand_of}
 use Rattle.kc_expr.specs.checker.Store.{stored_names}
-use Rattle.kc_expr.specs.ReverseNames.{names_in_reverse}
+use Rattle.kc_expr.specs.between.ReverseNames.{names_in_reverse}
 use Rattle.kc_expr.proofs.KeptLists.{kept_through}
 use Rattle.kc_expr.proofs.NamesInLemmas.{met_both}
 use Rattle.kc_expr.proofs.StoreLemmas.{node_of, fits_at}

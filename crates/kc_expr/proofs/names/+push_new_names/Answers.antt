@@ -2,7 +2,7 @@ use Rattle.std.proofs.Common.{◌<◌, ◌||◌, length, ap, sym, ◌∙◌, ari
 use Rattle.std.proofs.lemmas.Grind.{common_steps}
 use Rattle.std.proofs.lemmas.Result.{on_ok_weaker}
 use Rattle.std.proofs.lemmas.List.Folds.{list_any-append}
-use Rattle.kc_expr.specs.Visits.{mentions, passes_some_name}
+use Rattle.kc_expr.specs.between.Visits.{mentions, passes_some_name}
 use Rattle.kc_expr.specs.checker.Store.{exprs_in}
 use Rattle.kc_expr.proofs.KeptLists.{kept_through}
 use Rattle.kc_expr.proofs.StoreLemmas.{node_of, fits_at}

@@ -1,7 +1,7 @@
 use Rattle.std.proofs.Common.{◌<◌, ◌||◌, length, ap, sym, ◌∙◌, arith}
 use Rattle.std.proofs.lemmas.Grind.{common_steps}
 use Rattle.std.proofs.lemmas.Result.{on_ok_weaker}
-use Rattle.kc_expr.specs.Visits.{mentions, passes_some_name}
+use Rattle.kc_expr.specs.between.Visits.{mentions, passes_some_name}
 use Rattle.kc_expr.specs.checker.Store.{exprs_in}
 use Rattle.kc_expr.proofs.StoreLemmas.{node_of}
 use Rattle.kc_expr.proofs.VisitLemmas.{some_pushed, walk_begins, walk_met}

@@ -1,7 +1,7 @@
 use Rattle.std.proofs.Common.{arith, refl, sym, length-drop}
 use Rattle.std.proofs.lemmas.Grind.{common_steps}
 use Rattle.std.proofs.Math.Seq.{take-length}
-use Rattle.kc_expr.specs.Results.{with_front}
+use Rattle.kc_expr.specs.Token.{with_front}
 use Rattle.std.proofs.lemmas.Str.{IsCharBoundary-start}
 use Rattle.kc_expr.specs.Token.{lexemes_from, lexemes_of}
 use Rattle.kc_expr.proofs.KeptLists.{kept_behind}

@@ -1,7 +1,7 @@
 use Rattle.std.proofs.Common.{◌≡◌, ◌-◌, drop, take, length}
 use Rattle.std.specs.Prelude.{IsCharBoundary}
 use Rattle.kc_expr.specs.Token.{lexemes_from, lexemes_of}
-use Rattle.kc_expr.specs.Results.{with_front}
+use Rattle.kc_expr.specs.Token.{with_front}
 use Rattle.kc_expr.proofs.token.scan_line.Given as goal
 
 abbrev pub invariant-loop-at : goal.invariant-loop-at

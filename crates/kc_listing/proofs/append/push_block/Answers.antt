@@ -1,7 +1,6 @@
 use Rattle.std.proofs.Common.{arith}
 use Rattle.kc_tree_model.specs.Reading.{with_group}
-use Rattle.kc_statements.specs.KeywordViews.{block_view}
-use Rattle.kc_listing.specs.ListingView.{RepresentsListing}
+use Rattle.kc_listing.specs.between.ListingView.{RepresentsListing}
 use Rattle.kc_listing.specs.checker.StateViews.{Describes, at_line}
 use Rattle.kc_listing.proofs.AppendSteps.{counted_block, block_name, on_ok}
 use Rattle.kc_listing.proofs.append.push_block.Goals as goal
@@ -11,7 +10,7 @@ unfolding Describes
 returns-clause-put c = λ r before m d w b n.
     on_ok c.push_group.result (RepresentsListing c.push_group.new.listing (with_group (at_line c.args.file c.args.line) m before)) _
     (λ h. record { shows = h; counted = rw c.push_group.ensures.texts (counted_block r _ _ _ _ _ before c.args.file c.args.line m d.counted c.args.block c.push.new.self.items c.in-Ok.ensures.items b n) })
-    (c.push_group.ensures.put before m d.shows w (block_name m (block_view c.args.block) b))
+    (c.push_group.ensures.put before m d.shows w (block_name m c.args.block b))
 
 pub returns-in_default-clause-put : goal.returns-in_default-clause-put
 returns-in_default-clause-put c = omega arith

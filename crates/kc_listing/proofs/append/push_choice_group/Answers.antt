@@ -2,7 +2,7 @@ use Rattle.std.proofs.Common.{refl}
 use Rattle.kc_tree_model.specs.Reading.{with_group}
 use Rattle.kc_tree_model.specs.Blocks.{of_head}
 use Rattle.kc_tree_model.specs.Statements.{choice}
-use Rattle.kc_listing.specs.ListingView.{RepresentsListing}
+use Rattle.kc_listing.specs.between.ListingView.{RepresentsListing}
 use Rattle.kc_listing.specs.checker.StateViews.{Describes, at_line}
 use Rattle.kc_listing.proofs.AppendSteps.{counted_choice, on_ok}
 use Rattle.kc_listing.proofs.append.push_choice_group.Goals as goal

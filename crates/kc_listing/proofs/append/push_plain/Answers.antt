@@ -1,5 +1,5 @@
 use Rattle.kc_tree_model.specs.Reading.{with_group}
-use Rattle.kc_listing.specs.ListingView.{RepresentsListing}
+use Rattle.kc_listing.specs.between.ListingView.{RepresentsListing}
 use Rattle.kc_listing.specs.checker.StateViews.{Describes, at_line}
 use Rattle.kc_listing.proofs.AppendSteps.{counted_inside, on_ok}
 use Rattle.kc_listing.proofs.append.push_plain.Goals as goal

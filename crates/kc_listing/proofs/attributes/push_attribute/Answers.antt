@@ -1,7 +1,7 @@
 use Rattle.std.proofs.Common.{sym, ◌∙◌, inr, arith}
 use Rattle.std.proofs.lemmas.Grind.{common_steps}
-use Rattle.kc_statements.specs.StatementViews.{attribute_in}
-use Rattle.kc_listing.specs.ListingView.{RepresentsListing}
+use Rattle.kc_statements.specs.between.StatementViews.{attribute_in}
+use Rattle.kc_listing.specs.between.ListingView.{RepresentsListing}
 use Rattle.kc_listing.specs.checker.StateViews.{Describes}
 use Rattle.kc_listing.proofs.AppendSteps.{lists_attribute, counted_attribute}
 use Rattle.kc_listing.proofs.ReaderSteps.{shown_of}

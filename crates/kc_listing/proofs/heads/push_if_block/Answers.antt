@@ -2,7 +2,7 @@ use Rattle.std.proofs.Common.{sym, ap, ◌∙◌, inr, refl, count_by}
 use Rattle.std.specs.Prelude.{nat_le}
 use Rattle.kc_tree_model.specs.Blocks.{of_head}
 use Rattle.kc_tree_model.specs.Statements.{condition}
-use Rattle.kc_expr.specs.Arena.{node_expr}
+use Rattle.kc_expr.specs.between.Arena.{node_expr}
 use Rattle.kc_listing.specs.checker.StateViews.{Describes}
 use Rattle.kc_listing.specs.checker.OpenBlockViews.{is_block}
 use Rattle.kc_listing.proofs.OpenBlockSteps.{blocks_are}

@@ -1,8 +1,7 @@
 use Rattle.std.proofs.Common.{refl, arith}
 use Rattle.std.proofs.lemmas.Grind.{common_steps}
-use Rattle.kc_expr.specs.Arena.{node_expr}
+use Rattle.kc_expr.specs.between.Arena.{node_expr}
 use Rattle.kc_tree_model.specs.Statements.{config, choice, menu, condition, comment, mainmenu, ends}
-use Rattle.kc_statements.specs.KeywordViews.{block_view}
 use Rattle.kc_listing.proofs.StatementSteps.{head_said}
 use Rattle.kc_listing.proofs.statements.push_head.Goals as goal
 
@@ -25,7 +24,7 @@ pub returns-in-Mainmenu : goal.returns-in-Mainmenu
 returns-in-Mainmenu c = λ r before d. rw (c.without_path-in-Mainmenu.ensures, c.in-Mainmenu.is) (head_said r c.args.file c.args.line before mainmenu _ c.push_mainmenu.result refl (c.push_mainmenu.ensures r before d))
 
 pub returns-in-Ends : goal.returns-in-Ends
-returns-in-Ends c = λ r before d. rw (c.without_path-in-Ends.ensures, c.in-Ends.is) (head_said r c.args.file c.args.line before (ends (block_view c.in-Ends.block)) _ c.push_block_end.result refl (c.push_block_end.ensures r before d))
+returns-in-Ends c = λ r before d. rw (c.without_path-in-Ends.ensures, c.in-Ends.is) (head_said r c.args.file c.args.line before (ends c.in-Ends.block) _ c.push_block_end.result refl (c.push_block_end.ensures r before d))
 
 pub returns-in-Source : goal.returns-in-Source
 returns-in-Source c = grind (arith, common_steps)

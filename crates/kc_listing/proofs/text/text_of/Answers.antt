@@ -3,8 +3,8 @@ use Rattle.std.proofs.lemmas.Bool.Decides.{nat_tests}
 use Rattle.kc_listing.proofs.ReaderSteps.{too_long, no_text, utf8_holds, utf8_fails}
 use Rattle.kc_listing.proofs.text.text_of.Goals as goal
 
-pub returns-then-bytes-gt-MAX_LINE : goal.returns-then-bytes-gt-MAX_LINE
-returns-then-bytes-gt-MAX_LINE c = λ r number help. too_long r number help c.args.bytes.now (grind (arith, nat_tests))
+pub returns-then-bytes-gt-MAX_LINE_BYTES : goal.returns-then-bytes-gt-MAX_LINE_BYTES
+returns-then-bytes-gt-MAX_LINE_BYTES c = λ r number help. too_long r number help c.args.bytes.now (grind (arith, nat_tests))
 
 pub returns-in-Ok : goal.returns-in-Ok
 returns-in-Ok c = (grind (arith, nat_tests), utf8_holds c.args.bytes.now c.in-Ok.ensures.cases.1, c.in-Ok.ensures.cases.0)

@@ -2,7 +2,7 @@ use Rattle.std.proofs.Common.{◌≡◌, ◌<◌, ◌≤◌, ◌+◌, ◌∙◌,
 use Rattle.std.proofs.Math.ListN.{drop_of_length-le}
 use Rattle.std.proofs.lemmas.List.{length-replicate}
 use Rattle.std.proofs.lemmas.Result.{IfOk-from_err}
-use Rattle.kc_tree.specs.Views.{entry_view}
+use Rattle.kc_tree.specs.between.Views.{entry_view}
 use Rattle.kc_rules.specs.SettledViews.{tree_of_settled, tree_model_of}
 use Rattle.kc_dotconfig_model.specs.Prefixes.{prefix_bytes}
 use Rattle.kc_minimal.specs.declared.full.Draft.{Draft}
@@ -25,7 +25,7 @@ pub loop-i-init : goal.loop-i-init
 loop-i-init c =
     let tree = tree_of_settled c.args.settled.now in
     let draft : Draft = record { text = c.new.result; defined = c.in_ok-defined.defined; gap = false } in
-    let count : c.symbol_count.result ≡ length tree.symbols = c.symbol_count.ensures ∙ ap (λ t. length t.whole.symbols) c.tree-tree.ensures.tree in
+    let count : c.symbol_count.result ≡ length tree.symbols = c.symbol_count.ensures ∙ ap (λ t. length t.tree.symbols) c.tree-tree.ensures.tree in
     let unmarked : draft.defined.items ≡ replicate (length tree.symbols) false = c.in_ok-defined.ensures.items_if_clones_equal (λ y e. e) ∙ ap (λ n. replicate n false) count in
     record {
       marks = ap length unmarked ∙ length-replicate (length tree.symbols) false;
@@ -50,6 +50,6 @@ returns-in_err-push_entry c = IfOk-from_err c.from_residual-in_err-push_entry.re
 pub returns : goal.returns
 returns c =
     let tree = tree_of_settled c.args.settled.now in
-    let count : c.entry_count-i-end.result ≡ length tree.entries = c.entry_count-i-end.ensures ∙ ap (λ t. length t.whole.entries) c.tree-tree.ensures.tree in
+    let count : c.entry_count-i-end.result ≡ length tree.entries = c.entry_count-i-end.ensures ∙ ap (λ t. length t.tree.entries) c.tree-tree.ensures.tree in
     let over : length tree.entries ≤ c.loop-i.i = omega (arith, c.loop-i-test.false, count) in
     written (prefix_bytes c.args.prefix.now) tree c.args.values.now c.loop-i.draft (drop c.loop-i.i tree.entries) (drop_of_length-le tree.entries over) c.loop-i.invariant.draft

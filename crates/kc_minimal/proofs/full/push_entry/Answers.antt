@@ -1,7 +1,7 @@
 use Rattle.std.proofs.Common.{arith}
 use Rattle.std.proofs.lemmas.Grind.{common_steps}
 use Rattle.std.proofs.lemmas.Result.{on_ok_weaker}
-use Rattle.kc_expr.specs.Arena.{node_expr}
+use Rattle.kc_expr.specs.between.Arena.{node_expr}
 use Rattle.kc_rules.specs.SettledViews.{tree_of_settled, tree_model_of}
 use Rattle.kc_dotconfig_model.specs.Prefixes.{prefix_bytes}
 use Rattle.kc_minimal.proofs.DraftSteps.{menu_begun, menu_ended, commented}

@@ -2,7 +2,7 @@ use Rattle.std.proofs.Common.{ap, ◌∙◌, arith}
 use Rattle.std.proofs.lemmas.Grind.{common_steps, elements}
 use Rattle.std.specs.Option.{option_copied}
 use Rattle.std.proofs.lemmas.Result.{IfOk-weaker}
-use Rattle.kc_tree.specs.Views.{choice_view, symbol_view}
+use Rattle.kc_tree.specs.between.Views.{choice_view, symbol_view}
 use Rattle.kc_rules_model.specs.declared.values.UnitValue.TheVariants.{Member as MemberValue}
 use Rattle.kc_rules.specs.checker.StoredRules.{choice_rule_of}
 use Rattle.kc_rules.proofs.Evaluations.{rule_symbol, rule_choice, member_there}
@@ -11,19 +11,19 @@ use Rattle.kc_rules.proofs.evaluation.value_of.Goals as goal
 pub choice_rule-requires-clause-user : goal.choice_rule-requires-clause-user
 choice_rule-requires-clause-user c =
     let r = c.args.rules.now in
-    let t = r.tree.whole in
+    let t = r.tree.tree in
     rw c.assigned_member.ensures (member_there t c.args.u c.in-Choice.c (choice_view r.tree.exprs c.choice.result) (option_copied c.args.user) c.in-Choice.ensures.unit c.choice.ensures.choice c.choice.ensures.fits.members c.requires.user)
 
 pub returns-in-Symbol : goal.returns-in-Symbol
 returns-in-Symbol c =
     let r = c.args.rules.now in
-    let t = r.tree.whole in
+    let t = r.tree.tree in
     IfOk-weaker c.symbol_rule.result _ _ (λ value same. same ∙ rule_symbol r.profile t c.args.u c.in-Symbol.s (symbol_view r.tree.exprs c.symbol.result) (option_copied c.args.user) c.args.values.now c.in-Symbol.ensures.unit c.symbol.ensures.symbol) c.symbol_rule.ensures
 
 pub returns-in-Choice : goal.returns-in-Choice
 returns-in-Choice c =
     let r = c.args.rules.now in
-    let t = r.tree.whole in
+    let t = r.tree.tree in
     let k = choice_view r.tree.exprs c.choice.result in
     ap (λ m. MemberValue m) (c.choice_rule.ensures ∙ ap (λ m. choice_rule_of t k m c.args.values.now) c.assigned_member.ensures) ∙ rule_choice r.profile t c.args.u c.in-Choice.c k (option_copied c.args.user) c.args.values.now c.in-Choice.ensures.unit c.choice.ensures.choice
 

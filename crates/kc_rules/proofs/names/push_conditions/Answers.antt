@@ -1,8 +1,8 @@
 use Rattle.std.proofs.Common.{arith}
 use Rattle.std.proofs.lemmas.Grind.{common_steps, elements}
-use Rattle.kc_expr.specs.Arena.{node_expr}
+use Rattle.kc_expr.specs.between.Arena.{node_expr}
 use Rattle.kc_tree.specs.declared.symbol.ReverseDependency.{ReverseDependency}
-use Rattle.kc_expr.specs.Visits.{mentions}
+use Rattle.kc_expr.specs.between.Visits.{mentions}
 use Rattle.kc_rules.proofs.Pushes.{any_pushed}
 use Rattle.kc_rules.proofs.names.push_conditions.Goals as goal
 

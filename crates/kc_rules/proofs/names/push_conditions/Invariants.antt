@@ -1,5 +1,5 @@
 use Rattle.std.proofs.Common.{◌≡◌, ℕ, Bool, ◌||◌, List, take}
-use Rattle.kc_expr.specs.Visits.{passes_some_name, HasFound}
+use Rattle.kc_expr.specs.between.Visits.{passes_some_name, HasFound}
 use Rattle.kc_rules.specs.checker.Links.{in_reverse_dependencies}
 use Rattle.kc_rules.proofs.names.push_conditions.Given as goal
 

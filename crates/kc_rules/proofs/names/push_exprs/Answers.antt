@@ -1,7 +1,7 @@
 use Rattle.std.proofs.Common.{ℕ, arith}
 use Rattle.std.proofs.lemmas.Grind.{common_steps}
-use Rattle.kc_expr.specs.Arena.{node_expr}
-use Rattle.kc_expr.specs.Visits.{mentions}
+use Rattle.kc_expr.specs.between.Arena.{node_expr}
+use Rattle.kc_expr.specs.between.Visits.{mentions}
 use Rattle.kc_rules.proofs.Pushes.{any_pushed}
 use Rattle.kc_rules.proofs.names.push_exprs.Goals as goal
 

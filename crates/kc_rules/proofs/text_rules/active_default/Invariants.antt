@@ -1,5 +1,5 @@
 use Rattle.std.proofs.Common.{◌≡◌, map, drop}
-use Rattle.kc_tree.specs.Views.{default_view}
+use Rattle.kc_tree.specs.between.Views.{default_view}
 use Rattle.kc_rules.specs.checker.RuleParts.{active_default_of}
 use Rattle.kc_rules.specs.checker.ValuationView.{valuation_tree, valuation_exprs, valuation_values}
 use Rattle.kc_rules.proofs.text_rules.active_default.Given as goal

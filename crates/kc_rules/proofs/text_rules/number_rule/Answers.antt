@@ -3,7 +3,7 @@ use Rattle.std.proofs.lemmas.Grind.{common_steps, elements}
 use Rattle.std.proofs.lemmas.Result.{IfOk-weaker}
 use Rattle.std.specs.Option.{option_copied}
 use Rattle.kc_value.specs.Number.{number_of_text}
-use Rattle.kc_tree.specs.Views.{symbol_view}
+use Rattle.kc_tree.specs.between.Views.{symbol_view}
 use Rattle.kc_rules_model.specs.Rule.{is_within}
 use Rattle.kc_rules.specs.checker.ValuationView.{valuation_tree, valuation_exprs, valuation_values}
 use Rattle.kc_rules.proofs.Evaluations.{number_given}

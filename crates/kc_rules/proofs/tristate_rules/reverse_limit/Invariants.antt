@@ -1,6 +1,6 @@
 use Rattle.std.proofs.Common.{◌≡◌, map, drop}
 use Rattle.kc_value.specs.Tri.{tri_or}
-use Rattle.kc_tree.specs.Views.{reverse_dependency_view}
+use Rattle.kc_tree.specs.between.Views.{reverse_dependency_view}
 use Rattle.kc_rules_model.specs.Kinds.{largest}
 use Rattle.kc_rules_model.specs.Rule.{reverse_dependency_limit}
 use Rattle.kc_rules.specs.checker.ValuationView.{valuation_tree, valuation_exprs, valuation_values}

@@ -3,7 +3,7 @@ use Rattle.std.proofs.lemmas.Grind.{common_steps, elements}
 use Rattle.kc_expr.specs.Token.{lexemes_of}
 use Rattle.kc_tree_model.specs.Forms.{prompt_line, optional_if}
 use Rattle.kc_tree_model.specs.Statements.{attribute}
-use Rattle.kc_statements.specs.StatementViews.{if_in}
+use Rattle.kc_statements.specs.between.StatementViews.{if_in}
 use Rattle.kc_statements.proofs.FormLemmas.{along, given_on, there, stepped}
 use Rattle.kc_statements.proofs.Growing.{grows_none}
 use Rattle.kc_statements.proofs.LineLemmas.{prompt_is, prompt_other}

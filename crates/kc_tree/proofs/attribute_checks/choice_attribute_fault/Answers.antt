@@ -1,7 +1,7 @@
 use Rattle.std.proofs.Common.{◌≡◌, ap, sym, ◌∙◌, arith}
 use Rattle.std.proofs.lemmas.Grind.{common_steps}
 use Rattle.std.specs.Prelude.{not, option_map}
-use Rattle.kc_statements.specs.StatementViews.{attribute_in, default_in}
+use Rattle.kc_statements.specs.between.StatementViews.{attribute_in, default_in}
 use Rattle.kc_tree_model.specs.Statements.{default_of}
 use Rattle.kc_tree_model.specs.TreeFaults.{is_no_member}
 use Rattle.kc_tree.proofs.FaultKinds.{choice_is}

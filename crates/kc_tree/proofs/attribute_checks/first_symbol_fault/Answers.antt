@@ -5,7 +5,7 @@ use Rattle.kc_tree_model.specs.declared.fault.TreeFault.{TreeFault}
 use Rattle.kc_tree_model.specs.Contents.{contents_of}
 use Rattle.kc_tree_model.specs.Statements.{prompt_of}
 use Rattle.kc_tree_model.specs.TreeFaults.{attribute_faults}
-use Rattle.kc_statements.specs.StatementViews.{attribute_in}
+use Rattle.kc_statements.specs.between.StatementViews.{attribute_in}
 use Rattle.kc_tree.proofs.FaultKinds.{left_more, left_told, left_none}
 use Rattle.kc_tree.proofs.attribute_checks.first_symbol_fault.Goals as goal
 use Rattle.kc_tree.proofs.attribute_checks.first_symbol_fault.Goals.{then-prompted, else-prompted}

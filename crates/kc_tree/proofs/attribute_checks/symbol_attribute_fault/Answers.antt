@@ -1,7 +1,7 @@
 use Rattle.std.proofs.Common.{ap, sym, ◌∙◌, arith}
 use Rattle.std.proofs.lemmas.Grind.{elements}
 use Rattle.std.specs.Prelude.{slice_get}
-use Rattle.kc_statements.specs.StatementViews.{attribute_in}
+use Rattle.kc_statements.specs.between.StatementViews.{attribute_in}
 use Rattle.kc_tree_model.specs.Contents.{contents_of}
 use Rattle.kc_tree_model.specs.TreeFaults.{attribute_faults}
 use Rattle.kc_tree.proofs.FaultKinds.{typed_is}

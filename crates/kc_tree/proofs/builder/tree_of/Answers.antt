@@ -25,7 +25,7 @@ pub returns : goal.returns
 returns c = λ files root untold shows.
     let read = (reading files root).read in
     let k = c.in_ok-gathered.ensures files root (record { walk = record { shows = c.in-Ok.ensures.shows read shows; shown = c.in-Ok.ensures.walked read shows }; untold = untold }) in
-    IfOk-weaker c.into_tree.result (λ (t : TreeModel). t ≡ record { exprs = c.in_ok-gathered.gathered.arena; whole = gathered_tree c.in_ok-gathered.gathered }) (λ (t : TreeModel). t.whole ≡ tree_of_files files root)
+    IfOk-weaker c.into_tree.result (λ (t : TreeModel). t ≡ record { exprs = c.in_ok-gathered.gathered.arena; tree = gathered_tree c.in_ok-gathered.gathered }) (λ (t : TreeModel). t.tree ≡ tree_of_files files root)
     (λ t e. whole_is files root c.in_ok-gathered.gathered t k e) c.into_tree.ensures
 
 pub into_tree-requires-clause-distinct : goal.into_tree-requires-clause-distinct

@@ -2,7 +2,7 @@ use Rattle.std.proofs.Common.{◌≡◌, ◌<◌, length, ap, sym, ◌∙◌, ar
 use Rattle.std.proofs.lemmas.Grind.{elements}
 use Rattle.std.proofs.lemmas.List.{get_or_read}
 use Rattle.kc_tree_model.specs.Limits.{names_defined}
-use Rattle.kc_listing.specs.ListingView.{RepresentsListing}
+use Rattle.kc_listing.specs.between.ListingView.{RepresentsListing}
 use Rattle.kc_tree.specs.checker.Summaries.{no_group}
 use Rattle.kc_tree.specs.checker.Entries.{choices_after}
 use Rattle.kc_tree.proofs.Rounds.{none_counted, one_counted}
@@ -31,15 +31,15 @@ unfolding RepresentsListing
 loop-i-preserved c =
     let l = c.args.listing.now in
     let within : c.loop-i.i < length l.groups.items = omega (arith, c.loop-i-test.true, c.len-i-end.ensures) in
-    let what = ap (λ g. g.what) (get_or_read l.groups.items _ _ within c.index.ensures no_group) in
-    let count : c.count_choices-choices.result ≡ choices_after c.index.result.now.what c.loop-i.choices = c.count_choices-choices.ensures in
+    let what = ap (λ g. g.head) (get_or_read l.groups.items _ _ within c.index.ensures no_group) in
+    let count : c.count_choices-choices.result ≡ choices_after c.index.result.now.head c.loop-i.choices = c.count_choices-choices.ensures in
     record {
-      few = omega (arith, count, choices_few c.index.result.now.what c.loop-i.choices, c.loop-i.invariant.few);
+      few = omega (arith, count, choices_few c.index.result.now.head c.loop-i.choices, c.loop-i.invariant.few);
       counted = λ read w.
-          one_counted l.names.arena (names_defined read) l.texts.items l.lines.items l.groups.items read w.shows.groups_are c.loop-i.i c.loop-i.choices c.count_choices-choices.result c.index.result.now.what within what (c.loop-i.invariant.counted read w)
-          (count ∙ choices_by c.index.result.now.what c.loop-i.choices);
+          one_counted l.names.arena (names_defined read) l.texts.items l.lines.items l.groups.items read w.shows.groups_are c.loop-i.i c.loop-i.choices c.count_choices-choices.result c.index.result.now.head within what (c.loop-i.invariant.counted read w)
+          (count ∙ choices_by c.index.result.now.head c.loop-i.choices);
       defaults = λ read w f.
-          one_more l c.args.groups.now c.args.conditions.now read w c.loop-i.i c.loop-i.choices c.count_choices-choices.result c.index.result.now.what c.loop-i.found c.push_group_defaults.new.found within what (c.loop-i.invariant.counted read w) count f
+          one_more l c.args.groups.now c.args.conditions.now read w c.loop-i.i c.loop-i.choices c.count_choices-choices.result c.index.result.now.head c.loop-i.found c.push_group_defaults.new.found within what (c.loop-i.invariant.counted read w) count f
           (rw (c.lines_of-lines.ensures.lines, c.conditions_of-own.ensures) at c.in_ok-push_group_defaults.ensures.keys) (rw (c.lines_of-lines.ensures.lines, c.conditions_of-own.ensures) at c.in_ok-push_group_defaults.ensures.items) (c.loop-i.invariant.defaults read w f);
     }
 

@@ -1,7 +1,7 @@
 use Rattle.std.proofs.Common.{List, length, reverse}
-use Rattle.kc_expr.specs.Arena.{Exprs}
+use Rattle.kc_expr.specs.between.Arena.{Exprs}
 use Rattle.kc_tree_model.specs.Blocks.{Group as Read}
-use Rattle.kc_listing.specs.ListingView.{RepresentsListing}
+use Rattle.kc_listing.specs.between.ListingView.{RepresentsListing}
 use Rattle.kc_tree.specs.checker.Walks.{RepresentsAllConditions}
 use Rattle.kc_tree.proofs.ChoiceRowSteps.{AreRowsTo}
 use Rattle.kc_tree.proofs.choice_rows.choice_rows.Given as goal

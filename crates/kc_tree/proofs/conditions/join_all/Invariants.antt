@@ -1,5 +1,5 @@
 use Rattle.std.proofs.Common.{◌<◌, ◌++◌, List, length, take, IfSome}
-use Rattle.kc_expr.specs.Arena.{Grows}
+use Rattle.kc_expr.specs.between.Arena.{Grows}
 use Rattle.kc_expr.specs.Expr.{Expr}
 use Rattle.kc_tree.specs.checker.Conjunctions.{Conjoins}
 use Rattle.kc_tree.specs.checker.Conjuncts.{conjunct_views}

@@ -1,5 +1,5 @@
 use Rattle.std.proofs.Common.{◌≡◌, ◌+◌, [], List, length, take}
-use Rattle.kc_expr.specs.Arena.{Grows, Represents}
+use Rattle.kc_expr.specs.between.Arena.{Grows, Represents}
 use Rattle.kc_expr.specs.Expr.{Expr}
 use Rattle.kc_tree_model.specs.Conditions.{conjunction_of}
 use Rattle.kc_tree.specs.checker.Conjuncts.{AreJoined, AreAppended}

@@ -3,7 +3,7 @@ use Rattle.std.proofs.lemmas.Grind.{common_steps, elements}
 use Rattle.std.specs.Prelude.{All}
 use Rattle.std.proofs.lemmas.List.{get_or_read}
 use Rattle.kc_tree_model.specs.Limits.{names_defined}
-use Rattle.kc_listing.specs.ListingView.{RepresentsListing, LineNodesExist}
+use Rattle.kc_listing.specs.between.ListingView.{RepresentsListing, LineNodesExist}
 use Rattle.kc_tree.specs.checker.Summaries.{no_group}
 use Rattle.kc_tree.proofs.Aligned.{count_is}
 use Rattle.kc_tree.proofs.GatherAll.{gathered_definition, gathered_other, gathered_whole, definition_many, group_count}
@@ -33,7 +33,7 @@ loop-i-preserved c = λ read k.
     let l = c.args.listing.now in
     let n = group_count l c.args.groups.now c.args.conditions.now c.requires.walked.0 c.requires.walked.1 in
     let within : c.loop-i.i < length l.groups.items = omega arith in
-    let group = ap (λ g. g.what) (get_or_read l.groups.items _ _ within c.index.ensures no_group) in
+    let group = ap (λ g. g.head) (get_or_read l.groups.items _ _ within c.index.ensures no_group) in
     let walked = k.shown in
     elim c.match-index.branch [
       | in-Config+in_ok-push_definition w ↦ (

@@ -1,7 +1,7 @@
 use Rattle.std.proofs.Common.{◌≡◌, ◌+◌, ◌<◌, ◌≤◌, cond, length, sym, ap, ◌∙◌, arith}
 use Rattle.std.proofs.lemmas.List.{get_or_read}
 use Rattle.kc_tree_model.specs.Limits.{names_defined}
-use Rattle.kc_listing.specs.ListingView.{RepresentsListing}
+use Rattle.kc_listing.specs.between.ListingView.{RepresentsListing}
 use Rattle.kc_tree.specs.checker.Summaries.{is_choice_code, no_group}
 use Rattle.kc_tree.proofs.Aligned.{count_is}
 use Rattle.kc_tree.proofs.Rounds.{all_counted, none_counted, one_counted}
@@ -18,13 +18,13 @@ loop-group-preserved c = record {
   counted = λ read h.
       let l = c.args.listing.now in
       let within : c.loop-group.group-index < length l.groups.items = rw (← c.deref-group-items.ensures.value) c.loop-group-test.true in
-      let what = ap (λ g. g.what) (get_or_read l.groups.items _ _ within (rw c.deref-group-items.ensures.value at c.group-item.is) no_group) in
-      let count : c.if-begins_choice.choices ≡ cond (is_choice_code c.group-item.result.what) (c.loop-group.choices + 1) c.loop-group.choices =
+      let what = ap (λ g. g.head) (get_or_read l.groups.items _ _ within (rw c.deref-group-items.ensures.value at c.group-item.is) no_group) in
+      let count : c.if-begins_choice.choices ≡ cond (is_choice_code c.group-item.result.head) (c.loop-group.choices + 1) c.loop-group.choices =
       elim c.if-begins_choice.branch [
         | then-begins_choice w ↦ w.choices-is ∙ sym (ap (λ b. cond b (c.loop-group.choices + 1) c.loop-group.choices) (sym c.begins_choice.ensures ∙ w.if-begins_choice.true))
         | else-begins_choice w ↦ w.choices-is ∙ sym (ap (λ b. cond b (c.loop-group.choices + 1) c.loop-group.choices) (sym c.begins_choice.ensures ∙ w.if-begins_choice.false))
       ] in
-      one_counted l.names.arena (names_defined read) l.texts.items l.lines.items l.groups.items read h.groups_are c.loop-group.group-index c.loop-group.choices c.if-begins_choice.choices c.group-item.result.what within what (c.loop-group.invariant.counted read h) count;
+      one_counted l.names.arena (names_defined read) l.texts.items l.lines.items l.groups.items read h.groups_are c.loop-group.group-index c.loop-group.choices c.if-begins_choice.choices c.group-item.result.head within what (c.loop-group.invariant.counted read h) count;
 }
 
 pub returns : goal.returns

@@ -1,6 +1,6 @@
 use Rattle.std.proofs.Common.{◌≡◌, ◌≤◌, List, length}
 use Rattle.kc_tree_model.specs.Blocks.{Group as Read}
-use Rattle.kc_listing.specs.ListingView.{RepresentsListing}
+use Rattle.kc_listing.specs.between.ListingView.{RepresentsListing}
 use Rattle.kc_tree.specs.checker.Summaries.{read_before}
 use Rattle.kc_tree.proofs.Rounds.{numbers_of_choices}
 use Rattle.kc_tree.proofs.enclosing_choices.choice_count.Given as goal

@@ -1,6 +1,6 @@
 use Rattle.std.proofs.Common.{◌≡◌, refl, arith}
 use Rattle.std.proofs.lemmas.Grind.{common_steps, elements}
-use Rattle.kc_expr.specs.Arena.{node_expr}
+use Rattle.kc_expr.specs.between.Arena.{node_expr}
 use Rattle.kc_tree_model.specs.Blocks.{of_head}
 use Rattle.kc_tree_model.specs.Statements.{choice, condition}
 use Rattle.kc_listing.proofs.AppendSteps.{grows_same}
@@ -9,13 +9,13 @@ use Rattle.kc_tree.proofs.group_walk.inside.Goals as goal
 
 pub returns-in_ok-inside_choice-in-Choice-clause-shown : goal.returns-in_ok-inside_choice-in-Choice-clause-shown
 returns-in_ok-inside_choice-in-Choice-clause-shown c = λ names texts y m opened what a j p s n.
-    let e : m.what ≡ of_head choice = rw c.in-Choice.is at what in
+    let e : m.head ≡ of_head choice = rw c.in-Choice.is at what in
     (rw e refl, c.in_ok-inside_choice-in-Choice.ensures.shown texts y m opened e p n)
 
 pub returns-in_ok-inside_if-in-Condition-clause-shown : goal.returns-in_ok-inside_if-in-Condition-clause-shown
 returns-in_ok-inside_if-in-Condition-clause-shown c = λ names texts y m opened what a j p s n.
     let w = rw c.in-Condition.is at what in
-    let e : m.what ≡ of_head (condition (node_expr c.args.arena.now c.in-Condition.condition)) = w.1 in
+    let e : m.head ≡ of_head (condition (node_expr c.args.arena.now c.in-Condition.condition)) = w.1 in
     (rw e refl, c.in_ok-inside_if-in-Condition.ensures.shown texts y m opened e a)
 
 pub returns-in-Menu-clause-shown : goal.returns-in-Menu-clause-shown

@@ -4,7 +4,7 @@ use Rattle.std.specs.Prelude.{All, slice_range}
 use Rattle.std.proofs.lemmas.List.{get_or_read}
 use Rattle.std.proofs.lemmas.List.Elements.{All-take, All-drop}
 use Rattle.kc_listing.specs.declared.listing.Group.{Group as CodeGroup}
-use Rattle.kc_listing.specs.ListingView.{LineNodesExist, RepresentsHead, line_in}
+use Rattle.kc_listing.specs.between.ListingView.{LineNodesExist, RepresentsHead, line_in}
 use Rattle.kc_listing.proofs.Growing.{lines_held}
 use Rattle.kc_tree.specs.checker.Firsts.{GroupHeadNodesExist}
 use Rattle.kc_tree.specs.checker.Summaries.{no_group, group_at, attributes_end, read_before}
@@ -35,13 +35,13 @@ step-requires-clause-walked c =
     let k = c.requires.shown in
     (k.1, read_before c.loop-i.i k.2, c.loop-i.invariant.walked k.0 k.1 k.2 k.3)
 
-pub step-requires-clause-what : goal.step-requires-clause-what
-step-requires-clause-what c =
+pub step-requires-clause-head : goal.step-requires-clause-head
+step-requires-clause-head c =
     let k = c.requires.shown in
     let s = shown_at c.args.arena k.0 k.1 c.args.lines.now c.args.groups.now k.2 k.3 c.loop-i.i c.loop-i-test.true in
     let own : get_or c.args.groups.now c.loop-i.i c.index-groups-i.result ≡ group_at c.args.groups.now c.loop-i.i = sym c.index-groups-i.is ∙ get_or_read c.args.groups.now _ _ c.loop-i-test.true c.index-groups-i.is no_group in
-    subst (λ (g : CodeGroup). GroupHeadNodesExist (length c.loop-i.walk.arena.nodes) g.what) (sym own)
-    (what_held c.loop-i.walk.arena k.0 k.1 _ _ (what_on c.args.arena c.loop-i.walk.arena k.0 k.1 _ _ c.loop-i.invariant.grows s.shown.what))
+    subst (λ (g : CodeGroup). GroupHeadNodesExist (length c.loop-i.walk.arena.nodes) g.head) (sym own)
+    (what_held c.loop-i.walk.arena k.0 k.1 _ _ (what_on c.args.arena c.loop-i.walk.arena k.0 k.1 _ _ c.loop-i.invariant.grows s.shown.head))
 
 pub step-requires-clause-lines : goal.step-requires-clause-lines
 step-requires-clause-lines c =
@@ -59,7 +59,7 @@ loop-i-preserved c = record {
       let end = attributes_end c.args.groups.now c.args.lines.now c.loop-i.i in
       let s = shown_at c.args.arena names texts c.args.lines.now c.args.groups.now read h c.loop-i.i c.loop-i-test.true in
       let own : get_or c.args.groups.now c.loop-i.i c.index-groups-i.result ≡ group_at c.args.groups.now c.loop-i.i = sym c.index-groups-i.is ∙ get_or_read c.args.groups.now _ _ c.loop-i-test.true c.index-groups-i.is no_group in
-      let what = subst (λ (g : CodeGroup). RepresentsHead c.loop-i.walk.arena names texts g.what s.group.what) (sym own) (what_on c.args.arena c.loop-i.walk.arena names texts _ _ c.loop-i.invariant.grows s.shown.what) in
+      let what = subst (λ (g : CodeGroup). RepresentsHead c.loop-i.walk.arena names texts g.head s.group.head) (sym own) (what_on c.args.arena c.loop-i.walk.arena names texts _ _ c.loop-i.invariant.grows s.shown.head) in
       let kept = lines_kept c.args.arena c.loop-i.walk.arena (slice_range c.args.lines.now begin end) c.loop-i.invariant.grows
       (All-take (LineNodesExist c.args.arena) (end - begin) (drop begin c.args.lines.now) (All-drop (LineNodesExist c.args.arena) begin c.args.lines.now c.requires.held)) in
       let said : s.group.attributes ≡ map (line_in c.loop-i.walk.arena) c.lines_at.result.now = s.shown.attributes ∙ sym kept ∙ ap (map (line_in c.loop-i.walk.arena)) (sym c.lines_at.ensures) in

@@ -1,7 +1,7 @@
 use Rattle.std.proofs.Common.{◌≡◌, Some, sym, ap, ◌∙◌, arith}
-use Rattle.kc_expr.specs.Arena.{node_expr}
-use Rattle.kc_listing.specs.ListingView.{RepresentsListing}
-use Rattle.kc_statements.specs.StatementViews.{default_in}
+use Rattle.kc_expr.specs.between.Arena.{node_expr}
+use Rattle.kc_listing.specs.between.ListingView.{RepresentsListing}
+use Rattle.kc_statements.specs.between.StatementViews.{default_in}
 use Rattle.kc_tree_model.proofs.Consistency.Lists.{get_below, place-get}
 use Rattle.kc_tree_model.specs.Contents.{bare_name}
 use Rattle.kc_tree_model.specs.Limits.{names_defined}

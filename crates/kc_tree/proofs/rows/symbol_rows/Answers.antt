@@ -1,6 +1,6 @@
 use Rattle.std.proofs.Common.{length, get_or, [], ◌∷◌, ◌++◌, None, ap, ◌∙◌, arith}
 use Rattle.std.proofs.lemmas.Grind.{common_steps}
-use Rattle.kc_listing.specs.ListingView.{RepresentsListing}
+use Rattle.kc_listing.specs.between.ListingView.{RepresentsListing}
 use Rattle.kc_tree.specs.checker.Rows.{row_of_symbol}
 use Rattle.kc_tree.specs.declared.summary.SymbolSummary.{SymbolSummary}
 use Rattle.kc_tree.proofs.RowSteps.{as_many, row_more, rows_all, rows_shown}

@@ -8,7 +8,7 @@ use Rattle.kc_tree_model.specs.Conditions.{groups_in_context}
 use Rattle.kc_tree_model.specs.Contents.{contents_of}
 use Rattle.kc_tree_model.specs.Limits.{names_defined}
 use Rattle.kc_tree_model.specs.TreeFaults.{attribute_faults, faults_of_lines, kind_of}
-use Rattle.kc_listing.specs.ListingView.{RepresentsListing, line_in}
+use Rattle.kc_listing.specs.between.ListingView.{RepresentsListing, line_in}
 use Rattle.kc_listing.proofs.NameLemmas.{as_many_names}
 use Rattle.kc_tree.specs.checker.Summaries.{IsSummary, enclosing_choice, group_at, no_group}
 use Rattle.kc_tree.proofs.Aligned.{count_is, placed_count}
@@ -23,7 +23,7 @@ index-requires c =
     let l = c.args.listing.now in
     let read = c.requires.shown.read in
     let h = c.requires.shown.shows in
-    let there = symbol_there l.names.arena l.texts.items l.lines.items l.groups.items read h.groups_are c.args.i c.args.s c.requires.here c.requires.what in
+    let there = symbol_there l.names.arena l.texts.items l.lines.items l.groups.items read h.groups_are c.args.i c.args.s c.requires.here c.requires.head in
     let n = as_many_abouts (contents_of read) (groups_in_context read) c.args.summary.now.symbols.items (c.requires.summary read h).symbols in
     omega arith
 
@@ -43,7 +43,7 @@ is_modules-is_modules-requires-clause-here c =
     let l = c.args.listing.now in
     let read = c.requires.shown.read in
     let h = c.requires.shown.shows in
-    let there = symbol_there l.names.arena l.texts.items l.lines.items l.groups.items read h.groups_are c.args.i c.args.s c.requires.here c.requires.what in
+    let there = symbol_there l.names.arena l.texts.items l.lines.items l.groups.items read h.groups_are c.args.i c.args.s c.requires.here c.requires.head in
     let many = as_many_names l.names.arena l.names.symbols.items l.names.numbers.items (names_defined read) h.names in
     omega arith
 
@@ -54,7 +54,7 @@ returns-in-Some c = λ read p h at.
     let m = c.args.summary.now in
     let names = names_defined read in
     let a = place_at l.names.arena names l.texts.items l.lines.items l.groups.items read h.groups_are c.args.i p c.requires.here at in
-    let w = config_there l.names.arena names l.texts.items (group_at l.groups.items c.args.i).what c.args.s p.group.what a.what c.requires.what in
+    let w = config_there l.names.arena names l.texts.items (group_at l.groups.items c.args.i).head c.args.s p.group.head a.head c.requires.head in
     let name = w.0 in
     let known = c.requires.summary read h in
     let about = c.index.ensures ∙ about_is read m.symbols.items known.symbols c.args.s name c.index.result.now w.1 in
@@ -79,7 +79,7 @@ returns c = λ read p h at.
     let m = c.args.summary.now in
     let names = names_defined read in
     let a = place_at l.names.arena names l.texts.items l.lines.items l.groups.items read h.groups_are c.args.i p c.requires.here at in
-    let w = config_there l.names.arena names l.texts.items (group_at l.groups.items c.args.i).what c.args.s p.group.what a.what c.requires.what in
+    let w = config_there l.names.arena names l.texts.items (group_at l.groups.items c.args.i).head c.args.s p.group.head a.head c.requires.head in
     let name = w.0 in
     let known = c.requires.summary read h in
     let about = c.index.ensures ∙ about_is read m.symbols.items known.symbols c.args.s name c.index.result.now w.1 in

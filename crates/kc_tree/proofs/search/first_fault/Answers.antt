@@ -3,7 +3,7 @@ use Rattle.std.proofs.lemmas.Grind.{common_steps, elements}
 use Rattle.std.proofs.lemmas.List.{get_or_read}
 use Rattle.kc_tree_model.specs.Limits.{names_defined}
 use Rattle.kc_tree_model.specs.TreeFaults.{tree_faults}
-use Rattle.kc_listing.specs.ListingView.{RepresentsListing}
+use Rattle.kc_listing.specs.between.ListingView.{RepresentsListing}
 use Rattle.kc_tree.specs.checker.FaultSearch.{AreSmall}
 use Rattle.kc_tree.specs.checker.Summaries.{IsSummary, is_choice_code, no_group}
 use Rattle.kc_tree.proofs.Aligned.{count_is}
@@ -42,8 +42,8 @@ unfolding RepresentsListing
 loop-i-preserved c =
     let l = c.args.listing.now in
     let within : c.loop-i.i < length l.groups.items = omega arith in
-    let what = ap (λ g. g.what) (get_or_read l.groups.items _ _ within c.index.ensures no_group) in
-    let count : c.if-begins_choice.choices ≡ cond (is_choice_code c.index.result.now.what) (c.loop-i.choices + 1) c.loop-i.choices =
+    let what = ap (λ g. g.head) (get_or_read l.groups.items _ _ within c.index.ensures no_group) in
+    let count : c.if-begins_choice.choices ≡ cond (is_choice_code c.index.result.now.head) (c.loop-i.choices + 1) c.loop-i.choices =
     elim c.if-begins_choice.branch [
       | then-begins_choice w ↦ w.choices-is ∙ sym (ap (λ b. cond b (c.loop-i.choices + 1) c.loop-i.choices) (sym c.begins_choice.ensures ∙ w.if-begins_choice.true))
       | else-begins_choice w ↦ w.choices-is ∙ sym (ap (λ b. cond b (c.loop-i.choices + 1) c.loop-i.choices) (sym c.begins_choice.ensures ∙ w.if-begins_choice.false))
@@ -52,7 +52,7 @@ loop-i-preserved c =
       few = elim c.if-begins_choice.branch [ then-begins_choice w ↦ omega arith | else-begins_choice w ↦ omega arith ];
       many = c.group_fault-fault.ensures.many;
       small = subst (AreSmall c.group_fault-fault.new.marks.items) (ap (λ w. cond (is_choice_code w) (c.loop-i.choices + 1) c.loop-i.choices) (sym what) ∙ sym count) c.group_fault-fault.ensures.marks;
-      counted = λ read h. one_counted l.names.arena (names_defined read) l.texts.items l.lines.items l.groups.items read h.groups_are c.loop-i.i c.loop-i.choices c.if-begins_choice.choices c.index.result.now.what within what (c.loop-i.invariant.counted read h) count;
+      counted = λ read h. one_counted l.names.arena (names_defined read) l.texts.items l.lines.items l.groups.items read h.groups_are c.loop-i.i c.loop-i.choices c.if-begins_choice.choices c.index.result.now.head within what (c.loop-i.invariant.counted read h) count;
       none = λ read h.
           let here = fault_here l.names.arena l.texts.items l.lines.items l.groups.items read h.groups_are c.loop-i.i c.group_fault-fault.result within (c.loop-i.invariant.none read h) (λ p at. c.group_fault-fault.ensures.fault read p h at) in
           sym here ∙ told_none c.group_fault-fault.result (sym c.is_some.ensures ∙ c.if-is_some.false);

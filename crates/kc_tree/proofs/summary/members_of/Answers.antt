@@ -4,7 +4,7 @@ use Rattle.std.proofs.lemmas.List.{get_or_read, length-map}
 use Rattle.kc_tree_model.specs.Conditions.{groups_in_context}
 use Rattle.kc_tree_model.specs.Contents.{contents_of}
 use Rattle.kc_tree_model.specs.Limits.{names_defined}
-use Rattle.kc_listing.specs.ListingView.{RepresentsListing}
+use Rattle.kc_listing.specs.between.ListingView.{RepresentsListing}
 use Rattle.kc_tree.specs.checker.Summaries.{enclosing_choice, no_group}
 use Rattle.kc_tree.proofs.Aligned.{count_is, placed_count}
 use Rattle.kc_tree.proofs.Symbols.{all_members, member_more, members_same, nameless_more, outside_more}
@@ -27,7 +27,7 @@ loop-i-preserved c = λ read h.
     let l = c.args.listing.now in
     let i = c.loop-i.i in
     let within : i < length l.groups.items = omega arith in
-    let group = ap (λ g. g.what) (get_or_read l.groups.items _ _ within c.index.ensures no_group) in
+    let group = ap (λ g. g.head) (get_or_read l.groups.items _ _ within c.index.ensures no_group) in
     let e = l.names.arena in
     elim c.match-index.branch [
       | in-Config+in-Some+in_ok-push w ↦ (

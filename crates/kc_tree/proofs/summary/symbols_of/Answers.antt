@@ -6,7 +6,7 @@ use Rattle.kc_tree_model.specs.Conditions.{groups_in_context}
 use Rattle.kc_tree_model.specs.Contents.{contents_of}
 use Rattle.kc_tree_model.specs.Limits.{names_defined}
 use Rattle.kc_listing.proofs.NameLemmas.{as_many_names}
-use Rattle.kc_listing.specs.ListingView.{RepresentsListing}
+use Rattle.kc_listing.specs.between.ListingView.{RepresentsListing}
 use Rattle.kc_listing.specs.declared.listing.GroupHead.TheVariants as codes
 use Rattle.kc_tree.specs.checker.Summaries.{enclosing_choice, group_at, no_group, own_lines, read_before, type_in}
 use Rattle.kc_tree.specs.declared.summary.SymbolSummary.{SymbolSummary}
@@ -40,7 +40,7 @@ index-about-requires c =
     let l = c.args.listing.now in
     let read = c.requires.shown.read in
     let h = c.requires.shown.shows in
-    let what : (group_at l.groups.items c.loop-i.i).what ≡ codes.Config c.in-Config.s = sym (ap (λ g. g.what) (get_or_read l.groups.items _ _ (omega arith) c.index.ensures no_group)) ∙ c.in-Config.is in
+    let what : (group_at l.groups.items c.loop-i.i).head ≡ codes.Config c.in-Config.s = sym (ap (λ g. g.head) (get_or_read l.groups.items _ _ (omega arith) c.index.ensures no_group)) ∙ c.in-Config.is in
     let there = symbol_there l.names.arena l.texts.items l.lines.items l.groups.items read h.groups_are c.loop-i.i c.in-Config.s (omega arith) what in
     let n = as_many_abouts (contents_of read) (groups_in_context (read_before c.loop-i.i read)) c.loop-i.symbols.items (c.loop-i.invariant read h) in
     omega arith
@@ -51,7 +51,7 @@ index_mut-requires c =
     let l = c.args.listing.now in
     let read = c.requires.shown.read in
     let h = c.requires.shown.shows in
-    let what : (group_at l.groups.items c.loop-i.i).what ≡ codes.Config c.in-Config.s = sym (ap (λ g. g.what) (get_or_read l.groups.items _ _ (omega arith) c.index.ensures no_group)) ∙ c.in-Config.is in
+    let what : (group_at l.groups.items c.loop-i.i).head ≡ codes.Config c.in-Config.s = sym (ap (λ g. g.head) (get_or_read l.groups.items _ _ (omega arith) c.index.ensures no_group)) ∙ c.in-Config.is in
     let there = symbol_there l.names.arena l.texts.items l.lines.items l.groups.items read h.groups_are c.loop-i.i c.in-Config.s (omega arith) what in
     let n = as_many_abouts (contents_of read) (groups_in_context (read_before c.loop-i.i read)) c.loop-i.symbols.items (c.loop-i.invariant read h) in
     omega arith
@@ -63,7 +63,7 @@ loop-i-preserved c = λ read h.
     let e = l.names.arena in
     let i = c.loop-i.i in
     let within : i < length l.groups.items = omega arith in
-    let group = ap (λ g. g.what) (get_or_read l.groups.items _ _ within c.index.ensures no_group) in
+    let group = ap (λ g. g.head) (get_or_read l.groups.items _ _ within c.index.ensures no_group) in
     elim c.match-index.branch [
       | in-Config w ↦ (
           let here : SymbolSummary = record { first = Some i; given = w.first_type-given.result; choice = get_or c.args.enclosing.now i None } in

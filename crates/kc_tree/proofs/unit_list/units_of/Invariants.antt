@@ -1,6 +1,6 @@
 use Rattle.std.proofs.Common.{◌≤◌, List}
 use Rattle.kc_tree_model.specs.Blocks.{Group as Read}
-use Rattle.kc_listing.specs.ListingView.{RepresentsListing}
+use Rattle.kc_listing.specs.between.ListingView.{RepresentsListing}
 use Rattle.kc_tree.proofs.UnitSteps.{AreUnits}
 use Rattle.kc_tree.proofs.unit_list.units_of.Given as goal
 

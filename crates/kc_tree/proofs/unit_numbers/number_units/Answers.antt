@@ -5,14 +5,14 @@ use Rattle.std.proofs.lemmas.Bool.{cases_lt}
 use Rattle.std.proofs.lemmas.Grind.{get_or-set_at, common_steps, elements}
 use Rattle.std.proofs.lemmas.List.{get_or-set_other, length-set}
 use Rattle.std.proofs.lemmas.Option.{slice_get-get_or}
-use Rattle.kc_tree_model.specs.declared.ids.Unit.{Unit as ToldUnit}
+use Rattle.kc_tree_model.specs.declared.ids.Unit.{Unit as TreeUnit}
 use Rattle.kc_tree_model.specs.declared.ids.Unit.TheVariants.{Symbol as SymbolUnit, Choice as ChoiceUnit}
 use Rattle.kc_tree.specs.checker.Numbered.{AreNumbered}
 use Rattle.kc_tree.proofs.unit_numbers.number_units.Goals as goal
 use Rattle.kc_tree.proofs.unit_numbers.number_units.Goals.{in-Symbol, in-Choice}
 
 -- the numbers of units of one kind, with one more
-number_more : (kind : ℕ → ToldUnit) (apart : (a b : ℕ) → kind a ≡ kind b → a ≡ b) (u k : ℕ) (units : List ToldUnit) (numbers : List ℕ) → ((a b : ℕ) (x : ToldUnit) → slice_get units a ≡ Some x → slice_get units b ≡ Some x → a ≡ b)
+number_more : (kind : ℕ → TreeUnit) (apart : (a b : ℕ) → kind a ≡ kind b → a ≡ b) (u k : ℕ) (units : List TreeUnit) (numbers : List ℕ) → ((a b : ℕ) (x : TreeUnit) → slice_get units a ≡ Some x → slice_get units b ≡ Some x → a ≡ b)
     → slice_get units u ≡ Some (kind k) → k < length numbers → ((a z : ℕ) → a < u → slice_get units a ≡ Some (kind z) → get_or numbers z 0 ≡ a)
     → (a z : ℕ) → a < u + 1 → slice_get units a ≡ Some (kind z) → (a < u) ⊎ (u ≤ a) → get_or (set numbers k u) z 0 ≡ a
 number_more kind apart u k units numbers differ here within before a z h f (inl l) =
@@ -25,7 +25,7 @@ number_more kind apart u k units numbers differ here within before a z h f (inr 
     get_or-set_at numbers k z u 0 (apart z k p) within ∙ sym e
 
 -- those of the other kind stay
-symbols_stay : (u k : ℕ) (units : List ToldUnit) (numbers : List ℕ) → slice_get units u ≡ Some (ChoiceUnit k) → ((a z : ℕ) → a < u → slice_get units a ≡ Some (SymbolUnit z) → get_or numbers z 0 ≡ a)
+symbols_stay : (u k : ℕ) (units : List TreeUnit) (numbers : List ℕ) → slice_get units u ≡ Some (ChoiceUnit k) → ((a z : ℕ) → a < u → slice_get units a ≡ Some (SymbolUnit z) → get_or numbers z 0 ≡ a)
     → (a z : ℕ) → a < u + 1 → slice_get units a ≡ Some (SymbolUnit z) → (a < u) ⊎ (u ≤ a) → get_or numbers z 0 ≡ a
 symbols_stay u k units numbers here before a z h f (inl l) = before a z l f
 symbols_stay u k units numbers here before a z h f (inr g) =
@@ -33,7 +33,7 @@ symbols_stay u k units numbers here before a z h f (inr g) =
     let q : Some (SymbolUnit z) ≡ Some (ChoiceUnit k) = sym f ∙ ap (slice_get units) e ∙ here in
     cc
 
-choices_stay : (u k : ℕ) (units : List ToldUnit) (numbers : List ℕ) → slice_get units u ≡ Some (SymbolUnit k) → ((a z : ℕ) → a < u → slice_get units a ≡ Some (ChoiceUnit z) → get_or numbers z 0 ≡ a)
+choices_stay : (u k : ℕ) (units : List TreeUnit) (numbers : List ℕ) → slice_get units u ≡ Some (SymbolUnit k) → ((a z : ℕ) → a < u → slice_get units a ≡ Some (ChoiceUnit z) → get_or numbers z 0 ≡ a)
     → (a z : ℕ) → a < u + 1 → slice_get units a ≡ Some (ChoiceUnit z) → (a < u) ⊎ (u ≤ a) → get_or numbers z 0 ≡ a
 choices_stay u k units numbers here before a z h f (inl l) = before a z l f
 choices_stay u k units numbers here before a z h f (inr g) =
@@ -47,7 +47,7 @@ one_symbol a b e = cc
 one_choice : (a b : ℕ) → ChoiceUnit a ≡ ChoiceUnit b → a ≡ b
 one_choice a b e = cc
 
-module _ (symbols choices u : ℕ) (units : List ToldUnit) (of_symbol of_choice : List ℕ) (differ : (a b : ℕ) (x : ToldUnit) → slice_get units a ≡ Some x → slice_get units b ≡ Some x → a ≡ b)
+module _ (symbols choices u : ℕ) (units : List TreeUnit) (of_symbol of_choice : List ℕ) (differ : (a b : ℕ) (x : TreeUnit) → slice_get units a ≡ Some x → slice_get units b ≡ Some x → a ≡ b)
     (t : AreNumbered symbols choices units u of_symbol of_choice) where
   symbol_more : (s : ℕ) → slice_get units u ≡ Some (SymbolUnit s) → s < symbols → AreNumbered symbols choices units (u + 1) (set of_symbol s u) of_choice
   symbol_more s here below =

@@ -5,4 +5,4 @@ use Rattle.kmin_jobs.proofs.symbol_lines.name_lines.Given as goal
 
 -- the lines of the symbols so far
 abbrev pub invariant-loop-s : goal.invariant-loop-s
-invariant-loop-s l = l.text.items ≡ flat_map (name_line l.front l.tree.whole) (take l.s-index l.symbols)
+invariant-loop-s l = l.text.items ≡ flat_map (name_line l.front l.tree.tree) (take l.s-index l.symbols)

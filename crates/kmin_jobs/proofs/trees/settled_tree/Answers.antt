@@ -10,7 +10,7 @@ returns-in-Err-settle-clause-refused g c = λ e.
     let s : c.report_settle_fault-stop.result ≡ Tree = cc in
     let read = rw c.in-Ok.is at c.requires.read in
     let k = c.report_settle_fault-stop.ensures.cycle s _ _ c.in-Err-settle.ensures.cycle in
-    cycle_refuses c.args.texts.now c.args.first.now c.in-Ok.tree.whole k.0 read.1 k.1
+    cycle_refuses c.args.texts.now c.args.first.now c.in-Ok.tree.tree k.0 read.1 k.1
 
 pub returns-in-Err-settle-clause-others : goal.returns-in-Err-settle-clause-others
 returns-in-Err-settle-clause-others g c = grind (arith, elements)

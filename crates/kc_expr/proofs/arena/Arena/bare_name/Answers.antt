@@ -1,7 +1,7 @@
 use Rattle.std.proofs.Common.{[], get_or, Some, ap, sym, ◌∙◌, arith}
 use Rattle.std.proofs.lemmas.Grind.{common_steps}
-use Rattle.kc_expr.specs.Arena.{Exprs}
-use Rattle.kc_expr.specs.Names.{name_of_operand}
+use Rattle.kc_expr.specs.between.Arena.{Exprs}
+use Rattle.kc_expr.specs.between.Names.{name_of_operand}
 use Rattle.kc_expr.specs.checker.Nodes.{operand_of}
 use Rattle.kc_expr.specs.checker.Store.{stored_names}
 use Rattle.std.specs.Prelude.{option_and_then}

@@ -1,6 +1,6 @@
 use Rattle.std.proofs.Common.{[], get_or, ap, ◌∙◌, arith}
 use Rattle.std.proofs.lemmas.Grind.{common_steps}
-use Rattle.kc_expr.specs.Arena.{Exprs}
+use Rattle.kc_expr.specs.between.Arena.{Exprs}
 use Rattle.kc_expr.specs.checker.Store.{stored_names}
 use Rattle.kc_expr.proofs.arena.Arena.name.Goals as goal
 

@@ -5,7 +5,7 @@ use Rattle.std.proofs.Math.Seq.{take-length}
 use Rattle.std.specs.List.{list_any}
 use Rattle.std.specs.declared.alloc.Global.{Global}
 use Rattle.kc_expr.specs.Lookup.{index_of_name, AreDistinct}
-use Rattle.kc_expr.specs.Names.{with_name}
+use Rattle.kc_expr.specs.between.Names.{with_name}
 use Rattle.kc_expr.specs.checker.Store.{Extends}
 use Rattle.kc_expr.proofs.Places.{place_put, distinct_put, names_put, place_there}
 use Rattle.kc_expr.proofs.StoreLemmas.{extends_self, sound_on, put_prefix, put_long}

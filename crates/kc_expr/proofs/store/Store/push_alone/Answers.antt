@@ -2,7 +2,7 @@ use Rattle.std.proofs.Common.{◌≡◌, ap, sym, ◌∙◌, subst, arith}
 use Rattle.std.proofs.lemmas.Grind.{common_steps}
 use Rattle.std.proofs.lemmas.Result.{IfOk-weaker}
 use Rattle.kc_value.specs.declared.tri.Tri.TheVariants.{M}
-use Rattle.kc_expr.specs.Arena.{Represents, node_expr}
+use Rattle.kc_expr.specs.between.Arena.{Represents, node_expr}
 use Rattle.kc_expr.specs.Expr.{alone, both, constant, named, modules}
 use Rattle.kc_expr.specs.checker.Store.{stored_names, exprs_in}
 use Rattle.kc_expr.proofs.LeafLemmas.{m_condition, m_leaf}

@@ -1,6 +1,6 @@
 use Rattle.std.proofs.Common.{sym, ap, ◌∙◌}
 use Rattle.std.specs.Prelude.{option_and_then, slice_index}
-use Rattle.kc_listing.specs.SymbolTable.{number_in_slot}
+use Rattle.kc_listing.specs.between.SymbolTable.{number_in_slot}
 use Rattle.kc_listing.proofs.listing.SymbolTable.number_of.Goals as goal
 
 pub returns-in_err-id : goal.returns-in_err-id

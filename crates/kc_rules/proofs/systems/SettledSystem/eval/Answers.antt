@@ -10,7 +10,7 @@ use Rattle.kc_rules.proofs.systems.SettledSystem.eval.Goals as goal
 pub returns-clause-fits : goal.returns-clause-fits
 returns-clause-fits c =
     let r = c.args.self.now.rules in
-    let t = r.tree.whole in
+    let t = r.tree.tree in
     IfOk-weaker c.value_of.result _ _ (λ value same. subst (λ w. IsTrue (value_fits t c.args.u w)) (sym same) (∥∥₁_elim r.consistent (Bool-set _ _) (λ sound. rules_fit r.profile t c.args.u (option_copied c.args.user) c.args.values.now sound c.requires.unit c.requires.user c.requires.values))) c.value_of.ensures
 
 pub returns-clause-step : goal.returns-clause-step

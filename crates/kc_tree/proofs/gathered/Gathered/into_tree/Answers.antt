@@ -23,8 +23,8 @@ returns c =
     let g = c.args.self in
     let l = c.in_ok-made.ensures.lists in
     let p : Parts = parts_made g c.in_ok-made.made.lists c.in_ok-made.made.tables in
-    let held : Tree → TreeModel = λ w. record { exprs = g.arena; whole = w } in
-    let seen : Parts → TreeModel = λ q. record { exprs = q.arena; whole = tree_from_rows q } in
+    let held : Tree → TreeModel = λ w. record { exprs = g.arena; tree = w } in
+    let seen : Parts → TreeModel = λ q. record { exprs = q.arena; tree = tree_from_rows q } in
     c.of.ensures ∙ ap seen c.into_parts.ensures ∙ ap held (whole_same p g.attributes g.members g.member_defaults l.attributes l.members l.member_defaults)
 
 pub made-requires-clause-distinct : goal.made-requires-clause-distinct

@@ -1,7 +1,7 @@
 use Rattle.std.proofs.Common.{◌≡◌, ◌∙◌, List, None, [], length, reverse, arith, refl, sym, subst}
 use Rattle.std.proofs.lemmas.Grind.{common_steps}
 use Rattle.std.specs.Prelude.{slice_get}
-use Rattle.kc_expr.specs.Arena.{Grows}
+use Rattle.kc_expr.specs.between.Arena.{Grows}
 use Rattle.kc_expr.proofs.StoreLemmas.{stands_on}
 use Rattle.kc_listing.proofs.AppendSteps.{grows_same, on_ok}
 use Rattle.kc_statements.proofs.Later.{attribute_held}
@@ -93,7 +93,7 @@ returns-then-ends-clause-walked c = λ names texts before m walked what attribut
     on_ok c.end.result _ _
     (λ groups. ended w new texts before m mid far c.in_ok-entry.entry c.args.lines.now walked c.requires.lines attributes_are c.entry_conditions.ensures.grows c.push_conditions.ensures.grows
     b2 g c.end.ensures.yes c.end.ensures.no (record { dependency = or_yes w.yes c.enclosing-enclosing.result.dependencies; visible = or_yes w.yes c.enclosing-enclosing.result.visibles; ended = c.enclosing-enclosing.result.title; first = c.len-first.result })
-    (end_side w.arena names texts c.args.what.now m what (sym c.ends.ensures ∙ c.if-ends.true)) (rw (c.enclosing-enclosing.ensures, l) refl) groups c.end.ensures.stack)
+    (end_side w.arena names texts c.args.head.now m what (sym c.ends.ensures ∙ c.if-ends.true)) (rw (c.enclosing-enclosing.ensures, l) refl) groups c.end.ensures.stack)
     c.end.ensures.groups
 
 pub returns-clause-walked : goal.returns-clause-walked
@@ -119,12 +119,12 @@ returns-clause-walked c = λ names texts before m walked what attributes_are.
     let p : RepresentsPrompt far c.first_prompt_condition-prompt.result (slice_get (prompts_of (context s) m) 0) = rw (← attributes_are) at p0 in
     let t = top_shown w.arena texts w.yes (reverse w.stack.items) s here.stack_is in
     let a = subst (λ (x : EnclosingConditions). RepresentsEnclosing w.arena texts w.yes x s) (sym c.enclosing-enclosing.ensures) t in
-    let shown = c.in_ok-opened.ensures.shown names texts w.yes m s (what_on w.arena far names texts c.args.what.now m.what to_far what) (around_on w.arena far texts w.yes c.enclosing-enclosing.result s to_far a)
+    let shown = c.in_ok-opened.ensures.shown names texts w.yes m s (what_on w.arena far names texts c.args.head.now m.head to_far what) (around_on w.arena far texts w.yes c.enclosing-enclosing.result s to_far a)
     (joined_on mid far c.push_conditions.ensures.grows c.in_ok-entry.entry _ _ _ j) p (stands_on mid far w.yes (conjunction_of []) c.push_conditions.ensures.grows y) (stands_on w.arena far w.no _ to_far here.no_is) in
     on_ok c.put.result _ _
     (λ groups. entered w new texts before m mid far c.in_ok-entry.entry c.args.lines.now walked c.requires.lines attributes_are c.entry_conditions.ensures.grows c.push_conditions.ensures.grows
     b2 g (c.put.ensures.yes ∙ c.enter.ensures.yes) (c.put.ensures.no ∙ c.enter.ensures.no) (record { dependency = or_yes w.yes c.in_ok-entry.entry.dependencies; visible = or_yes w.yes c.in_ok-entry.entry.visibles; ended = None; first = c.len-first.result })
-    c.in_ok-opened.opened (other_side w.arena names texts c.args.what.now m what (sym c.ends.ensures ∙ c.if-ends.false)) j (rw l refl)
+    c.in_ok-opened.opened (other_side w.arena names texts c.args.head.now m what (sym c.ends.ensures ∙ c.if-ends.false)) j (rw l refl)
     (rw (c.enter.ensures.yes, c.enter.ensures.groups) at groups) (c.put.ensures.stack ∙ c.in_ok-enter.ensures.stack) (λ later h. inside_on last later texts w.yes m s c.in_ok-opened.opened (subst (λ e. Grows e later) arena_is h) shown))
     c.put.ensures.groups
 

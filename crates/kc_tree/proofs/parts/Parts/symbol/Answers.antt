@@ -3,7 +3,7 @@ use Rattle.std.proofs.lemmas.Grind.{common_steps}
 use Rattle.std.proofs.lemmas.Option.{slice_get_read}
 use Rattle.std.proofs.lemmas.List.Elements.{All-get_or}
 use Rattle.std.specs.Prelude.{◌<◌, length}
-use Rattle.kc_tree.specs.Views.{DefaultFits, RangeFits, HasOperands, ReverseDependencyFits}
+use Rattle.kc_tree.specs.between.Views.{DefaultFits, RangeFits, HasOperands, ReverseDependencyFits}
 use Rattle.kc_tree.specs.checker.PartsView.{symbol_from_row}
 use Rattle.kc_tree.specs.declared.parts.SymbolRow.{SymbolRow}
 use Rattle.kc_tree.proofs.RowViews.{seen_get, all_at}

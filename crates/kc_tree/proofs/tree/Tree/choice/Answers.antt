@@ -5,7 +5,7 @@ use Rattle.kc_tree.proofs.tree.Tree.choice.Goals as goal
 
 pub choice-requires-clause-there : goal.choice-requires-clause-there
 choice-requires-clause-there c =
-    let v = ap (λ (h : TreeModel). length h.whole.choices) c.self.view_is in
+    let v = ap (λ (h : TreeModel). length h.tree.choices) c.self.view_is in
     let l = choices_length c.self.inside.parts in
     omega arith
 

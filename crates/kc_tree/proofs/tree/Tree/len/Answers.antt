@@ -5,6 +5,6 @@ use Rattle.kc_tree.proofs.tree.Tree.len.Goals as goal
 
 pub returns : goal.returns
 returns c =
-    let v = ap (λ (h : TreeModel). length h.whole.units) c.self.view_is in
+    let v = ap (λ (h : TreeModel). length h.tree.units) c.self.view_is in
     let l = units_length c.self.inside.parts in
     omega arith

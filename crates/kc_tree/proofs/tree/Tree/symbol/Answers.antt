@@ -5,7 +5,7 @@ use Rattle.kc_tree.proofs.tree.Tree.symbol.Goals as goal
 
 pub symbol-requires-clause-there : goal.symbol-requires-clause-there
 symbol-requires-clause-there c =
-    let v = ap (λ (h : TreeModel). length h.whole.symbols) c.self.view_is in
+    let v = ap (λ (h : TreeModel). length h.tree.symbols) c.self.view_is in
     let l = symbols_length c.self.inside.parts in
     let e = c.number.ensures in
     omega arith

@@ -1,13 +1,11 @@
 -- Symbols, choices, entries and units as the code returns them represent those of the definition of a tree: each
 -- number of an expression represents that expression.
 use Rattle.std.specs.Prelude.{◌≡◌, ℕ, ◌<◌, List, [], length, map, All, Option, Some, None, IsSome, option_map, option_and_then, slice_get, slice_index_or}
-use Rattle.kc_expr.specs.Arena.{Exprs, node_expr}
+use Rattle.kc_expr.specs.between.Arena.{Exprs, node_expr}
 use Rattle.kc_expr.specs.Expr.{Expr, Operand, quoted}
-use Rattle.kc_expr.specs.Operand.{operand_alone}
-use Rattle.kc_tree_model.specs.declared.ids.Unit.{Unit as ToldUnit}
-use Rattle.kc_tree_model.specs.declared.ids.Unit.TheVariants.{Symbol as SymbolUnit, Choice as ChoiceUnit}
+use Rattle.kc_expr.specs.between.Operand.{operand_alone}
 use Rattle.kc_tree_model.specs.Trees as tree
-use Rattle.kc_tree_model.specs.Trees.{Tree, TreeUnit, of_symbol, of_choice}
+use Rattle.kc_tree_model.specs.Trees.{Tree}
 use Rattle.kc_tree_model.specs.TreeLookup.{symbol_named}
 use Rattle.kc_tree.specs.declared.symbol.Default.{Default}
 use Rattle.kc_tree.specs.declared.symbol.Range.{Range}
@@ -64,10 +62,6 @@ entry_view exprs (ChoiceBegins c) = tree.choice_begins c
 entry_view exprs (MenuBegins title dependency visible) = tree.menu_begins title.now (node_expr exprs dependency) (node_expr exprs visible)
 entry_view exprs (MenuEnds title dependency visible) = tree.menu_ends title.now (node_expr exprs dependency) (node_expr exprs visible)
 entry_view exprs (Comment title dependency) = tree.comment title.now (node_expr exprs dependency)
-
-abbrev pub unit_view : ToldUnit → TreeUnit
-unit_view (SymbolUnit s) = of_symbol s
-unit_view (ChoiceUnit c) = of_choice c
 
 -- the symbol of a name by the name's number in the arena
 abbrev pub symbol_of_name_id : Tree → List (List ℕ) → ℕ → Option ℕ

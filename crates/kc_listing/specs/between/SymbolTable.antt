@@ -1,6 +1,6 @@
 -- The names of symbols, as they are kept.
 use Rattle.std.specs.Prelude.{◌≡◌, ℕ, zero, suc, ◌<◌, ◌≤◌, List, [], length, map, slice_index, slice_index_or, Option, Some, None, option_and_then, All}
-use Rattle.kc_expr.specs.Arena.{Exprs}
+use Rattle.kc_expr.specs.between.Arena.{Exprs}
 use Rattle.kc_expr.specs.Lookup.{index_of_name}
 
 -- one less than a number that is kept, unless that is 0

@@ -3,6 +3,7 @@ use Rattle.std.specs.Prelude.{ℕ, List, ◌++◌}
 use Rattle.kc_expr.specs.Expr.{Expr, alone, related, negated, both, either, shown}
 use Rattle.kc_expr.specs.NamesIn.{operand_names}
 
+-- the names in an expression, from right to left
 abbrev pub names_in_reverse : Expr → List (List ℕ)
 names_in_reverse (alone a) = operand_names a
 names_in_reverse (related op a b) = operand_names a ++ operand_names b

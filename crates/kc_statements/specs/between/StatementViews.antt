@@ -1,9 +1,9 @@
 -- The definitions' statements for which those of the code stand, under the expressions of an arena.
 use Rattle.std.specs.Prelude.{◌≡◌, ◌⊎◌, ℕ, ◌<◌, [], length, Option, Some, None, option_map, unwrap_or, slice_index_or, Result, Ok, Err}
 use Rattle.kc_value.specs.declared.tri.Tri.TheVariants.{N}
-use Rattle.kc_expr.specs.Arena.{Exprs, Represents, node_expr}
+use Rattle.kc_expr.specs.between.Arena.{Exprs, Represents, node_expr}
 use Rattle.kc_expr.specs.Expr.{Expr, Operand, alone, constant}
-use Rattle.kc_expr.specs.Operand.{operand_alone}
+use Rattle.kc_expr.specs.between.Operand.{operand_alone}
 use Rattle.kc_tree_model.specs.declared.fault.TreeKind.{TreeKind}
 use Rattle.kc_tree_model.specs.declared.fault.TreeKind.TheVariants.{OutOfMemory}
 use Rattle.kc_tree_model.specs.Statements.{Head, config, choice, menu, condition, comment, source, mainmenu, ends, DefaultAttribute, TargetAttribute, RangeAttribute, Attribute, typed, typed_prompt, typed_default, prompt, default, depends, select, imply, range, visible, help, modules, Statement, head, attribute}
@@ -16,7 +16,6 @@ use Rattle.kc_statements.specs.declared.statement.Attribute.{Attribute as CodeAt
 use Rattle.kc_statements.specs.declared.statement.Attribute.TheVariants as attributes
 use Rattle.kc_statements.specs.declared.statement.Statement.{Statement as CodeStatement}
 use Rattle.kc_statements.specs.declared.statement.Statement.TheVariants as statements
-use Rattle.kc_statements.specs.KeywordViews.{block_view}
 
 -- what is answered is what the definition gives; a fault is the definition's, or memory ran out
 abbrev pub ReturnsOrFails : {A B : Type 0} → (A → B) → Result A TreeKind → Result B TreeKind → Type 0
@@ -68,7 +67,7 @@ head_in e (heads.Condition id) = condition (node_expr e id)
 head_in e (heads.Comment title) = comment title
 head_in e (heads.Source path) = source path
 head_in e heads.Mainmenu = mainmenu
-head_in e (heads.Ends b) = ends (block_view b)
+head_in e (heads.Ends b) = ends b
 
 -- a line's statement
 abbrev pub statement_in : Exprs → CodeStatement → Statement

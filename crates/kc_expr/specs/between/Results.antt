@@ -1,5 +1,5 @@
 -- Results of calls, where a definition determines the value or the fault.
-use Rattle.std.specs.Prelude.{◌≡◌, ◌⊎◌, Result, Ok, Err, List, ◌++◌}
+use Rattle.std.specs.Prelude.{◌≡◌, ◌⊎◌, Result, Ok, Err}
 use Rattle.kc_expr.specs.declared.fault.ExprFault.{ExprFault}
 use Rattle.kc_expr.specs.declared.fault.ExprKind.TheVariants.{OutOfMemory}
 
@@ -7,8 +7,3 @@ use Rattle.kc_expr.specs.declared.fault.ExprKind.TheVariants.{OutOfMemory}
 abbrev pub Returns : {X Y : Type 0} → (X → Y) → Result X ExprFault → Result Y ExprFault → Type 0
 Returns view (Ok x) read = read ≡ Ok (view x)
 Returns view (Err e) read = (e.kind ≡ OutOfMemory) ⊎ (read ≡ Err e)
-
--- items before what is read
-abbrev pub with_front : {X E : Type 0} → List X → Result (List X) E → Result (List X) E
-with_front front (Ok xs) = Ok (front ++ xs)
-with_front front (Err e) = Err e

@@ -1,7 +1,7 @@
 -- The names found by walks over expressions.
 use Rattle.std.specs.Prelude.{◌≡◌, ℕ, Bool, true, false, List, [], length, map, slice_index_or}
 use Rattle.std.specs.List.{list_any}
-use Rattle.kc_expr.specs.Arena.{Exprs, node_expr}
+use Rattle.kc_expr.specs.between.Arena.{Exprs, node_expr}
 use Rattle.kc_expr.specs.Expr.{Expr}
 use Rattle.kc_expr.specs.NamesIn.{names_in}
 
@@ -17,8 +17,8 @@ passes_some_name exprs p ids = list_any p (map (λ i. slice_index_or exprs.names
 abbrev pub is_visited : List Bool → ℕ → Bool
 is_visited walked node = slice_index_or walked node false
 
--- the list says of each node whether it was walked, and a test that passes a name in the expression of a walked node
--- passes one of the names of these numbers: each such name is among them
+-- The list has a flag for each node: whether it was visited. Each name in the expression of a visited node is among the
+-- names of these numbers, which is stated by tests: one that passes the former passes one of the latter.
 pub record HasFound (exprs : Exprs) (walked : List Bool) (ids : List ℕ) : Type 0 where
   pub room : length walked ≡ length exprs.nodes
   pub found : (node : ℕ) (p : List ℕ → Bool) → is_visited walked node ≡ true → mentions p (node_expr exprs node) ≡ true → passes_some_name exprs p ids ≡ true

@@ -2,7 +2,7 @@
 use Rattle.std.specs.Prelude.{ℕ, List, [], ◌∷◌, ◌++◌, Option, Some, None, option_and_then, is_some, if◌then◌else◌}
 use Rattle.kc_expr.specs.Expr.{Operand, Expr, constant, named, quoted}
 use Rattle.kc_expr.specs.Lookup.{index_of_name}
-use Rattle.kc_expr.specs.Operand.{operand_alone}
+use Rattle.kc_expr.specs.between.Operand.{operand_alone}
 
 -- the names with one more at the end, unless it is there already
 abbrev pub with_name : List ℕ → List (List ℕ) → List (List ℕ)

@@ -1,8 +1,7 @@
 -- The statements that a listing represents.
 use Rattle.std.specs.Prelude.{◌≡◌, ℕ, ◌<◌, ◌≤◌, List, [], ◌∷◌, length, map, reverse, slice_get, slice_range, Some, All}
-use Rattle.kc_expr.specs.Arena.{Exprs, node_expr}
-use Rattle.kc_statements.specs.KeywordViews.{block_view}
-use Rattle.kc_statements.specs.StatementViews.{attribute_in, AttributeNodesExist}
+use Rattle.kc_expr.specs.between.Arena.{Exprs, node_expr}
+use Rattle.kc_statements.specs.between.StatementViews.{attribute_in, AttributeNodesExist}
 use Rattle.kc_tree_model.specs.Statements.{config, choice, menu, condition, comment, source, mainmenu, ends}
 use Rattle.kc_tree_model.specs.Blocks.{Group, Line, GroupHead, of_head, file_end}
 use Rattle.kc_tree_model.specs.Limits.{names_defined}
@@ -11,7 +10,7 @@ use Rattle.kc_listing.specs.declared.listing.Line.{Line as CodeLine}
 use Rattle.kc_listing.specs.declared.listing.Listing.{Listing}
 use Rattle.kc_listing.specs.declared.listing.GroupHead.{GroupHead as CodeWhat}
 use Rattle.kc_listing.specs.declared.listing.GroupHead.TheVariants as codes
-use Rattle.kc_listing.specs.SymbolTable.{HasNames}
+use Rattle.kc_listing.specs.between.SymbolTable.{HasNames}
 
 -- a group's statement, given the expressions, the names of the symbols and the texts
 abbrev pub RepresentsHead : Exprs → List (List ℕ) → List (List ℕ) → CodeWhat → GroupHead → Type 0
@@ -22,7 +21,7 @@ RepresentsHead exprs names texts (codes.Condition id) w = (id < length exprs.nod
 RepresentsHead exprs names texts (codes.Comment t) w = (title : List ℕ) × (slice_get texts t ≡ Some title) × (w ≡ of_head (comment title))
 RepresentsHead exprs names texts (codes.Source t) w = (path : List ℕ) × (slice_get texts t ≡ Some path) × (w ≡ of_head (source path))
 RepresentsHead exprs names texts codes.Mainmenu w = w ≡ of_head mainmenu
-RepresentsHead exprs names texts (codes.Ends b) w = w ≡ of_head (ends (block_view b))
+RepresentsHead exprs names texts (codes.Ends b) w = w ≡ of_head (ends b)
 RepresentsHead exprs names texts codes.FileEnd w = w ≡ file_end
 
 -- an attribute and its line
@@ -37,7 +36,7 @@ pub record RepresentsGroup (exprs : Exprs) (names texts : List (List ℕ)) (own 
   pub number_is : m.number ≡ before
   pub file_is : m.at.file ≡ g.file
   pub line_is : m.at.line ≡ g.line
-  pub what : RepresentsHead exprs names texts g.what m.what
+  pub head : RepresentsHead exprs names texts g.head m.head
   pub attributes : m.attributes ≡ map (line_in exprs) own
 
 -- groups, the newest first, whose attributes end at a place

@@ -1,0 +1,3 @@
+pub mod ListingView
+pub mod MemoryFaults
+pub mod SymbolTable
