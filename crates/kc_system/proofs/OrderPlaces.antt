@@ -30,8 +30,7 @@ listed_places : (size : ℕ) (dependencies : ℕ → List ℕ) (order : List ℕ
 listed_places size dependencies order ordered zero h = ([], refl, λ u k e. absurd (none-some k e))
 listed_places size dependencies order ordered (suc n) h =
     let before = listed_places size dependencies order ordered n (omega (arith, h)) in
-    let place = ordered.each n (omega (arith, h)) in
-    (
+    let place = ordered.each n (omega (arith, h)) in (
       before.0 ++ place.0 ∷ [],
       omega (arith, length-append before.0 (place.0 ∷ []), before.1),
       λ u k e. elim (push_cases before.0 place.0 u k e) [
@@ -45,5 +44,5 @@ pub order_length : (size : ℕ) (dependencies : ℕ → List ℕ) (order : List 
 order_length size dependencies order ordered =
     let all = listed_places size dependencies order ordered size (omega arith) in
     let enough : length all.0 ≤ length order = length-once (length order) all.0 (λ u k e. slice_get_within order k u (all.2 u k e))
-        (λ j k p first last. let same : Some j ≡ Some k = sym (all.2 j p first) ∙ all.2 k p last in let is : j ≡ k = cc in is) in
+    (λ j k p first last. let same : Some j ≡ Some k = sym (all.2 j p first) ∙ all.2 k p last in let is : j ≡ k = cc in is) in
     omega (arith, all.1, enough, short_order size dependencies order ordered)

@@ -27,17 +27,17 @@ pub(crate) fn first_remaining(dependencies: &[u32], from: usize, flags: &[bool])
 fn eliminate_if_ready<G: Graph>(
     graph: &G,
     u: u32,
-    taken: &mut Vec<u32>,
+    eliminated: &mut Vec<u32>,
     flags: &mut [bool],
     next: &mut [usize],
 ) -> Result<(), AllocError>
     requires unit { u < G.size graph.now }
-    requires taking { Eliminating (G.size graph.now) (G.dependencies graph.now) taken.old.items flags.old }
+    requires eliminating { Eliminating (G.size graph.now) (G.dependencies graph.now) eliminated.old.items flags.old }
     requires passed { Passed (G.size graph.now) (G.dependencies graph.now) flags.old next.old }
-    ensures taking { OnOk result (Eliminating (G.size graph.now) (G.dependencies graph.now) taken.new.items flags.new) }
+    ensures eliminating { OnOk result (Eliminating (G.size graph.now) (G.dependencies graph.now) eliminated.new.items flags.new) }
     ensures passed { OnOk result (Passed (G.size graph.now) (G.dependencies graph.now) flags.new next.new) }
-    ensures grows { OnOk result (Grows taken.old.items taken.new.items) }
-    ensures waits { OnOk result (IsEliminatedOrWaits (G.dependencies graph.now) flags.new taken.new.items u) }
+    ensures grows { OnOk result (Grows eliminated.old.items eliminated.new.items) }
+    ensures waits { OnOk result (IsEliminatedOrWaits (G.dependencies graph.now) flags.new eliminated.new.items u) }
 {
     if flags[u as usize] {
         return Ok(());
@@ -46,7 +46,7 @@ fn eliminate_if_ready<G: Graph>(
     let k = first_remaining(dependencies, next[u as usize], flags);
     next[u as usize] = k;
     if k == dependencies.len() {
-        taken.push(u)?;
+        eliminated.push(u)?;
         flags[u as usize] = true;
     }
     Ok(())
@@ -56,20 +56,20 @@ fn eliminate_if_ready<G: Graph>(
 fn eliminate_ready<G: Graph>(
     graph: &G,
     units: &[u32],
-    taken: &mut Vec<u32>,
+    eliminated: &mut Vec<u32>,
     flags: &mut [bool],
     next: &mut [usize],
 ) -> Result<(), AllocError>
     requires units { All (λ u. u < G.size graph.now) units.now }
-    requires taking { Eliminating (G.size graph.now) (G.dependencies graph.now) taken.old.items flags.old }
+    requires eliminating { Eliminating (G.size graph.now) (G.dependencies graph.now) eliminated.old.items flags.old }
     requires passed { Passed (G.size graph.now) (G.dependencies graph.now) flags.old next.old }
-    ensures taking { OnOk result (Eliminating (G.size graph.now) (G.dependencies graph.now) taken.new.items flags.new) }
+    ensures eliminating { OnOk result (Eliminating (G.size graph.now) (G.dependencies graph.now) eliminated.new.items flags.new) }
     ensures passed { OnOk result (Passed (G.size graph.now) (G.dependencies graph.now) flags.new next.new) }
-    ensures grows { OnOk result (Grows taken.old.items taken.new.items) }
-    ensures beyond { OnOk result ((u : ℕ) → Contains units.now u → WaitsBeyond (G.dependencies graph.now) taken.new.items (length taken.old.items) u) }
+    ensures grows { OnOk result (Grows eliminated.old.items eliminated.new.items) }
+    ensures beyond { OnOk result ((u : ℕ) → Contains units.now u → WaitsBeyond (G.dependencies graph.now) eliminated.new.items (length eliminated.old.items) u) }
 {
     for u in units {
-        eliminate_if_ready(graph, *u, taken, flags, next)?;
+        eliminate_if_ready(graph, *u, eliminated, flags, next)?;
     }
     Ok(())
 }
@@ -78,21 +78,21 @@ fn eliminate_ready<G: Graph>(
 fn eliminate_reachable<G: Graph>(
     graph: &G,
     dependents: &Rows,
-    taken: &mut Vec<u32>,
+    eliminated: &mut Vec<u32>,
     flags: &mut [bool],
     next: &mut [usize],
 ) -> Result<(), AllocError>
     requires dependents { ListsDependents (G.size graph.now) (G.dependencies graph.now) dependents.now.starts.items dependents.now.units.items }
-    requires taking { Eliminating (G.size graph.now) (G.dependencies graph.now) taken.old.items flags.old }
+    requires eliminating { Eliminating (G.size graph.now) (G.dependencies graph.now) eliminated.old.items flags.old }
     requires passed { Passed (G.size graph.now) (G.dependencies graph.now) flags.old next.old }
-    requires beyond { (u : ℕ) → u < G.size graph.now → WaitsBeyond (G.dependencies graph.now) taken.old.items 0 u }
-    ensures taking { OnOk result (Eliminating (G.size graph.now) (G.dependencies graph.now) taken.new.items flags.new) }
-    ensures beyond { OnOk result ((u : ℕ) → u < G.size graph.now → WaitsBeyond (G.dependencies graph.now) taken.new.items (length taken.new.items) u) }
+    requires beyond { (u : ℕ) → u < G.size graph.now → WaitsBeyond (G.dependencies graph.now) eliminated.old.items 0 u }
+    ensures eliminating { OnOk result (Eliminating (G.size graph.now) (G.dependencies graph.now) eliminated.new.items flags.new) }
+    ensures beyond { OnOk result ((u : ℕ) → u < G.size graph.now → WaitsBeyond (G.dependencies graph.now) eliminated.new.items (length eliminated.new.items) u) }
 {
     let mut i = 0;
-    while i < taken.len() {
-        let ready = dependents.of(taken[i]);
-        eliminate_ready(graph, ready, taken, flags, next)?;
+    while i < eliminated.len() {
+        let ready = dependents.of(eliminated[i]);
+        eliminate_ready(graph, ready, eliminated, flags, next)?;
         i += 1;
     }
     Ok(())
@@ -101,18 +101,18 @@ fn eliminate_reachable<G: Graph>(
 /// Visits each unit once.
 fn eliminate_each_once<G: Graph>(
     graph: &G,
-    taken: &mut Vec<u32>,
+    eliminated: &mut Vec<u32>,
     flags: &mut [bool],
     next: &mut [usize],
 ) -> Result<(), AllocError>
-    requires taking { Eliminating (G.size graph.now) (G.dependencies graph.now) taken.old.items flags.old }
+    requires eliminating { Eliminating (G.size graph.now) (G.dependencies graph.now) eliminated.old.items flags.old }
     requires passed { Passed (G.size graph.now) (G.dependencies graph.now) flags.old next.old }
-    ensures taking { OnOk result (Eliminating (G.size graph.now) (G.dependencies graph.now) taken.new.items flags.new) }
+    ensures eliminating { OnOk result (Eliminating (G.size graph.now) (G.dependencies graph.now) eliminated.new.items flags.new) }
     ensures passed { OnOk result (Passed (G.size graph.now) (G.dependencies graph.now) flags.new next.new) }
-    ensures beyond { OnOk result ((u : ℕ) → u < G.size graph.now → WaitsBeyond (G.dependencies graph.now) taken.new.items 0 u) }
+    ensures beyond { OnOk result ((u : ℕ) → u < G.size graph.now → WaitsBeyond (G.dependencies graph.now) eliminated.new.items 0 u) }
 {
     for u in 0..graph.len() {
-        eliminate_if_ready(graph, u, taken, flags, next)?;
+        eliminate_if_ready(graph, u, eliminated, flags, next)?;
     }
     Ok(())
 }
@@ -122,17 +122,17 @@ fn eliminate_each_once<G: Graph>(
 pub(crate) fn eliminate_all<G: Graph>(
     alloc: Global,
     graph: &G,
-    taken: &mut Vec<u32>,
+    eliminated: &mut Vec<u32>,
     flags: &mut [bool],
 ) -> Result<(), AllocError>
-    requires none { taken.old.items ≡ [] }
+    requires none { eliminated.old.items ≡ [] }
     requires flags { flags.old ≡ replicate (G.size graph.now) false }
-    ensures taking { OnOk result (Eliminating (G.size graph.now) (G.dependencies graph.now) taken.new.items flags.new) }
+    ensures eliminating { OnOk result (Eliminating (G.size graph.now) (G.dependencies graph.now) eliminated.new.items flags.new) }
     ensures left { OnOk result (FlagsLeft (G.size graph.now) (G.dependencies graph.now) flags.new) }
 {
     let mut next = vec![in alloc; 0; graph.len() as usize]?;
     let dependents = list_dependents(alloc, graph)?;
-    eliminate_each_once(graph, taken, flags, &mut next)?;
-    eliminate_reachable(graph, &dependents, taken, flags, &mut next)?;
+    eliminate_each_once(graph, eliminated, flags, &mut next)?;
+    eliminate_reachable(graph, &dependents, eliminated, flags, &mut next)?;
     Ok(())
 }

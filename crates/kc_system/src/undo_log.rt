@@ -7,7 +7,7 @@ use std::alloc::AllocError;
 fn replace_value<V>(values: &mut [V], u: usize, value: &mut V)
     requires { u < length values.old }
     ensures written { values.new ≡ slice_set values.old u value.old }
-    ensures taken { slice_get values.old u ≡ Some value.new }
+    ensures replaced { slice_get values.old u ≡ Some value.new }
 {
     std::mem::swap(&mut values[u], value);
 }

@@ -9,7 +9,7 @@ ghost use Rattle.kc_system.specs.Solutions.{Solves, FitsUsers, FitsValues, user_
 use crate::place_sets::PlaceSet;
 use crate::plans::Plan;
 use crate::reports::{Report, ascending_units};
-use crate::revising::revise;
+use crate::revision::revise;
 use crate::system::{Graph, System};
 use crate::undo_log::restore_logged;
 use crate::user_values::{mark_changed, write_users};
@@ -73,7 +73,7 @@ fn write_changes<S: System>(
     ensures users { OnOk result (users.new ≡ changed_users changes.now users.old) }
     ensures undo { Undoes log.new.items users.old users.new }
     ensures size { pending.new.size ≡ pending.old.size }
-    ensures tells { OnOk result (ListsChanged plan.now.places.items users.new users.old (is_pending pending.new)) }
+    ensures lists { OnOk result (ListsChanged plan.now.places.items users.new users.old (is_pending pending.new)) }
     ensures err { OnErr result (IsDone pending.new) }
 {
     write_users::<S>(plan.alloc, changes, users, log)?;

@@ -3,7 +3,7 @@ ghost use Rattle.kc_system.specs.Changes.{changed_users};
 ghost use Rattle.kc_system.specs.checker.Logs.{Undoes, undone};
 ghost use Rattle.kc_system.specs.checker.Pending.{FitsPlaces, IsDone, ListsChanged, is_pending};
 
-use crate::copying::{copy_optional_user, is_same_optional_user};
+use crate::copies::{copy_optional_user, is_same_optional_user};
 use crate::place_sets::PlaceSet;
 use crate::system::System;
 use crate::undo_log::write_logged;
@@ -60,7 +60,7 @@ pub(crate) fn mark_changed<S: System>(
     requires places { length places.now ≡ length users.now }
     requires once { (u w p : ℕ) → slice_get places.now u ≡ Some p → slice_get places.now w ≡ Some p → u ≡ w }
     ensures size { pending.new.size ≡ pending.old.size }
-    ensures tells { ListsChanged places.now users.now (undone log.now users.now) (is_pending pending.new) }
+    ensures lists { ListsChanged places.now users.now (undone log.now users.now) (is_pending pending.new) }
 {
     let mut i = log.len();
     while i > 0 {

@@ -3,15 +3,15 @@ use Rattle.std.specs.Prelude.{◌≡◌, ◌↔◌, ◌⊎◌, ℕ, ◌<◌, ◌
 use Rattle.kc_system.specs.Dependencies.{IsLeft}
 
 abbrev pub IsEliminated : List ℕ → ℕ → Type 0
-IsEliminated taken u = (k : ℕ) × (slice_get taken k ≡ Some u)
+IsEliminated eliminated u = (k : ℕ) × (slice_get eliminated k ≡ Some u)
 
 -- Each unit of the list stands in it once, after its dependencies, and the flags tell which those are.
-pub record Eliminating (size : ℕ) (dependencies : ℕ → List ℕ) (taken : List ℕ) (flags : List Bool) : Type 0 where
-  pub units : (k u : ℕ) → slice_get taken k ≡ Some u → u < size
-  pub once : (j k u : ℕ) → slice_get taken j ≡ Some u → slice_get taken k ≡ Some u → j ≡ k
-  pub after : (k u d : ℕ) → slice_get taken k ≡ Some u → Contains (dependencies u) d → (j : ℕ) × (j < k) × (slice_get taken j ≡ Some d)
+pub record Eliminating (size : ℕ) (dependencies : ℕ → List ℕ) (eliminated : List ℕ) (flags : List Bool) : Type 0 where
+  pub units : (k u : ℕ) → slice_get eliminated k ≡ Some u → u < size
+  pub once : (j k u : ℕ) → slice_get eliminated j ≡ Some u → slice_get eliminated k ≡ Some u → j ≡ k
+  pub after : (k u d : ℕ) → slice_get eliminated k ≡ Some u → Contains (dependencies u) d → (j : ℕ) × (j < k) × (slice_get eliminated j ≡ Some d)
   pub one_each : length flags ≡ size
-  pub flagged : (u : ℕ) → u < size → (get_or flags u false ≡ true) ↔ IsEliminated taken u
+  pub flagged : (u : ℕ) → u < size → (get_or flags u false ≡ true) ↔ IsEliminated eliminated u
 
 -- The dependencies before each unit's place in its list are taken.
 pub record Passed (size : ℕ) (dependencies : ℕ → List ℕ) (flags : List Bool) (next : List ℕ) : Type 0 where
@@ -20,16 +20,16 @@ pub record Passed (size : ℕ) (dependencies : ℕ → List ℕ) (flags : List B
   pub passed : (u k d : ℕ) → u < size → k < get_or next u 0 → slice_get (dependencies u) k ≡ Some d → get_or flags d false ≡ true
 
 -- The unit is taken, or it has a dependency that isn't.
-abbrev pub IsEliminatedOrWaits : (dependencies : ℕ → List ℕ) (flags : List Bool) (taken : List ℕ) → ℕ → Type 0
-IsEliminatedOrWaits dependencies flags taken u = IsEliminated taken u ⊎ ((d : ℕ) × Contains (dependencies u) d × (get_or flags d false ≡ false))
+abbrev pub IsEliminatedOrWaits : (dependencies : ℕ → List ℕ) (flags : List Bool) (eliminated : List ℕ) → ℕ → Type 0
+IsEliminatedOrWaits dependencies flags eliminated u = IsEliminated eliminated u ⊎ ((d : ℕ) × Contains (dependencies u) d × (get_or flags d false ≡ false))
 
 -- What was taken stays.
 abbrev pub Grows : (old new : List ℕ) → Type 0
 Grows old new = (k u : ℕ) → slice_get old k ≡ Some u → slice_get new k ≡ Some u
 
 -- The unit is taken, or it has a dependency that isn't among the first i taken.
-abbrev pub WaitsBeyond : (dependencies : ℕ → List ℕ) (taken : List ℕ) → ℕ → ℕ → Type 0
-WaitsBeyond dependencies taken i u = IsEliminated taken u ⊎ ((d : ℕ) × Contains (dependencies u) d × ((k : ℕ) → k < i → slice_get taken k ≡ Some d → ⊥))
+abbrev pub WaitsBeyond : (dependencies : ℕ → List ℕ) (eliminated : List ℕ) → ℕ → ℕ → Type 0
+WaitsBeyond dependencies eliminated i u = IsEliminated eliminated u ⊎ ((d : ℕ) × Contains (dependencies u) d × ((k : ℕ) → k < i → slice_get eliminated k ≡ Some d → ⊥))
 
 -- A flag is unset exactly for the units that are left.
 abbrev pub FlagsLeft : (size : ℕ) (dependencies : ℕ → List ℕ) (flags : List Bool) → Type 0
