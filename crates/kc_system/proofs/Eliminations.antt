@@ -1,4 +1,4 @@
--- One more unit taken, or one more that waits.
+-- One more unit that is eliminated, or one more that waits.
 use Rattle.std.proofs.Common.{◌≡◌, ◌⊎◌, inl, inr, ℕ, zero, suc, ◌+◌, ◌<◌, ◌≤◌, Bool, true, false, List, [], ◌∷◌, ◌++◌, length, set, get_or, length-set, refl, sym, ◌∙◌, ap, subst, arith, Some, slice_get, not, eqb, replicate}
 use Rattle.std.proofs.lemmas.Bool.{cases_eq, cases_lt, cases_Bool, false≢true, not-true, eqb-true}
 use Rattle.std.proofs.lemmas.Option.{slice_get_within, none-some}
@@ -22,7 +22,7 @@ push_cases [] u (suc k) w e = absurd (none-some w e)
 push_cases (x ∷ xs) u zero w e = inl e
 push_cases (x ∷ xs) u (suc k) w e = elim (push_cases xs u k w e) [ inl earlier ↦ inl earlier | inr last ↦ inr (ap suc last.0, last.1) ]
 
--- a unit whose dependencies are all taken is taken
+-- a unit whose dependencies are all eliminated is eliminated
 pub eliminates_more : (size : ℕ) (dependencies : ℕ → List ℕ) (eliminated new : List ℕ) (flags : List Bool) (u : ℕ) → u < size → new ≡ eliminated ++ u ∷ [] → get_or flags u false ≡ false
     → ((d : ℕ) → Contains (dependencies u) d → (d < size) × (get_or flags d false ≡ true)) → Eliminating size dependencies eliminated flags → Eliminating size dependencies new (set flags u true)
 eliminates_more size dependencies eliminated new flags u inside new_is fresh ready t =
@@ -59,11 +59,11 @@ eliminated_grows eliminated new u new_is = (
   (length eliminated, ap (λ xs. slice_get xs (length eliminated)) new_is ∙ push_at eliminated u),
 )
 
--- where every unit is taken, the list is an order
+-- where every unit is eliminated, the list is an order
 pub all_eliminated : (size : ℕ) (dependencies : ℕ → List ℕ) (eliminated : List ℕ) (flags : List Bool) → Eliminating size dependencies eliminated flags → ((u : ℕ) → u < size → get_or flags u false ≡ true) → IsOrder size dependencies eliminated
 all_eliminated size dependencies eliminated flags t all = record { units = t.units; each = λ u h. (t.flagged u h).0 (all u h); once = t.once; after = t.after }
 
--- who waits beyond the first i goes on so
+-- a unit that waits beyond the first i still does
 pub still_beyond : (dependencies : ℕ → List ℕ) (old new : List ℕ) (i u : ℕ) → i ≤ length old → Grows old new → WaitsBeyond dependencies old i u → WaitsBeyond dependencies new i u
 still_beyond dependencies old new i u h grows w = elim w [
   | inl eliminated ↦ inl (eliminated.0, grows eliminated.0 u eliminated.1)
@@ -121,7 +121,7 @@ pub length-once : (n : ℕ) (xs : List ℕ) → ((k u : ℕ) → slice_get xs k 
 length-once n xs below once = length-le_from_distinct_below xs n (distinct_from_once xs once)
     (λ q has. let at = Contains-from_any {eq = eqb} eqb-true q xs has in below at.0 q (get_from_Contains xs q at))
 
--- with nothing taken, the flags are unset
+-- with nothing eliminated, the flags are unset
 pub nothing_eliminated : (size : ℕ) (dependencies : ℕ → List ℕ) (eliminated : List ℕ) (flags : List Bool) → eliminated ≡ [] → flags ≡ replicate size false → Eliminating size dependencies eliminated flags
 nothing_eliminated size dependencies eliminated flags none unset =
     let empty : (k u : ℕ) → slice_get eliminated k ≡ Some u → ⊥ = λ k u e. none-some u (sym (ap (λ xs. slice_get xs k) none) ∙ e) in
@@ -146,7 +146,7 @@ nothing_passed size dependencies flags next is =
       passed = λ u k d h below e. absurd (omega (arith, at u h, below));
     }
 
--- where each unit is taken or has a dependency that isn't, just the units that are left have unset flags
+-- where each unit is eliminated or has a dependency that isn't, just the units that are left have unset flags
 pub flags_left : (size : ℕ) (dependencies : ℕ → List ℕ) (eliminated : List ℕ) (flags : List Bool) → IsGraph size dependencies → Eliminating size dependencies eliminated flags
     → ((u : ℕ) → u < size → IsEliminated eliminated u ⊎ ((d : ℕ) × Contains (dependencies u) d × (get_or flags d false ≡ false))) → FlagsLeft size dependencies flags
 flags_left size dependencies eliminated flags graph t each u h = (
@@ -174,7 +174,7 @@ flags_left size dependencies eliminated flags graph t each u h = (
         | inr waits ↦ (waits.0, waits.1, not_set waits.0 (graph.units w waits.0 lt waits.1) waits.2)
       ]
 
--- once each unit is taken or waits for one that isn't, just the units that are left have unset flags
+-- once each unit is eliminated or waits for one that isn't, just the units that are left have unset flags
 pub flags_left_at_end : (size : ℕ) (dependencies : ℕ → List ℕ) (eliminated : List ℕ) (flags : List Bool) → IsGraph size dependencies → Eliminating size dependencies eliminated flags
     → ((u : ℕ) → u < size → WaitsBeyond dependencies eliminated (length eliminated) u) → FlagsLeft size dependencies flags
 flags_left_at_end size dependencies eliminated flags graph t beyond = flags_left size dependencies eliminated flags graph t (λ u h. elim (beyond u h) [

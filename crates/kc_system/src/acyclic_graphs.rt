@@ -1,3 +1,4 @@
+//! Graphs without a cycle.
 ghost use Rattle.kc_system.specs.Dependencies.{AcyclicGraphsHaveOrders};
 
 /// The law that every graph without a cycle has an order. It does nothing: its contract is the law.

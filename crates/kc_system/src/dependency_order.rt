@@ -1,3 +1,4 @@
+//! An order of dependency, or the named cycle.
 ghost use Rattle.std.specs.Prelude.{◌≡◌, ℕ, ◌<◌, ◌^◌, List, true, false, length, slice_index_or, IfOk, IfErr, IfSome, IfNone};
 ghost use Rattle.kc_system.specs.Dependencies.{IsOrder, HasNoCycle};
 ghost use Rattle.kc_system.specs.Faults.{ReportsCycle};
@@ -22,7 +23,7 @@ fn first_unset(flags: &[bool]) -> Option<usize>
     None
 }
 
-/// An order if all units are taken, and else the named cycle of those that are left.
+/// An order if all units are eliminated, and else the named cycle of those that are left.
 fn order_or_cycle<G: Graph>(
     alloc: Global,
     graph: &G,
@@ -45,10 +46,10 @@ fn order_or_cycle<G: Graph>(
     }
 }
 
-/// Each unit once, after its dependencies. Refused with the named cycle exactly if units depend on each other
-/// in a cycle, and for lack of memory. Units whose dependencies are all taken away are taken away as long as
-/// there are any; the named cycle begins at the least unit left, follows the least dependency left, and is the
-/// part from the first unit met twice. Takes time linear in units and dependencies.
+/// Each unit once, after its dependencies. Refused with the named cycle exactly if units depend on each other in a
+/// cycle, and where memory runs out. Left are the units of the largest set in which each has a dependency in the
+/// set; the named cycle is the part from the first unit met twice of the walk that begins at the least unit left and
+/// follows the least dependency left. Takes time linear in units and dependencies.
 pub fn order<G: Graph>(alloc: Global, graph: &G) -> Result<Order, OrderFault>
     ensures order { IfOk result (λ order. IsOrder (G.size graph.now) (G.dependencies graph.now) order) }
     ensures acyclic { IfOk result (λ order. HasNoCycle (G.size graph.now) (G.dependencies graph.now)) }

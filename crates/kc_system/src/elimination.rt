@@ -1,3 +1,4 @@
+//! Elimination of units whose dependencies are all eliminated.
 ghost use Rattle.std.specs.Prelude.{◌≡◌, ℕ, ◌<◌, ◌≤◌, Bool, true, false, List, [], length, replicate, All, IfOk, OnOk, Contains, slice_get, slice_index_or, Some};
 ghost use Rattle.kc_system.specs.checker.Rows.{ListsDependents};
 ghost use Rattle.kc_system.specs.checker.Elimination.{IsEliminatedOrWaits, Eliminating, Passed, Grows, WaitsBeyond, FlagsLeft};
@@ -6,7 +7,7 @@ use crate::rows::{Rows, list_dependents};
 use crate::system::Graph;
 use std::alloc::{AllocError, Global};
 
-/// The first place, from one on, at which a dependency isn't taken.
+/// The first place, from a given one on, at which a dependency's flag is unset; the length where there is none.
 pub(crate) fn first_remaining(dependencies: &[u32], from: usize, flags: &[bool]) -> usize
     requires from { from ≤ length dependencies.now }
     requires units { All (λ d. d < length flags.now) dependencies.now }
@@ -23,7 +24,7 @@ pub(crate) fn first_remaining(dependencies: &[u32], from: usize, flags: &[bool])
     dependencies.len()
 }
 
-/// Takes a unit if its dependencies are all taken.
+/// Eliminates a unit if its dependencies are all eliminated.
 fn eliminate_if_ready<G: Graph>(
     graph: &G,
     u: u32,
@@ -52,7 +53,7 @@ fn eliminate_if_ready<G: Graph>(
     Ok(())
 }
 
-/// Visits some units, one after another.
+/// Eliminates those of some units whose dependencies are all eliminated.
 fn eliminate_ready<G: Graph>(
     graph: &G,
     units: &[u32],
@@ -74,7 +75,7 @@ fn eliminate_ready<G: Graph>(
     Ok(())
 }
 
-/// Takes units as long as there are any whose dependencies are all taken.
+/// Eliminates units as long as there are any whose dependencies are all eliminated.
 fn eliminate_reachable<G: Graph>(
     graph: &G,
     dependents: &Rows,
@@ -98,7 +99,7 @@ fn eliminate_reachable<G: Graph>(
     Ok(())
 }
 
-/// Visits each unit once.
+/// Tries each unit once.
 fn eliminate_each_once<G: Graph>(
     graph: &G,
     eliminated: &mut Vec<u32>,
@@ -117,8 +118,8 @@ fn eliminate_each_once<G: Graph>(
     Ok(())
 }
 
-/// Takes away, as long as there are any, units whose dependencies are all taken away. The flags of the others
-/// stay unset.
+/// Eliminates units as long as there are any whose dependencies are all eliminated. The flags of the others stay
+/// unset.
 pub(crate) fn eliminate_all<G: Graph>(
     alloc: Global,
     graph: &G,

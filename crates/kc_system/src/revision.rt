@@ -1,3 +1,4 @@
+//! The revision of a valuation, unit by unit.
 ghost use Rattle.std.specs.Prelude.{◌≡◌, ◌↔◌, ℕ, ◌+◌, ◌-◌, ◌^◌, ◌<◌, true, false, List, [], Some, length, min, slice_get, IfOk, OnOk};
 ghost use Rattle.kc_system.specs.Changes.{IsCountOf};
 ghost use Rattle.kc_system.specs.Dependencies.{IsOrder};
@@ -23,7 +24,7 @@ fn differs<S: System>(value: &S::Value, before: &S::Value) -> bool
     !S::same(value, before)
 }
 
-/// Evaluates a unit. If its value differs, writes it, logs the one before, and marks what depends on it.
+/// Evaluates a unit. If its value differs, writes it, logs the one before, and makes its dependents pending.
 fn revise_unit<S: System>(
     plan: &Plan<'_, S>,
     u: u32,
@@ -52,8 +53,8 @@ fn revise_unit<S: System>(
     Ok(())
 }
 
-/// Evaluates the units at pending places and those that this touches, each once and after its dependencies,
-/// and tells how many. What was there before is logged, so that it can be put back.
+/// Evaluates the units at pending places and those that this touches, each once and after its dependencies, and
+/// returns how many. The values before are logged, so that they can be restored.
 pub(crate) fn revise<S: System>(
     plan: &Plan<'_, S>,
     users: &[Option<S::User>],

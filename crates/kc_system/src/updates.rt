@@ -1,3 +1,4 @@
+//! Changes of an assignment, with its values brought up to date.
 ghost use Rattle.std.specs.Prelude.{◌≡◌, ℕ, ◌+◌, ◌-◌, ◌^◌, ◌<◌, true, false, [], Some, length, min, slice_get, IfOk, OnOk, OnErr};
 ghost use Rattle.kc_system.specs.Changes.{changed_users, FitsChanges, IsTouched, IsChanged, IsCountOf, IsListOf};
 ghost use Rattle.kc_system.specs.Dependencies.{IsOrder};
@@ -56,7 +57,7 @@ fn revalue<S: System>(
     Ok(Report { changed, evaluated })
 }
 
-/// Writes some changes, and marks the places of the units whose user values they make differ.
+/// Writes some changes, and makes the places of the units pending whose user values differ in the end.
 fn write_changes<S: System>(
     plan: &Plan<'_, S>,
     changes: &[(u32, Option<S::User>)],

@@ -1,3 +1,4 @@
+//! Changes of user values, and the places that they make pending.
 ghost use Rattle.std.specs.Prelude.{◌≡◌, ◌≢◌, ◌↔◌, ℕ, ◌<◌, true, List, [], Some, length, slice_get, OnOk};
 ghost use Rattle.kc_system.specs.Changes.{changed_users};
 ghost use Rattle.kc_system.specs.checker.Logs.{Undoes, undone};
@@ -28,7 +29,7 @@ pub(crate) fn write_users<S: System>(
     Ok(())
 }
 
-/// Adds a unit's place if its user value differs from the one before, and takes it away if not.
+/// Adds a unit's place if its user value differs from the one before, and removes it if not.
 fn mark_if_changed<S: System>(
     pending: &mut PlaceSet,
     place: u32,
@@ -47,7 +48,7 @@ fn mark_if_changed<S: System>(
     }
 }
 
-/// Adds the places of the units whose user values differ from those that the log would put back.
+/// Adds the places of the units whose user values differ from those before the logged changes.
 pub(crate) fn mark_changed<S: System>(
     pending: &mut PlaceSet,
     log: &[(u32, Option<S::User>)],

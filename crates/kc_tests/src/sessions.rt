@@ -71,7 +71,7 @@ fn a_copy_changes_apart_from_its_session(rt: HostRuntime) -> Result<(), Fail> {
     Ok(())
 }
 
-/// What some changes report of a new session, and what they report when they are made again.
+/// The report of some changes of a new session, and the report when they are made again.
 fn reports_of(
     rt: &impl Abort,
     alloc: Global,

@@ -13,7 +13,9 @@ use std::test::Fail;
 
 /// The system of sums with these rows: the units that each unit depends on.
 pub(crate) fn sums_of(alloc: Global, rows: &[&[u32]]) -> Result<Sums, Fail> {
-    Ok(Sums::of(twice!(copied_rows(alloc, rows))).ok_or("dependencies don't ascend, or aren't units")?)
+    Ok(Sums::of(twice!(copied_rows(alloc, rows))).ok_or(
+        "dependencies don't ascend, or aren't units",
+    )?)
 }
 
 /// These rows, each in a list of its own.

@@ -8,7 +8,7 @@ use Rattle.kc_system.specs.Dependencies.{IsGraph}
 use Rattle.kc_system.proofs.Eliminations.{eliminates_more, eliminated_grows}
 use Rattle.kc_system.proofs.elimination.eliminate_if_ready.Goals as goal
 
--- each dependency in the list that was told is a unit
+-- each dependency in the returned list is a unit
 unit_at_or : (size : ℕ) (dependencies : ℕ → List ℕ) (u : ℕ) (listed : List ℕ) → IsGraph size dependencies → u < size → listed ≡ dependencies u → (k d : ℕ) → k < length listed → Contains (dependencies u) (get_or listed k d) × (get_or listed k d < size)
 unit_at_or size dependencies u listed graph inside is k d h =
     let has : Contains (dependencies u) (get_or listed k d) = rw (← is) (Contains-get_or listed k d h) in
