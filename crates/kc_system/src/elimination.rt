@@ -12,7 +12,7 @@ pub(crate) fn first_remaining(dependencies: &[u32], from: usize, flags: &[bool])
     requires from { from ≤ length dependencies.now }
     requires units { All (λ d. d < length flags.now) dependencies.now }
     ensures within { result ≤ length dependencies.now }
-    ensures on { from ≤ result }
+    ensures not_before { from ≤ result }
     ensures passed { (k d : ℕ) → from ≤ k → k < result → slice_get dependencies.now k ≡ Some d → slice_index_or flags.now d false ≡ true }
     ensures found { (d : ℕ) → slice_get dependencies.now result ≡ Some d → slice_index_or flags.now d false ≡ false }
 {
