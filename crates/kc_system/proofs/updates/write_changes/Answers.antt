@@ -26,9 +26,6 @@ returns-clause-users g c = c.in_ok-write_users.ensures.users
 pub returns-clause-undo : goal.returns-clause-undo
 returns-clause-undo g c = c.write_users.ensures.undo
 
-pub returns-clause-size : goal.returns-clause-size
-returns-clause-size g c = c.mark_changed.ensures.size
-
 pub write_users-requires-clause-nothing : goal.write_users-requires-clause-nothing
 write_users-requires-clause-nothing g c = c.requires.nothing
 
