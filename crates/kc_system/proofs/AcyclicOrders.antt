@@ -1,4 +1,4 @@
--- Where there is no cycle there is an order: units are taken one after another, and where none can be taken a walk closes.
+-- Where there is no cycle there is an order: units are eliminated one after another, and where none can be, a walk closes.
 use Rattle.std.proofs.Common.{◌≡◌, ◌⊎◌, inl, inr, ℕ, zero, suc, ◌+◌, ◌<◌, ◌≤◌, Bool, true, false, List, [], ◌∷◌, ◌++◌, length, set, get_or, length-append, refl, sym, ◌∙◌, subst, arith, Some, slice_get, replicate, drop}
 use Rattle.std.proofs.lemmas.Bool.{cases_eq, cases_lt, cases_Bool, false≢true}
 use Rattle.std.proofs.lemmas.Option.{none-some, slice_get-get_or}
@@ -8,7 +8,7 @@ use Rattle.kc_system.specs.Dependencies.{IsGraph, IsOrder, HasNoCycle, IsLeft, I
 use Rattle.kc_system.specs.checker.Elimination.{Eliminating, FlagsLeft}
 use Rattle.kc_system.proofs.Lists.{get_from_Contains, Contains_from_get}
 use Rattle.kc_system.proofs.Cycles.{named_is_cycle}
-use Rattle.kc_system.proofs.Eliminations.{takes_more, all_taken, length-once, nothing_taken, left_told}
+use Rattle.kc_system.proofs.Eliminations.{eliminates_more, all_eliminated, length-once, nothing_eliminated, flags_left}
 use Rattle.kc_system.proofs.Walks.{Walking, least_left, walked, closed, short}
 
 -- the first unit of a list whose flag is unset
@@ -29,13 +29,13 @@ first_unset flags (u ∷ units) = elim (cases_Bool (get_or flags u false)) [
   passed k rest is_set (suc j) d lt e = rest.passed j d (omega (arith, lt)) e
 
 module _ (size : ℕ) (dependencies : ℕ → List ℕ) (graph : IsGraph size dependencies) where
-  -- a unit that can be taken next
+  -- a unit that can be eliminated next
   record IsReady (flags : List Bool) (u : ℕ) : Type 0 where
     inside : u < size
     fresh : get_or flags u false ≡ false
     ready : (d : ℕ) → Contains (dependencies u) d → (d < size) × (get_or flags d false ≡ true)
 
-  -- the unit is taken, or it has a dependency that isn't
+  -- the unit is eliminated, or it has a dependency that isn't
   abbrev Waits : List Bool → ℕ → Type 0
   Waits flags u = (get_or flags u false ≡ true) ⊎ ((d : ℕ) × Contains (dependencies u) d × (get_or flags d false ≡ false))
 
@@ -60,7 +60,7 @@ module _ (size : ℕ) (dependencies : ℕ → List ℕ) (graph : IsGraph size de
         ]
   ]
 
-  -- some unit can be taken next, or each of the first n waits
+  -- some unit can be eliminated next, or each of the first n waits
   next_ready : (flags : List Bool) (n : ℕ) → n ≤ size → ((u : ℕ) × IsReady flags u) ⊎ ((u : ℕ) → u < n → Waits flags u)
   next_ready flags zero h = inr (λ u lt. absurd (omega (arith, lt)))
   next_ready flags (suc n) h = elim (next_ready flags n (omega (arith, h))) [
@@ -122,18 +122,18 @@ module _ (size : ℕ) (dependencies : ℕ → List ℕ) (graph : IsGraph size de
         ];
       }) (suc size) [] (replicate size size) u (at_first u here) (omega arith)
 
-  -- with n units and more still to be taken, at most, an order is found
-  take_more : (n : ℕ) (taken : List ℕ) (flags : List Bool) → Eliminating size dependencies taken flags → size < length taken + n → HasNoCycle size dependencies → (order : List ℕ) × IsOrder size dependencies order
-  take_more zero taken flags t h acyclic = absurd (omega (arith, h, length-once size taken t.units t.once))
-  take_more (suc n) taken flags t h acyclic = elim (next_ready flags size (omega arith)) [
+  -- with n units still to be eliminated at most, an order is found
+  take_more : (n : ℕ) (eliminated : List ℕ) (flags : List Bool) → Eliminating size dependencies eliminated flags → size < length eliminated + n → HasNoCycle size dependencies → (order : List ℕ) × IsOrder size dependencies order
+  take_more zero eliminated flags t h acyclic = absurd (omega (arith, h, length-once size eliminated t.units t.once))
+  take_more (suc n) eliminated flags t h acyclic = elim (next_ready flags size (omega arith)) [
     | inl some ↦
         let u = some.0 in
-        take_more n (taken ++ u ∷ []) (set flags u true) (takes_more size dependencies taken (taken ++ u ∷ []) flags u some.1.inside refl some.1.fresh some.1.ready t)
-        (omega (arith, h, length-append taken (u ∷ []))) acyclic
+        take_more n (eliminated ++ u ∷ []) (set flags u true) (eliminates_more size dependencies eliminated (eliminated ++ u ∷ []) flags u some.1.inside refl some.1.fresh some.1.ready t)
+        (omega (arith, h, length-append eliminated (u ∷ []))) acyclic
     | inr each ↦ elim (least_unset flags size) [
-      | inl all ↦ (taken, all_taken size dependencies taken flags t all)
+      | inl all ↦ (eliminated, all_eliminated size dependencies eliminated flags t all)
       | inr some ↦
-          let left = left_told size dependencies taken flags graph t (λ w lt. elim (each w lt) [ inl is_set ↦ inl ((t.flagged w lt).0 is_set) | inr waits ↦ inr waits ]) in
+          let left = flags_left size dependencies eliminated flags graph t (λ w lt. elim (each w lt) [ inl is_set ↦ inl ((t.flagged w lt).0 is_set) | inr waits ↦ inr waits ]) in
           let cycle = left_closes flags left some.0 some.1 some.2 some.3 in
           absurd (acyclic cycle.0 (named_is_cycle size dependencies cycle.0 cycle.1))
     ]
@@ -141,4 +141,4 @@ module _ (size : ℕ) (dependencies : ℕ → List ℕ) (graph : IsGraph size de
 
   -- a graph without a cycle has an order
   pub order_of_acyclic : HasNoCycle size dependencies → (order : List ℕ) × IsOrder size dependencies order
-  order_of_acyclic = take_more (suc size) [] (replicate size false) (nothing_taken size dependencies [] (replicate size false) refl refl) (omega arith)
+  order_of_acyclic = take_more (suc size) [] (replicate size false) (nothing_eliminated size dependencies [] (replicate size false) refl refl) (omega arith)

@@ -1,4 +1,4 @@
--- One more unit taken, or one more that waits.
+-- One more unit that is eliminated, or one more that waits.
 use Rattle.std.proofs.Common.{◌≡◌, ◌⊎◌, inl, inr, ℕ, zero, suc, ◌+◌, ◌<◌, ◌≤◌, Bool, true, false, List, [], ◌∷◌, ◌++◌, length, set, get_or, length-set, refl, sym, ◌∙◌, ap, subst, arith, Some, slice_get, not, eqb, replicate}
 use Rattle.std.proofs.lemmas.Bool.{cases_eq, cases_lt, cases_Bool, false≢true, not-true, eqb-true}
 use Rattle.std.proofs.lemmas.Option.{slice_get_within, none-some}
@@ -10,7 +10,7 @@ use Rattle.kc_system.specs.checker.Rows.{AreDependents}
 use Rattle.kc_system.specs.Dependencies.{IsGraph, IsOrder}
 use Rattle.kc_system.specs.checker.Elimination.{IsEliminated, Eliminating, Passed, IsEliminatedOrWaits, Grows, WaitsBeyond, FlagsLeft}
 use Rattle.kc_system.proofs.Lists.{get-some, get_from_Contains, distinct_from_once}
-use Rattle.kc_system.proofs.Cycles.{get-append_left, taken_not_left}
+use Rattle.kc_system.proofs.Cycles.{get-append_left, eliminated_not_left}
 
 pub push_at : (xs : List ℕ) (u : ℕ) → slice_get (xs ++ u ∷ []) (length xs) ≡ Some u
 push_at [] u = refl
@@ -22,14 +22,14 @@ push_cases [] u (suc k) w e = absurd (none-some w e)
 push_cases (x ∷ xs) u zero w e = inl e
 push_cases (x ∷ xs) u (suc k) w e = elim (push_cases xs u k w e) [ inl earlier ↦ inl earlier | inr last ↦ inr (ap suc last.0, last.1) ]
 
--- a unit whose dependencies are all taken is taken
-pub takes_more : (size : ℕ) (dependencies : ℕ → List ℕ) (taken new : List ℕ) (flags : List Bool) (u : ℕ) → u < size → new ≡ taken ++ u ∷ [] → get_or flags u false ≡ false
-    → ((d : ℕ) → Contains (dependencies u) d → (d < size) × (get_or flags d false ≡ true)) → Eliminating size dependencies taken flags → Eliminating size dependencies new (set flags u true)
-takes_more size dependencies taken new flags u inside new_is fresh ready t =
-    let at : (k w : ℕ) → slice_get new k ≡ Some w → (slice_get taken k ≡ Some w) ⊎ ((k ≡ length taken) × (w ≡ u)) = λ k w e. push_cases taken u k w (ap (λ xs. slice_get xs k) (sym new_is) ∙ e) in
-    let keep : (k w : ℕ) → slice_get taken k ≡ Some w → slice_get new k ≡ Some w = λ k w e. ap (λ xs. slice_get xs k) new_is ∙ get-append_left taken (u ∷ []) k w e in
-    let last : slice_get new (length taken) ≡ Some u = ap (λ xs. slice_get xs (length taken)) new_is ∙ push_at taken u in
-    let not_yet : (k : ℕ) → slice_get taken k ≡ Some u → ⊥ = λ k e. false≢true (sym fresh ∙ (t.flagged u inside).1 (k, e)) in
+-- a unit whose dependencies are all eliminated is eliminated
+pub eliminates_more : (size : ℕ) (dependencies : ℕ → List ℕ) (eliminated new : List ℕ) (flags : List Bool) (u : ℕ) → u < size → new ≡ eliminated ++ u ∷ [] → get_or flags u false ≡ false
+    → ((d : ℕ) → Contains (dependencies u) d → (d < size) × (get_or flags d false ≡ true)) → Eliminating size dependencies eliminated flags → Eliminating size dependencies new (set flags u true)
+eliminates_more size dependencies eliminated new flags u inside new_is fresh ready t =
+    let at : (k w : ℕ) → slice_get new k ≡ Some w → (slice_get eliminated k ≡ Some w) ⊎ ((k ≡ length eliminated) × (w ≡ u)) = λ k w e. push_cases eliminated u k w (ap (λ xs. slice_get xs k) (sym new_is) ∙ e) in
+    let keep : (k w : ℕ) → slice_get eliminated k ≡ Some w → slice_get new k ≡ Some w = λ k w e. ap (λ xs. slice_get xs k) new_is ∙ get-append_left eliminated (u ∷ []) k w e in
+    let last : slice_get new (length eliminated) ≡ Some u = ap (λ xs. slice_get xs (length eliminated)) new_is ∙ push_at eliminated u in
+    let not_yet : (k : ℕ) → slice_get eliminated k ≡ Some u → ⊥ = λ k e. false≢true (sym fresh ∙ (t.flagged u inside).1 (k, e)) in
     record {
       units = λ k w e. elim (at k w e) [ inl earlier ↦ t.units k w earlier | inr here ↦ omega (arith, here.1) ];
       once = λ j k w a b. elim (at j w a) [
@@ -41,11 +41,11 @@ takes_more size dependencies taken new flags u inside new_is fresh ready t =
         | inr here ↦
             let ready_d = ready d (subst (λ x. Contains (dependencies x) d) here.1 has) in
             let place = (t.flagged d ready_d.0).0 ready_d.1 in
-            (place.0, omega (arith, here.0, slice_get_within taken place.0 d place.1), keep place.0 d place.1)
+            (place.0, omega (arith, here.0, slice_get_within eliminated place.0 d place.1), keep place.0 d place.1)
       ];
       one_each = length-set flags u true ∙ t.one_each;
       flagged = λ w h. elim (cases_eq w u) [
-        | inl same ↦ (λ m. (length taken, last ∙ ap Some (sym same)), λ m. ap (λ x. get_or (set flags u true) x false) same ∙ get_or-set_same flags u true false (omega (arith, t.one_each)))
+        | inl same ↦ (λ m. (length eliminated, last ∙ ap Some (sym same)), λ m. ap (λ x. get_or (set flags u true) x false) same ∙ get_or-set_same flags u true false (omega (arith, t.one_each)))
         | inr other ↦ (
           λ m. let r = (t.flagged w h).0 (sym (get_or-set_other flags u w true false other) ∙ m) in (r.0, keep r.0 w r.1),
           λ m. get_or-set_other flags u w true false other ∙ elim (at m.0 w m.1) [ inl earlier ↦ (t.flagged w h).1 (m.0, earlier) | inr here ↦ absurd (other here.1) ],
@@ -53,20 +53,20 @@ takes_more size dependencies taken new flags u inside new_is fresh ready t =
       ];
     }
 
-pub taken_grows : (taken new : List ℕ) (u : ℕ) → new ≡ taken ++ u ∷ [] → Grows taken new × IsEliminated new u
-taken_grows taken new u new_is = (
-  λ k w e. ap (λ xs. slice_get xs k) new_is ∙ get-append_left taken (u ∷ []) k w e,
-  (length taken, ap (λ xs. slice_get xs (length taken)) new_is ∙ push_at taken u),
+pub eliminated_grows : (eliminated new : List ℕ) (u : ℕ) → new ≡ eliminated ++ u ∷ [] → Grows eliminated new × IsEliminated new u
+eliminated_grows eliminated new u new_is = (
+  λ k w e. ap (λ xs. slice_get xs k) new_is ∙ get-append_left eliminated (u ∷ []) k w e,
+  (length eliminated, ap (λ xs. slice_get xs (length eliminated)) new_is ∙ push_at eliminated u),
 )
 
--- where every unit is taken, the list is an order
-pub all_taken : (size : ℕ) (dependencies : ℕ → List ℕ) (taken : List ℕ) (flags : List Bool) → Eliminating size dependencies taken flags → ((u : ℕ) → u < size → get_or flags u false ≡ true) → IsOrder size dependencies taken
-all_taken size dependencies taken flags t all = record { units = t.units; each = λ u h. (t.flagged u h).0 (all u h); once = t.once; after = t.after }
+-- where every unit is eliminated, the list is an order
+pub all_eliminated : (size : ℕ) (dependencies : ℕ → List ℕ) (eliminated : List ℕ) (flags : List Bool) → Eliminating size dependencies eliminated flags → ((u : ℕ) → u < size → get_or flags u false ≡ true) → IsOrder size dependencies eliminated
+all_eliminated size dependencies eliminated flags t all = record { units = t.units; each = λ u h. (t.flagged u h).0 (all u h); once = t.once; after = t.after }
 
--- who waits beyond the first i goes on so
+-- a unit that waits beyond the first i still does
 pub still_beyond : (dependencies : ℕ → List ℕ) (old new : List ℕ) (i u : ℕ) → i ≤ length old → Grows old new → WaitsBeyond dependencies old i u → WaitsBeyond dependencies new i u
 still_beyond dependencies old new i u h grows w = elim w [
-  | inl taken ↦ inl (taken.0, grows taken.0 u taken.1)
+  | inl eliminated ↦ inl (eliminated.0, grows eliminated.0 u eliminated.1)
   | inr waits ↦ inr (
     waits.0,
     waits.1,
@@ -78,8 +78,8 @@ still_beyond dependencies old new i u h grows w = elim w [
   )
 ]
 
-pub waits_beyond : (size : ℕ) (dependencies : ℕ → List ℕ) (flags : List Bool) (taken : List ℕ) (i u : ℕ) → Eliminating size dependencies taken flags → IsEliminatedOrWaits dependencies flags taken u → WaitsBeyond dependencies taken i u
-waits_beyond size dependencies flags taken i u t s = elim s [
+pub waits_beyond : (size : ℕ) (dependencies : ℕ → List ℕ) (flags : List Bool) (eliminated : List ℕ) (i u : ℕ) → Eliminating size dependencies eliminated flags → IsEliminatedOrWaits dependencies flags eliminated u → WaitsBeyond dependencies eliminated i u
+waits_beyond size dependencies flags eliminated i u t s = elim s [
   | inl yet ↦ inl yet
   | inr waits ↦ inr (waits.0, waits.1, λ k lt e. false≢true (sym waits.2 ∙ (t.flagged waits.0 (t.units k waits.0 e)).1 (k, e)))
 ]
@@ -91,25 +91,25 @@ grows_length (x ∷ xs) b g =
     let there = slice_get_within b (length xs) last.0 (g (length xs) last.0 last.1) in
     omega arith
 
-pub beyond_less : (dependencies : ℕ → List ℕ) (taken : List ℕ) (i j u : ℕ) → i ≤ j → WaitsBeyond dependencies taken j u → WaitsBeyond dependencies taken i u
-beyond_less dependencies taken i j u h w = elim w [ inl yet ↦ inl yet | inr waits ↦ inr (waits.0, waits.1, λ k lt e. waits.2 k (omega arith) e) ]
+pub beyond_less : (dependencies : ℕ → List ℕ) (eliminated : List ℕ) (i j u : ℕ) → i ≤ j → WaitsBeyond dependencies eliminated j u → WaitsBeyond dependencies eliminated i u
+beyond_less dependencies eliminated i j u h w = elim w [ inl yet ↦ inl yet | inr waits ↦ inr (waits.0, waits.1, λ k lt e. waits.2 k (omega arith) e) ]
 
 -- the units that depend on the one at i were visited
-pub visited_beyond : (size : ℕ) (dependencies : ℕ → List ℕ) (taken new : List ℕ) (ready : List ℕ) (i u : ℕ) → slice_get taken i ≡ Some u → AreDependents size dependencies u ready → Grows taken new
-    → ((w : ℕ) → Contains ready w → WaitsBeyond dependencies new (length taken) w) → (w : ℕ) → w < size → WaitsBeyond dependencies taken i w → WaitsBeyond dependencies new (i + 1) w
-visited_beyond size dependencies taken new ready i u at dependents grows visited w inside before =
-    let h = slice_get_within taken i u at in
+pub visited_beyond : (size : ℕ) (dependencies : ℕ → List ℕ) (eliminated new : List ℕ) (ready : List ℕ) (i u : ℕ) → slice_get eliminated i ≡ Some u → AreDependents size dependencies u ready → Grows eliminated new
+    → ((w : ℕ) → Contains ready w → WaitsBeyond dependencies new (length eliminated) w) → (w : ℕ) → w < size → WaitsBeyond dependencies eliminated i w → WaitsBeyond dependencies new (i + 1) w
+visited_beyond size dependencies eliminated new ready i u at dependents grows visited w inside before =
+    let h = slice_get_within eliminated i u at in
     elim before [
       | inl yet ↦ inl (yet.0, grows yet.0 w yet.1)
       | inr waits ↦ elim (cases_eq waits.0 u) [
         | inl same ↦
             let has : Contains ready w = dependents.each w inside (subst (Contains (dependencies w)) same waits.1) in
-            beyond_less dependencies new (i + 1) (length taken) w (omega arith) (visited w has)
-        | inr other ↦ still_beyond dependencies taken new (i + 1) w (omega arith) grows (inr (
+            beyond_less dependencies new (i + 1) (length eliminated) w (omega arith) (visited w has)
+        | inr other ↦ still_beyond dependencies eliminated new (i + 1) w (omega arith) grows (inr (
           waits.0,
           waits.1,
           λ k lt e. elim (cases_eq k i) [
-            | inl here ↦ let both : Some u ≡ Some waits.0 = sym at ∙ ap (slice_get taken) (sym here) ∙ e in let same : waits.0 ≡ u = cc in other same
+            | inl here ↦ let both : Some u ≡ Some waits.0 = sym at ∙ ap (slice_get eliminated) (sym here) ∙ e in let same : waits.0 ≡ u = cc in other same
             | inr earlier ↦ waits.2 k (omega arith) e
           ],
         ))
@@ -121,10 +121,10 @@ pub length-once : (n : ℕ) (xs : List ℕ) → ((k u : ℕ) → slice_get xs k 
 length-once n xs below once = length-le_from_distinct_below xs n (distinct_from_once xs once)
     (λ q has. let at = Contains-from_any {eq = eqb} eqb-true q xs has in below at.0 q (get_from_Contains xs q at))
 
--- with nothing taken, the flags are unset
-pub nothing_taken : (size : ℕ) (dependencies : ℕ → List ℕ) (taken : List ℕ) (flags : List Bool) → taken ≡ [] → flags ≡ replicate size false → Eliminating size dependencies taken flags
-nothing_taken size dependencies taken flags none unset =
-    let empty : (k u : ℕ) → slice_get taken k ≡ Some u → ⊥ = λ k u e. none-some u (sym (ap (λ xs. slice_get xs k) none) ∙ e) in
+-- with nothing eliminated, the flags are unset
+pub nothing_eliminated : (size : ℕ) (dependencies : ℕ → List ℕ) (eliminated : List ℕ) (flags : List Bool) → eliminated ≡ [] → flags ≡ replicate size false → Eliminating size dependencies eliminated flags
+nothing_eliminated size dependencies eliminated flags none unset =
+    let empty : (k u : ℕ) → slice_get eliminated k ≡ Some u → ⊥ = λ k u e. none-some u (sym (ap (λ xs. slice_get xs k) none) ∙ e) in
     record {
       units = λ k u e. absurd (empty k u e);
       once = λ j k u a b. absurd (empty j u a);
@@ -146,44 +146,44 @@ nothing_passed size dependencies flags next is =
       passed = λ u k d h below e. absurd (omega (arith, at u h, below));
     }
 
--- where each unit is taken or has a dependency that isn't, just the units that are left have unset flags
-pub left_told : (size : ℕ) (dependencies : ℕ → List ℕ) (taken : List ℕ) (flags : List Bool) → IsGraph size dependencies → Eliminating size dependencies taken flags
-    → ((u : ℕ) → u < size → IsEliminated taken u ⊎ ((d : ℕ) × Contains (dependencies u) d × (get_or flags d false ≡ false))) → FlagsLeft size dependencies flags
-left_told size dependencies taken flags graph t each u h = (
-  λ unset. (untaken, record { units = λ w is_so. inside w is_so; held = λ w is_so. held w is_so }, says u h unset),
+-- where each unit is eliminated or has a dependency that isn't, just the units that are left have unset flags
+pub flags_left : (size : ℕ) (dependencies : ℕ → List ℕ) (eliminated : List ℕ) (flags : List Bool) → IsGraph size dependencies → Eliminating size dependencies eliminated flags
+    → ((u : ℕ) → u < size → IsEliminated eliminated u ⊎ ((d : ℕ) × Contains (dependencies u) d × (get_or flags d false ≡ false))) → FlagsLeft size dependencies flags
+flags_left size dependencies eliminated flags graph t each u h = (
+  λ unset. (remaining, record { units = λ w is_so. inside w is_so; depends = λ w is_so. depends w is_so }, not_set u h unset),
   λ left. elim (cases_Bool (get_or flags u false)) [
-    | inl so ↦ let at = (t.flagged u h).0 so in absurd (taken_not_left size dependencies taken t.after (suc at.0) at.0 u (omega arith) at.1 left)
+    | inl so ↦ let at = (t.flagged u h).0 so in absurd (eliminated_not_left size dependencies eliminated t.after (suc at.0) at.0 u (omega arith) at.1 left)
     | inr unset ↦ unset
   ],
 ) where
-  untaken : ℕ → Bool
-  untaken w = not (get_or flags w true)
+  remaining : ℕ → Bool
+  remaining w = not (get_or flags w true)
 
-  says : (w : ℕ) → w < size → get_or flags w false ≡ false → not (get_or flags w true) ≡ true
-  says w inside unset = ap not (get_or_default flags w true false (omega (arith, t.one_each)) ∙ unset)
+  not_set : (w : ℕ) → w < size → get_or flags w false ≡ false → not (get_or flags w true) ≡ true
+  not_set w inside unset = ap not (get_or_default flags w true false (omega (arith, t.one_each)) ∙ unset)
 
   inside : (w : ℕ) → not (get_or flags w true) ≡ true → w < size
   inside w is_so = elim (cases_lt w size) [ inl lt ↦ lt | inr past ↦ absurd (false≢true (sym (ap not (get_or_past flags w true (omega (arith, t.one_each)))) ∙ is_so)) ]
 
-  held : (w : ℕ) → not (get_or flags w true) ≡ true → (d : ℕ) × Contains (dependencies w) d × (not (get_or flags d true) ≡ true)
-  held w is_so =
+  depends : (w : ℕ) → not (get_or flags w true) ≡ true → (d : ℕ) × Contains (dependencies w) d × (not (get_or flags d true) ≡ true)
+  depends w is_so =
       let lt = inside w is_so in
       let unset : get_or flags w false ≡ false = get_or_default flags w false true (omega (arith, t.one_each)) ∙ not-true (get_or flags w true) is_so in
       elim (each w lt) [
         | inl taken_yet ↦ absurd (false≢true (sym unset ∙ (t.flagged w lt).1 taken_yet))
-        | inr waits ↦ (waits.0, waits.1, says waits.0 (graph.units w waits.0 lt waits.1) waits.2)
+        | inr waits ↦ (waits.0, waits.1, not_set waits.0 (graph.units w waits.0 lt waits.1) waits.2)
       ]
 
--- once each unit is taken or waits for one that isn't, just the units that are left have unset flags
-pub tells_left : (size : ℕ) (dependencies : ℕ → List ℕ) (taken : List ℕ) (flags : List Bool) → IsGraph size dependencies → Eliminating size dependencies taken flags
-    → ((u : ℕ) → u < size → WaitsBeyond dependencies taken (length taken) u) → FlagsLeft size dependencies flags
-tells_left size dependencies taken flags graph t beyond = left_told size dependencies taken flags graph t (λ u h. elim (beyond u h) [
+-- once each unit is eliminated or waits for one that isn't, just the units that are left have unset flags
+pub flags_left_at_end : (size : ℕ) (dependencies : ℕ → List ℕ) (eliminated : List ℕ) (flags : List Bool) → IsGraph size dependencies → Eliminating size dependencies eliminated flags
+    → ((u : ℕ) → u < size → WaitsBeyond dependencies eliminated (length eliminated) u) → FlagsLeft size dependencies flags
+flags_left_at_end size dependencies eliminated flags graph t beyond = flags_left size dependencies eliminated flags graph t (λ u h. elim (beyond u h) [
   | inl yet ↦ inl yet
   | inr waits ↦ inr (
     waits.0,
     waits.1,
     elim (cases_Bool (get_or flags waits.0 false)) [
-      | inl so ↦ let at = (t.flagged waits.0 (graph.units u waits.0 h waits.1)).0 so in absurd (waits.2 at.0 (slice_get_within taken at.0 waits.0 at.1) at.1)
+      | inl so ↦ let at = (t.flagged waits.0 (graph.units u waits.0 h waits.1)).0 so in absurd (waits.2 at.0 (slice_get_within eliminated at.0 waits.0 at.1) at.1)
       | inr unset ↦ unset
     ],
   )

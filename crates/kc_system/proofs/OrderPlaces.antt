@@ -1,9 +1,10 @@
 -- The places of the units in an order.
-use Rattle.std.proofs.Common.{◌≡◌, inl, inr, ℕ, ◌+◌, ◌<◌, ◌≤◌, List, length, set, sym, ◌∙◌, ap, arith, Some, slice_get}
+use Rattle.std.proofs.Common.{◌≡◌, inl, inr, ℕ, zero, suc, ◌+◌, ◌<◌, ◌≤◌, List, [], ◌∷◌, ◌++◌, length, length-append, set, refl, sym, ◌∙◌, ap, arith, Some, slice_get}
 use Rattle.std.proofs.lemmas.Bool.{cases_eq}
+use Rattle.std.proofs.lemmas.Option.{none-some, slice_get_within}
 use Rattle.kc_system.specs.Dependencies.{IsOrder}
 use Rattle.kc_system.proofs.Lists.{get-set_same, get-set_other}
-use Rattle.kc_system.proofs.Eliminations.{length-once}
+use Rattle.kc_system.proofs.Eliminations.{length-once, push_cases}
 
 -- one more unit has its place
 pub places_more : (size : ℕ) (dependencies : ℕ → List ℕ) (order places : List ℕ) (i u : ℕ) → IsOrder size dependencies order → length places ≡ size → slice_get order i ≡ Some u
@@ -22,3 +23,26 @@ places_more size dependencies order places i u ordered one_each at below k w h e
 -- an order is as long as there are units, at most
 pub short_order : (size : ℕ) (dependencies : ℕ → List ℕ) (order : List ℕ) → IsOrder size dependencies order → length order ≤ size
 short_order size dependencies order ordered = length-once size order ordered.units ordered.once
+
+-- the places of the first n units
+listed_places : (size : ℕ) (dependencies : ℕ → List ℕ) (order : List ℕ) → IsOrder size dependencies order → (n : ℕ) → n ≤ size
+    → (places : List ℕ) × (length places ≡ n) × ((u k : ℕ) → slice_get places u ≡ Some k → slice_get order k ≡ Some u)
+listed_places size dependencies order ordered zero h = ([], refl, λ u k e. absurd (none-some k e))
+listed_places size dependencies order ordered (suc n) h =
+    let before = listed_places size dependencies order ordered n (omega (arith, h)) in
+    let place = ordered.each n (omega (arith, h)) in (
+      before.0 ++ place.0 ∷ [],
+      omega (arith, length-append before.0 (place.0 ∷ []), before.1),
+      λ u k e. elim (push_cases before.0 place.0 u k e) [
+        | inl earlier ↦ before.2 u k earlier
+        | inr last ↦ ap (slice_get order) last.1 ∙ place.1 ∙ ap Some (sym (last.0 ∙ before.1))
+      ],
+    )
+
+-- an order is as long as there are units
+pub order_length : (size : ℕ) (dependencies : ℕ → List ℕ) (order : List ℕ) → IsOrder size dependencies order → length order ≡ size
+order_length size dependencies order ordered =
+    let all = listed_places size dependencies order ordered size (omega arith) in
+    let enough : length all.0 ≤ length order = length-once (length order) all.0 (λ u k e. slice_get_within order k u (all.2 u k e))
+    (λ j k p first last. let same : Some j ≡ Some k = sym (all.2 j p first) ∙ all.2 k p last in let is : j ≡ k = cc in is) in
+    omega (arith, all.1, enough, short_order size dependencies order ordered)

@@ -1,7 +1,7 @@
--- What a session holds.
+-- the state of a session
 use Rattle.std.specs.Prelude.{List, Option}
 
--- A system, an assignment and a valuation.
+-- a system, an assignment of user values, and a valuation
 pub record SessionState (S A X : Type 0) : Type 0 where
   pub system : S
   pub users : List (Option X)

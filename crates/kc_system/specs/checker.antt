@@ -2,6 +2,6 @@ pub mod Logs
 pub mod Pending
 pub mod PlaceSets
 pub mod Plans
-pub mod Revising
+pub mod Revision
 pub mod Rows
 pub mod Elimination

@@ -1,3 +1,4 @@
+//! The search for the named cycle among the units that are left.
 ghost use Rattle.std.specs.Prelude.{◌≡◌, ℕ, ◌<◌, ◌≤◌, false, List, length, drop, IfOk};
 ghost use Rattle.kc_system.specs.Dependencies.{IsLeft, IsLeast, FollowsLeft, IsNamedCycle};
 ghost use Rattle.kc_system.specs.checker.Elimination.{FlagsLeft};
@@ -6,7 +7,7 @@ use crate::elimination::first_remaining;
 use crate::system::Graph;
 use std::alloc::{AllocError, Global};
 
-/// The least dependency left of a unit that is left.
+/// The least of the dependencies that are left, of a unit that is left.
 fn least_remaining_dependency<G: Graph>(graph: &G, flags: &[bool], u: u32) -> u32
     requires left { FlagsLeft (G.size graph.now) (G.dependencies graph.now) flags.now }
     requires flags { length flags.now ≡ G.size graph.now }
@@ -17,7 +18,7 @@ fn least_remaining_dependency<G: Graph>(graph: &G, flags: &[bool], u: u32) -> u3
     dependencies[first_remaining(dependencies, 0, flags)]
 }
 
-/// The part of a list from a place on.
+/// A copy of the part of a list from a place on, or out of memory.
 fn part_from(alloc: Global, walk: &[u32], start: usize) -> Result<Vec<u32>, AllocError>
     requires { start ≤ length walk.now }
     ensures { IfOk result (λ part. part.items ≡ drop start walk.now) }
@@ -25,7 +26,7 @@ fn part_from(alloc: Global, walk: &[u32], start: usize) -> Result<Vec<u32>, Allo
     Vec::from_slice(alloc, &walk[start..])
 }
 
-/// The named cycle, by a walk from the least unit left along the least dependencies left.
+/// The named cycle, by a walk from the least unit left along the least dependencies left; or out of memory.
 pub(crate) fn named_cycle<G: Graph>(
     alloc: Global,
     graph: &G,

@@ -1,3 +1,4 @@
+//! Elimination of units whose dependencies are all eliminated.
 ghost use Rattle.std.specs.Prelude.{◌≡◌, ℕ, ◌<◌, ◌≤◌, Bool, true, false, List, [], length, replicate, All, IfOk, OnOk, Contains, slice_get, slice_index_or, Some};
 ghost use Rattle.kc_system.specs.checker.Rows.{ListsDependents};
 ghost use Rattle.kc_system.specs.checker.Elimination.{IsEliminatedOrWaits, Eliminating, Passed, Grows, WaitsBeyond, FlagsLeft};
@@ -6,12 +7,12 @@ use crate::rows::{Rows, list_dependents};
 use crate::system::Graph;
 use std::alloc::{AllocError, Global};
 
-/// The first place, from one on, at which a dependency isn't taken.
+/// The first place, from a given one on, at which a dependency's flag is unset; the length where there is none.
 pub(crate) fn first_remaining(dependencies: &[u32], from: usize, flags: &[bool]) -> usize
     requires from { from ≤ length dependencies.now }
     requires units { All (λ d. d < length flags.now) dependencies.now }
     ensures within { result ≤ length dependencies.now }
-    ensures on { from ≤ result }
+    ensures not_before { from ≤ result }
     ensures passed { (k d : ℕ) → from ≤ k → k < result → slice_get dependencies.now k ≡ Some d → slice_index_or flags.now d false ≡ true }
     ensures found { (d : ℕ) → slice_get dependencies.now result ≡ Some d → slice_index_or flags.now d false ≡ false }
 {
@@ -23,21 +24,21 @@ pub(crate) fn first_remaining(dependencies: &[u32], from: usize, flags: &[bool])
     dependencies.len()
 }
 
-/// Takes a unit if its dependencies are all taken.
+/// Eliminates a unit if its dependencies are all eliminated.
 fn eliminate_if_ready<G: Graph>(
     graph: &G,
     u: u32,
-    taken: &mut Vec<u32>,
+    eliminated: &mut Vec<u32>,
     flags: &mut [bool],
     next: &mut [usize],
 ) -> Result<(), AllocError>
     requires unit { u < G.size graph.now }
-    requires taking { Eliminating (G.size graph.now) (G.dependencies graph.now) taken.old.items flags.old }
+    requires eliminating { Eliminating (G.size graph.now) (G.dependencies graph.now) eliminated.old.items flags.old }
     requires passed { Passed (G.size graph.now) (G.dependencies graph.now) flags.old next.old }
-    ensures taking { OnOk result (Eliminating (G.size graph.now) (G.dependencies graph.now) taken.new.items flags.new) }
+    ensures eliminating { OnOk result (Eliminating (G.size graph.now) (G.dependencies graph.now) eliminated.new.items flags.new) }
     ensures passed { OnOk result (Passed (G.size graph.now) (G.dependencies graph.now) flags.new next.new) }
-    ensures grows { OnOk result (Grows taken.old.items taken.new.items) }
-    ensures waits { OnOk result (IsEliminatedOrWaits (G.dependencies graph.now) flags.new taken.new.items u) }
+    ensures grows { OnOk result (Grows eliminated.old.items eliminated.new.items) }
+    ensures waits { OnOk result (IsEliminatedOrWaits (G.dependencies graph.now) flags.new eliminated.new.items u) }
 {
     if flags[u as usize] {
         return Ok(());
@@ -46,93 +47,93 @@ fn eliminate_if_ready<G: Graph>(
     let k = first_remaining(dependencies, next[u as usize], flags);
     next[u as usize] = k;
     if k == dependencies.len() {
-        taken.push(u)?;
+        eliminated.push(u)?;
         flags[u as usize] = true;
     }
     Ok(())
 }
 
-/// Visits some units, one after another.
+/// Eliminates those of some units whose dependencies are all eliminated.
 fn eliminate_ready<G: Graph>(
     graph: &G,
     units: &[u32],
-    taken: &mut Vec<u32>,
+    eliminated: &mut Vec<u32>,
     flags: &mut [bool],
     next: &mut [usize],
 ) -> Result<(), AllocError>
     requires units { All (λ u. u < G.size graph.now) units.now }
-    requires taking { Eliminating (G.size graph.now) (G.dependencies graph.now) taken.old.items flags.old }
+    requires eliminating { Eliminating (G.size graph.now) (G.dependencies graph.now) eliminated.old.items flags.old }
     requires passed { Passed (G.size graph.now) (G.dependencies graph.now) flags.old next.old }
-    ensures taking { OnOk result (Eliminating (G.size graph.now) (G.dependencies graph.now) taken.new.items flags.new) }
+    ensures eliminating { OnOk result (Eliminating (G.size graph.now) (G.dependencies graph.now) eliminated.new.items flags.new) }
     ensures passed { OnOk result (Passed (G.size graph.now) (G.dependencies graph.now) flags.new next.new) }
-    ensures grows { OnOk result (Grows taken.old.items taken.new.items) }
-    ensures beyond { OnOk result ((u : ℕ) → Contains units.now u → WaitsBeyond (G.dependencies graph.now) taken.new.items (length taken.old.items) u) }
+    ensures grows { OnOk result (Grows eliminated.old.items eliminated.new.items) }
+    ensures beyond { OnOk result ((u : ℕ) → Contains units.now u → WaitsBeyond (G.dependencies graph.now) eliminated.new.items (length eliminated.old.items) u) }
 {
     for u in units {
-        eliminate_if_ready(graph, *u, taken, flags, next)?;
+        eliminate_if_ready(graph, *u, eliminated, flags, next)?;
     }
     Ok(())
 }
 
-/// Takes units as long as there are any whose dependencies are all taken.
+/// Eliminates units as long as there are any whose dependencies are all eliminated.
 fn eliminate_reachable<G: Graph>(
     graph: &G,
     dependents: &Rows,
-    taken: &mut Vec<u32>,
+    eliminated: &mut Vec<u32>,
     flags: &mut [bool],
     next: &mut [usize],
 ) -> Result<(), AllocError>
     requires dependents { ListsDependents (G.size graph.now) (G.dependencies graph.now) dependents.now.starts.items dependents.now.units.items }
-    requires taking { Eliminating (G.size graph.now) (G.dependencies graph.now) taken.old.items flags.old }
+    requires eliminating { Eliminating (G.size graph.now) (G.dependencies graph.now) eliminated.old.items flags.old }
     requires passed { Passed (G.size graph.now) (G.dependencies graph.now) flags.old next.old }
-    requires beyond { (u : ℕ) → u < G.size graph.now → WaitsBeyond (G.dependencies graph.now) taken.old.items 0 u }
-    ensures taking { OnOk result (Eliminating (G.size graph.now) (G.dependencies graph.now) taken.new.items flags.new) }
-    ensures beyond { OnOk result ((u : ℕ) → u < G.size graph.now → WaitsBeyond (G.dependencies graph.now) taken.new.items (length taken.new.items) u) }
+    requires beyond { (u : ℕ) → u < G.size graph.now → WaitsBeyond (G.dependencies graph.now) eliminated.old.items 0 u }
+    ensures eliminating { OnOk result (Eliminating (G.size graph.now) (G.dependencies graph.now) eliminated.new.items flags.new) }
+    ensures beyond { OnOk result ((u : ℕ) → u < G.size graph.now → WaitsBeyond (G.dependencies graph.now) eliminated.new.items (length eliminated.new.items) u) }
 {
     let mut i = 0;
-    while i < taken.len() {
-        let ready = dependents.of(taken[i]);
-        eliminate_ready(graph, ready, taken, flags, next)?;
+    while i < eliminated.len() {
+        let ready = dependents.of(eliminated[i]);
+        eliminate_ready(graph, ready, eliminated, flags, next)?;
         i += 1;
     }
     Ok(())
 }
 
-/// Visits each unit once.
+/// Tries each unit once.
 fn eliminate_each_once<G: Graph>(
     graph: &G,
-    taken: &mut Vec<u32>,
+    eliminated: &mut Vec<u32>,
     flags: &mut [bool],
     next: &mut [usize],
 ) -> Result<(), AllocError>
-    requires taking { Eliminating (G.size graph.now) (G.dependencies graph.now) taken.old.items flags.old }
+    requires eliminating { Eliminating (G.size graph.now) (G.dependencies graph.now) eliminated.old.items flags.old }
     requires passed { Passed (G.size graph.now) (G.dependencies graph.now) flags.old next.old }
-    ensures taking { OnOk result (Eliminating (G.size graph.now) (G.dependencies graph.now) taken.new.items flags.new) }
+    ensures eliminating { OnOk result (Eliminating (G.size graph.now) (G.dependencies graph.now) eliminated.new.items flags.new) }
     ensures passed { OnOk result (Passed (G.size graph.now) (G.dependencies graph.now) flags.new next.new) }
-    ensures beyond { OnOk result ((u : ℕ) → u < G.size graph.now → WaitsBeyond (G.dependencies graph.now) taken.new.items 0 u) }
+    ensures beyond { OnOk result ((u : ℕ) → u < G.size graph.now → WaitsBeyond (G.dependencies graph.now) eliminated.new.items 0 u) }
 {
     for u in 0..graph.len() {
-        eliminate_if_ready(graph, u, taken, flags, next)?;
+        eliminate_if_ready(graph, u, eliminated, flags, next)?;
     }
     Ok(())
 }
 
-/// Takes away, as long as there are any, units whose dependencies are all taken away. The flags of the others
-/// stay unset.
+/// Eliminates units as long as there are any whose dependencies are all eliminated. The flags of the others stay
+/// unset.
 pub(crate) fn eliminate_all<G: Graph>(
     alloc: Global,
     graph: &G,
-    taken: &mut Vec<u32>,
+    eliminated: &mut Vec<u32>,
     flags: &mut [bool],
 ) -> Result<(), AllocError>
-    requires none { taken.old.items ≡ [] }
+    requires none { eliminated.old.items ≡ [] }
     requires flags { flags.old ≡ replicate (G.size graph.now) false }
-    ensures taking { OnOk result (Eliminating (G.size graph.now) (G.dependencies graph.now) taken.new.items flags.new) }
+    ensures eliminating { OnOk result (Eliminating (G.size graph.now) (G.dependencies graph.now) eliminated.new.items flags.new) }
     ensures left { OnOk result (FlagsLeft (G.size graph.now) (G.dependencies graph.now) flags.new) }
 {
     let mut next = vec![in alloc; 0; graph.len() as usize]?;
     let dependents = list_dependents(alloc, graph)?;
-    eliminate_each_once(graph, taken, flags, &mut next)?;
-    eliminate_reachable(graph, &dependents, taken, flags, &mut next)?;
+    eliminate_each_once(graph, eliminated, flags, &mut next)?;
+    eliminate_reachable(graph, &dependents, eliminated, flags, &mut next)?;
     Ok(())
 }

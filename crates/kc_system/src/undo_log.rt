@@ -1,18 +1,19 @@
+//! Logs of overwritten values.
 ghost use Rattle.std.specs.Prelude.{◌≡◌, ℕ, ◌<◌, List, Some, length, slice_get, slice_set, OnOk, OnErr};
 ghost use Rattle.kc_system.specs.checker.Logs.{Undoes, LogsOneMore, undone};
 
 use std::alloc::AllocError;
 
-/// Writes a value, and takes the one that was there.
+/// Exchanges the value of a unit for another.
 fn replace_value<V>(values: &mut [V], u: usize, value: &mut V)
     requires { u < length values.old }
     ensures written { values.new ≡ slice_set values.old u value.old }
-    ensures taken { slice_get values.old u ≡ Some value.new }
+    ensures replaced { slice_get values.old u ≡ Some value.new }
 {
     std::mem::swap(&mut values[u], value);
 }
 
-/// Writes a value, and logs the one that was there. After running out of memory both are as before.
+/// Writes a value, and logs the one before. After running out of memory both are as before.
 pub(crate) fn write_logged<V: Drop>(
     values: &mut [V],
     log: &mut Vec<(u32, V)>,
@@ -31,7 +32,7 @@ pub(crate) fn write_logged<V: Drop>(
     Ok(())
 }
 
-/// Puts the logged values back, the last first.
+/// Restores the logged values, the last logged first.
 pub(crate) fn restore_logged<V: Drop>(values: &mut [V], log: &mut Vec<(u32, V)>)
     requires { (k u : ℕ) (a : V) → slice_get log.old.items k ≡ Some (u, a) → u < length values.old }
     ensures { values.new ≡ undone log.old.items values.old }

@@ -1,3 +1,4 @@
+//! Changes of an assignment, with its values brought up to date.
 ghost use Rattle.std.specs.Prelude.{◌≡◌, ℕ, ◌+◌, ◌-◌, ◌^◌, ◌<◌, true, false, [], Some, length, min, slice_get, IfOk, OnOk, OnErr};
 ghost use Rattle.kc_system.specs.Changes.{changed_users, FitsChanges, IsTouched, IsChanged, IsCountOf, IsListOf};
 ghost use Rattle.kc_system.specs.Dependencies.{IsOrder};
@@ -9,7 +10,7 @@ ghost use Rattle.kc_system.specs.Solutions.{Solves, FitsUsers, FitsValues, user_
 use crate::place_sets::PlaceSet;
 use crate::plans::Plan;
 use crate::reports::{Report, ascending_units};
-use crate::revising::revise;
+use crate::revision::revise;
 use crate::system::{Graph, System};
 use crate::undo_log::restore_logged;
 use crate::user_values::{mark_changed, write_users};
@@ -56,7 +57,7 @@ fn revalue<S: System>(
     Ok(Report { changed, evaluated })
 }
 
-/// Writes some changes, and marks the places of the units whose user values they make differ.
+/// Writes some changes, and makes the places of the units pending whose user values differ in the end.
 fn write_changes<S: System>(
     plan: &Plan<'_, S>,
     changes: &[(u32, Option<S::User>)],
@@ -73,7 +74,7 @@ fn write_changes<S: System>(
     ensures users { OnOk result (users.new ≡ changed_users changes.now users.old) }
     ensures undo { Undoes log.new.items users.old users.new }
     ensures size { pending.new.size ≡ pending.old.size }
-    ensures tells { OnOk result (ListsChanged plan.now.places.items users.new users.old (is_pending pending.new)) }
+    ensures lists { OnOk result (ListsChanged plan.now.places.items users.new users.old (is_pending pending.new)) }
     ensures err { OnErr result (IsDone pending.new) }
 {
     write_users::<S>(plan.alloc, changes, users, log)?;

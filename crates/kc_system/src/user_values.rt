@@ -1,9 +1,10 @@
+//! Changes of user values, and the places that they make pending.
 ghost use Rattle.std.specs.Prelude.{◌≡◌, ◌≢◌, ◌↔◌, ℕ, ◌<◌, true, List, [], Some, length, slice_get, OnOk};
 ghost use Rattle.kc_system.specs.Changes.{changed_users};
 ghost use Rattle.kc_system.specs.checker.Logs.{Undoes, undone};
 ghost use Rattle.kc_system.specs.checker.Pending.{FitsPlaces, IsDone, ListsChanged, is_pending};
 
-use crate::copying::{copy_optional_user, is_same_optional_user};
+use crate::copies::{copy_optional_user, is_same_optional_user};
 use crate::place_sets::PlaceSet;
 use crate::system::System;
 use crate::undo_log::write_logged;
@@ -28,7 +29,7 @@ pub(crate) fn write_users<S: System>(
     Ok(())
 }
 
-/// Adds a unit's place if its user value differs from the one before, and takes it away if not.
+/// Adds a unit's place if its user value differs from the one before, and removes it if not.
 fn mark_if_changed<S: System>(
     pending: &mut PlaceSet,
     place: u32,
@@ -47,7 +48,7 @@ fn mark_if_changed<S: System>(
     }
 }
 
-/// Adds the places of the units whose user values differ from those that the log would put back.
+/// Adds the places of the units whose user values differ from those before the logged changes.
 pub(crate) fn mark_changed<S: System>(
     pending: &mut PlaceSet,
     log: &[(u32, Option<S::User>)],
@@ -60,7 +61,7 @@ pub(crate) fn mark_changed<S: System>(
     requires places { length places.now ≡ length users.now }
     requires once { (u w p : ℕ) → slice_get places.now u ≡ Some p → slice_get places.now w ≡ Some p → u ≡ w }
     ensures size { pending.new.size ≡ pending.old.size }
-    ensures tells { ListsChanged places.now users.now (undone log.now users.now) (is_pending pending.new) }
+    ensures lists { ListsChanged places.now users.now (undone log.now users.now) (is_pending pending.new) }
 {
     let mut i = log.len();
     while i > 0 {

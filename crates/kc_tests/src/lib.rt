@@ -46,9 +46,13 @@ mod printing;
 #[cfg(test)]
 mod rules;
 #[cfg(test)]
+mod sessions;
+#[cfg(test)]
 mod settling;
 #[cfg(test)]
 mod streams;
+#[cfg(test)]
+mod sums;
 #[cfg(test)]
 mod systems;
 #[cfg(test)]

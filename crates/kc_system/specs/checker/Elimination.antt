@@ -1,36 +1,37 @@
--- Units taken one after another, each after its dependencies, while the others wait.
+-- the state of an elimination, which lists units one after another, each after its dependencies
 use Rattle.std.specs.Prelude.{◌≡◌, ◌↔◌, ◌⊎◌, ℕ, ◌<◌, ◌≤◌, Bool, true, false, List, length, Some, slice_get, slice_index_or as get_or, Contains}
 use Rattle.kc_system.specs.Dependencies.{IsLeft}
 
+-- the unit is in the list
 abbrev pub IsEliminated : List ℕ → ℕ → Type 0
-IsEliminated taken u = (k : ℕ) × (slice_get taken k ≡ Some u)
+IsEliminated eliminated u = (k : ℕ) × (slice_get eliminated k ≡ Some u)
 
--- Each unit of the list stands in it once, after its dependencies, and the flags tell which those are.
-pub record Eliminating (size : ℕ) (dependencies : ℕ → List ℕ) (taken : List ℕ) (flags : List Bool) : Type 0 where
-  pub units : (k u : ℕ) → slice_get taken k ≡ Some u → u < size
-  pub once : (j k u : ℕ) → slice_get taken j ≡ Some u → slice_get taken k ≡ Some u → j ≡ k
-  pub after : (k u d : ℕ) → slice_get taken k ≡ Some u → Contains (dependencies u) d → (j : ℕ) × (j < k) × (slice_get taken j ≡ Some d)
+-- each unit of the list is in it once, after its dependencies, and the flags of just these units are set
+pub record Eliminating (size : ℕ) (dependencies : ℕ → List ℕ) (eliminated : List ℕ) (flags : List Bool) : Type 0 where
+  pub units : (k u : ℕ) → slice_get eliminated k ≡ Some u → u < size
+  pub once : (j k u : ℕ) → slice_get eliminated j ≡ Some u → slice_get eliminated k ≡ Some u → j ≡ k
+  pub after : (k u d : ℕ) → slice_get eliminated k ≡ Some u → Contains (dependencies u) d → (j : ℕ) × (j < k) × (slice_get eliminated j ≡ Some d)
   pub one_each : length flags ≡ size
-  pub flagged : (u : ℕ) → u < size → (get_or flags u false ≡ true) ↔ IsEliminated taken u
+  pub flagged : (u : ℕ) → u < size → (get_or flags u false ≡ true) ↔ IsEliminated eliminated u
 
--- The dependencies before each unit's place in its list are taken.
+-- of each unit's dependencies those before its number in `next` are eliminated
 pub record Passed (size : ℕ) (dependencies : ℕ → List ℕ) (flags : List Bool) (next : List ℕ) : Type 0 where
   pub one_each : length next ≡ size
   pub within : (u : ℕ) → u < size → get_or next u 0 ≤ length (dependencies u)
   pub passed : (u k d : ℕ) → u < size → k < get_or next u 0 → slice_get (dependencies u) k ≡ Some d → get_or flags d false ≡ true
 
--- The unit is taken, or it has a dependency that isn't.
-abbrev pub IsEliminatedOrWaits : (dependencies : ℕ → List ℕ) (flags : List Bool) (taken : List ℕ) → ℕ → Type 0
-IsEliminatedOrWaits dependencies flags taken u = IsEliminated taken u ⊎ ((d : ℕ) × Contains (dependencies u) d × (get_or flags d false ≡ false))
+-- the unit is eliminated, or it has a dependency that isn't
+abbrev pub IsEliminatedOrWaits : (dependencies : ℕ → List ℕ) (flags : List Bool) (eliminated : List ℕ) → ℕ → Type 0
+IsEliminatedOrWaits dependencies flags eliminated u = IsEliminated eliminated u ⊎ ((d : ℕ) × Contains (dependencies u) d × (get_or flags d false ≡ false))
 
--- What was taken stays.
+-- each unit of the old list is at the same place of the new one
 abbrev pub Grows : (old new : List ℕ) → Type 0
 Grows old new = (k u : ℕ) → slice_get old k ≡ Some u → slice_get new k ≡ Some u
 
--- The unit is taken, or it has a dependency that isn't among the first i taken.
-abbrev pub WaitsBeyond : (dependencies : ℕ → List ℕ) (taken : List ℕ) → ℕ → ℕ → Type 0
-WaitsBeyond dependencies taken i u = IsEliminated taken u ⊎ ((d : ℕ) × Contains (dependencies u) d × ((k : ℕ) → k < i → slice_get taken k ≡ Some d → ⊥))
+-- the unit is eliminated, or it has a dependency that isn't among the first i eliminated ones
+abbrev pub WaitsBeyond : (dependencies : ℕ → List ℕ) (eliminated : List ℕ) → ℕ → ℕ → Type 0
+WaitsBeyond dependencies eliminated i u = IsEliminated eliminated u ⊎ ((d : ℕ) × Contains (dependencies u) d × ((k : ℕ) → k < i → slice_get eliminated k ≡ Some d → ⊥))
 
--- A flag is unset exactly for the units that are left.
+-- a flag is unset exactly for the units that are left
 abbrev pub FlagsLeft : (size : ℕ) (dependencies : ℕ → List ℕ) (flags : List Bool) → Type 0
 FlagsLeft size dependencies flags = (u : ℕ) → u < size → (get_or flags u false ≡ false) ↔ IsLeft size dependencies u

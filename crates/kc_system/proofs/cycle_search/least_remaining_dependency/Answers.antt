@@ -20,8 +20,8 @@ pub first_remaining-requires-clause-units : goal.first_remaining-requires-clause
 first_remaining-requires-clause-units g c = λ k d h.
     let size = g.G.Graph.size c.args.graph.now in
     let graph = g.met.G.Graph.graph c.args.graph.now in
-    let told = c.deps-dependencies.result.now in
+    let listed = c.deps-dependencies.result.now in
     let left = c.requires.unit in
-    let has : Contains (g.G.Graph.dependencies c.args.graph.now c.args.u) (get_or told k d) = rw (← c.deps-dependencies.ensures) (Contains-get_or told k d h) in
-    let inside = graph.units c.args.u (get_or told k d) (left.1.units c.args.u left.2) has in
+    let has : Contains (g.G.Graph.dependencies c.args.graph.now c.args.u) (get_or listed k d) = rw (← c.deps-dependencies.ensures) (Contains-get_or listed k d h) in
+    let inside = graph.units c.args.u (get_or listed k d) (left.1.units c.args.u left.2) has in
     omega (arith, inside, c.requires.flags)

@@ -54,8 +54,8 @@ returns g c =
     let same : get_or places u 0 ≡ c.index.result.now = get_or_default places u 0 c.index.result.now (omega (arith, was.one_each)) ∙ sym c.index.ensures in
     let end = closed size dependencies c.args.first walk places u c.requires.first (λ e. c.loop-walk-test.false (sym same ∙ e ∙ sym c.requires.flags)) was in
     let part : IsNamedCycle size dependencies (drop c.index-2.result.now c.as_slice.result.now) = rw (← at, c.as_slice.ensures.value) end.1 in
-    let says = c.part_from.ensures in
-    search (rules, part, says)
+    let part_is = c.part_from.ensures in
+    search (rules, part, part_is)
 
 pub loop-walk-init : goal.loop-walk-init
 loop-walk-init g c = begun (g.G.Graph.size c.args.graph.now) (g.G.Graph.dependencies c.args.graph.now) c.args.first c.new-walk.result.items c.in_ok-places.places.items c.requires.first.holds c.new-walk.ensures.items (c.in_ok-places.ensures.items_if_clones_equal (λ y e. e) ∙ ap (λ n. replicate n n) c.requires.flags)

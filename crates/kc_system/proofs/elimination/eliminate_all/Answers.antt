@@ -1,4 +1,4 @@
-use Rattle.kc_system.proofs.Eliminations.{tells_left, nothing_taken, nothing_passed}
+use Rattle.kc_system.proofs.Eliminations.{flags_left_at_end, nothing_eliminated, nothing_passed}
 use Rattle.std.proofs.Common.{ap, ◌∙◌, replicate, arith, length}
 use Rattle.std.proofs.lemmas.Grind.{common_steps}
 use Rattle.std.proofs.lemmas.List.{with_items_is}
@@ -6,11 +6,11 @@ use Rattle.kc_system.proofs.elimination.eliminate_all.Goals as goal
 
 pub returns-clause-left : goal.returns-clause-left
 returns-clause-left g c =
-    tells_left (g.G.Graph.size c.args.graph.now) (g.G.Graph.dependencies c.args.graph.now) c.eliminate_reachable.new.taken.items c.eliminate_reachable.new.flags
-    (g.met.G.Graph.graph c.args.graph.now) c.in_ok-eliminate_reachable.ensures.taking c.in_ok-eliminate_reachable.ensures.beyond
+    flags_left_at_end (g.G.Graph.size c.args.graph.now) (g.G.Graph.dependencies c.args.graph.now) c.eliminate_reachable.new.eliminated.items c.eliminate_reachable.new.flags
+    (g.met.G.Graph.graph c.args.graph.now) c.in_ok-eliminate_reachable.ensures.eliminating c.in_ok-eliminate_reachable.ensures.beyond
 
-pub eliminate_each_once-requires-clause-taking : goal.eliminate_each_once-requires-clause-taking
-eliminate_each_once-requires-clause-taking g c = nothing_taken (g.G.Graph.size c.args.graph.now) (g.G.Graph.dependencies c.args.graph.now) c.args.taken.now.items c.args.flags.now c.requires.none c.requires.flags
+pub eliminate_each_once-requires-clause-eliminating : goal.eliminate_each_once-requires-clause-eliminating
+eliminate_each_once-requires-clause-eliminating g c = nothing_eliminated (g.G.Graph.size c.args.graph.now) (g.G.Graph.dependencies c.args.graph.now) c.args.eliminated.now.items c.args.flags.now c.requires.none c.requires.flags
 
 pub eliminate_each_once-requires-clause-passed : goal.eliminate_each_once-requires-clause-passed
 eliminate_each_once-requires-clause-passed g c = nothing_passed (g.G.Graph.size c.args.graph.now) (g.G.Graph.dependencies c.args.graph.now) c.args.flags.now c.deref_mut.result.now (c.deref_mut.ensures.value ∙ c.in_ok-next.ensures.items_if_clones_equal (λ y e. e) ∙ ap (λ n. replicate n 0) c.len.ensures)
@@ -20,5 +20,5 @@ eliminate_reachable-requires-clause-passed g c =
     let next = with_items_is c.in_ok-next.next c.eliminate_each_once.new.next (omega (arith, c.eliminate_each_once.auto.next, ap length c.deref_mut.ensures.value, c.in_ok-next.next.ok.0)) in
     rw (c.deref_mut-2.ensures.value, next) c.in_ok-eliminate_each_once.ensures.passed
 
-pub returns-clause-taking : goal.returns-clause-taking
-returns-clause-taking g c = grind (arith, common_steps)
+pub returns-clause-eliminating : goal.returns-clause-eliminating
+returns-clause-eliminating g c = grind (arith, common_steps)

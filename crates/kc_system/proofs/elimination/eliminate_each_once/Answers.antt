@@ -12,11 +12,11 @@ loop-u-preserved g c =
     let was = c.loop-u.invariant in
     let now = c.in_ok-eliminate_if_ready.ensures in
     record {
-      taking = now.taking;
+      eliminating = now.eliminating;
       passed = now.passed;
       beyond = λ w h. elim (cases_eq w c.loop-u.u) [
-        | inl same ↦ subst (WaitsBeyond dependencies c.eliminate_if_ready.new.taken.items 0) (sym same) (waits_beyond size dependencies c.eliminate_if_ready.new.flags c.eliminate_if_ready.new.taken.items 0 c.loop-u.u now.taking now.waits)
-        | inr other ↦ still_beyond dependencies c.loop-u.taken.items c.eliminate_if_ready.new.taken.items 0 w (omega arith) now.grows (was.beyond w (omega arith))
+        | inl same ↦ subst (WaitsBeyond dependencies c.eliminate_if_ready.new.eliminated.items 0) (sym same) (waits_beyond size dependencies c.eliminate_if_ready.new.flags c.eliminate_if_ready.new.eliminated.items 0 c.loop-u.u now.eliminating now.waits)
+        | inr other ↦ still_beyond dependencies c.loop-u.eliminated.items c.eliminate_if_ready.new.eliminated.items 0 w (omega arith) now.grows (was.beyond w (omega arith))
       ];
     }
 
@@ -29,8 +29,8 @@ eliminate_if_ready-requires-clause-unit g c = omega arith
 pub returns-clause-passed : goal.returns-clause-passed
 returns-clause-passed g c = grind (arith, common_steps)
 
-pub returns-clause-taking : goal.returns-clause-taking
-returns-clause-taking g c = grind (arith, common_steps)
+pub returns-clause-eliminating : goal.returns-clause-eliminating
+returns-clause-eliminating g c = grind (arith, common_steps)
 
 pub loop-u-init : goal.loop-u-init
 loop-u-init g c = grind (arith, common_steps)

@@ -4,7 +4,7 @@ use Rattle.kc_system.proofs.elimination.eliminate_each_once.Given as goal
 
 abbrev pub invariant-loop-u : goal.invariant-loop-u
 invariant-loop-u g l = record {
-  taking : Eliminating (g.G.Graph.size l.graph) (g.G.Graph.dependencies l.graph) l.taken.items l.flags;
+  eliminating : Eliminating (g.G.Graph.size l.graph) (g.G.Graph.dependencies l.graph) l.eliminated.items l.flags;
   passed : Passed (g.G.Graph.size l.graph) (g.G.Graph.dependencies l.graph) l.flags l.next;
-  beyond : (w : ℕ) → w < l.u → WaitsBeyond (g.G.Graph.dependencies l.graph) l.taken.items 0 w;
+  beyond : (w : ℕ) → w < l.u → WaitsBeyond (g.G.Graph.dependencies l.graph) l.eliminated.items 0 w;
 }

@@ -4,10 +4,10 @@ use Rattle.kc_system.proofs.elimination.eliminate_reachable.Given as goal
 
 abbrev pub invariant-loop-i : goal.invariant-loop-i
 invariant-loop-i g l = record {
-  within : l.i ≤ length l.taken.items;
-  taking : Eliminating (g.G.Graph.size l.graph) (g.G.Graph.dependencies l.graph) l.taken.items l.flags;
+  within : l.i ≤ length l.eliminated.items;
+  eliminating : Eliminating (g.G.Graph.size l.graph) (g.G.Graph.dependencies l.graph) l.eliminated.items l.flags;
   passed : Passed (g.G.Graph.size l.graph) (g.G.Graph.dependencies l.graph) l.flags l.next;
-  beyond : (u : ℕ) → u < g.G.Graph.size l.graph → WaitsBeyond (g.G.Graph.dependencies l.graph) l.taken.items l.i u;
+  beyond : (u : ℕ) → u < g.G.Graph.size l.graph → WaitsBeyond (g.G.Graph.dependencies l.graph) l.eliminated.items l.i u;
 }
 
 abbrev pub decreases-loop-i : goal.decreases-loop-i

@@ -10,20 +10,20 @@ loop-u-preserved g c =
     let dependencies = g.G.Graph.dependencies c.args.graph.now in
     let i = c.loop-u.u-index in
     let u = get_or c.args.units.now i 0 in
-    let start = c.args.taken.now.items in
-    let mid = c.loop-u.taken.items in
-    let new = c.eliminate_if_ready.new.taken.items in
+    let start = c.args.eliminated.now.items in
+    let mid = c.loop-u.eliminated.items in
+    let new = c.eliminate_if_ready.new.eliminated.items in
     let was = c.loop-u.invariant in
     let now = c.in_ok-eliminate_if_ready.ensures in
     let more = take_more c.args.units.now i 0 c.loop-u-test.true in
     record {
       within = omega arith;
-      taking = now.taking;
+      eliminating = now.eliminating;
       passed = now.passed;
       grows = λ k w e. now.grows k w (was.grows k w e);
       beyond = λ w has. elim (Contains-push_cases (take i c.args.units.now) u w (rw more at has)) [
         | inl earlier ↦ still_beyond dependencies mid new (length start) w (grows_length start mid was.grows) now.grows (was.beyond w earlier)
-        | inr here ↦ rw (← here) (waits_beyond (g.G.Graph.size c.args.graph.now) dependencies c.eliminate_if_ready.new.flags new (length start) u now.taking now.waits)
+        | inr here ↦ rw (← here) (waits_beyond (g.G.Graph.size c.args.graph.now) dependencies c.eliminate_if_ready.new.flags new (length start) u now.eliminating now.waits)
       ];
     }
 
@@ -44,5 +44,5 @@ loop-u-init g c = grind (arith, common_steps)
 pub returns-clause-passed : goal.returns-clause-passed
 returns-clause-passed g c = grind (arith, elements)
 
-pub returns-clause-taking : goal.returns-clause-taking
-returns-clause-taking g c = grind (arith, common_steps)
+pub returns-clause-eliminating : goal.returns-clause-eliminating
+returns-clause-eliminating g c = grind (arith, common_steps)

@@ -6,8 +6,8 @@ use Rattle.kc_system.proofs.elimination.eliminate_ready.Given as goal
 abbrev pub invariant-loop-u : goal.invariant-loop-u
 invariant-loop-u g l = record {
   within : l.u-index ≤ length l.units;
-  taking : Eliminating (g.G.Graph.size l.graph) (g.G.Graph.dependencies l.graph) l.taken.items l.flags;
+  eliminating : Eliminating (g.G.Graph.size l.graph) (g.G.Graph.dependencies l.graph) l.eliminated.items l.flags;
   passed : Passed (g.G.Graph.size l.graph) (g.G.Graph.dependencies l.graph) l.flags l.next;
-  grows : Grows l.initial.taken.items l.taken.items;
-  beyond : (u : ℕ) → Contains (take l.u-index l.units) u → WaitsBeyond (g.G.Graph.dependencies l.graph) l.taken.items (length l.initial.taken.items) u;
+  grows : Grows l.initial.eliminated.items l.eliminated.items;
+  beyond : (u : ℕ) → Contains (take l.u-index l.units) u → WaitsBeyond (g.G.Graph.dependencies l.graph) l.eliminated.items (length l.initial.eliminated.items) u;
 }

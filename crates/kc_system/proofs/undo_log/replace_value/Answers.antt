@@ -8,5 +8,5 @@ returns-clause-written c = grind (arith, common_steps)
 pub offset_bounds-values-u : goal.offset_bounds-values-u
 offset_bounds-values-u c = grind (arith, common_steps)
 
-pub returns-clause-taken : goal.returns-clause-taken
-returns-clause-taken c = grind (arith, elements)
+pub returns-clause-replaced : goal.returns-clause-replaced
+returns-clause-replaced c = grind (arith, elements)

@@ -26,12 +26,12 @@ revalue-requires-clause-users g c =
 pub revalue-requires-clause-places : goal.revalue-requires-clause-places
 revalue-requires-clause-places g c =
     within (g.S.Graph.size c.args.plan.now.system.now) (g.S.Graph.dependencies c.args.plan.now.system.now) c.args.plan.now.order.now c.args.plan.now.places.items c.requires.plan.ordered c.requires.plan.places_are
-    c.args.users.now c.write_changes.new.users (is_pending c.write_changes.new.pending) c.in-Ok.ensures.tells
+    c.args.users.now c.write_changes.new.users (is_pending c.write_changes.new.pending) c.in-Ok.ensures.lists
 
 pub revalue-requires-clause-holds : goal.revalue-requires-clause-holds
 revalue-requires-clause-holds g c =
     still_holds (g.S.Graph.size c.args.plan.now.system.now) (g.S.Graph.dependencies c.args.plan.now.system.now) c.args.plan.now.order.now c.args.plan.now.places.items c.requires.plan.ordered c.requires.plan.places_are
-    c.args.users.now c.write_changes.new.users (is_pending c.write_changes.new.pending) c.in-Ok.ensures.tells (g.S.System.rule c.args.plan.now.system.now) (decided _ g.met.S.System.equal_users) c.args.values.now c.requires.solves
+    c.args.users.now c.write_changes.new.users (is_pending c.write_changes.new.pending) c.in-Ok.ensures.lists (g.S.System.rule c.args.plan.now.system.now) (decided _ g.met.S.System.equal_users) c.args.values.now c.requires.solves
 
 pub returns-in-Ok-revalue-clause-evaluated : goal.returns-in-Ok-revalue-clause-evaluated
 returns-in-Ok-revalue-clause-evaluated g c =
@@ -44,7 +44,7 @@ returns-in-Ok-revalue-clause-evaluated g c =
     let old = c.args.values.now in
     let new = c.revalue.new.values in
     count_same size (IsDue dependencies order pending old new) (IsTouched dependencies before after old new) c.in-Ok-revalue.report.evaluated
-    (due_touched size dependencies order c.args.plan.now.places.items c.requires.plan.ordered c.requires.plan.places_are before after pending c.in-Ok.ensures.tells old new)
+    (due_touched size dependencies order c.args.plan.now.places.items c.requires.plan.ordered c.requires.plan.places_are before after pending c.in-Ok.ensures.lists old new)
     c.in-Ok-revalue.ensures.evaluated
 
 pub returns-in-Ok-revalue-clause-fits_users : goal.returns-in-Ok-revalue-clause-fits_users

@@ -26,9 +26,6 @@ returns-clause-users g c = c.in_ok-write_users.ensures.users
 pub returns-clause-undo : goal.returns-clause-undo
 returns-clause-undo g c = c.write_users.ensures.undo
 
-pub returns-clause-size : goal.returns-clause-size
-returns-clause-size g c = c.mark_changed.ensures.size
-
 pub write_users-requires-clause-nothing : goal.write_users-requires-clause-nothing
 write_users-requires-clause-nothing g c = c.requires.nothing
 
@@ -40,10 +37,10 @@ mark_changed-requires-clause-units g c = λ k u x e.
     let undo = c.in_ok-write_users.ensures.undo in
     omega (arith, undo.units k u x (sym (ap (λ log. slice_get log k) c.deref.ensures.value) ∙ e), undo.one_each)
 
-pub returns-clause-tells : goal.returns-clause-tells
-returns-clause-tells g c =
-    let tells = c.mark_changed.ensures.tells in
-    rw (c.deref-2.ensures.value, c.deref.ensures.value, c.in_ok-write_users.ensures.undo.back) at tells
+pub returns-clause-lists : goal.returns-clause-lists
+returns-clause-lists g c =
+    let lists = c.mark_changed.ensures.lists in
+    rw (c.deref-2.ensures.value, c.deref.ensures.value, c.in_ok-write_users.ensures.undo.back) at lists
 
 pub returns-clause-err : goal.returns-clause-err
 returns-clause-err g c = tt

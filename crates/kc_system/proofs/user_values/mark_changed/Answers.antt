@@ -6,14 +6,14 @@ use Rattle.std.proofs.lemmas.Option.{slice_get_read, slice_get-get_or}
 use Rattle.kc_system.specs.checker.Logs.{undone}
 use Rattle.kc_system.specs.checker.Pending.{is_pending}
 use Rattle.kc_system.specs.Solutions.{user_of}
-use Rattle.kc_system.proofs.UserChanges.{tells_back, tells_none, length-undone}
+use Rattle.kc_system.proofs.UserChanges.{lists_back, lists_none, length-undone}
 use Rattle.kc_system.proofs.user_values.mark_changed.Goals as goal
 
 pub loop-i-init : goal.loop-i-init
 loop-i-init g c = record {
   within = omega arith;
   size = refl;
-  tells = rw (drop-length c.args.log.now) (tells_none c.args.places.now c.args.users.now (is_pending c.args.pending.now) c.requires.none);
+  lists = rw (drop-length c.args.log.now) (lists_none c.args.places.now c.args.users.now (is_pending c.args.pending.now) c.requires.none);
 }
 
 pub mark_if_changed-requires : goal.mark_if_changed-requires
@@ -59,17 +59,17 @@ loop-i-preserved g c =
     let place = slice_get-get_or places entry.0 0 (omega (arith, inside, c.requires.places)) in
     let so = c.mark_if_changed.ensures.here in
     let here : (is_pending c.mark_if_changed.new.pending (get_or places entry.0 0) ≡ true) ↔ (entry.1 ≢ user_of users entry.0) = (λ m e. so.0 m (e ∙ sym user), λ ne. so.1 (λ e. ne (e ∙ user))) in
-    let step = tells_back places users rest (is_pending c.loop-i.pending) (is_pending c.mark_if_changed.new.pending) entry.0 (get_or places entry.0 0) entry.1 (omega (arith, inside, length-undone (drop c.loop-i.i log) users)) place c.requires.once here c.mark_if_changed.ensures.others c.loop-i.invariant.tells in
+    let step = lists_back places users rest (is_pending c.loop-i.pending) (is_pending c.mark_if_changed.new.pending) entry.0 (get_or places entry.0 0) entry.1 (omega (arith, inside, length-undone (drop c.loop-i.i log) users)) place c.requires.once here c.mark_if_changed.ensures.others c.loop-i.invariant.lists in
     record {
       within = omega (arith, c.loop-i.invariant.within);
       size = c.mark_if_changed.ensures.size ∙ c.loop-i.invariant.size;
-      tells = rw first step;
+      lists = rw first step;
     }
 
-pub returns-clause-tells : goal.returns-clause-tells
-returns-clause-tells g c =
+pub returns-clause-lists : goal.returns-clause-lists
+returns-clause-lists g c =
     let done : c.loop-i.i ≡ 0 = omega arith in
-    rw done at c.loop-i.invariant.tells
+    rw done at c.loop-i.invariant.lists
 
 pub returns-clause-size : goal.returns-clause-size
 returns-clause-size g c = grind (arith, common_steps)

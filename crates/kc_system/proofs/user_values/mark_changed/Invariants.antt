@@ -7,7 +7,7 @@ abbrev pub invariant-loop-i : goal.invariant-loop-i
 invariant-loop-i g l = record {
   within : l.i ≤ length l.log;
   size : l.pending.size ≡ l.initial.pending.size;
-  tells : ListsChanged l.places l.users (undone (drop l.i l.log) l.users) (is_pending l.pending);
+  lists : ListsChanged l.places l.users (undone (drop l.i l.log) l.users) (is_pending l.pending);
 }
 
 abbrev pub decreases-loop-i : goal.decreases-loop-i

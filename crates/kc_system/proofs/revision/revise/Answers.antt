@@ -1,0 +1,127 @@
+use Rattle.std.proofs.Common.{refl, ◌∙◌, ap, arith}
+use Rattle.std.proofs.lemmas.Grind.{common_steps, elements}
+use Rattle.std.proofs.lemmas.Option.{slice_get-get_or}
+use Rattle.kc_system.specs.checker.Logs.{logged_units}
+use Rattle.kc_system.specs.checker.Pending.{is_pending}
+use Rattle.kc_system.proofs.Lists.{decided}
+use Rattle.kc_system.proofs.Sets.{emptied}
+use Rattle.kc_system.proofs.Undo.{undoes_none}
+use Rattle.kc_system.proofs.Revisions.{begun_with, revised_one, room, ended}
+use Rattle.kc_system.proofs.revision.revise.Goals as goal
+
+pub loop-place-init : goal.loop-place-init
+loop-place-init g c = record {
+  fits = c.requires.fits;
+  undo = undoes_none c.args.log.now.items c.args.values.now c.requires.nothing;
+  steps = omega (arith, g.met.S.System.counts c.args.meter.now);
+  size = refl;
+  revising = begun_with (g.S.Graph.size c.args.plan.now.system.now) (g.S.Graph.dependencies c.args.plan.now.system.now) (g.S.System.rule c.args.plan.now.system.now) (g.S.System.fits_user c.args.plan.now.system.now) c.args.plan.now.order.now c.args.plan.now.places.items
+      c.requires.plan.ordered c.requires.plan.places_are (g.met.S.System.frame c.args.plan.now.system.now) (decided _ g.met.S.System.equal_values) c.args.users.now c.requires.users.1 (is_pending c.args.pending.now) c.args.values.now
+      (logged_units c.args.log.now.items) (ap logged_units c.requires.nothing) c.requires.fits.0 c.requires.places;
+}
+
+pub revise_unit-requires-clause-unit : goal.revise_unit-requires-clause-unit
+revise_unit-requires-clause-unit g c =
+    let place = c.in-Some.place in
+    let least = c.in-Some.ensures.takes in
+    c.requires.plan.ordered.units place _ (slice_get-get_or c.args.plan.now.order.now place 0 (c.loop-place.invariant.revising.ahead place least.member).1)
+
+pub overflow_add-evaluated : goal.overflow_add-evaluated
+overflow_add-evaluated g c =
+    let place = c.in-Some.place in
+    let was = c.loop-place.invariant in
+    let least = c.in-Some.ensures.takes in
+    let at = slice_get-get_or c.args.plan.now.order.now place 0 (was.revising.ahead place least.member).1 in
+    let more = room (g.S.Graph.size c.args.plan.now.system.now) (g.S.Graph.dependencies c.args.plan.now.system.now) (g.S.System.rule c.args.plan.now.system.now) (g.S.System.fits_user c.args.plan.now.system.now) c.args.plan.now.order.now c.args.plan.now.places.items
+    c.requires.plan.ordered c.requires.plan.places_are (g.met.S.System.frame c.args.plan.now.system.now) (decided _ g.met.S.System.equal_values) c.args.users.now c.requires.users.1 (is_pending c.args.pending.now) c.args.values.now
+    c.loop-place.values (is_pending c.loop-place.pending) (logged_units c.loop-place.log.items) c.loop-place.evaluated place _ least.member at was.revising in
+    let places = c.args.plan.now.places in
+    omega (arith, more, places.ok.0, places.small, c.requires.plan.places_are.one_each)
+
+pub loop-place-smaller : goal.loop-place-smaller
+loop-place-smaller g c =
+    let place = c.in-Some.place in
+    let was = c.loop-place.invariant in
+    let least = c.in-Some.ensures.takes in
+    let at = slice_get-get_or c.args.plan.now.order.now place 0 (was.revising.ahead place least.member).1 in
+    let more = room (g.S.Graph.size c.args.plan.now.system.now) (g.S.Graph.dependencies c.args.plan.now.system.now) (g.S.System.rule c.args.plan.now.system.now) (g.S.System.fits_user c.args.plan.now.system.now) c.args.plan.now.order.now c.args.plan.now.places.items
+    c.requires.plan.ordered c.requires.plan.places_are (g.met.S.System.frame c.args.plan.now.system.now) (decided _ g.met.S.System.equal_values) c.args.users.now c.requires.users.1 (is_pending c.args.pending.now) c.args.values.now
+    c.loop-place.values (is_pending c.loop-place.pending) (logged_units c.loop-place.log.items) c.loop-place.evaluated place _ least.member at was.revising in
+    omega (arith, more)
+
+pub loop-place-preserved : goal.loop-place-preserved
+loop-place-preserved g c =
+    let place = c.in-Some.place in
+    let was = c.loop-place.invariant in
+    let now = c.in_ok-revise_unit.ensures in
+    let least = c.in-Some.ensures.takes in
+    let at = slice_get-get_or c.args.plan.now.order.now place 0 (was.revising.ahead place least.member).1 in
+    record {
+      fits = now.fits;
+      undo = now.undo c.args.values.now was.undo;
+      steps = omega (arith, now.step, was.steps);
+      size = now.size ∙ c.pop_first.ensures.size ∙ was.size;
+      revising = revised_one (g.S.Graph.size c.args.plan.now.system.now) (g.S.Graph.dependencies c.args.plan.now.system.now) (g.S.System.rule c.args.plan.now.system.now) (g.S.System.fits_user c.args.plan.now.system.now) c.args.plan.now.order.now c.args.plan.now.places.items
+          c.requires.plan.ordered c.requires.plan.places_are (g.met.S.System.frame c.args.plan.now.system.now) (decided _ g.met.S.System.equal_values) c.args.users.now c.requires.users.1 (is_pending c.args.pending.now) c.args.values.now
+          c.loop-place.values c.revise_unit.new.values (is_pending c.loop-place.pending) (is_pending c.pop_first.new.self) (is_pending c.revise_unit.new.pending) c.loop-place.log.items c.revise_unit.new.log.items c.loop-place.evaluated place _
+          least.member least.least least.gone least.others at now.revises was.revising;
+    }
+
+pub returns-clause-solves : goal.returns-clause-solves
+returns-clause-solves g c =
+    let none = emptied (is_pending c.loop-place.pending) (λ k. (c.in_default.ensures.takes k).0) in
+    (ended (g.S.Graph.size c.args.plan.now.system.now) (g.S.Graph.dependencies c.args.plan.now.system.now) (g.S.System.rule c.args.plan.now.system.now) (g.S.System.fits_user c.args.plan.now.system.now) c.args.plan.now.order.now c.args.plan.now.places.items
+    c.requires.plan.ordered c.requires.plan.places_are (g.met.S.System.frame c.args.plan.now.system.now) (decided _ g.met.S.System.equal_values) c.args.users.now c.requires.users.1 (is_pending c.args.pending.now) c.args.values.now
+    c.loop-place.values (is_pending c.loop-place.pending) (logged_units c.loop-place.log.items) c.loop-place.evaluated c.requires.fits.0 none c.requires.holds c.loop-place.invariant.revising).0
+
+pub returns-clause-evaluated : goal.returns-clause-evaluated
+returns-clause-evaluated g c =
+    let none = emptied (is_pending c.loop-place.pending) (λ k. (c.in_default.ensures.takes k).0) in
+    (ended (g.S.Graph.size c.args.plan.now.system.now) (g.S.Graph.dependencies c.args.plan.now.system.now) (g.S.System.rule c.args.plan.now.system.now) (g.S.System.fits_user c.args.plan.now.system.now) c.args.plan.now.order.now c.args.plan.now.places.items
+    c.requires.plan.ordered c.requires.plan.places_are (g.met.S.System.frame c.args.plan.now.system.now) (decided _ g.met.S.System.equal_values) c.args.users.now c.requires.users.1 (is_pending c.args.pending.now) c.args.values.now
+    c.loop-place.values (is_pending c.loop-place.pending) (logged_units c.loop-place.log.items) c.loop-place.evaluated c.requires.fits.0 none c.requires.holds c.loop-place.invariant.revising).1
+
+pub bounds-order-place : goal.bounds-order-place
+bounds-order-place g c = (c.loop-place.invariant.revising.ahead c.in-Some.place c.in-Some.ensures.takes.member).1
+
+pub revise_unit-requires-clause-plan : goal.revise_unit-requires-clause-plan
+revise_unit-requires-clause-plan g c = c.requires.plan
+
+pub revise_unit-requires-clause-users : goal.revise_unit-requires-clause-users
+revise_unit-requires-clause-users g c = c.requires.users
+
+pub revise_unit-requires-clause-values : goal.revise_unit-requires-clause-values
+revise_unit-requires-clause-values g c = c.loop-place.invariant.fits
+
+pub revise_unit-requires-clause-size : goal.revise_unit-requires-clause-size
+revise_unit-requires-clause-size g c = c.pop_first.ensures.size ∙ c.loop-place.invariant.size ∙ c.requires.size
+
+pub returns-in_err-revise_unit-clause-size : goal.returns-in_err-revise_unit-clause-size
+returns-in_err-revise_unit-clause-size g c = c.revise_unit.ensures.size ∙ c.pop_first.ensures.size ∙ c.loop-place.invariant.size
+
+pub returns-in_err-revise_unit-clause-undo : goal.returns-in_err-revise_unit-clause-undo
+returns-in_err-revise_unit-clause-undo g c = c.revise_unit.ensures.undo c.args.values.now c.loop-place.invariant.undo
+
+pub returns-clause-size : goal.returns-clause-size
+returns-clause-size g c = c.pop_first.ensures.size ∙ c.loop-place.invariant.size
+
+pub returns-clause-done : goal.returns-clause-done
+returns-clause-done g c = λ k. (c.in_default.ensures.takes k).1
+
+pub returns-clause-fits : goal.returns-clause-fits
+returns-clause-fits g c = c.loop-place.invariant.fits
+
+pub returns-clause-undo : goal.returns-clause-undo
+returns-clause-undo g c = c.loop-place.invariant.undo
+
+pub returns-clause-steps : goal.returns-clause-steps
+returns-clause-steps g c = c.loop-place.invariant.steps
+
+pub offset_bounds-order-place : goal.offset_bounds-order-place
+offset_bounds-order-place g c = grind (arith, common_steps)
+
+pub overflow_cast-u : goal.overflow_cast-u
+overflow_cast-u g c = grind (arith, common_steps)
+
+pub returns-clause-logged : goal.returns-clause-logged
+returns-clause-logged g c = grind (arith, elements)

@@ -1,6 +1,0 @@
-ghost use Rattle.kc_system.specs.Dependencies.{AcyclicGraphsHaveOrders};
-
-/// The law that every graph without a cycle has an order. It does nothing: its contract is the law.
-pub fn acyclic_graphs_have_orders()
-    ensures { AcyclicGraphsHaveOrders }
-{}
