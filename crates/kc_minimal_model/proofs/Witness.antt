@@ -22,7 +22,7 @@ use Rattle.kc_value.specs.declared.tri.Tri.TheVariants.{Y}
 use Rattle.kc_dotconfig_model.specs.ConfigLines.{assigns}
 use Rattle.kc_dotconfig_model.specs.ConfigFiles.{file_lines, has_utf8_lines}
 use Rattle.kc_dotconfig_model.specs.LoadFaults.{IsAccepted}
-use Rattle.kc_dotconfig_model.specs.checker.LineMeanings.{line_meaning, file_meanings}
+use Rattle.kc_dotconfig_model.specs.between.LineMeanings.{line_meaning, file_meanings}
 use Rattle.kc_dotconfig_model.proofs.LineLaws.{file_read}
 use Rattle.kc_minimal_model.specs.Headline.{AreComparedByMinimalFiles}
 use Rattle.kc_minimal_model.proofs.Accepting.{accepted_within}
