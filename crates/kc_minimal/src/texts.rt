@@ -37,7 +37,13 @@ pub fn minimal_text(
     ensures values { UniquelySolves (length (tree_in config.now).units) (rule (profile_of config.now.system) (tree_in config.now)) config.now.users config.now.values }
 {
     minimal_texts_are_canonical();
-    minimal_lines(alloc, config.settled(), prefix, config.values())
+    minimal_lines(
+        alloc,
+        config.settled(),
+        prefix,
+        config.users(),
+        config.values(),
+    )
 }
 
 /// The full file of a configuration: its symbols that are visible, have a default or are selected, each at its first
