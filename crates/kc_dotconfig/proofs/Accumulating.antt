@@ -11,7 +11,7 @@ use Rattle.kc_dotconfig.specs.declared.meanings.Meaning.{Meaning}
 use Rattle.kc_dotconfig.specs.declared.meanings.Meaning.TheVariants.{Assigns, Noted, Nothing}
 use Rattle.kc_dotconfig_model.specs.PrefixGrammar.{is_prefix}
 use Rattle.kc_dotconfig_model.specs.ConfigLines.{LineMeaning, Means, IsMalformed, without_white_end}
-use Rattle.kc_dotconfig_model.specs.checker.LineMeanings.{line_meaning}
+use Rattle.kc_dotconfig_model.specs.between.LineMeanings.{line_meaning}
 use Rattle.kc_dotconfig.specs.checker.MeaningViews.{meaning_view, IsWithin}
 use Rattle.kc_dotconfig.specs.checker.Accumulation.{IsGathered}
 use Rattle.kc_dotconfig.proofs.Insertions.{gathers_user, gathers_nothing, gathers_notice}

@@ -7,7 +7,7 @@ use Rattle.std.proofs.lemmas.List.{get_or_append_left}
 use Rattle.std.specs.Option.{option_and_then}
 use Rattle.std.specs.List.{position_or_len, before_first, after_first}
 use Rattle.std.proofs.lemmas.Bool.{eqb-true, eq-eqb, lt-ltb}
-use Rattle.kc_dotconfig_model.specs.checker.LineMeanings.{after_front, split_at_byte, if_named, named_before}
+use Rattle.kc_dotconfig_model.specs.between.LineMeanings.{after_front, split_at_byte, if_named, named_before}
 
 behind_front : (front rest : List ℕ) → after_front front (front ++ rest) ≡ Some rest
 behind_front [] rest = refl

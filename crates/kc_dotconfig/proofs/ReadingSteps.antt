@@ -5,7 +5,7 @@ use Rattle.std.specs.Str.{IsUtf8}
 use Rattle.std.proofs.lemmas.Bool.{and_from, and_parts, eqb-true}
 use Rattle.std.proofs.lemmas.List.{append-nil, take-append-drop, length-take-le}
 use Rattle.std.proofs.lemmas.Grind.{common_steps}
-use Rattle.memchr.specs.Find.{IsFirstByte, is_byte}
+use Rattle.bstr.specs.Find.{IsFirstByte, is_byte}
 use Rattle.kc_tree_model.specs.Trees.{Tree}
 use Rattle.kc_dotconfig_model.specs.declared.fault.LoadKind.{LoadKind}
 use Rattle.kc_dotconfig_model.specs.declared.fault.LoadKind.TheVariants.{Malformed, NotUtf8, LineTooLong, TooManyLines, OutOfMemory, TooLarge}
@@ -14,7 +14,7 @@ use Rattle.kc_dotconfig_model.specs.PrefixGrammar.{lacks}
 use Rattle.kc_dotconfig_model.specs.ConfigLines.{LineMeaning, Means, IsMalformed, without_white_end}
 use Rattle.kc_dotconfig_model.specs.ConfigFiles.{FileMeans}
 use Rattle.kc_dotconfig_model.specs.LoadFaults.{complete, MAX_BYTES, MAX_LINES, MAX_LINE_BYTES, IsFirstFault}
-use Rattle.kc_dotconfig_model.specs.checker.Cutting.{IsSound, IsCut}
+use Rattle.kc_dotconfig_model.specs.between.Cutting.{IsSound, IsCut}
 use Rattle.kc_dotconfig.specs.checker.Accumulation.{IsGathered, Holds, GoesOn, StopsIn, AcceptsBytes, Refuses, EndsWell, EndsBadly}
 use Rattle.kc_dotconfig_model.proofs.FaultsAtCuts.{too_many, too_long, too_large, not_utf8, malformed, held, line_ended, accepted, file_says}
 

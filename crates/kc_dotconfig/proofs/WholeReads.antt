@@ -16,7 +16,7 @@ use Rattle.kc_dotconfig_model.specs.PrefixGrammar.{is_prefix}
 use Rattle.kc_dotconfig.specs.Fragments.{FitsTree, users_of, notice_pair}
 use Rattle.kc_dotconfig.proofs.Fitting.{fragment_fits}
 use Rattle.kc_dotconfig.specs.ReadResults.{MAX_READ, IsReadAs, IsRefused, IsCutShort, ReportsFault}
-use Rattle.kc_dotconfig.specs.checker.Accumulation.{Holds, AcceptsBytes, EndsWell, EndsBadly, IsGathered, IsFragmentOf}
+use Rattle.kc_dotconfig.specs.checker.Accumulation.{fault_line, Holds, AcceptsBytes, EndsWell, EndsBadly, IsGathered, IsFragmentOf}
 use Rattle.kc_dotconfig.specs.checker.Ascending.{Rises, Below}
 use Rattle.kc_dotconfig_model.proofs.FirstFaults.{failed_reads}
 use Rattle.kc_dotconfig_model.proofs.FaultsAtCuts.{clean, told_newlines, nothing_told}
@@ -91,18 +91,21 @@ if_any_err (Ok x) P p = tt
 if_any_err (Err e) P p = p e
 
 -- a fault of a block, or of the end, is that of the file
-pub tells_refused : (prefix : List ℕ) (tree : Tree) (a c : Option (List ℕ)) (f f_after : ℕ) (kind : LoadKind) (number : ℕ) → (kind ≡ OutOfMemory) ⊎ IsRefused prefix tree a c kind number → ReportsFault prefix tree a c f f_after kind number
-tells_refused prefix tree a c f f_after Malformed number h = elim h [ inl e ↦ cc | inr r ↦ r ]
-tells_refused prefix tree a c f f_after NotUtf8 number h = elim h [ inl e ↦ cc | inr r ↦ r ]
-tells_refused prefix tree a c f f_after LineTooLong number h = elim h [ inl e ↦ cc | inr r ↦ r ]
-tells_refused prefix tree a c f f_after TooManyLines number h = elim h [ inl e ↦ cc | inr r ↦ r ]
-tells_refused prefix tree a c f f_after TooLarge number h = elim h [ inl e ↦ cc | inr r ↦ r ]
-tells_refused prefix tree a c f f_after Read number h = elim h [ inl e ↦ cc | inr r ↦ elim r.first [ inl whole ↦ absurd whole.1.comes | inr any ↦ absurd (any []).comes ] ]
-tells_refused prefix tree a c f f_after OutOfMemory number h = tt
+pub tells_refused : (prefix : List ℕ) (tree : Tree) (a c : Option (List ℕ)) (f f_after : ℕ) (kind : LoadKind) (number : ℕ) → ((kind ≡ OutOfMemory) × (number ≡ 0)) ⊎ IsRefused prefix tree a c kind number → ReportsFault prefix tree a c f f_after kind number
+tells_refused prefix tree a c f f_after Malformed number h = elim h [ inl e ↦ (let other = e.0 in cc) | inr r ↦ r ]
+tells_refused prefix tree a c f f_after NotUtf8 number h = elim h [ inl e ↦ (let other = e.0 in cc) | inr r ↦ r ]
+tells_refused prefix tree a c f f_after LineTooLong number h = elim h [ inl e ↦ (let other = e.0 in cc) | inr r ↦ r ]
+tells_refused prefix tree a c f f_after TooManyLines number h = elim h [ inl e ↦ (let other = e.0 in cc) | inr r ↦ r ]
+tells_refused prefix tree a c f f_after TooLarge number h = elim h [ inl e ↦ (let other = e.0 in cc) | inr r ↦ r ]
+tells_refused prefix tree a c f f_after Read number h = elim h [ inl e ↦ (let other = e.0 in cc) | inr r ↦ elim r.first [ inl whole ↦ absurd whole.1.comes | inr any ↦ absurd (any []).comes ] ]
+tells_refused prefix tree a c f f_after OutOfMemory number h = elim h [
+  | inl e ↦ e.1
+  | inr r ↦ elim r.first [ inl whole ↦ absurd whole.1.comes | inr any ↦ absurd (any []).comes ]
+]
 
 pub refused_in : (prefix : List ℕ) (tree : Tree) (a b c : Option (List ℕ)) (line : List ℕ) (g : Accumulator) (size : ℕ) (block : List ℕ) (kind : LoadKind) (number : ℕ) → HasRead prefix tree a b line g size → Consumes b c block → length block ≤ MAX_READ
-    → (kind ≡ OutOfMemory) ⊎ ((told rest : List ℕ) → Holds prefix tree told line g → length told ≡ size → IsFirstFault prefix tree complete (told ++ (block ++ rest)) kind number)
-    → (kind ≡ OutOfMemory) ⊎ IsRefused prefix tree a c kind number
+    → ((kind ≡ OutOfMemory) × (number ≡ 0)) ⊎ ((told rest : List ℕ) → Holds prefix tree told line g → length told ≡ size → IsFirstFault prefix tree complete (told ++ (block ++ rest)) kind number)
+    → ((kind ≡ OutOfMemory) × (number ≡ 0)) ⊎ IsRefused prefix tree a c kind number
 refused_in prefix tree a b c line g size block kind number r consumed short fault = elim fault [
   | inl e ↦ inl e
   | inr first ↦ inr (record {
@@ -117,7 +120,7 @@ refused_in prefix tree a b c line g size block kind number r consumed short faul
 ]
 
 pub refused_at_end : (prefix : List ℕ) (tree : Tree) (a b c : Option (List ℕ)) (line : List ℕ) (g : Accumulator) (size : ℕ) (kind : LoadKind) (number : ℕ) → HasRead prefix tree a b line g size → Consumes b c [] → IsAtEnd c
-    → (kind ≡ OutOfMemory) ⊎ ((told : List ℕ) → Holds prefix tree told line g → IsFirstFault prefix tree complete told kind number) → (kind ≡ OutOfMemory) ⊎ IsRefused prefix tree a c kind number
+    → ((kind ≡ OutOfMemory) × (number ≡ 0)) ⊎ ((told : List ℕ) → Holds prefix tree told line g → IsFirstFault prefix tree complete told kind number) → ((kind ≡ OutOfMemory) × (number ≡ 0)) ⊎ IsRefused prefix tree a c kind number
 refused_at_end prefix tree a b c line g size kind number r consumed end fault = elim fault [
   | inl e ↦ inl e
   | inr first ↦ inr (record {
@@ -142,11 +145,30 @@ read_whole prefix tree a b c line g size f r consumed end whole =
       noted = all.4;
     }
 
-pub fault_of : (prefix : List ℕ) (tree : Tree) (line : List ℕ) (g : Accumulator) (kind k : LoadKind) (lines n : ℕ) → k ≡ kind → n ≡ lines + 1 → (kind ≡ OutOfMemory) ⊎ EndsBadly prefix tree line g kind lines
-    → (k ≡ OutOfMemory) ⊎ ((told : List ℕ) → Holds prefix tree told line g → IsFirstFault prefix tree complete told k n)
+-- a first fault of a complete file is of a line
+fault_has_line : (prefix : List ℕ) (tree : Tree) (bytes : List ℕ) (kind : LoadKind) (number lines : ℕ) → IsFirstFault prefix tree complete bytes kind number → fault_line kind lines ≡ lines + 1
+fault_has_line prefix tree bytes Malformed number lines first = refl
+fault_has_line prefix tree bytes NotUtf8 number lines first = refl
+fault_has_line prefix tree bytes LineTooLong number lines first = refl
+fault_has_line prefix tree bytes TooManyLines number lines first = refl
+fault_has_line prefix tree bytes Read number lines first = refl
+fault_has_line prefix tree bytes OutOfMemory number lines first = absurd first.comes
+fault_has_line prefix tree bytes TooLarge number lines first = refl
+
+-- out of memory has the line 0
+memory_line : (kind : LoadKind) (n lines : ℕ) → n ≡ fault_line kind lines → kind ≡ OutOfMemory → n ≡ 0
+memory_line kind n lines is e = is ∙ ap (λ k. fault_line k lines) e
+
+-- the fault after some complete lines, with its line
+fault_with_line : (prefix : List ℕ) (tree : Tree) (bytes : List ℕ) (kind k : LoadKind) (lines n : ℕ) → k ≡ kind → n ≡ fault_line kind lines → IsFirstFault prefix tree complete bytes kind (lines + 1) → IsFirstFault prefix tree complete bytes k n
+fault_with_line prefix tree bytes kind k lines n same is first =
+    subst (λ m. IsFirstFault prefix tree complete bytes k m) (sym (is ∙ fault_has_line prefix tree bytes kind (lines + 1) lines first)) (subst (λ x. IsFirstFault prefix tree complete bytes x (lines + 1)) (sym same) first)
+
+pub fault_of : (prefix : List ℕ) (tree : Tree) (line : List ℕ) (g : Accumulator) (kind k : LoadKind) (lines n : ℕ) → k ≡ kind → n ≡ fault_line kind lines → (kind ≡ OutOfMemory) ⊎ EndsBadly prefix tree line g kind lines
+    → ((k ≡ OutOfMemory) × (n ≡ 0)) ⊎ ((told : List ℕ) → Holds prefix tree told line g → IsFirstFault prefix tree complete told k n)
 fault_of prefix tree line g kind k lines n same is fault = elim fault [
-  | inl e ↦ inl (same ∙ e)
-  | inr bad ↦ inr (λ told holds. subst (λ m. IsFirstFault prefix tree complete told k m) (sym is) (subst (λ x. IsFirstFault prefix tree complete told x (lines + 1)) (sym same) (bad told holds)))
+  | inl e ↦ inl (same ∙ e, memory_line kind n lines is e)
+  | inr bad ↦ inr (λ told holds. fault_with_line prefix tree told kind k lines n same is (bad told holds))
 ]
 
 pub ends_whole : (prefix : List ℕ) (tree : Tree) (line : List ℕ) (g h : Accumulator) (f : Fragment) → EndsWell prefix tree line g h → (f.assigns.items ≡ h.assigns) × (f.notices.items ≡ h.notices.items) → IsFragmentOf prefix tree line g f
@@ -154,12 +176,12 @@ ends_whole prefix tree line g h f ends same told holds =
     let e = ends told holds in
     (e.0, e.1, e.2, ap (users_of tree) same.0 ∙ e.3.users, ap (map notice_pair) same.1 ∙ e.3.noted, subst Rises (sym same.0) e.3.rises, subst (Below (length tree.units)) (sym same.0) e.3.below)
 
-pub block_fault : (prefix : List ℕ) (tree : Tree) (line : List ℕ) (g : Accumulator) (block : List ℕ) (size : ℕ) (kind k : LoadKind) (lines n : ℕ) → k ≡ kind → n ≡ lines + 1
+pub block_fault : (prefix : List ℕ) (tree : Tree) (line : List ℕ) (g : Accumulator) (block : List ℕ) (size : ℕ) (kind k : LoadKind) (lines n : ℕ) → k ≡ kind → n ≡ fault_line kind lines
     → (kind ≡ OutOfMemory) ⊎ ((told rest : List ℕ) → Holds prefix tree told line g → length told ≡ size → IsFirstFault prefix tree complete (told ++ (block ++ rest)) kind (lines + 1))
-    → (k ≡ OutOfMemory) ⊎ ((told rest : List ℕ) → Holds prefix tree told line g → length told ≡ size → IsFirstFault prefix tree complete (told ++ (block ++ rest)) k n)
+    → ((k ≡ OutOfMemory) × (n ≡ 0)) ⊎ ((told rest : List ℕ) → Holds prefix tree told line g → length told ≡ size → IsFirstFault prefix tree complete (told ++ (block ++ rest)) k n)
 block_fault prefix tree line g block size kind k lines n same is fault = elim fault [
-  | inl e ↦ inl (same ∙ e)
-  | inr bad ↦ inr (λ told rest holds count. subst (λ m. IsFirstFault prefix tree complete (told ++ (block ++ rest)) k m) (sym is) (subst (λ x. IsFirstFault prefix tree complete (told ++ (block ++ rest)) x (lines + 1)) (sym same) (bad told rest holds count)))
+  | inl e ↦ inl (same ∙ e, memory_line kind n lines is e)
+  | inr bad ↦ inr (λ told rest holds count. fault_with_line prefix tree (told ++ (block ++ rest)) kind k lines n same is (bad told rest holds count))
 ]
 
 pub tells_short : (prefix : List ℕ) (tree : Tree) (a c : Option (List ℕ)) (f f_after : ℕ) (k : LoadKind) (n : ℕ) → k ≡ Read → IsCutShort prefix tree a c n → (f < 2 ^ 64 - 1 → f < f_after) → ReportsFault prefix tree a c f f_after k n
@@ -175,7 +197,7 @@ whole_read (Err e) prefix tree a b c line g size count block r none some bytes w
 
 pub end_fault : (r : Result Fragment LoadFault) (prefix : List ℕ) (tree : Tree) (a b c : Option (List ℕ)) (line : List ℕ) (g : Accumulator) (size count : ℕ) (block : List ℕ) (f f_after : ℕ) → HasRead prefix tree a b line g size → count ≡ 0 → 0 < length block
     → Consumes b c (take count block) × (count ≡ 0 → 0 < length block → IsAtEnd c)
-    → IfErr r (λ fault. (fault.kind ≡ OutOfMemory) ⊎ ((told : List ℕ) → Holds prefix tree told line g → IsFirstFault prefix tree complete told fault.kind fault.line))
+    → IfErr r (λ fault. ((fault.kind ≡ OutOfMemory) × (fault.line ≡ 0)) ⊎ ((told : List ℕ) → Holds prefix tree told line g → IsFirstFault prefix tree complete told fault.kind fault.line))
     → IfErr r (λ fault. ReportsFault prefix tree a c f f_after fault.kind fault.line)
 end_fault (Ok x) prefix tree a b c line g size count block f f_after r none some bytes fault = tt
 end_fault (Err e) prefix tree a b c line g size count block f f_after r none some bytes fault =

@@ -41,9 +41,10 @@ pub record IsCutShort (prefix : List ℕ) (tree : Tree) (before after : Option (
   pub consumed : Consumes before after told
   pub first : IsFirstFault prefix tree cut_short told Read number
 
--- what a reported fault implies; for a failed read also that the reader's failures rose from `failed` to `failed_after`
+-- what a reported fault implies; for a failed read also that the reader's failures rose from `failed` to `failed_after`;
+-- out of memory has the line 0
 abbrev pub ReportsFault : List ℕ → Tree → (before after : Option (List ℕ)) → (failed failed_after : ℕ) → LoadKind → ℕ → Type 0
-ReportsFault prefix tree before after failed failed_after OutOfMemory number = Unit {0}
+ReportsFault prefix tree before after failed failed_after OutOfMemory number = number ≡ 0
 ReportsFault prefix tree before after failed failed_after Read number = IsCutShort prefix tree before after number
     × (failed < 2 ^ 64 - 1 → failed < failed_after)
 ReportsFault prefix tree before after failed failed_after Malformed number = IsRefused prefix tree before after Malformed number

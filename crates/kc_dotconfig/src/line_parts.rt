@@ -4,7 +4,7 @@ ghost use Rattle.std.specs.List.{find};
 ghost use Rattle.kc_expr.specs.Token.{is_white_byte};
 ghost use Rattle.kc_dotconfig_model.specs.ConfigLines.{without_white_end};
 ghost use Rattle.kc_dotconfig_model.specs.Prefixes.{prefix_bytes};
-ghost use Rattle.kc_dotconfig_model.specs.checker.LineMeanings.{after_front, named_before, value_parts, unset_name, is_hash};
+ghost use Rattle.kc_dotconfig_model.specs.between.LineMeanings.{after_front, named_before, value_parts, unset_name, is_hash};
 
 use kc_dotconfig_model::Prefix;
 

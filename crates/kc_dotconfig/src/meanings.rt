@@ -6,7 +6,7 @@ ghost use Rattle.kc_value.specs.Number.{number_of_text};
 ghost use Rattle.kc_rules.specs.SettledViews.{tree_of_settled};
 ghost use Rattle.kc_dotconfig_model.specs.ConfigLines.{tri_of_text, unset_meaning, without_white_end};
 ghost use Rattle.kc_dotconfig_model.specs.Prefixes.{prefix_bytes};
-ghost use Rattle.kc_dotconfig_model.specs.checker.LineMeanings.{line_meaning, tri_meaning, string_meaning, number_meaning, meaning_of_kind, value_meaning, unquoted, of_named, of_other};
+ghost use Rattle.kc_dotconfig_model.specs.between.LineMeanings.{line_meaning, tri_meaning, string_meaning, number_meaning, meaning_of_kind, value_meaning, unquoted, of_named, of_other};
 ghost use Rattle.kc_dotconfig.specs.checker.MeaningViews.{meaning_view, IsWithin};
 
 use super::line_parts::{is_comment, trimmed, unset_name, value_parts};

@@ -3,7 +3,7 @@ ghost use Rattle.std.specs.Prelude.{◌≡◌, ◌⊎◌, ◌<◌, ◌≤◌, �
 ghost use Rattle.kc_dotconfig_model.specs.PrefixGrammar.{lacks};
 ghost use Rattle.kc_dotconfig_model.specs.Prefixes.{prefix_bytes};
 ghost use Rattle.kc_dotconfig_model.specs.LoadFaults.{complete, IsFirstFault};
-ghost use Rattle.kc_dotconfig.specs.checker.Accumulation.{Holds, GoesOn, StopsIn, AcceptsBytes, Refuses, EndsWell, EndsBadly, IsFragmentOf};
+ghost use Rattle.kc_dotconfig.specs.checker.Accumulation.{fault_line, Holds, GoesOn, StopsIn, AcceptsBytes, Refuses, EndsWell, EndsBadly, IsFragmentOf};
 ghost use Rattle.kc_dotconfig.specs.Fragments.{FitsTree};
 ghost use Rattle.kc_dotconfig.specs.ReadResults.{IsReadAs, ReportsFault};
 ghost use Rattle.kc_rules.specs.SettledViews.{tree_of_settled};
@@ -12,11 +12,11 @@ use super::accumulate::{empty_accumulator, fragment_of, take_line};
 use super::accumulator::Accumulator;
 use super::fragment::Fragment;
 use super::line_buffer::{LineBuffer, MAX_LINE_BYTES};
+use bstr::ByteSlice;
 use kc_dotconfig_model::{LoadFault, LoadKind, Prefix};
 use kc_rules::Settled;
 use kc_value::Source;
-use memchr::memchr;
-use std::alloc::Global;
+use std::alloc::{AllocError, Global};
 
 /// The most bytes of a configuration file.
 const MAX_BYTES: usize = 67_108_864;
@@ -88,7 +88,7 @@ fn take_bytes(
     ensures few { gathered.new.lines ≤ MAX_LINES }
 {
     let mut rest = bytes;
-    while let Some(at) = memchr(b'\n', rest) {
+    while let Some(at) = rest.find_byte(b'\n') {
         take_ended(alloc, settled, prefix, cutter, gathered, &rest[..at])?;
         rest = &rest[at + 1..];
     }
@@ -139,16 +139,17 @@ fn take_end(
     take_line(alloc, settled, prefix, gathered, cutter.line())
 }
 
-/// A fault on the line after the complete ones.
+/// A fault on the line after the complete ones; out of memory is of no line, and has the line 0.
 fn fault_on_next_line(lines: u32, kind: LoadKind) -> LoadFault
     requires { lines ≤ MAX_LINES }
-    ensures line { result.line ≡ lines + 1 }
+    ensures line { result.line ≡ fault_line kind lines }
     ensures kind { result.kind ≡ kind }
 {
-    LoadFault {
-        line: lines + 1,
-        kind,
-    }
+    let line = match kind {
+        LoadKind::OutOfMemory => 0,
+        _ => lines + 1,
+    };
+    LoadFault { line, kind }
 }
 
 /// The meaning of a file that ends here.
@@ -162,27 +163,27 @@ fn finish(
     requires few { gathered.lines ≤ MAX_LINES }
     requires room { (cutter.now ≡ []) ⊎ (gathered.lines < MAX_LINES) }
     ensures ok { IfOk result (λ f. IsFragmentOf (prefix_bytes prefix.now) (tree_of_settled settled.now) cutter.now gathered f) }
-    ensures err { IfErr result (λ fault. (fault.kind ≡ LoadKind.OutOfMemory) ⊎ ((told : List ℕ) → Holds (prefix_bytes prefix.now) (tree_of_settled settled.now) told cutter.now gathered → IsFirstFault (prefix_bytes prefix.now) (tree_of_settled settled.now) complete told fault.kind fault.line)) }
+    ensures err { IfErr result (λ fault. ((fault.kind ≡ LoadKind.OutOfMemory) × (fault.line ≡ 0)) ⊎ ((told : List ℕ) → Holds (prefix_bytes prefix.now) (tree_of_settled settled.now) told cutter.now gathered → IsFirstFault (prefix_bytes prefix.now) (tree_of_settled settled.now) complete told fault.kind fault.line)) }
 {
     if let Err(kind) = take_end(alloc, settled, prefix, cutter, &mut gathered) {
         return Err(fault_on_next_line(gathered.lines, kind));
     }
-    let fault = fault_on_next_line(gathered.lines, LoadKind::OutOfMemory);
+    let lines = gathered.lines;
     match fragment_of(gathered) {
         Ok(fragment) => Ok(fragment),
-        Err(_) => Err(fault),
+        Err(AllocError) => Err(fault_on_next_line(lines, LoadKind::OutOfMemory)),
     }
 }
 
-/// Reads a configuration file to its end, at most 4,096 bytes at once, of which it keeps one line. Answers what the file
+/// Reads a configuration file to its end, at most 4,096 bytes at once, of which it keeps one line. Returns what the file
 /// assigns with its notices, exactly where it has no fault, whatever pieces the reader gives.
 ///
-/// Else it answers the first fault with its line, and stops at the piece that has it: `TooLarge` at the first byte past
+/// Else it returns the first fault with its line, and stops at the piece that has it: `TooLarge` at the first byte past
 /// 67,108,864, `TooManyLines` at the first byte of line 1,048,577, `LineTooLong` at the first byte of a line past 65,536,
 /// `NotUtf8` and `Malformed` at a line's end, `Read` where the reader failed after lines without a fault. Then no file
-/// that begins with the bytes read is accepted, but where the file ends there or a read failed. `OutOfMemory` is want of
-/// memory, and says nothing of the file. A refused reader is left at an unstated place. The first read that fails ends the
-/// reading: none is made again.
+/// that begins with the bytes read is accepted, but where the file ends there or a read failed. `OutOfMemory` has the
+/// line 0, and says nothing of the file. A refused reader is left at an unstated place. At most one read fails: the
+/// first that does ends the reading.
 pub fn read_config<R: Source>(
     alloc: Global,
     settled: &Settled,

@@ -10,7 +10,7 @@ use Rattle.kc_dotconfig_model.specs.PrefixGrammar.{lacks}
 use Rattle.kc_dotconfig_model.specs.ConfigLines.{LineMeaning, IsMalformed, without_white_end}
 use Rattle.kc_dotconfig_model.specs.ConfigFiles.{file_lines, FileMeans}
 use Rattle.kc_dotconfig_model.specs.LoadFaults.{IsLineAt, newlines}
-use Rattle.kc_dotconfig_model.specs.checker.LineMeanings.{line_meaning, with_rest, meanings_of_lines, file_meanings}
+use Rattle.kc_dotconfig_model.specs.between.LineMeanings.{line_meaning, with_rest, meanings_of_lines, file_meanings}
 use Rattle.kc_dotconfig_model.specs.FileLaws.{AcceptedFilesAreRead}
 use Rattle.kc_dotconfig_model.proofs.LineLaws.{line_read, file_read}
 

@@ -14,7 +14,7 @@ use Rattle.kc_dotconfig_model.specs.PrefixGrammar.{lacks, is_prefix}
 use Rattle.kc_dotconfig_model.specs.ConfigLines.{LineMeaning, Means, IsMalformed, without_white_end}
 use Rattle.kc_dotconfig_model.specs.ConfigFiles.{file_lines, has_utf8_lines}
 use Rattle.kc_dotconfig_model.specs.FileLaws.{IsGoodLine, AcceptedFilesHaveGoodLines}
-use Rattle.kc_dotconfig_model.specs.checker.LineMeanings.{line_meaning}
+use Rattle.kc_dotconfig_model.specs.between.LineMeanings.{line_meaning}
 use Rattle.kc_dotconfig_model.proofs.LineLaws.{line_read}
 use Rattle.kc_dotconfig_model.proofs.AcceptedFiles.{placed}
 use Rattle.kc_dotconfig_model.specs.LoadFaults.{IsLineAt, newlines, IsAccepted, MAX_BYTES, MAX_LINES, MAX_LINE_BYTES}

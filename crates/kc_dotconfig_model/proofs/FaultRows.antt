@@ -11,8 +11,8 @@ use Rattle.kc_dotconfig_model.specs.declared.fault.LoadKind.TheVariants.{Malform
 use Rattle.kc_dotconfig_model.specs.PrefixGrammar.{lacks}
 use Rattle.kc_dotconfig_model.specs.ConfigLines.{LineMeaning, assigns}
 use Rattle.kc_dotconfig_model.specs.LoadFaults.{complete, cut_short, IsFirstFault, IsAccepted}
-use Rattle.kc_dotconfig_model.specs.checker.LineMeanings.{line_meaning}
-use Rattle.kc_dotconfig_model.specs.checker.Cutting.{IsSound, IsCut}
+use Rattle.kc_dotconfig_model.specs.between.LineMeanings.{line_meaning}
+use Rattle.kc_dotconfig_model.specs.between.Cutting.{IsSound, IsCut}
 use Rattle.kc_dotconfig_model.proofs.LineLaws.{line_read}
 use Rattle.kc_dotconfig_model.proofs.TrimmedLines.{low_utf8}
 use Rattle.kc_dotconfig_model.proofs.FirstFaults.{failed_reads}

@@ -12,7 +12,7 @@ use Rattle.kc_dotconfig_model.specs.declared.notice.NoticeKind.{NoticeKind}
 use Rattle.kc_dotconfig_model.specs.declared.notice.NoticeKind.TheVariants.{UnknownSymbol, NotOfType}
 use Rattle.kc_dotconfig_model.specs.ConfigLines.{LineMeaning, assigns, notice, silent}
 use Rattle.kc_dotconfig_model.specs.ConfigFiles.{file_assignment, assigned_over, overlay, notices_from}
-use Rattle.kc_dotconfig_model.specs.checker.LineMeanings.{line_meaning, file_meanings}
+use Rattle.kc_dotconfig_model.specs.between.LineMeanings.{line_meaning, file_meanings}
 
 -- a file's assignment and its notices, if no line is malformed
 abbrev read : List ℕ → Tree → List ℕ → Option (List (Option UserValue) × List (ℕ × NoticeKind))

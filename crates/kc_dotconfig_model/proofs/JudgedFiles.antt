@@ -11,8 +11,8 @@ use Rattle.kc_dotconfig_model.specs.PrefixGrammar.{is_prefix, lacks}
 use Rattle.kc_dotconfig_model.specs.ConfigLines.{LineMeaning, without_white_end}
 use Rattle.kc_dotconfig_model.specs.LoadFaults.{complete, cut_short, newlines, OccursAt, IsFirstFault, IsAccepted, MAX_BYTES, MAX_LINES, MAX_LINE_BYTES}
 use Rattle.kc_dotconfig_model.specs.FileLaws.{EachFileIsJudged, EachCutFileIsJudged}
-use Rattle.kc_dotconfig_model.specs.checker.LineMeanings.{line_meaning}
-use Rattle.kc_dotconfig_model.specs.checker.Cutting.{IsSound, IsCut}
+use Rattle.kc_dotconfig_model.specs.between.LineMeanings.{line_meaning}
+use Rattle.kc_dotconfig_model.specs.between.Cutting.{IsSound, IsCut}
 use Rattle.kc_dotconfig_model.proofs.LineLaws.{line_read}
 use Rattle.kc_dotconfig_model.proofs.FirstFaults.{failed_reads}
 use Rattle.kc_dotconfig_model.proofs.FaultsAtCuts.{AtEnd, too_large, too_many, too_long, not_utf8, malformed, accepted, held, line_ended, nothing_told}

@@ -6,7 +6,7 @@ use Rattle.std.proofs.lemmas.Bool.{eqb-true, eq-eqb, and_parts, and_from, not-tr
 use Rattle.std.proofs.lemmas.Slice.Eq.{bytes_eq-Decides}
 use Rattle.kc_dotconfig_model.specs.PrefixGrammar.{lacks}
 use Rattle.kc_dotconfig_model.specs.ConfigLines.{IsValueLine, IsUnsetLine}
-use Rattle.kc_dotconfig_model.specs.checker.LineMeanings.{after_front, split_at_byte, if_named, named_before, value_parts, if_not_set, unset_name}
+use Rattle.kc_dotconfig_model.specs.between.LineMeanings.{after_front, split_at_byte, if_named, named_before, value_parts, if_not_set, unset_name}
 
 behind_is : (front text rest : List ℕ) → after_front front text ≡ Some rest → text ≡ front ++ rest
 behind_is [] text rest e = cc

@@ -16,7 +16,7 @@ use Rattle.kc_value.specs.Kinds.{is_tri_kind}
 use Rattle.kc_value.specs.Number.{number_of_text}
 use Rattle.kc_dotconfig_model.specs.declared.notice.NoticeKind.TheVariants.{NotOfType}
 use Rattle.kc_dotconfig_model.specs.ConfigLines.{LineMeaning, assigns, notice, silent, tri_of_text, ValueMeans, tri, chosen, not_chosen, quoted, number, no_int, no_hex, no_tri, no_text, no_number}
-use Rattle.kc_dotconfig_model.specs.checker.LineMeanings.{ended, unquoted_rest, unquoted, tri_meaning, string_meaning, without_number, number_meaning, meaning_of_kind, value_meaning}
+use Rattle.kc_dotconfig_model.specs.between.LineMeanings.{ended, unquoted_rest, unquoted, tri_meaning, string_meaning, without_number, number_meaning, meaning_of_kind, value_meaning}
 
 -- what is read after an opening quote is a body and a closing quote
 record IsRest (rest means : List ℕ) : Type 0 where

@@ -3,6 +3,7 @@ pub mod Prefixes
 pub mod ConfigLines
 pub mod ConfigFiles
 pub mod LoadFaults
+pub mod KindNames
 pub mod Missed
 pub mod FileLaws
-pub mod checker
+pub mod between

@@ -1,5 +1,5 @@
 //! Laws of lines and files.
-ghost use Rattle.kc_dotconfig_model.specs.checker.LineMeaningLaws.{LinesAreRead, FilesAreRead};
+ghost use Rattle.kc_dotconfig_model.specs.between.LineMeaningLaws.{LinesAreRead, FilesAreRead};
 ghost use Rattle.kc_dotconfig_model.specs.FileLaws.{LinesHaveOneMeaning, FilesHaveOneMeaning, FilesLieOverAssignments, FilesFit, AcceptedFilesAreRead, OneFaultIsFirst, FaultyFilesAreRefused, FailedReadsAreReported, AcceptedFilesHaveGoodLines, EachFileIsJudged, EachCutFileIsJudged};
 
 /// A line has at most one meaning, and so has a file.

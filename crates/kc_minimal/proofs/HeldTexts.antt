@@ -12,13 +12,13 @@ use Rattle.kc_minimal_model.specs.FullFile.{full_file}
 use Rattle.kc_minimal_model.specs.FullFilesBack.{FullFilesLeadBack, IsUnlifted}
 use Rattle.kc_minimal_model.specs.Loading.{ReadsTo, Loads, has_short_lines}
 use Rattle.kc_minimal_model.specs.MinimalFile.{minimal_file}
-use Rattle.kc_minimal_model.specs.MinimalText.{IsMinimalText, MinimalTextsAreMinimal}
+use Rattle.kc_minimal_model.specs.CanonicalText.{IsCanonicalText, MinimalTextsAreCanonical}
 
 module _ (prefix : List ℕ) (valid : is_prefix prefix ≡ true) (held : Configured) (solved : IsSolved held) (settled : Settled) (values : List UnitValue) (same : settled ≡ held.system) (same_values : values ≡ held.values) (text : List ℕ) where
-  pub minimal_held : MinimalTextsAreMinimal → text ≡ minimal_file prefix (profile_of settled) (tree_of_settled settled) values → IsMinimalText prefix (profile_of held.system) (tree_in held) held.users held.values text
+  pub minimal_held : MinimalTextsAreCanonical → text ≡ minimal_file prefix (profile_of settled) (tree_of_settled settled) values → IsCanonicalText prefix (profile_of held.system) (tree_in held) held.values text
   minimal_held law is =
       let e = is ∙ ap (λ s. minimal_file prefix (profile_of s) (tree_of_settled s) values) same ∙ ap (minimal_file prefix (profile_of held.system) (tree_in held)) same_values in
-      subst (IsMinimalText prefix (profile_of held.system) (tree_in held) held.users held.values) (sym e) (law prefix (profile_of held.system) (tree_in held) held.users held.values valid solved.settled solved.fits solved.gives)
+      subst (IsCanonicalText prefix (profile_of held.system) (tree_in held) held.values) (sym e) (law prefix (profile_of held.system) (tree_in held) held.users held.values valid solved.settled solved.fits solved.gives.solves)
 
   pub full_held : text ≡ full_file prefix (tree_of_settled settled) values → text ≡ full_file prefix (tree_in held) held.values
   full_held is = is ∙ ap (λ s. full_file prefix (tree_of_settled s) values) same ∙ ap (full_file prefix (tree_in held)) same_values

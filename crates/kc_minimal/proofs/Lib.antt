@@ -2,7 +2,6 @@ pub mod WrittenParts
 pub mod RangeLines
 pub mod SymbolLines
 pub mod DraftSteps
-pub mod CanonicalTexts
 pub mod MinimisedFiles
 pub mod Comparisons
 pub mod HeldTexts

@@ -1,26 +1,22 @@
 -- What is written for a file that was read.
-use Rattle.std.proofs.Common.{◌≡◌, ℕ, ◌<◌, ◌-◌, ◌^◌, true, List, Option, length, take, sym, subst}
+use Rattle.std.proofs.Common.{◌≡◌, ℕ, ◌<◌, ◌-◌, ◌^◌, true, List, Option, length, take, subst}
 use Rattle.std.specs.Io.KnownBytes.{Appends}
 use Rattle.kc_tree_model.specs.Trees.{Tree}
 use Rattle.kc_system.specs.Solutions.{UniquelySolves}
 use Rattle.kc_rules_model.specs.declared.profile.Profile.{Profile}
 use Rattle.kc_rules_model.specs.declared.values.UnitValue.{UnitValue}
 use Rattle.kc_rules_model.specs.Rule.{rule}
-use Rattle.kc_rules_model.specs.SettledTrees.{IsSettledTree}
 use Rattle.kc_dotconfig_model.specs.PrefixGrammar.{is_prefix}
 use Rattle.kc_dotconfig_model.proofs.AcceptedLines.{accepted_utf8}
 use Rattle.kc_dotconfig.specs.declared.fragment.Fragment.{Fragment}
 use Rattle.kc_dotconfig.specs.Fragments.{users_of}
 use Rattle.kc_dotconfig.specs.ReadResults.{IsReadAs}
-use Rattle.kc_minimal_model.specs.MinimalText.{IsMinimalText}
-use Rattle.kc_minimal_model.specs.Headline.{MinimalFilesAreCanonical}
-use Rattle.kc_minimal_model.specs.FilesAssign.{FilesAssignTheLines}
+use Rattle.kc_minimal_model.specs.CanonicalText.{IsCanonicalText}
 use Rattle.kc_minimal_model.specs.Loading.{Loads}
-use Rattle.kc_minimal.specs.Minimised.{IsCanonicalText, IsMinimised, IsCutOff}
-use Rattle.kc_minimal.proofs.CanonicalTexts.{canonical_text}
+use Rattle.kc_minimal.specs.Minimised.{IsMinimised, IsCutOff}
 
-module _ (canonical : MinimalFilesAreCanonical) (assign : FilesAssignTheLines) (prefix : List ℕ) (valid : is_prefix prefix ≡ true) (profile : Profile) (tree : Tree) (settled : IsSettledTree tree)
-    (before after : Option (List ℕ)) (f : Fragment) (read : IsReadAs prefix tree before after f) (values : List UnitValue) (text : List ℕ) (minimal : IsMinimalText prefix profile tree (users_of tree f.assigns.items) values text) where
+module _ (prefix : List ℕ) (valid : is_prefix prefix ≡ true) (profile : Profile) (tree : Tree)
+    (before after : Option (List ℕ)) (f : Fragment) (read : IsReadAs prefix tree before after f) (values : List UnitValue) (text : List ℕ) (gives : UniquelySolves (length tree.units) (rule profile tree) (users_of tree f.assigns.items) values) (canonical : IsCanonicalText prefix profile tree values text) where
   abbrev loaded : Loads prefix profile tree read.told values
   loaded = record {
     accepted = read.accepted;
@@ -28,7 +24,7 @@ module _ (canonical : MinimalFilesAreCanonical) (assign : FilesAssignTheLines) (
       utf8 = accepted_utf8 prefix tree read.told valid read.accepted;
       sayings = read.sayings;
       says = read.says;
-      gives = subst (λ users. UniquelySolves (length tree.units) (rule profile tree) users values) read.users minimal.held;
+      gives = subst (λ users. UniquelySolves (length tree.units) (rule profile tree) users values) read.users gives;
     };
   }
 
@@ -43,8 +39,7 @@ module _ (canonical : MinimalFilesAreCanonical) (assign : FilesAssignTheLines) (
     noted = read.noted;
     text = text;
     written = written;
-    minimal = subst (λ users. IsMinimalText prefix profile tree users values text) read.users minimal;
-    canonical = subst (IsCanonicalText prefix profile tree values) (sym minimal.is) (canonical_text canonical assign prefix valid profile tree settled read.told values loaded);
+    canonical = canonical;
   }
 
   -- and in part
@@ -56,7 +51,7 @@ module _ (canonical : MinimalFilesAreCanonical) (assign : FilesAssignTheLines) (
     ended = read.ended;
     values = values;
     loads = loaded;
-    part = subst (λ t. written < length t) minimal.is part;
-    took = subst (λ t. Appends taken taken_after (take written t)) minimal.is took;
+    part = subst (λ t. written < length t) canonical.is part;
+    took = subst (λ t. Appends taken taken_after (take written t)) canonical.is took;
     rose = rose;
   }

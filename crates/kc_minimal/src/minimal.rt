@@ -4,48 +4,56 @@ ghost use Rattle.kc_rules.specs.SettledViews.{tree_of_settled, profile_of};
 ghost use Rattle.kc_dotconfig_model.specs.Prefixes.{prefix_bytes};
 ghost use Rattle.kc_minimal_model.specs.Spelling.{ended_line};
 ghost use Rattle.kc_minimal_model.specs.MinimalFile.{is_kept, has_line, minimal_file};
-ghost use Rattle.kc_minimal.specs.checker.Values.{FitValues};
+ghost use Rattle.kc_minimal.specs.checker.Values.{FitValues, AreGivenBy};
 
 use crate::spelling::{is_n, push_symbol};
 use kc_dotconfig_model::Prefix;
-use kc_rules::{Settled, Steps, UnitValue};
+use kc_rules::{Settled, Steps, UnitValue, UserValue};
 use kc_system::System;
 use kc_tree::Sym;
 use std::alloc::{AllocError, Global};
 
-/// Whether a unit's value isn't what its rule gives without a user value.
+/// Whether a unit's value isn't what its rule gives without a user value. Where it has none there is nothing to
+/// evaluate.
 fn is_kept(
     alloc: Global,
     settled: &Settled,
+    users: &[Option<UserValue>],
     values: &[UnitValue],
     u: u32,
 ) -> Result<bool, AllocError>
     requires unit { u < length (tree_of_settled settled.now).units }
     requires values { FitValues (tree_of_settled settled.now) values.now }
+    requires given { AreGivenBy (profile_of settled.now) (tree_of_settled settled.now) users.now values.now }
     ensures { IfOk result (λ kept. kept ≡ is_kept (profile_of settled.now) (tree_of_settled settled.now) values.now u) }
 {
+    if users[u as usize].is_none() {
+        return Ok(false);
+    }
     let mut steps = Steps::new();
     let value = settled.eval(alloc, u, None, values, &mut steps)?;
     Ok(!Settled::same(&values[u as usize], &value))
 }
 
 /// Whether a symbol has a line: of a choice the selected member alone may have one, so that each unit's rule is
-/// evaluated once.
+/// evaluated at most once.
 fn has_line(
     alloc: Global,
     settled: &Settled,
+    users: &[Option<UserValue>],
     values: &[UnitValue],
     s: Sym,
 ) -> Result<bool, AllocError>
     requires symbol { s < length (tree_of_settled settled.now).symbols }
     requires values { FitValues (tree_of_settled settled.now) values.now }
+    requires given { AreGivenBy (profile_of settled.now) (tree_of_settled settled.now) users.now values.now }
     ensures { IfOk result (λ line. line ≡ has_line (profile_of settled.now) (tree_of_settled settled.now) values.now s) }
 {
     let symbol = settled.tree().symbol(s);
     if symbol.choice.is_some() && is_n(settled.value_of_symbol(s, values).tri) {
         Ok(false)
     } else {
-        is_kept(alloc, settled, values, symbol.unit)
+        is_kept(alloc, settled, users, values, symbol.unit)
     }
 }
 
@@ -55,14 +63,16 @@ fn push_if_kept(
     alloc: Global,
     settled: &Settled,
     prefix: &Prefix,
+    users: &[Option<UserValue>],
     values: &[UnitValue],
     s: Sym,
 ) -> Result<(), AllocError>
     requires symbol { s < length (tree_of_settled settled.now).symbols }
     requires values { FitValues (tree_of_settled settled.now) values.now }
+    requires given { AreGivenBy (profile_of settled.now) (tree_of_settled settled.now) users.now values.now }
     ensures { OnOk result (out.new.items ≡ out.old.items ++ (if has_line (profile_of settled.now) (tree_of_settled settled.now) values.now s then ended_line (prefix_bytes prefix.now) (tree_of_settled settled.now) values.now s else [])) }
 {
-    let line = has_line(alloc, settled, values, s)?;
+    let line = has_line(alloc, settled, users, values, s)?;
     if line {
         push_symbol(out, settled, prefix, values, s)
     } else {
@@ -70,19 +80,22 @@ fn push_if_kept(
     }
 }
 
-/// The minimal file of some values.
+/// The minimal file of values, given by these user values. User values save work and decide nothing.
 pub(crate) fn minimal_lines(
     alloc: Global,
     settled: &Settled,
     prefix: &Prefix,
+    users: &[Option<UserValue>],
     values: &[UnitValue],
 ) -> Result<Vec<u8>, AllocError>
-    requires { FitValues (tree_of_settled settled.now) values.now }
+    requires values { FitValues (tree_of_settled settled.now) values.now }
+    requires given { AreGivenBy (profile_of settled.now) (tree_of_settled settled.now) users.now values.now }
     ensures { IfOk result (λ text. text.items ≡ minimal_file (prefix_bytes prefix.now) (profile_of settled.now) (tree_of_settled settled.now) values.now) }
 {
     let mut text = Vec::new(alloc);
     for number in 0..settled.tree().symbol_count() {
-        push_if_kept(&mut text, alloc, settled, prefix, values, Sym::at(number))?;
+        let s = Sym::at(number);
+        push_if_kept(&mut text, alloc, settled, prefix, users, values, s)?;
     }
     Ok(text)
 }

@@ -1,16 +1,17 @@
 //! Minimising a configuration file.
-ghost use Rattle.std.specs.Prelude.{◌≡◌, ◌≤◌, ◌+◌, List, IfOk, IfErr, OnOk};
+ghost use Rattle.std.specs.Prelude.{◌≡◌, ◌≤◌, ◌+◌, List, length, IfOk, IfErr, OnOk};
+ghost use Rattle.kc_system.specs.Solutions.{UniquelySolves};
 ghost use Rattle.kc_rules_model.specs.declared.values.UnitValue.{UnitValue as Held};
+ghost use Rattle.kc_rules_model.specs.Rule.{rule};
 ghost use Rattle.kc_rules.specs.SettledViews.{tree_of_settled, profile_of};
 ghost use Rattle.kc_dotconfig_model.specs.Prefixes.{prefix_bytes};
 ghost use Rattle.kc_dotconfig.specs.Fragments.{FitsTree, users_of};
-ghost use Rattle.kc_minimal_model.specs.MinimalText.{IsMinimalText};
+ghost use Rattle.kc_minimal_model.specs.CanonicalText.{IsCanonicalText};
 ghost use Rattle.kc_minimal.specs.Minimised.{IsMinimised, FailsWith};
 
 use crate::texts::minimal_text;
 use crate::writing::{WriteFault, write_out};
 use kc_dotconfig::{Config, Fragment, LoadFault, Notice, Prefix, read_config};
-use kc_minimal_model::{files_assign_the_lines, minimal_files_are_canonical};
 use kc_rules::Settled;
 use kc_value::{Sink, Source};
 use std::alloc::{AllocError, Global};
@@ -38,7 +39,7 @@ fn minimal_of(
     fragment: &Fragment,
 ) -> Result<Vec<u8>, AllocError>
     requires { FitsTree (tree_of_settled settled.now) fragment.now.assigns.items }
-    ensures { IfOk result (λ text. (values : List Held) × IsMinimalText (prefix_bytes prefix.now) (profile_of settled.now) (tree_of_settled settled.now) (users_of (tree_of_settled settled.now) fragment.now.assigns.items) values text.items) }
+    ensures { IfOk result (λ text. (values : List Held) × UniquelySolves (length (tree_of_settled settled.now).units) (rule (profile_of settled.now) (tree_of_settled settled.now)) (users_of (tree_of_settled settled.now) fragment.now.assigns.items) values × IsCanonicalText (prefix_bytes prefix.now) (profile_of settled.now) (tree_of_settled settled.now) values text.items) }
 {
     let config = Config::of(alloc, settled, fragment)?;
     minimal_text(alloc, &config, prefix)
@@ -64,9 +65,6 @@ pub fn minimise<R: Source, W: Sink>(
     ensures one_write { W.failures sink.new ≤ W.failures sink.old + 1 }
     ensures fault { IfErr result (FailsWith (prefix_bytes prefix.now) (profile_of settled.now) (tree_of_settled settled.now) (R.left source.old) (R.left source.new) (R.failures source.old) (R.failures source.new) (W.taken sink.old) (W.taken sink.new) (W.failures sink.old) (W.failures sink.new)) }
 {
-    minimal_files_are_canonical();
-    files_assign_the_lines();
-    let _tree = settled.tree();
     let fragment = match read_config(alloc, settled, prefix, source) {
         Ok(fragment) => fragment,
         Err(fault) => return Err(RunFault::Load(fault)),

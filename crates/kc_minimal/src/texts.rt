@@ -1,37 +1,49 @@
 //! The minimal and the full file of a configuration.
 ghost use Rattle.std.specs.Prelude.{◌≡◌, ◌≤◌, true, length, IfOk};
+ghost use Rattle.kc_system.specs.Solutions.{UniquelySolves};
+ghost use Rattle.kc_rules_model.specs.Rule.{rule};
 ghost use Rattle.kc_rules.specs.SettledViews.{profile_of};
 ghost use Rattle.kc_dotconfig_model.specs.Prefixes.{prefix_bytes};
 ghost use Rattle.kc_dotconfig_model.specs.ConfigFiles.{file_lines};
 ghost use Rattle.kc_dotconfig_model.specs.LoadFaults.{MAX_BYTES, MAX_LINES};
 ghost use Rattle.kc_dotconfig.specs.Configured.{tree_in};
+ghost use Rattle.kc_minimal_model.specs.CanonicalText.{IsCanonicalText};
 ghost use Rattle.kc_minimal_model.specs.FullFile.{full_file};
 ghost use Rattle.kc_minimal_model.specs.FullFilesBack.{IsUnlifted};
 ghost use Rattle.kc_minimal_model.specs.Loading.{ReadsTo, Loads, has_short_lines};
-ghost use Rattle.kc_minimal_model.specs.MinimalText.{IsMinimalText};
 
 use crate::full::full_lines;
 use crate::minimal::minimal_lines;
 use kc_dotconfig::{Config, Prefix};
-use kc_minimal_model::{full_files_lead_back, minimal_texts_are_minimal, read_files_are_accepted};
+use kc_minimal_model::{
+    full_files_lead_back, minimal_texts_are_canonical, read_files_are_accepted,
+};
 use std::alloc::{AllocError, Global};
 
 /// The minimal file of a configuration (`make savedefconfig`): a line for each symbol whose value isn't what its rule
 /// gives without a user value, all other values as they are, and of a choice for the selected member alone, in order of
 /// first definition. What the configuration holds plays no part but by its values. An `Err` means out of memory.
 ///
-/// The values are the one solution of what is held, and the one solution of the minimal file's own assignment; without
-/// any of its lines some symbol has another value; and every assignment that gives the values needs just the units
-/// of its lines.
+/// The text is canonical: a file gives every symbol the same value exactly if its minimal file is this text byte for
+/// byte; reading it gives the values back; its own minimal file is the same; without any of its lines some symbol has
+/// another value; and no assignment and no file with the same values assigns less. The values are the one solution of
+/// what is held.
 pub fn minimal_text(
     alloc: Global,
     config: &Config<'_>,
     prefix: &Prefix,
 ) -> Result<Vec<u8>, AllocError>
-    ensures { IfOk result (λ text. IsMinimalText (prefix_bytes prefix.now) (profile_of config.now.system) (tree_in config.now) config.now.users config.now.values text.items) }
+    ensures canonical { IfOk result (λ text. IsCanonicalText (prefix_bytes prefix.now) (profile_of config.now.system) (tree_in config.now) config.now.values text.items) }
+    ensures values { UniquelySolves (length (tree_in config.now).units) (rule (profile_of config.now.system) (tree_in config.now)) config.now.users config.now.values }
 {
-    minimal_texts_are_minimal();
-    minimal_lines(alloc, config.settled(), prefix, config.values())
+    minimal_texts_are_canonical();
+    minimal_lines(
+        alloc,
+        config.settled(),
+        prefix,
+        config.users(),
+        config.values(),
+    )
 }
 
 /// The full file of a configuration: its symbols that are visible, have a default or are selected, each at its first

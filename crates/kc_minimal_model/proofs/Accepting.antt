@@ -84,6 +84,9 @@ module _ (prefix : List ℕ) (valid : is_prefix prefix ≡ true) (profile : Prof
   pub shorts_of_file : (xs : List ℕ) → list_all (has_line profile tree values) xs ≡ true → has_short_lines (flat_map (ended_line prefix tree values) xs) ≡ true → list_all is_short xs ≡ true
   shorts_of_file xs all short = sym (short_lines xs all) ∙ short
 
+  pub file_of_shorts : (xs : List ℕ) → list_all (has_line profile tree values) xs ≡ true → list_all is_short xs ≡ true → has_short_lines (flat_map (ended_line prefix tree values) xs) ≡ true
+  file_of_shorts xs all short = short_lines xs all ∙ short
+
 pub filter_shorter : (p : ℕ → Bool) (xs : List ℕ) → length (filter p xs) ≤ length xs
 filter_shorter p [] = omega arith
 filter_shorter p (x ∷ xs) = go (p x) (filter_shorter p xs) where

@@ -1,7 +1,7 @@
 -- Minimal files are canonical: what the law of the least assignment gives over all files.
 use Rattle.std.proofs.Common.{◌≡◌, ◌≢◌, ◌⊎◌, ◌↔◌, inl, inr, ℕ, ◌<◌, Bool, true, false, ◌||◌, ◌==◌, cond, IsTrue, List, [], ◌∷◌, Option, None, length, map, filter, refl, sym, ◌∙◌, ap, subst, arith}
 use Rattle.std.specs.Prelude.{slice_get}
-use Rattle.std.specs.List.{list_any, list_all}
+use Rattle.std.specs.List.{list_any, list_all, flat_map}
 use Rattle.std.proofs.lemmas.Bool.{cases_Bool, false≢true, and_from, and_parts, eqb-true, or_cases, or_left, or_right}
 use Rattle.kc_tree_model.specs.Trees.{Tree}
 use Rattle.kc_tree_model.specs.TreeLookup.{unit_of}
@@ -26,15 +26,20 @@ use Rattle.kc_rules_model.specs.Reports.{symbol_numbers}
 use Rattle.kc_dotconfig_model.specs.ConfigFiles.{FileMeans, file_assignment, empty_assignment, has_utf8_lines}
 use Rattle.kc_dotconfig_model.proofs.FittingFiles.{file_fits}
 use Rattle.kc_dotconfig_model.proofs.LineLaws.{file_read}
+use Rattle.kc_minimal_model.specs.Spelling.{ended_line}
 use Rattle.kc_minimal_model.specs.MinimalFile.{is_kept, has_line, may_have_line, minimal_symbols, minimal_file}
 use Rattle.kc_rules_model.proofs.OrderedTrees.{IsOrderedTree}
 use Rattle.kc_minimal_model.specs.Loading.{ReadsTo}
-use Rattle.kc_minimal_model.specs.MinimalText.{with_lines}
 use Rattle.kc_minimal_model.proofs.MinimalLineList.{lines_are_utf8}
 use Rattle.kc_minimal_model.proofs.KeptUnits.{others_fail}
 use Rattle.kc_minimal_model.proofs.KeptLines.{meant, user_meant, unit_inside}
 use Rattle.kc_minimal_model.proofs.LineUnits.{different_units}
 use Rattle.kc_minimal_model.proofs.LeastFile.{passes_filter, none_held, none_length, after_lines, length_after, lines_say, least_of_lines, reads_as_least}
+
+-- the lines of some of the symbols that have one
+abbrev pub symbol_lines : (ℕ → Bool) → List ℕ → Profile → Tree → List UnitValue → List ℕ
+symbol_lines keeps prefix profile tree values =
+    flat_map (ended_line prefix tree values) (filter keeps (minimal_symbols profile tree values))
 
 pub decides : (a b : UnitValue) → (a ≡ b) ⊎ (a ≢ b)
 decides a b = elim (cases_Bool (same_value a b)) [ inl same ↦ inl ((values_decided a b).0 same) | inr other ↦ inr (λ e. false≢true (sym other ∙ (values_decided a b).1 e)) ]
@@ -112,10 +117,10 @@ module _ (prefix : List ℕ) (valid : is_prefix prefix ≡ true) (profile : Prof
   pub some_have_lines : list_all (has_line profile tree values) (filter keeps (minimal_symbols profile tree values)) ≡ true
   some_have_lines = all_of_filter (has_line profile tree values) keeps (minimal_symbols profile tree values) (passes_filter (has_line profile tree values) (symbol_numbers tree))
 
-  utf8_some : has_utf8_lines (with_lines keeps prefix profile tree values) ≡ true
+  utf8_some : has_utf8_lines (symbol_lines keeps prefix profile tree values) ≡ true
   utf8_some = lines_are_utf8 prefix valid profile tree settled.consistent users values fitting solved (filter keeps (minimal_symbols profile tree values)) some_have_lines
 
-  says_some : FileMeans prefix tree (with_lines keeps prefix profile tree values) (map (λ s. meant values (unit_of tree s)) (filter keeps (minimal_symbols profile tree values)))
+  says_some : FileMeans prefix tree (symbol_lines keeps prefix profile tree values) (map (λ s. meant values (unit_of tree s)) (filter keeps (minimal_symbols profile tree values)))
   says_some = lines_say prefix valid profile tree settled.consistent users values fitting solved (filter keeps (minimal_symbols profile tree values))
       some_have_lines
 
@@ -137,7 +142,7 @@ module _ (prefix : List ℕ) (valid : is_prefix prefix ≡ true) (profile : Prof
   }
 
   -- without a line, and others or not, it gives other values
-  pub needed : (s : ℕ) → has_line profile tree values s ≡ true → keeps s ≡ false → (others : List UnitValue) × ReadsTo prefix profile tree (with_lines keeps prefix profile tree values) others × (others ≢ values)
+  pub needed : (s : ℕ) → has_line profile tree values s ≡ true → keeps s ≡ false → (others : List UnitValue) × ReadsTo prefix profile tree (symbol_lines keeps prefix profile tree values) others × (others ≢ values)
   needed s has dropped =
       let parts = and_parts (is_kept profile tree values (unit_of tree s)) (may_have_line (slice_get tree.symbols s) (value_of_symbol tree values s)) has in
       let inside = unit_inside prefix valid profile tree settled.consistent users values fitting solved s (slice_get tree.symbols s) refl parts.1 in

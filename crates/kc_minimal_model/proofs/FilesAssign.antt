@@ -15,16 +15,15 @@ use Rattle.kc_dotconfig_model.specs.ConfigLines.{LineMeaning, assigns, notice, s
 use Rattle.kc_dotconfig_model.specs.ConfigFiles.{file_assignment, assigned_over, empty_assignment}
 use Rattle.kc_dotconfig_model.proofs.FittingFiles.{file_fits}
 use Rattle.kc_minimal_model.specs.MinimalFile.{has_line, minimal_symbols}
-use Rattle.kc_rules_model.proofs.OrderedTrees.{IsOrderedTree, ordered_tree}
-use Rattle.kc_minimal_model.specs.MinimalText.{NeedsTheLines}
-use Rattle.kc_minimal_model.specs.FilesAssign.{assigned_units, HasAtLeastTheLines, FilesAssignTheLines}
+use Rattle.kc_rules_model.proofs.OrderedTrees.{IsOrderedTree}
+use Rattle.kc_minimal_model.specs.CanonicalText.{HasUnitsOfLines, HasValuesOfLines, assigned_units}
 use Rattle.kc_minimal_model.specs.Loading.{ReadsTo}
 use Rattle.std.specs.Cmp.{IsEquivalence}
 use Rattle.std.proofs.lemmas.Map.Made.{length-le_from_is_member}
 use Rattle.std.proofs.lemmas.List.{length-map, get_or-set_other}
 use Rattle.kc_rules_model.specs.Reports.{symbol_numbers}
 use Rattle.kc_minimal_model.proofs.LineUnits.{different_units}
-use Rattle.kc_minimal_model.proofs.NeededUnits.{needs}
+use Rattle.kc_minimal_model.proofs.NeededUnits.{needs_units, needs_values}
 use Rattle.kc_minimal_model.proofs.LeastFile.{none_held}
 
 kept_if_some : (x : Option UserValue) → x ≡ cond (is_some x) x None
@@ -89,24 +88,26 @@ module _ (prefix : List ℕ) (profile : Profile) (tree : Tree) (settled : IsOrde
   fitting : FitsUsers (length tree.units) (λ u x. IsTrue (user_fits tree u x)) (file_assignment tree reads.sayings)
   fitting = file_fits prefix tree bytes reads.sayings settled.consistent reads.utf8 reads.says
 
-  needed : NeedsTheLines profile tree values (file_assignment tree reads.sayings)
-  needed = needs profile tree (file_assignment tree reads.sayings) values settled fitting reads.gives.solves
-
   held_each : (s : ℕ) → has_line profile tree values s ≡ true → is_some (user_of (file_assignment tree reads.sayings) (unit_of tree s)) ≡ true
   held_each s has =
       let held = file_assignment tree reads.sayings in
       let keeps : ℕ → Bool = λ u. is_some (user_of held u) in
       let cut : IsCutTo (length tree.units) keeps held held = record { one_each = fitting.0; cut = λ u h. kept_if_some (user_of held u) } in
-      (needed.cut keeps held cut).0 reads.gives s has
+      (needs_units profile tree held values settled fitting reads.gives.solves held keeps cut).0 reads.gives s has
 
-  assigns_each : (s : ℕ) → has_line profile tree values s ≡ true → list_any (eqb (unit_of tree s)) (assigned_units reads.sayings) ≡ true
+  -- it assigns to the unit of each line
+  pub assigns_each : HasUnitsOfLines profile tree values (λ u. list_any (eqb u) (assigned_units reads.sayings))
   assigns_each s has = elim (by_a_line reads.sayings (empty_assignment tree) (unit_of tree s) (held_each s has)) [
     | inl before ↦ absurd (false≢true (sym (ap is_some (none_held (length tree.units) (unit_of tree s))) ∙ before))
     | inr line ↦ line
   ]
 
+  -- the members, strings and numbers of the lines
+  pub assigns_values : HasValuesOfLines profile tree values (file_assignment tree reads.sayings)
+  assigns_values = needs_values profile tree (file_assignment tree reads.sayings) values settled fitting reads.gives.solves
+
   -- at least as many lines that assign as the minimal file has lines
-  assigns_as_many : length (minimal_symbols profile tree values) ≤ length (assigned_units reads.sayings)
+  pub assigns_as_many : length (minimal_symbols profile tree values) ≤ length (assigned_units reads.sayings)
   assigns_as_many =
       let p = has_line profile tree values in
       let f = unit_of tree in
@@ -116,9 +117,3 @@ module _ (prefix : List ℕ) (profile : Profile) (tree : Tree) (settled : IsOrde
       let long = length-le_from_is_member eqb_laws (map f (filter p (symbol_numbers tree))) (assigned_units reads.sayings) (distinct p f 0 (length tree.symbols) one) listed in
       let same = length-map (filter p (symbol_numbers tree)) f in
       omega (arith, long, same)
-
-  pub at_least : HasAtLeastTheLines profile tree values reads.sayings
-  at_least = record { each = assigns_each; same = needed.same; as_many = assigns_as_many }
-
-pub files_assign : FilesAssignTheLines
-files_assign prefix profile tree bytes values settled reads = at_least prefix profile tree (ordered_tree tree settled) bytes values reads

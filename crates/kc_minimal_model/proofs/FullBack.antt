@@ -38,7 +38,7 @@ use Rattle.kc_minimal_model.proofs.FullLines.{is_for, is_definition, IsTold, tol
 use Rattle.kc_minimal_model.proofs.KeptLines.{user_meant}
 use Rattle.kc_minimal_model.proofs.KeptUnits.{kept_unit, kept_passes, others_fail}
 use Rattle.kc_minimal_model.proofs.LeastFile.{or_false, or_true, or_assoc, none_held, none_length, unit_there, speaks_at}
-use Rattle.kc_minimal_model.proofs.NeededUnits.{any_found, needs}
+use Rattle.kc_minimal_model.proofs.NeededUnits.{any_found, needs_values}
 use Rattle.kc_minimal_model.proofs.OwnLines.{IsOwn}
 use Rattle.kc_minimal_model.proofs.OwnValues.{own_values, hidden_values}
 use Rattle.kc_rules_model.proofs.SolutionsFit.{solutions_fit}
@@ -113,7 +113,7 @@ module _ (profile : Profile) (tree : Tree) (settled : IsOrderedTree tree) (users
       let u = unit_of tree s in
       let here : slice_get tree.units (unit_of tree s) ≡ Some (of_choice c) = ap (slice_get tree.units) (unit_is tree settled.consistent s own.0 symbol (Some c) at within own.1) ∙ own.1 in
       let holds : slice_get values (unit_of tree s) ≡ Some (MemberValue (Some s)) = ap (slice_get values) (sym (place_is tree settled.consistent (unit_of tree s) (of_choice c) here)) ∙ chosen_is s (slice_get values (index_of_unit tree (of_choice c))) chosen in
-      let assigned : user_of users (unit_of tree s) ≡ Some (MemberUser s) = (needs profile tree users values settled fitting solved).same s (MemberValue (Some s)) has holds refl in
+      let assigned : user_of users (unit_of tree s) ≡ Some (MemberUser s) = needs_values profile tree users values settled fitting solved s (MemberValue (Some s)) has holds refl in
       elim (cases_Bool (is_visible_member tree values s)) [
         | inl seen ↦ seen_is_written s symbol at (sym (ap (λ o. unwrap_or (option_map (is_visible tree values) o) false) at) ∙ seen)
         | inr hidden ↦

@@ -18,6 +18,7 @@ pub mod FullLines
 pub mod FullBack
 pub mod FilesAssign
 pub mod DifferingSymbols
+pub mod LineNumbers
 pub mod MinimalTexts
 pub mod Headlines
 mod Witness

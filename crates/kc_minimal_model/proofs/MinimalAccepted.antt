@@ -44,7 +44,7 @@ use Rattle.kc_minimal_model.proofs.FittingLines.{IsFitLine, prefix_fits, tri_fit
 use Rattle.kc_minimal_model.proofs.KeptLines.{value_of_text, tri_kind}
 use Rattle.kc_minimal_model.proofs.KeptUnits.{kept_unit}
 use Rattle.kc_minimal_model.proofs.LeastFile.{none_held, none_length, passes_filter}
-use Rattle.kc_minimal_model.proofs.NeededUnits.{needs}
+use Rattle.kc_minimal_model.proofs.NeededUnits.{needs_values}
 use Rattle.kc_value.proofs.QuotedUtf8.{quoted_utf8}
 use Rattle.kc_dotconfig_model.proofs.TrimmedLines.{name_utf8, trimmed_utf8, trimmed_no_longer}
 use Rattle.kc_value.proofs.UnquotedUtf8.{ascii_alone, utf8_after, unquoted_utf8, quoted_no_longer}
@@ -142,7 +142,7 @@ module _ (prefix : List ℕ) (profile : Profile) (tree : Tree) (bytes : List ℕ
             let t = text_held symbol k.held k.again large k.assigned fits in
             let holds : slice_get values (unit_of tree s) ≡ Some (TextValue t.0) = k.has ∙ ap Some t.1 in
             let seen : value_in_unit tree values s symbol None ≡ record { kind = symbol.kind; tri = N; text = t.0 } = ap (λ h. F h (is_tri_kind symbol.kind)) holds ∙ ap (F (Some (TextValue t.0))) large in
-            let assigned = (needs profile tree (file_assignment tree reads.sayings) values settled fitting reads.gives.solves).same s (TextValue t.0) has holds refl in
+            let assigned = needs_values profile tree (file_assignment tree reads.sayings) values settled fitting reads.gives.solves s (TextValue t.0) has holds refl in
             let good = text_is_short s symbol t.0 at out below assigned in
             subst (λ e. IsFitLine (line_with prefix symbol.name e)) (sym seen) (text_fits_line prefix valid symbol.name short word symbol.kind t.0 good.0 good.1)
       ]

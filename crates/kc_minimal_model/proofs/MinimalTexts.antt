@@ -1,5 +1,5 @@
--- The minimal file of what any fitting assignment gives.
-use Rattle.std.proofs.Common.{◌≡◌, ℕ, ◌≤◌, Bool, true, false, IsTrue, List, Option, length, filter, refl, arith}
+-- The minimal file of the values of any fitting assignment is canonical.
+use Rattle.std.proofs.Common.{◌≡◌, ◌↔◌, ℕ, ◌<◌, ◌≤◌, Bool, true, false, IsTrue, List, Option, length, filter, refl, sym, ap, subst, arith}
 use Rattle.std.specs.List.{list_all}
 use Rattle.kc_tree_model.specs.Trees.{Tree}
 use Rattle.kc_system.specs.Solutions.{FitsUsers, Solves}
@@ -7,29 +7,32 @@ use Rattle.kc_rules_model.specs.declared.profile.Profile.{Profile}
 use Rattle.kc_rules_model.specs.declared.values.UnitValue.{UnitValue}
 use Rattle.kc_rules_model.specs.declared.values.UserValue.{UserValue}
 use Rattle.kc_rules_model.specs.Rule.{rule}
+use Rattle.kc_rules_model.specs.SymbolValues.{value_of_symbol}
 use Rattle.kc_rules_model.specs.Shapes.{user_fits}
 use Rattle.kc_rules_model.specs.Reports.{symbol_numbers}
 use Rattle.kc_dotconfig_model.specs.PrefixGrammar.{is_prefix}
 use Rattle.kc_dotconfig_model.specs.LoadFaults.{MAX_BYTES, IsAccepted}
 use Rattle.kc_minimal_model.specs.Spelling.{ended_line}
 use Rattle.kc_minimal_model.specs.MinimalFile.{has_line, minimal_symbols, minimal_file}
-use Rattle.kc_minimal_model.specs.Loading.{ReadsTo, DifferAtASymbol, has_short_lines}
-use Rattle.kc_minimal_model.specs.MinimalText.{with_lines, MinimalTextsAreMinimal}
+use Rattle.kc_minimal_model.specs.Loading.{ReadsTo, Loads, HaveSameValues, DifferAtASymbol, has_short_lines}
+use Rattle.kc_minimal_model.specs.CanonicalText.{with_lines, IsCanonicalText, MinimalTextsAreCanonical}
 use Rattle.kc_rules_model.proofs.OrderedTrees.{IsOrderedTree, ordered_tree}
 use Rattle.kc_minimal_model.proofs.LeastFile.{passes_filter}
-use Rattle.kc_minimal_model.proofs.Canonical.{all_of_filter, some_have_lines, fits_of, reads_back, needed}
-use Rattle.kc_dotconfig_model.specs.ConfigFiles.{file_assignment}
+use Rattle.kc_minimal_model.proofs.Canonical.{symbol_lines, all_of_filter, some_have_lines, fits_of, one, reads_back, same_files, needed}
+use Rattle.kc_dotconfig_model.specs.ConfigFiles.{file_lines, file_assignment}
 use Rattle.kc_rules_model.proofs.SolutionsFit.{solutions_fit}
-use Rattle.kc_minimal_model.proofs.DifferingSymbols.{differ_somewhere}
-use Rattle.kc_minimal_model.proofs.NeededUnits.{needs}
-use Rattle.kc_minimal_model.proofs.Accepting.{is_short, accepted_symbols, shorts_of_file, filter_shorter, flat_shorter}
-use Rattle.kc_minimal_model.proofs.MinimalAccepted.{few_lines}
+use Rattle.kc_minimal_model.proofs.DifferingSymbols.{same_values, differ_somewhere}
+use Rattle.kc_minimal_model.proofs.NeededUnits.{needs_units, needs_values}
+use Rattle.kc_minimal_model.proofs.FilesAssign.{assigns_each, assigns_values, assigns_as_many}
+use Rattle.kc_minimal_model.proofs.LineNumbers.{keeps_symbol, lines_kept, line_count, symbol_dropped}
+use Rattle.kc_minimal_model.proofs.Accepting.{is_short, accepted_symbols, shorts_of_file, file_of_shorts, filter_shorter, flat_shorter}
+use Rattle.kc_minimal_model.proofs.MinimalAccepted.{few_lines, lines_are_short}
 
 module _ (prefix : List ℕ) (valid : is_prefix prefix ≡ true) (profile : Profile) (tree : Tree) (settled : IsOrderedTree tree) (users : List (Option UserValue)) (values : List UnitValue)
     (fitting : FitsUsers (length tree.units) (λ u x. IsTrue (user_fits tree u x)) users) (solved : Solves (length tree.units) (rule profile tree) users values) where
   -- some of the lines, where each line is short
   pub part_accepted : (keeps : ℕ → Bool) → length (minimal_file prefix profile tree values) ≤ MAX_BYTES → list_all (is_short prefix valid profile tree settled.consistent users values fitting solved) (minimal_symbols profile tree values) ≡ true
-      → IsAccepted prefix tree (with_lines keeps prefix profile tree values)
+      → IsAccepted prefix tree (symbol_lines keeps prefix profile tree values)
   part_accepted keeps small short =
       let xs = minimal_symbols profile tree values in
       let some = some_have_lines prefix valid profile tree settled users values fitting solved keeps in
@@ -50,23 +53,63 @@ module _ (prefix : List ℕ) (valid : is_prefix prefix ≡ true) (profile : Prof
 
   -- without a line, and others or not, some symbol has another value
   differing : (keeps : ℕ → Bool) (s : ℕ) → has_line profile tree values s ≡ true → keeps s ≡ false
-      → (others : List UnitValue) × ReadsTo prefix profile tree (with_lines keeps prefix profile tree values) others × DifferAtASymbol tree others values
+      → (others : List UnitValue) × ReadsTo prefix profile tree (symbol_lines keeps prefix profile tree values) others × DifferAtASymbol tree others values
   differing keeps s has dropped =
       let lost = needed prefix valid profile tree settled users values fitting solved keeps s has dropped in
-      let bytes = with_lines keeps prefix profile tree values in
+      let bytes = symbol_lines keeps prefix profile tree values in
       let fits_lost = fits_of prefix valid profile tree settled bytes lost.1.sayings lost.1.utf8 lost.1.says in
       let others_fit = solutions_fit profile tree settled (file_assignment tree lost.1.sayings) fits_lost lost.0 lost.1.gives.solves in
       (lost.0, lost.1, differ_somewhere tree lost.0 values settled.consistent others_fit (solutions_fit profile tree settled users fitting values solved) lost.2)
 
-pub minimal_texts : MinimalTextsAreMinimal
-minimal_texts prefix profile tree users values valid settled fitting gives =
-    let ordered = ordered_tree tree settled in
-    record {
-      is = refl;
-      held = gives;
-      back = reads_back prefix valid profile tree ordered users values fitting gives.solves;
-      accepted = λ small short. whole_accepted prefix valid profile tree ordered users values fitting gives.solves small (shorts prefix valid profile tree ordered users values fitting gives.solves short);
-      part_accepted = λ small short keeps. part_accepted prefix valid profile tree ordered users values fitting gives.solves keeps small (shorts prefix valid profile tree ordered users values fitting gives.solves short);
-      needed = λ keeps s has dropped. differing prefix valid profile tree ordered users values fitting gives.solves keeps s has dropped;
-      least = λ any fits solves. needs profile tree any values ordered fits solves;
-    }
+  -- a file gives every symbol the same value exactly if its minimal file is the same
+  compared : (file : List ℕ) (others : List UnitValue) → ReadsTo prefix profile tree file others
+      → HaveSameValues tree values others ↔ (minimal_file prefix profile tree values ≡ minimal_file prefix profile tree others)
+  compared file others reads =
+      let fits = fits_of prefix valid profile tree settled file reads.sayings reads.utf8 reads.says in
+      let equal = same_files prefix valid profile tree settled users (file_assignment tree reads.sayings) values others fitting fits solved reads.gives.solves in
+      let values_fit = solutions_fit profile tree settled users fitting values solved in
+      let others_fit = solutions_fit profile tree settled (file_assignment tree reads.sayings) fits others reads.gives.solves in (
+        λ same. equal.0 (same_values tree values others settled.consistent values_fit others_fit same),
+        λ files. (let e = equal.1 files in λ s. ap (λ v. value_of_symbol tree v s) e),
+      )
+
+  short_file : (file : List ℕ) → Loads prefix profile tree file values → has_short_lines (minimal_file prefix profile tree values) ≡ true
+  short_file file loads =
+      file_of_shorts prefix valid profile tree settled.consistent users values fitting solved (minimal_symbols profile tree values) (passes_filter (has_line profile tree values) (symbol_numbers tree))
+      (lines_are_short prefix profile tree file values valid settled loads.accepted loads.reads)
+
+  kept_accepted : length (minimal_file prefix profile tree values) ≤ MAX_BYTES → has_short_lines (minimal_file prefix profile tree values) ≡ true → (keeps : ℕ → Bool)
+      → IsAccepted prefix tree (with_lines keeps (minimal_file prefix profile tree values))
+  kept_accepted small short keeps =
+      subst (IsAccepted prefix tree) (sym (lines_kept prefix valid profile tree settled.consistent users values fitting solved keeps))
+      (part_accepted (keeps_symbol prefix valid profile tree settled.consistent users values fitting solved keeps) small (shorts short))
+
+  line_needed : (keeps : ℕ → Bool) (k : ℕ) → k < length (file_lines (minimal_file prefix profile tree values)) → keeps k ≡ false
+      → (others : List UnitValue) × ReadsTo prefix profile tree (with_lines keeps (minimal_file prefix profile tree values)) others × DifferAtASymbol tree others values
+  line_needed keeps k below dropped =
+      let lost = symbol_dropped prefix valid profile tree settled.consistent users values fitting solved keeps k below dropped in
+      let found = differing (keeps_symbol prefix valid profile tree settled.consistent users values fitting solved keeps) lost.0 lost.1 lost.2 in
+      (found.0, subst (λ t. ReadsTo prefix profile tree t found.0) (sym (lines_kept prefix valid profile tree settled.consistent users values fitting solved keeps)) found.1, found.2)
+
+  pub canonical_text : IsCanonicalText prefix profile tree values (minimal_file prefix profile tree values)
+  canonical_text = record {
+    is = refl;
+    same = compared;
+    back = reads_back prefix valid profile tree settled users values fitting solved;
+    once = λ again reads. ap (minimal_file prefix profile tree) (one prefix valid profile tree settled (minimal_file prefix profile tree values) again values reads (reads_back prefix valid profile tree settled users values fitting solved));
+    needed = line_needed;
+    least = λ any fewer keeps fits solves cut. needs_units profile tree any values settled fits solves fewer keeps cut;
+    least_values = λ any fits solves. needs_values profile tree any values settled fits solves;
+    assigns_each = λ file reads. assigns_each prefix profile tree settled file values reads;
+    assigns_values = λ file reads. assigns_values prefix profile tree settled file values reads;
+    assigns_as_many = λ file reads.
+        let count = line_count prefix valid profile tree settled.consistent users values fitting solved in
+        let many = assigns_as_many prefix profile tree settled file values reads in
+        omega (arith, count, many);
+    accepted = λ small short. whole_accepted small (shorts short);
+    part_accepted = kept_accepted;
+    short = short_file;
+  }
+
+pub minimal_texts : MinimalTextsAreCanonical
+minimal_texts prefix profile tree users values valid settled fitting solved = canonical_text prefix valid profile tree (ordered_tree tree settled) users values fitting solved

@@ -1,12 +1,12 @@
--- An assignment needs just the units that have a line in the minimal file.
-use Rattle.std.proofs.Common.{◌≡◌, inl, inr, ℕ, ◌<◌, Bool, true, false, ◌==◌, cond, IsTrue, List, [], ◌∷◌, Option, Some, length, filter, refl, sym, ◌∙◌, ap}
+-- Of an assignment just the units that have a line in the minimal file are needed.
+use Rattle.std.proofs.Common.{◌≡◌, ◌↔◌, inl, inr, ℕ, ◌<◌, Bool, true, false, ◌==◌, cond, IsTrue, List, [], ◌∷◌, Option, Some, length, filter, refl, sym, ◌∙◌, ap}
 use Rattle.std.specs.Prelude.{slice_get}
 use Rattle.std.specs.List.{list_any}
 use Rattle.std.proofs.lemmas.Bool.{false≢true, and_parts, or_cases, eqb-true}
 use Rattle.kc_tree_model.specs.Trees.{Tree}
 use Rattle.kc_tree_model.specs.TreeLookup.{unit_of}
-use Rattle.kc_system.specs.Solutions.{user_of, Solves, FitsUsers}
-use Rattle.kc_system.specs.LeastAssignments.{IsKept}
+use Rattle.kc_system.specs.Solutions.{user_of, Solves, UniquelySolves, FitsUsers}
+use Rattle.kc_system.specs.LeastAssignments.{IsKept, IsCutTo}
 use Rattle.kc_system.proofs.Least.{cut_gives}
 use Rattle.kc_rules_model.specs.declared.profile.Profile.{Profile}
 use Rattle.kc_rules_model.specs.declared.values.UnitValue.{UnitValue}
@@ -21,8 +21,8 @@ use Rattle.kc_rules_model.specs.checker.FrameLaw.{rules_frame}
 use Rattle.kc_rules_model.proofs.AssignedTexts.{texts_assigned}
 use Rattle.kc_dotconfig_model.specs.PrefixGrammar.{is_prefix}
 use Rattle.kc_minimal_model.specs.MinimalFile.{is_kept, has_line, may_have_line}
-use Rattle.kc_rules_model.proofs.OrderedTrees.{IsOrderedTree, ordered_tree}
-use Rattle.kc_minimal_model.specs.MinimalText.{NeedsTheLines, MinimalLinesAreNeeded}
+use Rattle.kc_rules_model.proofs.OrderedTrees.{IsOrderedTree}
+use Rattle.kc_minimal_model.specs.CanonicalText.{HasUnitsOfLines, HasValuesOfLines}
 use Rattle.kc_minimal_model.proofs.KeptUnits.{kept_unit, kept_passes, others_fail}
 use Rattle.kc_minimal_model.proofs.KeptLines.{unit_inside}
 use Rattle.kc_minimal_model.proofs.LeastFile.{speaks_at, unit_there}
@@ -62,20 +62,20 @@ module _ (profile : Profile) (tree : Tree) (users : List (Option UserValue)) (va
       let found = any_found (λ s. unit_of tree s == u) (has_line profile tree values) (symbol_numbers tree) (speaks_at plain valid profile tree settled.consistent users values fitting solved u test k unit.0 unit.1) in
       (found.0, found.1, eqb-true (unit_of tree found.0) u found.2)
 
-  pub needs : NeedsTheLines profile tree values users
-  needs = record {
-    cut = λ keeps fewer is_cut.
-        let by_units = cut_gives (length tree.units) (dependencies tree) (rule profile tree) (λ u x. IsTrue (user_fits tree u x)) settled.order settled.ordered (rules_frame profile tree) decides users fewer values keeps fitting solved is_cut in (
-          (λ gives s has. let kept = line_kept s has in by_units.0 gives (unit_of tree s) kept.0 kept.1),
-          λ lines. by_units.1 (λ u inside kept. let line = kept_line u inside kept in ap keeps (sym line.2) ∙ lines line.0 line.1),
-        );
-    same = λ s value has holds text.
-        let kept = line_kept s has in
-        let u = unit_of tree s in
-        let result = rule profile tree u (user_of users u) values in
-        let value_is : value ≡ result = let e = solved.holds u kept.0 in cc (e, holds) in
-        texts_assigned profile tree u (user_of users u) values (λ e. kept.1 (solved.holds u kept.0 ∙ ap Some e)) (ap is_tri_value (sym value_is) ∙ text) ∙ ap as_user (sym value_is);
-  }
+  -- cut down to some units, the assignment gives the values exactly if the unit of each line is among these
+  pub needs_units : (fewer : List (Option UserValue)) (keeps : ℕ → Bool) → IsCutTo (length tree.units) keeps users fewer
+      → UniquelySolves (length tree.units) (rule profile tree) fewer values ↔ HasUnitsOfLines profile tree values keeps
+  needs_units fewer keeps is_cut =
+      let by_units = cut_gives (length tree.units) (dependencies tree) (rule profile tree) (λ u x. IsTrue (user_fits tree u x)) settled.order settled.ordered (rules_frame profile tree) decides users fewer values keeps fitting solved is_cut in (
+        (λ gives s has. let kept = line_kept s has in by_units.0 gives (unit_of tree s) kept.0 kept.1),
+        λ lines. by_units.1 (λ u inside kept. let line = kept_line u inside kept in ap keeps (sym line.2) ∙ lines line.0 line.1),
+      )
 
-pub least : MinimalLinesAreNeeded
-least profile tree users values settled fitting solved = needs profile tree users values (ordered_tree tree settled) fitting solved
+  -- and it has the members, strings and numbers of the lines
+  pub needs_values : HasValuesOfLines profile tree values users
+  needs_values s value has holds text =
+      let kept = line_kept s has in
+      let u = unit_of tree s in
+      let result = rule profile tree u (user_of users u) values in
+      let value_is : value ≡ result = let e = solved.holds u kept.0 in cc (e, holds) in
+      texts_assigned profile tree u (user_of users u) values (λ e. kept.1 (solved.holds u kept.0 ∙ ap Some e)) (ap is_tri_value (sym value_is) ∙ text) ∙ ap as_user (sym value_is)

@@ -22,11 +22,11 @@ use Rattle.kc_value.specs.declared.tri.Tri.TheVariants.{Y}
 use Rattle.kc_dotconfig_model.specs.ConfigLines.{assigns}
 use Rattle.kc_dotconfig_model.specs.ConfigFiles.{file_lines, has_utf8_lines}
 use Rattle.kc_dotconfig_model.specs.LoadFaults.{IsAccepted}
-use Rattle.kc_dotconfig_model.specs.checker.LineMeanings.{line_meaning, file_meanings}
+use Rattle.kc_dotconfig_model.specs.between.LineMeanings.{line_meaning, file_meanings}
 use Rattle.kc_dotconfig_model.proofs.LineLaws.{file_read}
-use Rattle.kc_minimal_model.specs.Headline.{AreCanonical}
+use Rattle.kc_minimal_model.specs.Headline.{AreComparedByMinimalFiles}
 use Rattle.kc_minimal_model.proofs.Accepting.{accepted_within}
-use Rattle.kc_minimal_model.proofs.Headlines.{canonical}
+use Rattle.kc_minimal_model.proofs.Headlines.{compared}
 
 abbrev files : Files
 files = (codes "K", codes "config A\n\tbool \"a\"\n") ∷ []
@@ -88,5 +88,5 @@ nothing_accepted : IsAccepted plain tree []
 nothing_accepted = accepted_within plain tree [] [] refl tt (omega arith) (omega arith) refl
 
 -- so the headline says something of them
-both : AreCanonical plain Present tree file []
-both = canonical plain Present tree file [] refl settled file_accepted nothing_accepted
+both : AreComparedByMinimalFiles plain Present tree file []
+both = compared plain Present tree file [] refl settled file_accepted nothing_accepted

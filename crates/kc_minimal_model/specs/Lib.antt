@@ -5,7 +5,6 @@ pub mod Differences
 pub mod Loading
 pub mod MinimalFileLaws
 pub mod FileLimits
-pub mod MinimalText
-pub mod FilesAssign
+pub mod CanonicalText
 pub mod FullFilesBack
 pub mod Headline

@@ -1,6 +1,6 @@
 -- What reading a file gives.
-use Rattle.std.specs.Prelude.{◌≡◌, ◌≢◌, ℕ, ◌+◌, Bool, true, nat_le, List, [], ◌∷◌, ◌++◌, length, take, drop}
-use Rattle.std.specs.List.{list_all, flat_map}
+use Rattle.std.specs.Prelude.{◌≡◌, ◌≢◌, ℕ, Bool, true, nat_le, List, length}
+use Rattle.std.specs.List.{list_all}
 use Rattle.kc_tree_model.specs.Trees.{Tree}
 use Rattle.kc_system.specs.Solutions.{UniquelySolves}
 use Rattle.kc_rules_model.specs.declared.profile.Profile.{Profile}
@@ -34,8 +34,3 @@ HaveSameValues tree v w = (s : ℕ) → value_of_symbol tree v s ≡ value_of_sy
 -- some symbol has another value
 abbrev pub DifferAtASymbol : Tree → List UnitValue → List UnitValue → Type 0
 DifferAtASymbol tree v w = (s : ℕ) × (value_of_symbol tree v s ≢ value_of_symbol tree w s)
-
--- a file without the line of this number, the first having the number 0
-abbrev pub without_line : ℕ → List ℕ → List ℕ
-without_line k bytes =
-    flat_map (λ (line : List ℕ). line ++ 10 ∷ []) (take k (file_lines bytes) ++ drop (k + 1) (file_lines bytes))

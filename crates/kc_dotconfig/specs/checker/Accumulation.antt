@@ -2,10 +2,11 @@
 use Rattle.std.specs.Prelude.{◌≡◌, ℕ, ◌+◌, ◌≤◌, List, ◌++◌, length, map}
 use Rattle.kc_tree_model.specs.Trees.{Tree}
 use Rattle.kc_dotconfig_model.specs.declared.fault.LoadKind.{LoadKind}
+use Rattle.kc_dotconfig_model.specs.declared.fault.LoadKind.TheVariants.{Malformed, NotUtf8, LineTooLong, TooManyLines, Read, OutOfMemory, TooLarge}
 use Rattle.kc_dotconfig_model.specs.ConfigLines.{LineMeaning}
 use Rattle.kc_dotconfig_model.specs.ConfigFiles.{FileMeans, file_assignment, notices_from}
 use Rattle.kc_dotconfig_model.specs.LoadFaults.{complete, MAX_BYTES, IsFirstFault, IsAccepted}
-use Rattle.kc_dotconfig_model.specs.checker.Cutting.{IsCut}
+use Rattle.kc_dotconfig_model.specs.between.Cutting.{IsCut}
 use Rattle.kc_dotconfig.specs.declared.accumulator.Accumulator.{Accumulator}
 use Rattle.kc_dotconfig.specs.declared.fragment.Fragment.{Fragment}
 use Rattle.kc_dotconfig.specs.Fragments.{users_of, notice_pair}
@@ -18,6 +19,16 @@ pub record IsGathered (tree : Tree) (sayings : List LineMeaning) (g : Accumulato
   pub counted : g.lines ≡ length sayings
   pub rises : Rises g.assigns
   pub below : Below (length tree.units) g.assigns
+
+-- the line of a fault after some complete lines is the next one; out of memory is of no line
+abbrev pub fault_line : LoadKind → ℕ → ℕ
+fault_line OutOfMemory lines = 0
+fault_line Malformed lines = lines + 1
+fault_line NotUtf8 lines = lines + 1
+fault_line LineTooLong lines = lines + 1
+fault_line TooManyLines lines = lines + 1
+fault_line Read lines = lines + 1
+fault_line TooLarge lines = lines + 1
 
 -- the incomplete line, and the state accumulated from a part of a file
 abbrev pub Holds : List ℕ → Tree → List ℕ → List ℕ → Accumulator → Type 0

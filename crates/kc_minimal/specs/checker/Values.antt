@@ -1,10 +1,18 @@
--- What values a tree's units have.
-use Rattle.std.specs.Prelude.{List, length, IsTrue}
+-- The values of a tree's units, and the user values that give them.
+use Rattle.std.specs.Prelude.{List, Option, length, IsTrue}
 use Rattle.kc_tree_model.specs.Trees.{Tree}
-use Rattle.kc_system.specs.Solutions.{FitsValues}
+use Rattle.kc_system.specs.Solutions.{Solves, FitsUsers, FitsValues}
+use Rattle.kc_rules_model.specs.declared.profile.Profile.{Profile}
 use Rattle.kc_rules_model.specs.declared.values.UnitValue.{UnitValue}
-use Rattle.kc_rules_model.specs.Shapes.{value_fits}
+use Rattle.kc_rules_model.specs.declared.values.UserValue.{UserValue}
+use Rattle.kc_rules_model.specs.Rule.{rule}
+use Rattle.kc_rules_model.specs.Shapes.{user_fits, value_fits}
 
 -- each unit has a value of its shape
 abbrev pub FitValues : Tree → List UnitValue → Type 0
 FitValues tree values = FitsValues (length tree.units) (λ u x. IsTrue (value_fits tree u x)) values
+
+-- fitting user values, one or none for each unit, give these values
+pub record AreGivenBy (profile : Profile) (tree : Tree) (users : List (Option UserValue)) (values : List UnitValue) : Type 0 where
+  pub fits : FitsUsers (length tree.units) (λ u x. IsTrue (user_fits tree u x)) users
+  pub solves : Solves (length tree.units) (rule profile tree) users values

@@ -11,7 +11,7 @@ pub loop-number-preserved : goal.loop-number-preserved
 loop-number-preserved c =
     let settled = c.args.settled.now in
     let line = ended_line (prefix_bytes c.args.prefix.now) (tree_of_settled settled) c.args.values.now in
-    line_more (has_line (profile_of settled) (tree_of_settled settled) c.args.values.now) line c.loop-number.number c.loop-number.text.items _ c.loop-number.invariant (rw c.at.ensures at c.in_ok-push_if_kept.ensures)
+    line_more (has_line (profile_of settled) (tree_of_settled settled) c.args.values.now) line c.loop-number.number c.loop-number.text.items _ c.loop-number.invariant (rw c.at-s.ensures at c.in_ok-push_if_kept.ensures)
 
 pub returns : goal.returns
 returns c = search rules

@@ -9,8 +9,8 @@ pub returns-in-Ok-write_out-clause-minimised : goal.returns-in-Ok-write_out-clau
 returns-in-Ok-write_out-clause-minimised g c =
     let text = c.in-Ok-minimal_of.text.items in
     let minimal = c.in-Ok-minimal_of.ensures in
-    minimised c.minimal_files_are_canonical.ensures c.files_assign_the_lines.ensures (prefix_bytes c.args.prefix.now) c.args.prefix.now.valid (profile_of c.args.settled.now) (tree_of_settled c.args.settled.now) c.tree-tree.ensures.settled
-    (g.R.Source.left c.args.source.now) (g.R.Source.left c.read_config.new.source) c.in-Ok.fragment c.in-Ok.ensures.ok minimal.0 text minimal.1 (g.W.Sink.taken c.args.sink.now) (g.W.Sink.taken c.write_out.new.sink)
+    minimised (prefix_bytes c.args.prefix.now) c.args.prefix.now.valid (profile_of c.args.settled.now) (tree_of_settled c.args.settled.now)
+    (g.R.Source.left c.args.source.now) (g.R.Source.left c.read_config.new.source) c.in-Ok.fragment c.in-Ok.ensures.ok minimal.0 text minimal.1 minimal.2 (g.W.Sink.taken c.args.sink.now) (g.W.Sink.taken c.write_out.new.sink)
     (rw c.deref.ensures.value at c.in-Ok-write_out.ensures.whole)
 
 pub returns-in-Err-write_out-clause-fault : goal.returns-in-Err-write_out-clause-fault
@@ -18,8 +18,8 @@ returns-in-Err-write_out-clause-fault g c =
     let text = c.in-Ok-minimal_of.text.items in
     let minimal = c.in-Ok-minimal_of.ensures in
     let part = rw c.deref.ensures.value at c.in-Err-write_out.ensures.part in
-    cut_off c.minimal_files_are_canonical.ensures c.files_assign_the_lines.ensures (prefix_bytes c.args.prefix.now) c.args.prefix.now.valid (profile_of c.args.settled.now) (tree_of_settled c.args.settled.now) c.tree-tree.ensures.settled
-    (g.R.Source.left c.args.source.now) (g.R.Source.left c.read_config.new.source) c.in-Ok.fragment c.in-Ok.ensures.ok minimal.0 text minimal.1 (g.W.Sink.taken c.args.sink.now) (g.W.Sink.taken c.write_out.new.sink)
+    cut_off (prefix_bytes c.args.prefix.now) c.args.prefix.now.valid (profile_of c.args.settled.now) (tree_of_settled c.args.settled.now)
+    (g.R.Source.left c.args.source.now) (g.R.Source.left c.read_config.new.source) c.in-Ok.fragment c.in-Ok.ensures.ok minimal.0 text minimal.1 minimal.2 (g.W.Sink.taken c.args.sink.now) (g.W.Sink.taken c.write_out.new.sink)
     (g.W.Sink.failures c.args.sink.now) (g.W.Sink.failures c.write_out.new.sink) c.in-Err-write_out.fault.written part.0 part.1 c.in-Err-write_out.ensures.failed
 
 pub returns-in-Err-clause-fault : goal.returns-in-Err-clause-fault

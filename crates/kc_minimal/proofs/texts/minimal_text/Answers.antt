@@ -1,12 +1,7 @@
-use Rattle.std.proofs.Common.{arith}
-use Rattle.std.proofs.lemmas.Grind.{common_steps}
 use Rattle.std.proofs.lemmas.Result.{IfOk-weaker}
 use Rattle.kc_dotconfig_model.specs.Prefixes.{prefix_bytes}
 use Rattle.kc_minimal.proofs.HeldTexts.{minimal_held}
 use Rattle.kc_minimal.proofs.texts.minimal_text.Goals as goal
 
-pub returns : goal.returns
-returns c = IfOk-weaker c.minimal_lines.result _ _ (λ text is. minimal_held (prefix_bytes c.args.prefix.now) c.args.prefix.now.valid c.args.config.now c.values.ensures.solved c.settled.result.now c.values.result.now c.settled.ensures c.values.ensures.values text.items c.minimal_texts_are_minimal.ensures is) c.minimal_lines.ensures
-
-pub minimal_lines-requires : goal.minimal_lines-requires
-minimal_lines-requires c = grind (arith, common_steps)
+pub returns-clause-canonical : goal.returns-clause-canonical
+returns-clause-canonical c = IfOk-weaker c.minimal_lines.result _ _ (λ text is. minimal_held (prefix_bytes c.args.prefix.now) c.args.prefix.now.valid c.args.config.now c.values.ensures.solved c.settled.result.now c.values.result.now c.settled.ensures c.values.ensures.values text.items c.minimal_texts_are_canonical.ensures is) c.minimal_lines.ensures

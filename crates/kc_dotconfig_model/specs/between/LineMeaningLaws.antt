@@ -4,7 +4,7 @@ use Rattle.kc_tree_model.specs.Trees.{Tree}
 use Rattle.kc_dotconfig_model.specs.PrefixGrammar.{is_prefix}
 use Rattle.kc_dotconfig_model.specs.ConfigLines.{LineMeaning, Means}
 use Rattle.kc_dotconfig_model.specs.ConfigFiles.{FileMeans}
-use Rattle.kc_dotconfig_model.specs.checker.LineMeanings.{line_meaning, file_meanings}
+use Rattle.kc_dotconfig_model.specs.between.LineMeanings.{line_meaning, file_meanings}
 
 abbrev pub LinesAreRead : Type 0
 LinesAreRead = (prefix : List ℕ) (tree : Tree) (line : List ℕ) (saying : LineMeaning) → is_prefix prefix ≡ true

@@ -1,0 +1,92 @@
+-- What makes a text the canonical file of its values.
+use Rattle.std.specs.Prelude.{◌≡◌, ◌↔◌, ℕ, ◌+◌, ◌<◌, ◌≤◌, Bool, true, false, eqb, List, [], ◌∷◌, ◌++◌, Option, Some, length, slice_get, IsTrue, if◌then◌else◌}
+use Rattle.std.specs.List.{list_any, flat_map}
+use Rattle.kc_tree_model.specs.Trees.{Tree}
+use Rattle.kc_tree_model.specs.TreeLookup.{unit_of}
+use Rattle.kc_system.specs.Solutions.{user_of, Solves, UniquelySolves, FitsUsers}
+use Rattle.kc_system.specs.LeastAssignments.{IsCutTo}
+use Rattle.kc_rules_model.specs.declared.profile.Profile.{Profile}
+use Rattle.kc_rules_model.specs.declared.values.UnitValue.{UnitValue}
+use Rattle.kc_rules_model.specs.declared.values.UserValue.{UserValue}
+use Rattle.kc_rules_model.specs.Rule.{rule, as_user}
+use Rattle.kc_rules_model.specs.Shapes.{user_fits}
+use Rattle.kc_rules_model.specs.RuleLaws.{is_tri_value}
+use Rattle.kc_rules_model.specs.SettledTrees.{IsSettledTree}
+use Rattle.kc_dotconfig_model.specs.PrefixGrammar.{is_prefix}
+use Rattle.kc_dotconfig_model.specs.ConfigLines.{LineMeaning, assigns, notice, silent}
+use Rattle.kc_dotconfig_model.specs.ConfigFiles.{file_lines, file_assignment}
+use Rattle.kc_dotconfig_model.specs.LoadFaults.{MAX_BYTES, IsAccepted}
+use Rattle.kc_minimal_model.specs.MinimalFile.{has_line, minimal_file}
+use Rattle.kc_minimal_model.specs.Loading.{ReadsTo, Loads, HaveSameValues, DifferAtASymbol, has_short_lines}
+
+-- the elements of a list whose numbers pass a test, where the first one has the number `k`
+abbrev pub at_numbers : {A : Type 0} → (ℕ → Bool) → ℕ → List A → List A
+at_numbers keeps k [] = []
+at_numbers keeps k (x ∷ xs) = if keeps k then x ∷ at_numbers keeps (k + 1) xs else at_numbers keeps (k + 1) xs
+
+-- those lines of a file whose numbers pass a test, where the first line has the number 0
+abbrev pub with_lines : (ℕ → Bool) → List ℕ → List ℕ
+with_lines keeps bytes = flat_map (λ (line : List ℕ). line ++ 10 ∷ []) (at_numbers keeps 0 (file_lines bytes))
+
+-- the unit of each symbol that has a line passes a test
+abbrev pub HasUnitsOfLines : Profile → Tree → List UnitValue → (ℕ → Bool) → Type 0
+HasUnitsOfLines profile tree values keeps = (s : ℕ) → has_line profile tree values s ≡ true → keeps (unit_of tree s) ≡ true
+
+-- an assignment has the values of those lines that assign a member, a string or a number
+abbrev pub HasValuesOfLines : Profile → Tree → List UnitValue → List (Option UserValue) → Type 0
+HasValuesOfLines profile tree values users = (s : ℕ) (value : UnitValue) → has_line profile tree values s ≡ true
+    → slice_get values (unit_of tree s) ≡ Some value → is_tri_value value ≡ false
+    → user_of users (unit_of tree s) ≡ as_user value
+
+-- the units to which lines assign, one for each line that assigns
+abbrev pub assigned_units : List LineMeaning → List ℕ
+assigned_units [] = []
+assigned_units (assigns u x ∷ sayings) = u ∷ assigned_units sayings
+assigned_units (notice kind ∷ sayings) = assigned_units sayings
+assigned_units (silent ∷ sayings) = assigned_units sayings
+
+-- A text is the canonical file of values, over one tree, in one profile and with one prefix.
+pub record IsCanonicalText (prefix : List ℕ) (profile : Profile) (tree : Tree) (values : List UnitValue) (text : List ℕ) : Type 0 where
+  -- it is their minimal file
+  pub is : text ≡ minimal_file prefix profile tree values
+  -- a file gives every symbol the same value exactly if its minimal file is this text byte for byte
+  pub same : (file : List ℕ) (others : List UnitValue) → ReadsTo prefix profile tree file others
+      → HaveSameValues tree values others ↔ (text ≡ minimal_file prefix profile tree others)
+  -- the text gives these values and no others
+  pub back : ReadsTo prefix profile tree text values
+  -- minimising twice is minimising once
+  pub once : (again : List UnitValue) → ReadsTo prefix profile tree text again → minimal_file prefix profile tree again ≡ text
+  -- without one of its lines, and with some of the others or all, it gives some symbol another value
+  pub needed : (keeps : ℕ → Bool) (k : ℕ) → k < length (file_lines text) → keeps k ≡ false
+      → (others : List UnitValue) × ReadsTo prefix profile tree (with_lines keeps text) others
+      × DifferAtASymbol tree others values
+  -- an assignment of the values, cut down to some units, gives them exactly if these are all that have a line, or more
+  pub least : (users fewer : List (Option UserValue)) (keeps : ℕ → Bool)
+      → FitsUsers (length tree.units) (λ u x. IsTrue (user_fits tree u x)) users
+      → Solves (length tree.units) (rule profile tree) users values → IsCutTo (length tree.units) keeps users fewer
+      → UniquelySolves (length tree.units) (rule profile tree) fewer values ↔ HasUnitsOfLines profile tree values keeps
+  -- and it has the values of the lines
+  pub least_values : (users : List (Option UserValue))
+      → FitsUsers (length tree.units) (λ u x. IsTrue (user_fits tree u x)) users
+      → Solves (length tree.units) (rule profile tree) users values → HasValuesOfLines profile tree values users
+  -- a file that gives the values assigns to the unit of each line, the values of the lines, by at least as many lines
+  pub assigns_each : (file : List ℕ) → (reads : ReadsTo prefix profile tree file values)
+      → HasUnitsOfLines profile tree values (λ u. list_any (eqb u) (assigned_units reads.sayings))
+  pub assigns_values : (file : List ℕ) → (reads : ReadsTo prefix profile tree file values)
+      → HasValuesOfLines profile tree values (file_assignment tree reads.sayings)
+  pub assigns_as_many : (file : List ℕ) → (reads : ReadsTo prefix profile tree file values)
+      → length (file_lines text) ≤ length (assigned_units reads.sayings)
+  -- within the limits the text is accepted, and so are some of its lines alone
+  pub accepted : length text ≤ MAX_BYTES → has_short_lines text ≡ true → IsAccepted prefix tree text
+  pub part_accepted : length text ≤ MAX_BYTES → has_short_lines text ≡ true → (keeps : ℕ → Bool)
+      → IsAccepted prefix tree (with_lines keeps text)
+  -- where an accepted file gives the values, no line of the text is too long
+  pub short : (file : List ℕ) → Loads prefix profile tree file values → has_short_lines text ≡ true
+
+-- the minimal file of the values of a fitting assignment is canonical
+abbrev pub MinimalTextsAreCanonical : Type 0
+MinimalTextsAreCanonical = (prefix : List ℕ) (profile : Profile) (tree : Tree) (users : List (Option UserValue)) (values : List UnitValue)
+    → is_prefix prefix ≡ true → IsSettledTree tree
+    → FitsUsers (length tree.units) (λ u x. IsTrue (user_fits tree u x)) users
+    → Solves (length tree.units) (rule profile tree) users values
+    → IsCanonicalText prefix profile tree values (minimal_file prefix profile tree values)
