@@ -17,7 +17,7 @@ use Rattle.kc_expr.specs.Token.{with_front}
 use Rattle.kc_expr.specs.Grammar.{is_quote}
 use Rattle.kc_expr.specs.Token.{Lexeme, is_white_byte, is_word_byte, next_token, next_operator, quoted_up_to, quoted_or_left_out, lexemes_from}
 use Rattle.kc_expr.specs.TokenGrammar.{IsToken, IsLongest, IsCut, ends, comment, white, token}
-use Rattle.kc_expr.proofs.Lexing.{lexed_white, lexed_comment, lexed_token, lexed_fault, word_run}
+use Rattle.kc_expr.proofs.Lexing.{lexemes_white, lexemes_comment, lexemes_token, lexemes_fault, word_run}
 use Rattle.kc_expr.proofs.TokenLaws.{run_all, run_front, front_run, quote_facts, first_byte}
 
 -- a token at the front of bytes, the longest that fits
@@ -321,14 +321,14 @@ read_cut zero at (b ∷ bs) ps l h = absurd (omega arith)
 read_cut (suc n) at (b ∷ bs) ps l h = by_lead (next_token (b ∷ bs)) refl (lead_says b bs) (λ at bytes ps l h. read_cut n at bytes ps l h)
   where
     by_lead : (lead : NextToken) → next_token (b ∷ bs) ≡ lead → Says b bs lead → ((at : ℕ) (bytes : List ℕ) (ps : List Lexeme) → length bytes ≤ n → lexemes_from 0 at bytes ≡ Ok ps → IsCut at bytes ps) → IsCut at (b ∷ bs) ps
-    by_lead White e s ih = white s (ih (at + 1) bs ps (omega arith) (sym (lexed_white at b bs e) ∙ h))
-    by_lead Comment e s ih = subst (IsCut at (b ∷ bs)) (same_ok [] ps (sym (lexed_comment at b bs e) ∙ h)) (subst (λ c. IsCut at (c ∷ bs) []) (sym s) comment)
+    by_lead White e s ih = white s (ih (at + 1) bs ps (omega arith) (sym (lexemes_white at b bs e) ∙ h))
+    by_lead Comment e s ih = subst (IsCut at (b ∷ bs)) (same_ok [] ps (sym (lexemes_comment at b bs e) ∙ h)) (subst (λ c. IsCut at (c ∷ bs) []) (sym s) comment)
     by_lead (Token k len) e s ih =
         let (c, cs, f) = first_byte k s.text s.is in
         let size : len ≡ suc (length cs) = sym s.size ∙ ap length f in
         let parts : b ∷ bs ≡ (c ∷ cs) ++ s.rest = s.parts ∙ ap (λ x. x ++ s.rest) f in
         let tail : bs ≡ cs ++ s.rest = same_rest b c bs (cs ++ s.rest) parts in
-        let read = sym (lexed_token at b bs k (length cs) (e ∙ ap (Token k) size)) ∙ h in
+        let read = sym (lexemes_token at b bs k (length cs) (e ∙ ap (Token k) size)) ∙ h in
         let (qs, r, q) = front_ok (record { kind = k; start = at; stop = at + suc (length cs); text = take (suc (length cs)) (b ∷ bs) }) (lexemes_from 0 (at + suc (length cs)) (drop (length cs) bs)) ps read in
         let front : take (suc (length cs)) (b ∷ bs) ≡ s.text = ap (take (suc (length cs))) parts ∙ take-append_seam (c ∷ cs) s.rest ∙ sym f in
         let left : drop (length cs) bs ≡ s.rest = ap (drop (length cs)) tail ∙ drop-append_seam cs s.rest in
@@ -337,4 +337,4 @@ read_cut (suc n) at (b ∷ bs) ps l h = by_lead (next_token (b ∷ bs)) refl (le
         let piece : Lexeme = record { kind = k; start = at; stop = at + suc (length cs); text = s.text } in
         subst (IsCut at (b ∷ bs)) (ap (λ x. record { kind = k; start = at; stop = at + suc (length cs); text = x } ∷ qs) (sym front) ∙ sym q)
         (token piece s.rest s.parts s.is s.longest refl (ap (λ m. at + m) long) again)
-    by_lead (Fault kind ahead) e s ih = let r = sym (lexed_fault at b bs kind ahead e) ∙ h in cc
+    by_lead (Fault kind ahead) e s ih = let r = sym (lexemes_fault at b bs kind ahead e) ∙ h in cc

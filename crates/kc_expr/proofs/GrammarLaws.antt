@@ -102,20 +102,20 @@ module _ (d : ℕ) (t : Lexeme) (a : Operand) (is : operand_of_lexeme t ≡ Some
   right_sound op u [] r e h = cc
   right_sound op u (v ∷ ts) r e h = right_at (operand_of_lexeme v) op u v ts r e refl h
 
-  behind_at : (k : TokenKind) (u : Lexeme) (ts : List Lexeme) (r : Expr × List Lexeme) → u.kind ≡ k
+  after_at : (k : TokenKind) (u : Lexeme) (ts : List Lexeme) (r : Expr × List Lexeme) → u.kind ≡ k
       → elim k as (λ _. Read) [ Relation op ↦ right_operand (related op a) ts | Word ↦ Ok (alone a, u ∷ ts) | Quoted ↦ Ok (alone a, u ∷ ts) | Not ↦ Ok (alone a, u ∷ ts) | And ↦ Ok (alone a, u ∷ ts) | Or ↦ Ok (alone a, u ∷ ts) | Open ↦ Ok (alone a, u ∷ ts) | Close ↦ Ok (alone a, u ∷ ts) ] ≡ Ok r → Reads factor d (t ∷ u ∷ ts) r
-  behind_at (Relation op) u ts r e h = right_sound op u ts r e h
-  behind_at Word u ts r e h = single (u ∷ ts) r h
-  behind_at Quoted u ts r e h = single (u ∷ ts) r h
-  behind_at Not u ts r e h = single (u ∷ ts) r h
-  behind_at And u ts r e h = single (u ∷ ts) r h
-  behind_at Or u ts r e h = single (u ∷ ts) r h
-  behind_at Open u ts r e h = single (u ∷ ts) r h
-  behind_at Close u ts r e h = single (u ∷ ts) r h
+  after_at (Relation op) u ts r e h = right_sound op u ts r e h
+  after_at Word u ts r e h = single (u ∷ ts) r h
+  after_at Quoted u ts r e h = single (u ∷ ts) r h
+  after_at Not u ts r e h = single (u ∷ ts) r h
+  after_at And u ts r e h = single (u ∷ ts) r h
+  after_at Or u ts r e h = single (u ∷ ts) r h
+  after_at Open u ts r e h = single (u ∷ ts) r h
+  after_at Close u ts r e h = single (u ∷ ts) r h
 
-  pub behind_sound : (ts : List Lexeme) (r : Expr × List Lexeme) → after_operand a ts ≡ Ok r → Reads factor d (t ∷ ts) r
-  behind_sound [] r h = single [] r h
-  behind_sound (u ∷ ts) r h = behind_at u.kind u ts r refl h
+  pub after_sound : (ts : List Lexeme) (r : Expr × List Lexeme) → after_operand a ts ≡ Ok r → Reads factor d (t ∷ ts) r
+  after_sound [] r h = single [] r h
+  after_sound (u ∷ ts) r h = after_at u.kind u ts r refl h
 
 word_is : (t : Lexeme) → t.kind ≡ Word → operand_of_lexeme t ≡ Some (constant_or named t.text)
 word_is t e = rw (e, operand_of_lexeme) refl
@@ -155,8 +155,8 @@ zero_at : (k : TokenKind) (t : Lexeme) (ts : List Lexeme) (r : Expr × List Lexe
     → elim k as (λ _. Read) [ Not ↦ past_depth_limit ts | Open ↦ past_depth_limit ts | Word ↦ after_operand (constant_or named t.text) ts | Quoted ↦ after_operand (constant_or quoted (quoted_text t.text)) ts | Relation op ↦ Err (Malformed, t ∷ ts) | And ↦ Err (Malformed, t ∷ ts) | Or ↦ Err (Malformed, t ∷ ts) | Close ↦ Err (Malformed, t ∷ ts) ] ≡ Ok r → Reads factor 0 (t ∷ ts) r
 zero_at Not t ts r e h = absurd (beyond_none ts r h)
 zero_at Open t ts r e h = absurd (beyond_none ts r h)
-zero_at Word t ts r e h = behind_sound 0 t (constant_or named t.text) (word_is t e) ts r h
-zero_at Quoted t ts r e h = behind_sound 0 t (constant_or quoted (quoted_text t.text)) (quoted_is t e) ts r h
+zero_at Word t ts r e h = after_sound 0 t (constant_or named t.text) (word_is t e) ts r h
+zero_at Quoted t ts r e h = after_sound 0 t (constant_or quoted (quoted_text t.text)) (quoted_is t e) ts r h
 zero_at (Relation op) t ts r e h = cc
 zero_at And t ts r e h = cc
 zero_at Or t ts r e h = cc
@@ -168,8 +168,8 @@ suc_at Not d t ts r e ih h = negation_sound d t ts r e (ih ts) h
 suc_at Open d t ts r e ih h =
     let (y, p, k) = on_ok (read_ors (read_factor d) ts) closed r h in
     closed_sound d t ts y r e (ors_sound d (read_factor d) ih ts y p) k
-suc_at Word d t ts r e ih h = behind_sound (suc d) t (constant_or named t.text) (word_is t e) ts r h
-suc_at Quoted d t ts r e ih h = behind_sound (suc d) t (constant_or quoted (quoted_text t.text)) (quoted_is t e) ts r h
+suc_at Word d t ts r e ih h = after_sound (suc d) t (constant_or named t.text) (word_is t e) ts r h
+suc_at Quoted d t ts r e ih h = after_sound (suc d) t (constant_or quoted (quoted_text t.text)) (quoted_is t e) ts r h
 suc_at (Relation op) d t ts r e ih h = cc
 suc_at And d t ts r e ih h = cc
 suc_at Or d t ts r e ih h = cc

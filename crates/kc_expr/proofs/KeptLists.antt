@@ -4,8 +4,8 @@ use Rattle.std.proofs.lemmas.List.{length-take, take-append-drop, take-take}
 use Rattle.std.proofs.Math.Seq.{take-append_seam}
 
 -- the front of a list is the front of a longer one
-pub kept_behind : {X : Type 0} (old xs : List X) (x : X) → take (length old) xs ≡ old → take (length old) (xs ++ x ∷ []) ≡ old
-kept_behind old xs x e =
+pub kept_after : {X : Type 0} (old xs : List X) (x : X) → take (length old) xs ≡ old → take (length old) (xs ++ x ∷ []) ≡ old
+kept_after old xs x e =
     let parts : xs ≡ old ++ drop (length old) xs = sym (take-append-drop (length old) xs) ∙ ap (λ ys. ys ++ drop (length old) xs) e in
     ap (take (length old)) (ap (λ ys. ys ++ x ∷ []) parts ∙ append_assoc old (drop (length old) xs) (x ∷ [])) ∙ take-append_seam old (drop (length old) xs ++ x ∷ [])
 

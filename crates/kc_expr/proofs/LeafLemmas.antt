@@ -18,13 +18,13 @@ pub quote_ascii : (c : ℕ) → is_quote c ≡ true → c < 128
 quote_ascii c h = grind (arith, nat_tests)
 
 -- the tokens from a place on
-pub piece_at : (ts : List CodeToken) (at : ℕ) (d : CodeToken) → at < length ts → drop at (lexemes_of ts) ≡ lexeme_of (get_or ts at d) ∷ drop (suc at) (lexemes_of ts)
-piece_at [] at d h = absurd (omega arith)
-piece_at (t ∷ ts) zero d h = refl
-piece_at (t ∷ ts) (suc at) d h = piece_at ts at d (omega arith)
+pub lexeme_at : (ts : List CodeToken) (at : ℕ) (d : CodeToken) → at < length ts → drop at (lexemes_of ts) ≡ lexeme_of (get_or ts at d) ∷ drop (suc at) (lexemes_of ts)
+lexeme_at [] at d h = absurd (omega arith)
+lexeme_at (t ∷ ts) zero d h = refl
+lexeme_at (t ∷ ts) (suc at) d h = lexeme_at ts at d (omega arith)
 
 pub operand_at : (ts : List CodeToken) (at : ℕ) (d : CodeToken) (k : TokenKind) → at < length ts → (get_or ts at d).kind ≡ k → first_operand (drop at (lexemes_of ts)) ≡ operand_of_kind k (get_or ts at d).text.now
-operand_at ts at d k h e = ap first_operand (piece_at ts at d h) ∙ ap (λ k. operand_of_kind k (get_or ts at d).text.now) e
+operand_at ts at d k h e = ap first_operand (lexeme_at ts at d h) ∙ ap (λ k. operand_of_kind k (get_or ts at d).text.now) e
 
 other_kind : (k : TokenKind) (text : List ℕ) → (k ≡ Word → ⊥) → (k ≡ Quoted → ⊥) → operand_of_kind k text ≡ None
 other_kind Word text w q = absurd (w refl)
@@ -37,7 +37,7 @@ other_kind Open text w q = refl
 other_kind Close text w q = refl
 
 pub no_operand_at : (ts : List CodeToken) (at : ℕ) (d : CodeToken) → at < length ts → ((get_or ts at d).kind ≡ Word → ⊥) → ((get_or ts at d).kind ≡ Quoted → ⊥) → first_operand (drop at (lexemes_of ts)) ≡ None
-no_operand_at ts at d h w q = ap first_operand (piece_at ts at d h) ∙ other_kind (get_or ts at d).kind (get_or ts at d).text.now w q
+no_operand_at ts at d h w q = ap first_operand (lexeme_at ts at d h) ∙ other_kind (get_or ts at d).kind (get_or ts at d).text.now w q
 
 pub nothing_at : (ts : List CodeToken) (at : ℕ) → length ts ≤ at → drop at (lexemes_of ts) ≡ []
 nothing_at [] zero h = refl

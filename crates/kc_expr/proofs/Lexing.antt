@@ -38,23 +38,23 @@ word_ends [] h = absurd (omega arith)
 word_ends (b ∷ bs) h = rw take_while-cons (word_ends_by (is_word_byte b) b bs refl (word_ends bs) (rw take_while-cons at h))
 
 -- bytes of a token that began before are passed over
-pub lexed_skip : (k at : ℕ) (bs : List ℕ) → lexemes_from k at bs ≡ lexemes_from 0 (at + k) (drop k bs)
-lexed_skip zero at [] = refl
-lexed_skip (suc k) at [] = refl
-lexed_skip zero at (b ∷ bs) = ap (λ n. lexemes_from 0 n (b ∷ bs)) (omega arith)
-lexed_skip (suc k) at (b ∷ bs) = lexed_skip k (at + 1) bs ∙ ap (λ n. lexemes_from 0 n (drop k bs)) (omega arith)
+pub lexemes_skip : (k at : ℕ) (bs : List ℕ) → lexemes_from k at bs ≡ lexemes_from 0 (at + k) (drop k bs)
+lexemes_skip zero at [] = refl
+lexemes_skip (suc k) at [] = refl
+lexemes_skip zero at (b ∷ bs) = ap (λ n. lexemes_from 0 n (b ∷ bs)) (omega arith)
+lexemes_skip (suc k) at (b ∷ bs) = lexemes_skip k (at + 1) bs ∙ ap (λ n. lexemes_from 0 n (drop k bs)) (omega arith)
 
-pub lexed_white : (at b : ℕ) (bs : List ℕ) → next_token (b ∷ bs) ≡ White → lexemes_from 0 at (b ∷ bs) ≡ lexemes_from 0 (at + 1) bs
-lexed_white at b bs e = rw (e, lexemes_from) refl
+pub lexemes_white : (at b : ℕ) (bs : List ℕ) → next_token (b ∷ bs) ≡ White → lexemes_from 0 at (b ∷ bs) ≡ lexemes_from 0 (at + 1) bs
+lexemes_white at b bs e = rw (e, lexemes_from) refl
 
-pub lexed_comment : (at b : ℕ) (bs : List ℕ) → next_token (b ∷ bs) ≡ Comment → lexemes_from 0 at (b ∷ bs) ≡ Ok []
-lexed_comment at b bs e = rw (e, lexemes_from) refl
+pub lexemes_comment : (at b : ℕ) (bs : List ℕ) → next_token (b ∷ bs) ≡ Comment → lexemes_from 0 at (b ∷ bs) ≡ Ok []
+lexemes_comment at b bs e = rw (e, lexemes_from) refl
 
-pub lexed_fault : (at b : ℕ) (bs : List ℕ) (kind : ExprKind) (ahead : ℕ) → next_token (b ∷ bs) ≡ Fault kind ahead → lexemes_from 0 at (b ∷ bs) ≡ Err (record { offset = at + ahead; kind = kind })
-lexed_fault at b bs kind ahead e = rw (e, lexemes_from) refl
+pub lexemes_fault : (at b : ℕ) (bs : List ℕ) (kind : ExprKind) (ahead : ℕ) → next_token (b ∷ bs) ≡ Fault kind ahead → lexemes_from 0 at (b ∷ bs) ≡ Err (record { offset = at + ahead; kind = kind })
+lexemes_fault at b bs kind ahead e = rw (e, lexemes_from) refl
 
-pub lexed_token : (at b : ℕ) (bs : List ℕ) (kind : TokenKind) (len : ℕ) → next_token (b ∷ bs) ≡ Token kind (suc len) → lexemes_from 0 at (b ∷ bs) ≡ with_front (record { kind = kind; start = at; stop = at + suc len; text = take (suc len) (b ∷ bs) } ∷ []) (lexemes_from 0 (at + suc len) (drop len bs))
-lexed_token at b bs kind len e = rw (e, lexemes_from) (ap (λ r. with_front (record { kind = kind; start = at; stop = at + suc len; text = take (suc len) (b ∷ bs) } ∷ []) r) (lexed_skip len (at + 1) bs ∙ ap (λ n. lexemes_from 0 n (drop len bs)) (omega arith)))
+pub lexemes_token : (at b : ℕ) (bs : List ℕ) (kind : TokenKind) (len : ℕ) → next_token (b ∷ bs) ≡ Token kind (suc len) → lexemes_from 0 at (b ∷ bs) ≡ with_front (record { kind = kind; start = at; stop = at + suc len; text = take (suc len) (b ∷ bs) } ∷ []) (lexemes_from 0 (at + suc len) (drop len bs))
+lexemes_token at b bs kind len e = rw (e, lexemes_from) (ap (λ r. with_front (record { kind = kind; start = at; stop = at + suc len; text = take (suc len) (b ∷ bs) } ∷ []) r) (lexemes_skip len (at + 1) bs ∙ ap (λ n. lexemes_from 0 n (drop len bs)) (omega arith)))
 
 pub with_front_more : {E : Type 0} (xs ys : List Lexeme) (r : Result (List Lexeme) E) → with_front xs (with_front ys r) ≡ with_front (xs ++ ys) r
 with_front_more xs ys (Ok zs) = ap Ok (sym (append_assoc xs ys zs))
@@ -67,14 +67,14 @@ module _ (line : List ℕ) (at : ℕ) (found : List Lexeme) (all : Result (List 
       let d = drop_more line at 0 here in
       let inv = rw d at so_far in
       let lead = rw d at e in
-      ap (with_front found) (sym (lexed_white at (get_or line at 0) (drop (at + 1) line) lead)) ∙ inv
+      ap (with_front found) (sym (lexemes_white at (get_or line at 0) (drop (at + 1) line) lead)) ∙ inv
 
   pub step_token : (kind : TokenKind) (n : ℕ) → next_token (drop at line) ≡ Token kind (suc n) → with_front (found ++ record { kind = kind; start = at; stop = at + suc n; text = take (suc n) (drop at line) } ∷ []) (lexemes_from 0 (at + suc n) (drop (at + suc n) line)) ≡ all
   step_token kind n e =
       let d = drop_more line at 0 here in
       let inv = rw d at so_far in
       let lead = rw d at e in
-      let t = lexed_token at (get_or line at 0) (drop (at + 1) line) kind n lead in
+      let t = lexemes_token at (get_or line at 0) (drop (at + 1) line) kind n lead in
       let there : drop (at + suc n) line ≡ drop n (drop (at + 1) line) = rw drop-drop (ap (λ k. drop k line) (omega arith)) in
       rw (there, d) (sym (with_front_more found (record { kind = kind; start = at; stop = at + suc n; text = take (suc n) (get_or line at 0 ∷ drop (at + 1) line) } ∷ []) (lexemes_from 0 (at + suc n) (drop n (drop (at + 1) line)))) ∙ ap (with_front found) (sym t) ∙ inv)
 
@@ -98,8 +98,8 @@ with_front_none (Ok xs) = refl
 with_front_none (Err e) = refl
 
 -- the pieces of tokens, with one more after
-pub pieces_more : (ts : List CodeToken) (t : CodeToken) → lexemes_of (ts ++ t ∷ []) ≡ lexemes_of ts ++ lexeme_of t ∷ []
-pieces_more ts t = map-append lexeme_of ts (t ∷ [])
+pub lexemes_more : (ts : List CodeToken) (t : CodeToken) → lexemes_of (ts ++ t ∷ []) ≡ lexemes_of ts ++ lexeme_of t ∷ []
+lexemes_more ts t = map-append lexeme_of ts (t ∷ [])
 
 pub text_is : (line : List ℕ) (at len : ℕ) (text : List ℕ) → text ≡ take ((at + len) - at) (drop at line) → text ≡ take len (drop at line)
 text_is line at len text e = e ∙ ap (λ n. take n (drop at line)) (omega arith)

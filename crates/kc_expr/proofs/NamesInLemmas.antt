@@ -108,8 +108,8 @@ module _ (a : Exprs) (s : Store) (view : exprs_in s ≡ a) (id index : ℕ) (sam
     (empty : none ≡ []) (met : map (λ i. slice_index_or (stored_names s) i []) found ≡ map (λ i. slice_index_or (stored_names s) i []) none ++ names_in_reverse (node_expr (exprs_in s) index))
     (held : All (λ i. i < length (stored_names s)) none → All (λ i. i < length (stored_names s)) found)
     (permuted : IsPermutation found sorted) (kept : last ≡ dedup eqb sorted) (i : ℕ) where
-  pub told_in : Contains last i → (i < length a.names) × Contains (names_in (node_expr a id)) (slice_index_or a.names i [])
-  told_in c =
+  pub reported_in : Contains last i → (i < length a.names) × Contains (names_in (node_expr a id)) (slice_index_or a.names i [])
+  reported_in c =
       let met_all = met ∙ ap (λ xs. map (λ i. slice_index_or (stored_names s) i []) xs ++ names_in_reverse (node_expr (exprs_in s) index)) empty in
       let all = held (none_held (λ i. i < length (stored_names s)) none empty) in
       let inside = Contains-permutation sorted found i (IsPermutation-sym found sorted permuted) (Contains-from_dedup eqb sorted i (subst (λ xs. Contains xs i) kept c)) in
@@ -117,8 +117,8 @@ module _ (a : Exprs) (s : Store) (view : exprs_in s ≡ a) (id index : ℕ) (sam
       subst (λ (x : Exprs). (i < length x.names) × Contains (names_in (node_expr x id)) (slice_index_or x.names i [])) view
       (subst (λ (k : ℕ). (i < length (stored_names s)) × Contains (names_in (node_expr (exprs_in s) k)) (slice_index_or (stored_names s) i [])) same r)
 
-  pub in_told : (i < length a.names) × Contains (names_in (node_expr a id)) (slice_index_or a.names i []) → Contains last i
-  in_told h =
+  pub in_reported : (i < length a.names) × Contains (names_in (node_expr a id)) (slice_index_or a.names i []) → Contains last i
+  in_reported h =
       let met_all = met ∙ ap (λ xs. map (λ i. slice_index_or (stored_names s) i []) xs ++ names_in_reverse (node_expr (exprs_in s) index)) empty in
       let all = held (none_held (λ i. i < length (stored_names s)) none empty) in
       let here = subst (λ (k : ℕ). (i < length (stored_names s)) × Contains (names_in (node_expr (exprs_in s) k)) (slice_index_or (stored_names s) i [])) (sym same)

@@ -13,7 +13,7 @@ use Rattle.kc_expr.specs.between.Names.{with_name, with_names}
 use Rattle.kc_expr.specs.checker.Nodes.{operand_of}
 use Rattle.kc_expr.specs.checker.Parsing.{names_of_m}
 use Rattle.kc_expr.specs.checker.Store.{stored_names, exprs_in, IsSound, Extends, HasNamesOf}
-use Rattle.kc_expr.proofs.StoreLemmas.{stands_later}
+use Rattle.kc_expr.proofs.StoreLemmas.{represents_later}
 
 with_names-append : (xs ys names : List (List ℕ)) → with_names (xs ++ ys) names ≡ with_names ys (with_names xs names)
 with_names-append [] ys names = refl
@@ -58,7 +58,7 @@ module _ (old new : Store) (id : ℕ) where
   pub read_joined : (joined : Expr → Expr → Expr) → ((a b : Expr) → names_in (joined a b) ≡ names_in a ++ names_in b) → (s0 s1 : Store) (left right : ℕ) (e : Expr) → HasNamesOf old s0 left → IsSound s0 → Extends s0 s1 → Represents (exprs_in s0) left e → HasNamesOf s0 s1 right
       → stored_names new ≡ stored_names s1 → Represents (exprs_in new) id (joined (node_expr (exprs_in s1) left) (node_expr (exprs_in s1) right)) → HasNamesOf old new id
   read_joined joined parts s0 s1 left right e first sound x at second same h =
-      let kept = (stands_later s0 s1 left e sound x at).is ∙ sym at.is in
+      let kept = (represents_later s0 s1 left e sound x at).is ∙ sym at.is in
       let a = node_expr (exprs_in s1) left in
       let b = node_expr (exprs_in s1) right in
       of_expr (joined a b) h

@@ -129,8 +129,8 @@ module _ (names texts : List (List ℕ)) where
     nodes = rw (exprs-push [] ns n, take-append-le (length (exprs_of names texts ns)) (exprs_of names texts ns) (expr_of names texts (exprs_of names texts ns) n ∷ []) (omega arith)) (take-length (exprs_of names texts ns));
   }
 
-  pub stands_last : (ns : List Node) (n : Node) (id : ℕ) → id ≡ length ns → Represents (record { names = names; nodes = exprs_of names texts (ns ++ n ∷ []) }) id (expr_of names texts (exprs_of names texts ns) n)
-  stands_last ns n id e =
+  pub represents_last : (ns : List Node) (n : Node) (id : ℕ) → id ≡ length ns → Represents (record { names = names; nodes = exprs_of names texts (ns ++ n ∷ []) }) id (expr_of names texts (exprs_of names texts ns) n)
+  represents_last ns n id e =
       let es : List Expr = exprs_of names texts ns in
       let last : Expr = expr_of names texts es n in
       let same : id ≡ length es = omega (arith, e, length-exprs [] ns) in

@@ -18,7 +18,7 @@ use Rattle.kc_expr.specs.checker.Parsing.{first_kind, first_operand, first_relat
 use Rattle.kc_expr.specs.checker.Store.{exprs_in, IsSound, Extends}
 use Rattle.kc_expr.specs.Token.{Lexeme}
 use Rattle.kc_expr.proofs.ReaderSteps.{drop_one, operand_none, operand_alone, operand_no_right, operand_related, factor_operand, factor_too_deep, factor_not, factor_open, closed_ok, closed_not, whole_fails, whole_left, whole_ok}
-use Rattle.kc_expr.proofs.StoreLemmas.{stands_later}
+use Rattle.kc_expr.proofs.StoreLemmas.{represents_later}
 
 -- conditions of composed expressions
 as_related : (c : Bool) (op : Relop) (a b : Operand) → related op a b ≡ as_condition c (related op a b)
@@ -188,7 +188,7 @@ module _ (part whole : ℕ → List Lexeme → Read) (on : ℕ → Expr → List
   pub chain_goes_on : (s0 s1 s2 : Store) (left next right after id : ℕ) → IsChained on whole s0 all condition at d left next → first_kind (drop next all) ≡ Some kind → IsSound s0 → Extends s0 s1 → IsParsed s1 all condition (next + 1) (part d (drop (next + 1) all)) right after
       → Represents (exprs_in s2) id (joined (node_expr (exprs_in s1) left) (node_expr (exprs_in s1) right)) → IsChained on whole s2 all condition at d id after
   chain_goes_on s0 s1 s2 left next right after id c k sound x p h =
-      let kept = stands_later s0 s1 left (as_condition condition c.expr) sound x c.stands in
+      let kept = represents_later s0 s1 left (as_condition condition c.expr) sound x c.stands in
       record {
         expr = joined c.expr p.expr;
         reads = c.reads ∙ link d (drop next all) (drop after all) c.expr p.expr k (ap (part d) (sym (drop_one next all)) ∙ p.reads);

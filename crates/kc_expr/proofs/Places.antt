@@ -88,8 +88,8 @@ module _ {K : Type 0} (name : K → List ℕ) (x : List ℕ) where
       by_places (inr a) (inr b) = omega (arith, length-append names (x ∷ []))
 
   -- an appended name is found at the place that the set has for it
-  pub place_put : (v : K) → name v ≡ x → (ks : List K) → index_of_name x (map name (cond (list_any (λ k. bytes_eq x (name k)) ks) ks (ks ++ v ∷ []))) ≡ Some (position_or_len (λ k. bytes_eq x (name k)) ks)
-  place_put v e ks = by_any (list_any (λ k. bytes_eq x (name k)) ks) refl
+  pub place_pushed : (v : K) → name v ≡ x → (ks : List K) → index_of_name x (map name (cond (list_any (λ k. bytes_eq x (name k)) ks) ks (ks ++ v ∷ []))) ≡ Some (position_or_len (λ k. bytes_eq x (name k)) ks)
+  place_pushed v e ks = by_any (list_any (λ k. bytes_eq x (name k)) ks) refl
     where
       by_any : (b : Bool) → list_any (λ k. bytes_eq x (name k)) ks ≡ b → index_of_name x (map name (cond b ks (ks ++ v ∷ []))) ≡ Some (position_or_len (λ k. bytes_eq x (name k)) ks)
       by_any true h = held ks h
@@ -105,16 +105,16 @@ module _ {K : Type 0} (name : K → List ℕ) (x : List ℕ) where
   has_place (k ∷ ks) = some_by (bytes_eq x (name k)) (index_of_name x (map name ks)) (list_any (λ k. bytes_eq x (name k)) ks) (has_place ks)
 
   -- it comes after the others, unless it is there
-  pub names_put : (v : K) → name v ≡ x → (ks : List K) → map name (cond (list_any (λ k. bytes_eq x (name k)) ks) ks (ks ++ v ∷ [])) ≡ with_name x (map name ks)
-  names_put v e ks = by_any (list_any (λ k. bytes_eq x (name k)) ks) (has_place ks)
+  pub names_pushed : (v : K) → name v ≡ x → (ks : List K) → map name (cond (list_any (λ k. bytes_eq x (name k)) ks) ks (ks ++ v ∷ [])) ≡ with_name x (map name ks)
+  names_pushed v e ks = by_any (list_any (λ k. bytes_eq x (name k)) ks) (has_place ks)
     where
       by_any : (b : Bool) → is_some (index_of_name x (map name ks)) ≡ b → map name (cond b ks (ks ++ v ∷ [])) ≡ with_name x (map name ks)
       by_any true h = rw h refl
       by_any false h = rw (h, map-append, e) refl
 
   -- and no name is then held twice
-  pub distinct_put : (v : K) → name v ≡ x → (ks : List K) → AreDistinct (map name ks) → AreDistinct (map name (cond (list_any (λ k. bytes_eq x (name k)) ks) ks (ks ++ v ∷ [])))
-  distinct_put v e ks d = by_any (list_any (λ k. bytes_eq x (name k)) ks) refl
+  pub distinct_pushed : (v : K) → name v ≡ x → (ks : List K) → AreDistinct (map name ks) → AreDistinct (map name (cond (list_any (λ k. bytes_eq x (name k)) ks) ks (ks ++ v ∷ [])))
+  distinct_pushed v e ks d = by_any (list_any (λ k. bytes_eq x (name k)) ks) refl
     where
       by_any : (b : Bool) → list_any (λ k. bytes_eq x (name k)) ks ≡ b → AreDistinct (map name (cond b ks (ks ++ v ∷ [])))
       by_any true h = d

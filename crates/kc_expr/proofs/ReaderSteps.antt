@@ -93,9 +93,9 @@ relation_kind Or op h = cc
 relation_kind Open op h = cc
 relation_kind Close op h = cc
 
-behind_relation : (a : Operand) (op : Relop) (ts : List Lexeme) → first_relation ts ≡ Some op → after_operand a ts ≡ right_operand (related op a) (drop 1 ts)
-behind_relation a op [] h = cc
-behind_relation a op (t ∷ ts) h = let k = relation_kind t.kind op h in ap (λ k. behind_kind a k t ts) k
+after_relation : (a : Operand) (op : Relop) (ts : List Lexeme) → first_relation ts ≡ Some op → after_operand a ts ≡ right_operand (related op a) (drop 1 ts)
+after_relation a op [] h = cc
+after_relation a op (t ∷ ts) h = let k = relation_kind t.kind op h in ap (λ k. behind_kind a k t ts) k
 
 right_none : (f : Operand → Expr) (ts : List Lexeme) → first_operand ts ≡ None → right_operand f ts ≡ Err (Malformed, ts)
 right_none f [] h = refl
@@ -111,10 +111,10 @@ operand_then [] a h = cc
 operand_then (t ∷ ts) a h = ap (λ o. operand_else o t ts) h
 
 pub operand_no_right : (us : List Lexeme) (a : Operand) (op : Relop) → first_operand us ≡ Some a → first_relation (drop 1 us) ≡ Some op → first_operand (drop 1 (drop 1 us)) ≡ None → operand_read us ≡ Err (Malformed, drop 1 (drop 1 us))
-operand_no_right us a op h r n = operand_then us a h ∙ behind_relation a op (drop 1 us) r ∙ right_none (related op a) (drop 1 (drop 1 us)) n
+operand_no_right us a op h r n = operand_then us a h ∙ after_relation a op (drop 1 us) r ∙ right_none (related op a) (drop 1 (drop 1 us)) n
 
 pub operand_related : (us : List Lexeme) (a b : Operand) (op : Relop) → first_operand us ≡ Some a → first_relation (drop 1 us) ≡ Some op → first_operand (drop 1 (drop 1 us)) ≡ Some b → operand_read us ≡ Ok (related op a b, drop 1 (drop 1 (drop 1 us)))
-operand_related us a b op h r n = operand_then us a h ∙ behind_relation a op (drop 1 us) r ∙ right_some (related op a) b (drop 1 (drop 1 us)) n
+operand_related us a b op h r n = operand_then us a h ∙ after_relation a op (drop 1 us) r ∙ right_some (related op a) b (drop 1 (drop 1 us)) n
 
 -- a factor, by its first token
 factor_by : (d : ℕ) (k : TokenKind) (t : Lexeme) (ts : List Lexeme) → t.kind ≡ k → (Some k ≡ Some Not → ⊥) → (Some k ≡ Some Open → ⊥) → read_factor d (t ∷ ts) ≡ operand_else (operand_of_kind k t.text) t ts

@@ -17,15 +17,15 @@ use Rattle.kc_expr.proofs.GrammarComplete.{expr_complete}
 use Rattle.kc_expr.proofs.GrammarLaws.{expr_sound}
 use Rattle.kc_expr.proofs.ReaderSteps.{whole_expr}
 
-pub pieces-drop : (n : ℕ) (ts : List CodeToken) → lexemes_of (drop n ts) ≡ drop n (lexemes_of ts)
-pieces-drop zero [] = refl
-pieces-drop zero (t ∷ ts) = refl
-pieces-drop (suc n) [] = refl
-pieces-drop (suc n) (t ∷ ts) = pieces-drop n ts
+pub lexemes-drop : (n : ℕ) (ts : List CodeToken) → lexemes_of (drop n ts) ≡ drop n (lexemes_of ts)
+lexemes-drop zero [] = refl
+lexemes-drop zero (t ∷ ts) = refl
+lexemes-drop (suc n) [] = refl
+lexemes-drop (suc n) (t ∷ ts) = lexemes-drop n ts
 
 -- `&tokens[at..]`
 pub tail_pieces : (ts : List CodeToken) (at : ℕ) → lexemes_of (take (length ts - at) (drop at ts)) ≡ drop at (lexemes_of ts)
-tail_pieces ts at = ap lexemes_of (rw (← length-drop at ts) (take-length (drop at ts))) ∙ pieces-drop at ts
+tail_pieces ts at = ap lexemes_of (rw (← length-drop at ts) (take-length (drop at ts))) ∙ lexemes-drop at ts
 
 extent_by : (b : Bool) (t : Lexeme) (us : List Lexeme) → take (length (extent us)) us ≡ extent us → take (length (cond b (t ∷ []) (t ∷ extent us))) (t ∷ us) ≡ cond b (t ∷ []) (t ∷ extent us)
 extent_by true t us ih = refl

@@ -14,7 +14,7 @@ use Rattle.kc_expr.specs.Expr.{Expr, alone, related, constant, named, quoted}
 use Rattle.kc_expr.specs.Lookup.{AreDistinct}
 use Rattle.kc_expr.specs.checker.Nodes.{operand_of, expr_of, exprs_after, exprs_of, LeafFits, NodeFits, some_node}
 use Rattle.kc_expr.specs.checker.Store.{stored_names, exprs_in, IsSound, Extends}
-use Rattle.kc_expr.proofs.NodeLemmas.{at_node, nodes_push, stands_last, length-exprs}
+use Rattle.kc_expr.proofs.NodeLemmas.{at_node, nodes_push, represents_last, length-exprs}
 
 -- the expression that a node represents, by its form
 pub node_of : (s : Store) (i : ℕ) (found n : Node) → IsSound s → i < length s.nodes.items → found ≡ get_or s.nodes.items i some_node → found ≡ n → node_expr (exprs_in s) i ≡ expr_of (stored_names s) s.texts.items (exprs_in s).nodes n
@@ -118,14 +118,14 @@ grows old new sound e =
     }
 
 -- so does a node
-pub stands_on : (old new : Exprs) (id : ℕ) (e : Expr) → Grows old new → Represents old id e → Represents new id e
-stands_on old new id e g s = record {
+pub represents_on : (old new : Exprs) (id : ℕ) (e : Expr) → Grows old new → Represents old id e → Represents new id e
+represents_on old new id e g s = record {
   within = omega (arith, s.within, prefix_long old.nodes new.nodes g.nodes);
   is = kept_get old.nodes new.nodes id (alone (constant N)) g.nodes s.within ∙ s.is;
 }
 
-pub stands_later : (old new : Store) (id : ℕ) (e : Expr) → IsSound old → Extends old new → Represents (exprs_in old) id e → Represents (exprs_in new) id e
-stands_later old new id e sound x s = stands_on (exprs_in old) (exprs_in new) id e (grows old new sound x) s
+pub represents_later : (old new : Store) (id : ℕ) (e : Expr) → IsSound old → Extends old new → Represents (exprs_in old) id e → Represents (exprs_in new) id e
+represents_later old new id e sound x s = represents_on (exprs_in old) (exprs_in new) id e (grows old new sound x) s
 
 -- one node more
 module _ (old new : Store) (node : Node) (sound : IsSound old) (nodes : new.nodes.items ≡ old.nodes.items ++ node ∷ []) (names : new.names.keys ≡ old.names.keys) (texts : new.texts.items ≡ old.texts.items) where
@@ -144,8 +144,8 @@ module _ (old new : Store) (node : Node) (sound : IsSound old) (nodes : new.node
     few_nodes = rw nodes (omega (arith, few, length-append old.nodes.items (node ∷ [])));
   }
 
-  pub push_stands : (id : ℕ) → id ≡ length old.nodes.items → Represents (exprs_in new) id (expr_of (stored_names old) old.texts.items (exprs_in old).nodes node)
-  push_stands id e = rw (nodes, names, texts) (stands_last (stored_names old) old.texts.items old.nodes.items node id e)
+  pub push_represents : (id : ℕ) → id ≡ length old.nodes.items → Represents (exprs_in new) id (expr_of (stored_names old) old.texts.items (exprs_in old).nodes node)
+  push_represents id e = rw (nodes, names, texts) (represents_last (stored_names old) old.texts.items old.nodes.items node id e)
 
 -- the nodes of a store are as many as its expressions
 pub length-nodes : (s : Store) → length (exprs_in s).nodes ≡ length s.nodes.items
@@ -175,14 +175,14 @@ leaf_on old new a e h = leaf_kept (stored_names old) old.texts.items (stored_nam
 pub node_on : (old new : Store) (i : ℕ) → Extends old new → i < length old.nodes.items → i < length new.nodes.items
 node_on old new i e h = omega (arith, h, prefix_long old.nodes.items new.nodes.items e.nodes)
 
-pub stands_node : (s : Store) (i : ℕ) (e : Expr) → Represents (exprs_in s) i e → i < length s.nodes.items
-stands_node s i e h = omega (arith, h.within, length-nodes s)
+pub represents_node : (s : Store) (i : ℕ) (e : Expr) → Represents (exprs_in s) i e → i < length s.nodes.items
+represents_node s i e h = omega (arith, h.within, length-nodes s)
 
 -- an appended name comes last, unless it was there
-pub put_prefix : {X : Type 0} (b : Bool) (xs : List X) (x : X) → take (length xs) (cond b xs (xs ++ x ∷ [])) ≡ xs
-put_prefix true xs x = take-length xs
-put_prefix false xs x = take-append_seam xs (x ∷ [])
+pub pushed_prefix : {X : Type 0} (b : Bool) (xs : List X) (x : X) → take (length xs) (cond b xs (xs ++ x ∷ [])) ≡ xs
+pushed_prefix true xs x = take-length xs
+pushed_prefix false xs x = take-append_seam xs (x ∷ [])
 
-pub put_long : {X : Type 0} (b : Bool) (xs : List X) (x : X) → length (cond b xs (xs ++ x ∷ [])) ≤ length xs + 1
-put_long true xs x = omega arith
-put_long false xs x = omega (arith, length-append xs (x ∷ []))
+pub pushed_long : {X : Type 0} (b : Bool) (xs : List X) (x : X) → length (cond b xs (xs ++ x ∷ [])) ≤ length xs + 1
+pushed_long true xs x = omega arith
+pushed_long false xs x = omega (arith, length-append xs (x ∷ []))

@@ -16,7 +16,7 @@ use Rattle.kc_expr.specs.Token.{with_front}
 use Rattle.kc_expr.specs.Grammar.{is_quote}
 use Rattle.kc_expr.specs.Token.{Lexeme, is_white_byte, is_word_byte, next_token, quoted_up_to, quoted_or_left_out, lexemes_from}
 use Rattle.kc_expr.specs.TokenGrammar.{IsQuotedToken, IsToken, IsLongest, IsCut, ends, comment, white, token}
-use Rattle.kc_expr.proofs.Lexing.{lexed_white, lexed_comment, lexed_token, word_run}
+use Rattle.kc_expr.proofs.Lexing.{lexemes_white, lexemes_comment, lexemes_token, word_run}
 
 -- bytes of one sort are of no other
 pub word_no_white : (c : ℕ) → is_word_byte c ≡ true → is_white_byte c ≡ false
@@ -177,7 +177,7 @@ first_byte Close text is = (41, [], is)
 token_read : (at c : ℕ) (cs rest : List ℕ) (k : TokenKind) (s t : ℕ) (ps : List Lexeme) → s ≡ at → t ≡ at + suc (length cs) → next_token (c ∷ (cs ++ rest)) ≡ Token k (suc (length cs)) → lexemes_from 0 t rest ≡ Ok ps
     → lexemes_from 0 at (c ∷ (cs ++ rest)) ≡ Ok (record { kind = k; start = s; stop = t; text = c ∷ cs } ∷ ps)
 token_read at c cs rest k s t ps e f lead h =
-    lexed_token at c (cs ++ rest) k (length cs) lead
+    lexemes_token at c (cs ++ rest) k (length cs) lead
     ∙ ap (λ x. with_front (record { kind = k; start = at; stop = at + suc (length cs); text = c ∷ x } ∷ []) (lexemes_from 0 (at + suc (length cs)) (drop (length cs) (cs ++ rest)))) (take-append_seam cs rest)
     ∙ ap (λ x. with_front (record { kind = k; start = at; stop = at + suc (length cs); text = c ∷ cs } ∷ []) (lexemes_from 0 (at + suc (length cs)) x)) (drop-append_seam cs rest)
     ∙ ap (λ n. with_front (record { kind = k; start = at; stop = n; text = c ∷ cs } ∷ []) (lexemes_from 0 n rest)) (sym f)
@@ -195,8 +195,8 @@ hash_lead bs = refl
 -- a line that is cut so is read so
 pub cut_read : (at : ℕ) (bytes : List ℕ) (ps : List Lexeme) → IsCut at bytes ps → lexemes_from 0 at bytes ≡ Ok ps
 cut_read at bytes ps ends = refl
-cut_read at bytes ps (comment {bytes = bs}) = lexed_comment at 35 bs (hash_lead bs)
-cut_read at bytes ps (white {c = c} {bytes = bs} h x) = lexed_white at c bs (white_lead c bs h) ∙ cut_read (at + 1) bs ps x
+cut_read at bytes ps (comment {bytes = bs}) = lexemes_comment at 35 bs (hash_lead bs)
+cut_read at bytes ps (white {c = c} {bytes = bs} h x) = lexemes_white at c bs (white_lead c bs h) ∙ cut_read (at + 1) bs ps x
 cut_read at bytes ps (token {ps = qs} p rest parts is long start stop x) = by_first (first_byte p.kind p.text is) (cut_read p.stop rest qs x)
   where
     by_first : (c : ℕ) × (cs : List ℕ) × (p.text ≡ c ∷ cs) → lexemes_from 0 p.stop rest ≡ Ok qs → lexemes_from 0 at bytes ≡ Ok (p ∷ qs)

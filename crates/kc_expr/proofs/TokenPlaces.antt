@@ -9,11 +9,11 @@ use Rattle.kc_expr.specs.declared.token.TokenKind.TheVariants.{Word, Quoted, Rel
 use Rattle.kc_expr.specs.Grammar.{end_of, fault_of, extent, is_operand_kind, is_close}
 use Rattle.kc_expr.specs.checker.Parsing.{first_kind, first_relation, relation_of}
 use Rattle.kc_expr.specs.Token.{Lexeme, lexemes_of, lexeme_of}
-use Rattle.kc_expr.proofs.LeafLemmas.{piece_at, nothing_at}
+use Rattle.kc_expr.proofs.LeafLemmas.{lexeme_at, nothing_at}
 
 module _ (ts : List CodeToken) (at : ℕ) where
   pub kind_at : (d : CodeToken) → at < length ts → first_kind (drop at (lexemes_of ts)) ≡ Some (get_or ts at d).kind
-  kind_at d h = ap first_kind (piece_at ts at d h)
+  kind_at d h = ap first_kind (lexeme_at ts at d h)
 
   pub kind_is : (d : CodeToken) (k : TokenKind) → at < length ts → first_kind (drop at (lexemes_of ts)) ≡ Some k → (get_or ts at d).kind ≡ k
   kind_is d k h e = let q = kind_at d h in cc
@@ -22,16 +22,16 @@ module _ (ts : List CodeToken) (at : ℕ) where
   no_kind_at k h e = let n = ap first_kind (nothing_at ts at h) in cc
 
   pub relation_at : (d : CodeToken) → at < length ts → first_relation (drop at (lexemes_of ts)) ≡ relation_of (get_or ts at d).kind
-  relation_at d h = ap first_relation (piece_at ts at d h)
+  relation_at d h = ap first_relation (lexeme_at ts at d h)
 
   pub no_relation_at : length ts ≤ at → first_relation (drop at (lexemes_of ts)) ≡ None
   no_relation_at h = ap first_relation (nothing_at ts at h)
 
   pub start_at : (kind : ExprKind) (d : CodeToken) → at < length ts → fault_of (lexemes_of ts) (kind, drop at (lexemes_of ts)) ≡ record { offset = (get_or ts at d).start; kind = kind }
-  start_at kind d h = ap (λ us. fault_of (lexemes_of ts) (kind, us)) (piece_at ts at d h)
+  start_at kind d h = ap (λ us. fault_of (lexemes_of ts) (kind, us)) (lexeme_at ts at d h)
 
-  pub behind_all : (kind : ExprKind) → length ts ≤ at → fault_of (lexemes_of ts) (kind, drop at (lexemes_of ts)) ≡ record { offset = end_of (lexemes_of ts); kind = kind }
-  behind_all kind h = ap (λ us. fault_of (lexemes_of ts) (kind, us)) (nothing_at ts at h)
+  pub after_all : (kind : ExprKind) → length ts ≤ at → fault_of (lexemes_of ts) (kind, drop at (lexemes_of ts)) ≡ record { offset = end_of (lexemes_of ts); kind = kind }
+  after_all kind h = ap (λ us. fault_of (lexemes_of ts) (kind, us)) (nothing_at ts at h)
 
 pub end_last : (ts : List CodeToken) (d : CodeToken) → 0 < length ts → end_of (lexemes_of ts) ≡ (get_or ts (length ts - 1) d).end
 end_last [] d h = absurd (omega arith)
@@ -53,14 +53,14 @@ extent_two t u ts b e = ap (λ b. cond b (t ∷ []) (t ∷ extent (u ∷ ts))) e
 module _ (ts : List CodeToken) (i : ℕ) (d : CodeToken) (first : 1 ≤ i) (here : i < length ts) where
   two_at : drop (i - 1) (lexemes_of ts) ≡ lexeme_of (get_or ts (i - 1) d) ∷ lexeme_of (get_or ts i d) ∷ drop (suc i) (lexemes_of ts)
   two_at =
-      piece_at ts (i - 1) d (omega arith)
-      ∙ ap (λ us. lexeme_of (get_or ts (i - 1) d) ∷ us) (ap (λ n. drop n (lexemes_of ts)) (let q : suc (i - 1) ≡ i = omega arith in q) ∙ piece_at ts i d here)
+      lexeme_at ts (i - 1) d (omega arith)
+      ∙ ap (λ us. lexeme_of (get_or ts (i - 1) d) ∷ us) (ap (λ n. drop n (lexemes_of ts)) (let q : suc (i - 1) ≡ i = omega arith in q) ∙ lexeme_at ts i d here)
 
   pub extent_goes_on : ((is_operand_kind (get_or ts (i - 1) d).kind || is_close (get_or ts (i - 1) d).kind) && is_operand_kind (get_or ts i d).kind) ≡ false → length (extent (drop (i - 1) (lexemes_of ts))) ≡ suc (length (extent (drop i (lexemes_of ts))))
   extent_goes_on e =
       ap (λ us. length (extent us)) two_at
       ∙ ap length (extent_two (lexeme_of (get_or ts (i - 1) d)) (lexeme_of (get_or ts i d)) (drop (suc i) (lexemes_of ts)) false e)
-      ∙ ap (λ us. suc (length (extent us))) (sym (piece_at ts i d here))
+      ∙ ap (λ us. suc (length (extent us))) (sym (lexeme_at ts i d here))
 
   pub extent_stops : ((is_operand_kind (get_or ts (i - 1) d).kind || is_close (get_or ts (i - 1) d).kind) && is_operand_kind (get_or ts i d).kind) ≡ true → length (extent (drop (i - 1) (lexemes_of ts))) ≡ 1
   extent_stops e =
@@ -73,7 +73,7 @@ extent_none (t ∷ ts) h = absurd (omega (arith, h))
 
 pub extent_last : (ts : List CodeToken) (d : CodeToken) → 0 < length ts → length (extent (drop (length ts - 1) (lexemes_of ts))) ≡ 1
 extent_last ts d h =
-    ap (λ us. length (extent us)) (piece_at ts (length ts - 1) d (omega arith) ∙ ap (λ us. lexeme_of (get_or ts (length ts - 1) d) ∷ us) (nothing_at ts (suc (length ts - 1)) (omega arith)))
+    ap (λ us. length (extent us)) (lexeme_at ts (length ts - 1) d (omega arith) ∙ ap (λ us. lexeme_of (get_or ts (length ts - 1) d) ∷ us) (nothing_at ts (suc (length ts - 1)) (omega arith)))
 
 relation_not : (k : TokenKind) → ((op : Relop) → k ≡ Relation op → ⊥) → relation_of k ≡ None
 relation_not (Relation op) n = absurd (n op refl)

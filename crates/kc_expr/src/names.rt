@@ -14,7 +14,7 @@ use super::visited::VisitedSet;
 use std::alloc::AllocError;
 
 /// Appends the name of a leaf, if it is one.
-#[tactic(auto, using(crate::proofs::KeptLists::kept_behind))]
+#[tactic(auto, using(crate::proofs::KeptLists::kept_after))]
 fn push_name(store: &Store, leaf: Leaf, found: &mut Vec<NameId>) -> Result<(), AllocError>
     requires { LeafFits (length (stored_names store.now)) (length store.now.texts.items) leaf }
     ensures words { OnOk result (map (λ i. slice_index_or (stored_names store.now) i []) found.new.items
@@ -80,11 +80,11 @@ pub(crate) fn push_unvisited(
     ensures held { OnOk result (All (λ i. i < length (stored_names store.now)) found.old.items → All (λ i. i < length (stored_names store.now)) found.new.items) }
     ensures kept { take (length found.old.items) found.new.items ≡ found.old.items }
 {
-    if walk.has(index) {
+    if walk.contains(index) {
         return Ok(());
     }
     if let Node::Alone(leaf) = store.node(index) {
-        walk.stamp(index);
+        walk.mark(index);
         return push_name(store, leaf, found);
     }
     push_new_names(store, index, walk, found)
@@ -110,10 +110,10 @@ fn push_new_names(
 {
     let mut at = index;
     'down: loop {
-        if walk.has(at) {
+        if walk.contains(at) {
             return Ok(());
         }
-        walk.stamp(at);
+        walk.mark(at);
         match store.node(at) {
             Node::Alone(leaf) => return push_name(store, leaf, found),
             Node::Related(_, left, right) => {

@@ -48,7 +48,7 @@ impl VisitedSet {
     }
 
     /// Whether an expression was visited in this turn.
-    pub(crate) fn has(&self, index: usize) -> bool
+    pub(crate) fn contains(&self, index: usize) -> bool
         requires { index < length self.now }
         ensures { result ≡ is_visited self.now index }
     {
@@ -56,7 +56,7 @@ impl VisitedSet {
     }
 
     /// Marks an expression as visited in this turn.
-    pub(crate) fn stamp(&mut self, index: usize)
+    pub(crate) fn mark(&mut self, index: usize)
         requires { index < length self.old }
         ensures { self.new ≡ slice_set self.old index true }
     {

@@ -1,4 +1,4 @@
--- A group put to what was read.
+-- A group appended to those read before.
 use Rattle.std.proofs.Common.{◌≡◌, ◌↔◌, ℕ, suc, ◌+◌, ◌-◌, ◌<◌, ◌≤◌, Bool, true, false, List, [], ◌∷◌, ◌++◌, length, drop, take, map, Option, Some, None, Result, Ok, Err, OnOk, refl, ap, sym, subst, ◌∙◌, arith, reverse, cond, ◌||◌, length-append, length-drop}
 use Rattle.std.specs.Prelude.{slice_get, slice_range, filter, filter_map, All, option_to_list, IsSome, is_some, option_map, bytes_eq}
 use Rattle.std.proofs.lemmas.List.{reverse-append, append-nil, drop-append-le, take_all, map-append}
@@ -61,13 +61,13 @@ lists_names old new symbols numbers symbols2 numbers2 texts lines groups read gr
     record { names = has; held = k.held; groups_are = k.groups_are }
 
 -- a group after the others, perhaps with a new name
-pub lists_put : (old new : Exprs) (symbols numbers symbols2 numbers2 : List ℕ) (ns texts : List (List ℕ)) (lines : List CodeLine) (groups groups2 : List CodeGroup) (read : List Group) (file line n : ℕ) (what : CodeWhat) (m : GroupHead) → Grows old new
+pub lists_pushed : (old new : Exprs) (symbols numbers symbols2 numbers2 : List ℕ) (ns texts : List (List ℕ)) (lines : List CodeLine) (groups groups2 : List CodeGroup) (read : List Group) (file line n : ℕ) (what : CodeWhat) (m : GroupHead) → Grows old new
     → n ≡ length lines → groups2 ≡ groups ++ record { file = file; line = line; head = what; attributes = n } ∷ []
     → RepresentsLists old symbols numbers texts lines groups read → names_defined (with_group (at_line file line) m read) ≡ names_defined read ++ ns
     → HasNames new symbols2 numbers2 (names_defined read ++ ns)
     → RepresentsHead new (names_defined read ++ ns) texts what m
     → RepresentsLists new symbols2 numbers2 texts lines groups2 (with_group (at_line file line) m read)
-lists_put old new symbols numbers symbols2 numbers2 ns texts lines groups groups2 read file line n what m grows len push h names has shown =
+lists_pushed old new symbols numbers symbols2 numbers2 ns texts lines groups groups2 read file line n what m grows len push h names has shown =
     let kept : RepresentsGroups new (names_defined read ++ ns) texts lines (length lines) (reverse groups) read =
     groups_later old new grows (names_defined read) ns (names_defined read ++ ns) texts [] texts lines [] lines refl (sym (append-nil texts)) (sym (append-nil lines)) h.held (reverse groups) read (length lines) (omega arith) h.groups_are in
     let own : RepresentsGroup new (names_defined read ++ ns) texts (slice_range lines (length lines) (length lines)) (length read) (record { file = file; line = line; head = what; attributes = length lines }) (record { number = length read; at = at_line file line; head = m; attributes = [] }) =
@@ -105,10 +105,10 @@ pub lists_put_same : (e : Exprs) (symbols numbers : List ℕ) (texts : List (Lis
     → RepresentsHead e (names_defined read) texts what m
     → RepresentsLists e symbols numbers texts lines groups2 (with_group (at_line file line) m read)
 lists_put_same e symbols numbers texts lines groups groups2 read file line n what m len push h none shown =
-    lists_put e e symbols numbers symbols numbers [] texts lines groups groups2 read file line n what m (grows_same e) len push h (same_names file line m read none)
+    lists_pushed e e symbols numbers symbols numbers [] texts lines groups groups2 read file line n what m (grows_same e) len push h (same_names file line m read none)
     (rw (append-nil (names_defined read)) h.names) (rw (append-nil (names_defined read)) shown)
 
--- nor does what stands inside, but for a name
+-- nor does a statement inside a block, but for a name
 inside_block : (m : GroupHead) → side_of m ≡ inside → from_head block_of_head m ≡ None
 inside_block (of_head (config name)) e = refl
 inside_block (of_head (comment title)) e = refl
@@ -201,7 +201,7 @@ pub lists_put_config : (old new : Exprs) (symbols numbers symbols2 numbers2 : Li
     → RepresentsLists new symbols2 numbers2 texts lines groups2 (with_group (at_line file line) (of_head (config x)) read)
 lists_put_config old new symbols numbers symbols2 numbers2 texts lines groups groups2 read file line n s x grows len push h has at =
     let e = with_more x (names_defined read) in
-    lists_put old new symbols numbers symbols2 numbers2 (more_names (is_some (index_of_name x (names_defined read))) x) texts lines groups groups2 read file line n (codes.Config s) (of_head (config x)) grows len push h
+    lists_pushed old new symbols numbers symbols2 numbers2 (more_names (is_some (index_of_name x (names_defined read))) x) texts lines groups groups2 read file line n (codes.Config s) (of_head (config x)) grows len push h
     (names_with file line x read ∙ e) (subst (HasNames new symbols2 numbers2) e has) (x, subst (λ names. slice_get names s ≡ Some x) e at, refl)
 
 -- an attribute of the newest group

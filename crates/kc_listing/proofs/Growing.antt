@@ -1,4 +1,4 @@
--- What a listing shows stays as the arena and the lists grow.
+-- A listing represents the same groups as the arena and the lists grow.
 use Rattle.std.proofs.Common.{◌≡◌, ℕ, suc, zero, ◌-◌, ◌<◌, ◌≤◌, List, [], ◌∷◌, ◌++◌, length, get_or, drop, take, map, Option, Some, None, refl, ap, sym, ◌∙◌, arith, length-append, length-drop}
 use Rattle.std.specs.Prelude.{slice_get, slice_range, All}
 use Rattle.std.proofs.lemmas.List.{take-append-drop, get_or_append_left, take-append-le, drop-append-le}
@@ -56,11 +56,11 @@ module _ (old new : Exprs) (grows : Grows old new) where
   valued_kept : (d : CodeValued) → DefaultNodesExist old d → default_in new d ≡ default_in old d
   valued_kept d h = rw (node_kept d.value h.0, if_kept d.condition h.1) refl
 
-  aimed_kept : (d : CodeAimed) → TargetNodesExist old d → target_in new d ≡ target_in old d
-  aimed_kept d h = rw (words_kept old new grows d.name h.0, if_kept d.condition h.1) refl
+  target_kept : (d : CodeAimed) → TargetNodesExist old d → target_in new d ≡ target_in old d
+  target_kept d h = rw (words_kept old new grows d.name h.0, if_kept d.condition h.1) refl
 
-  aimed_held : (d : CodeAimed) → TargetNodesExist old d → TargetNodesExist new d
-  aimed_held d h = (let l = longer old new grows in let w = h.0 in omega arith, if_held d.condition h.1)
+  target_held : (d : CodeAimed) → TargetNodesExist old d → TargetNodesExist new d
+  target_held d h = (let l = longer old new grows in let w = h.0 in omega arith, if_held d.condition h.1)
 
   bounded_kept : (d : CodeBounded) → RangeNodesExist old d → range_in new d ≡ range_in old d
   bounded_kept d h = rw (operand_kept d.low h.0, operand_kept d.high h.1, if_kept d.condition h.2) refl
@@ -72,8 +72,8 @@ module _ (old new : Exprs) (grows : Grows old new) where
   attribute_kept (attributes.Prompt c) h = rw (if_kept c h) refl
   attribute_kept (attributes.Default d) h = rw (valued_kept d h) refl
   attribute_kept (attributes.Depends id) h = rw (node_kept id h) refl
-  attribute_kept (attributes.Select s) h = rw (aimed_kept s h) refl
-  attribute_kept (attributes.Imply s) h = rw (aimed_kept s h) refl
+  attribute_kept (attributes.Select s) h = rw (target_kept s h) refl
+  attribute_kept (attributes.Imply s) h = rw (target_kept s h) refl
   attribute_kept (attributes.Range r) h = rw (bounded_kept r h) refl
   attribute_kept (attributes.Visible id) h = rw (node_kept id h) refl
   attribute_kept attributes.Help h = refl
@@ -86,8 +86,8 @@ module _ (old new : Exprs) (grows : Grows old new) where
   attribute_held (attributes.Prompt c) h = if_held c h
   attribute_held (attributes.Default d) h = (node_held d.value h.0, if_held d.condition h.1)
   attribute_held (attributes.Depends id) h = node_held id h
-  attribute_held (attributes.Select s) h = aimed_held s h
-  attribute_held (attributes.Imply s) h = aimed_held s h
+  attribute_held (attributes.Select s) h = target_held s h
+  attribute_held (attributes.Imply s) h = target_held s h
   attribute_held (attributes.Range r) h = (operand_held r.low h.0, operand_held r.high h.1, if_held r.condition h.2)
   attribute_held (attributes.Visible id) h = node_held id h
   attribute_held attributes.Help h = tt

@@ -16,11 +16,11 @@ use Rattle.kc_listing.specs.checker.Steps.{limits, AppendsHead}
 use Rattle.kc_listing.specs.checker.Symbols.{is_full}
 use Rattle.kc_listing.proofs.AppendSteps.{place_among}
 
--- what is put where no limit is passed
-pub head_put : (r : FileSource) (file line : ℕ) (before : List Group) (h : Head) (new : ReaderState) (result : Result (Unit {0}) TreeKind) → limits before (head h) ≡ None
+-- the group that is appended where no limit is passed
+pub head_pushed : (r : FileSource) (file line : ℕ) (before : List Group) (h : Head) (new : ReaderState) (result : Result (Unit {0}) TreeKind) → limits before (head h) ≡ None
     → OnOk result (Describes r new (with_group (at_line file line) (of_head h) before)) → IfErr result (λ k. k ≡ OutOfMemory) → AppendsHead r file line before h new result
-head_put r file line before h new (Ok u) l d m = (l, d)
-head_put r file line before h new (Err k) l d m = inl m
+head_pushed r file line before h new (Ok u) l d m = (l, d)
+head_pushed r file line before h new (Err k) l d m = inl m
 
 pub menu_deep : (before : List Group) (title : List ℕ) → nat_le MAX_OPEN_BLOCKS (length (filter_map opened_block (open_blocks 0 before))) ≡ true → limits before (head (menu title)) ≡ Some TooDeep
 menu_deep before title e = rw e refl

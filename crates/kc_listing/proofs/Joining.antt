@@ -86,16 +86,16 @@ line_alone bytes at p l e = record {
 }
 
 -- lines that belong to the line before are passed over
-logical_behind : (behind help n : ℕ) (ls : List Seen) → logical_lines_from behind help n ls ≡ logical_lines_from 0 help (n + behind) (drop behind ls)
-logical_behind zero help n [] = refl
-logical_behind zero help n (l ∷ ls) = ap (λ k. logical_lines_from 0 help k (l ∷ ls)) (omega arith)
-logical_behind (suc behind) zero n [] = refl
-logical_behind (suc behind) (suc help) n [] = refl
-logical_behind (suc behind) help n (l ∷ ls) = logical_behind behind help (n + 1) ls ∙ ap (λ k. logical_lines_from 0 help k (drop behind ls)) (omega arith)
+logical_after : (behind help n : ℕ) (ls : List Seen) → logical_lines_from behind help n ls ≡ logical_lines_from 0 help (n + behind) (drop behind ls)
+logical_after zero help n [] = refl
+logical_after zero help n (l ∷ ls) = ap (λ k. logical_lines_from 0 help k (l ∷ ls)) (omega arith)
+logical_after (suc behind) zero n [] = refl
+logical_after (suc behind) (suc help) n [] = refl
+logical_after (suc behind) help n (l ∷ ls) = logical_after behind help (n + 1) ls ∙ ap (λ k. logical_lines_from 0 help k (drop behind ls)) (omega arith)
 
 logical_front : (n : ℕ) (ls : List Seen) → 0 < length ls → logical_lines_from 0 0 n ls ≡ record { number = n; text = joined_bytes ls; help = false } ∷ logical_lines_from 0 (cond (begins_help (joined_bytes ls)) (help_line_count (drop (suc (continuation_count ls)) ls)) 0) (n + suc (continuation_count ls)) (drop (suc (continuation_count ls)) ls)
 logical_front n [] h = absurd (omega arith)
-logical_front n (l ∷ ls) h = ap (λ r. record { number = n; text = joined_bytes (l ∷ ls); help = false } ∷ r) (logical_behind (continuation_count (l ∷ ls)) (cond (begins_help (joined_bytes (l ∷ ls))) (help_line_count (drop (continuation_count (l ∷ ls)) ls)) 0) (n + 1) ls ∙ ap (λ k. logical_lines_from 0 (cond (begins_help (joined_bytes (l ∷ ls))) (help_line_count (drop (continuation_count (l ∷ ls)) ls)) 0) k (drop (continuation_count (l ∷ ls)) ls)) (omega arith))
+logical_front n (l ∷ ls) h = ap (λ r. record { number = n; text = joined_bytes (l ∷ ls); help = false } ∷ r) (logical_after (continuation_count (l ∷ ls)) (cond (begins_help (joined_bytes (l ∷ ls))) (help_line_count (drop (continuation_count (l ∷ ls)) ls)) 0) (n + 1) ls ∙ ap (λ k. logical_lines_from 0 (cond (begins_help (joined_bytes (l ∷ ls))) (help_line_count (drop (continuation_count (l ∷ ls)) ls)) 0) k (drop (continuation_count (l ∷ ls)) ls)) (omega arith))
 
 -- one step of the reading: the logical line at the front, and the lines after it
 pub logical_step : (bytes : List ℕ) (at n : ℕ) (text : List ℕ) (next lines : ℕ) → at < length bytes → IsLogicalAt bytes at text next lines

@@ -88,7 +88,7 @@ differ : (b : Bool) → b ≡ true → b ≡ false → ⊥
 differ true e f = cc
 differ false e f = cc
 
--- the names with a new one, whose number is put into the table
+-- the names with a new one, whose number is stored in the table
 module _ (old new : Exprs) (symbols numbers padded : List ℕ) (names : List (List ℕ)) (x : List ℕ) (id number : ℕ) (grows : Grows old new) (place : index_of_name x new.names ≡ Some id) (within : id < length padded) (few : length padded ≤ length new.names)
     (same : (j : ℕ) → get_or padded j 0 ≡ get_or numbers j 0) (is : number ≡ length symbols) (h : HasNames old symbols numbers names) (new_name : index_of_name x names ≡ None) where
   there : (id < length new.names) × (get_or new.names id [] ≡ x)
@@ -131,7 +131,7 @@ module _ (old new : Exprs) (symbols numbers padded : List ℕ) (names : List (Li
         few = rw length-set few;
       }
 
--- a name that stands there, and one that doesn't
+-- a name that is there, and one that isn't
 pub place_get : (x : List ℕ) (names : List (List ℕ)) (i : ℕ) → index_of_name x names ≡ Some i → slice_get names i ≡ Some x
 place_get x names i e = let t = place_there x names i e in slice_get-get_or names i [] t.0 ∙ ap Some t.1
 

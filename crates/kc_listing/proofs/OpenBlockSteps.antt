@@ -1,4 +1,4 @@
--- What is open, by the stack and by the definition.
+-- The open blocks, by the stack and by the definition.
 use Rattle.std.proofs.Common.{◌≡◌, ℕ, ◌+◌, ◌-◌, ◌<◌, Bool, ◌||◌, List, [], ◌∷◌, length, get_or, Option, Some, None, refl, ap, sym, ◌∙◌, subst, arith, cond, reverse, count_by}
 use Rattle.std.specs.Prelude.{filter_map, slice_get, bytes_eq}
 use Rattle.std.specs.List.{list_any}

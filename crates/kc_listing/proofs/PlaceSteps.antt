@@ -1,4 +1,4 @@
--- Where lines may stand.
+-- The placement of lines.
 use Rattle.std.proofs.Common.{◌≡◌, ℕ, suc, ◌-◌, ◌<◌, true, false, not, ◌&&◌, ◌==◌, List, [], ◌∷◌, length, get_or, Option, Some, None, refl, ap, sym, ◌∙◌, arith, reverse}
 use Rattle.std.specs.Prelude.{filter_map, slice_get, is_some, option_map}
 use Rattle.std.specs.List.{list_all, cons_option}
@@ -117,14 +117,14 @@ entry_none before k h = rw (h, open_entry_allows) refl
 
 -- the fault before the form
 module _ (before : List Group) (k : Keyword) (ts : List Lexeme) where
-  pub told_left_out : is_left_out before k ts ≡ true → fault_before before k ts ≡ Some LeftOut
-  told_left_out a = rw a refl
+  pub reported_left_out : is_left_out before k ts ≡ true → fault_before before k ts ≡ Some LeftOut
+  reported_left_out a = rw a refl
 
-  pub told_misplaced : is_left_out before k ts ≡ false → is_allowed before k ≡ false → fault_before before k ts ≡ Some Misplaced
-  told_misplaced a b = rw (a, b) refl
+  pub reported_misplaced : is_left_out before k ts ≡ false → is_allowed before k ≡ false → fault_before before k ts ≡ Some Misplaced
+  reported_misplaced a b = rw (a, b) refl
 
-  pub told_stray : is_left_out before k ts ≡ false → is_allowed before k ≡ true → is_stray_end before k ≡ true → fault_before before k ts ≡ Some StrayEnd
-  told_stray a b c = rw (a, b, c) refl
+  pub reported_stray : is_left_out before k ts ≡ false → is_allowed before k ≡ true → is_stray_end before k ≡ true → fault_before before k ts ≡ Some StrayEnd
+  reported_stray a b c = rw (a, b, c) refl
 
-  pub told_none : is_left_out before k ts ≡ false → is_allowed before k ≡ true → is_stray_end before k ≡ false → fault_before before k ts ≡ None
-  told_none a b c = rw (a, b, c) refl
+  pub reported_none : is_left_out before k ts ≡ false → is_allowed before k ≡ true → is_stray_end before k ≡ false → fault_before before k ts ≡ None
+  reported_none a b c = rw (a, b, c) refl

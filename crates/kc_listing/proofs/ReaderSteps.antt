@@ -57,19 +57,19 @@ module _ (r : FileSource) (sub : List ℕ → List Group → Outcome) (file : �
       (front ∙ ap (continue_after_line sub (read_lines sub r file (logical_lines_from 0 (cond (begins_help text) (help_line_count (physical_lines (drop next bytes))) 0) (number + lines) (physical_lines (drop next bytes)))) r (at_line file number) before) h.0)
       (inr (ap Some (sym e), h.1))
 
-  said_left : (help : Bool) (new : ReaderState) (s : HasStatement r file number text before help new)
+  statement_left : (help : Bool) (new : ReaderState) (s : HasStatement r file number text before help new)
       → left_from sub r file bytes at number before ≡ read_lines sub r file (logical_lines_from 0 (cond help (help_line_count (physical_lines (drop next bytes))) 0) (number + lines) (physical_lines (drop next bytes))) (with_statement (at_line file number) s.statement before)
-  said_left help new s = front ∙ rw (s.says, s.no_path, s.begins) refl
+  statement_left help new s = front ∙ rw (s.says, s.no_path, s.begins) refl
 
   pub one_next : (new : ReaderState) → HasStatement r file number text before false new → IsOneRead r sub file bytes at number before new next lines
-  one_next new s = record { now = with_statement (at_line file number) s.statement before; describes = s.describes; left = said_left false new s }
+  one_next new s = record { now = with_statement (at_line file number) s.statement before; describes = s.describes; left = statement_left false new s }
 
   pub one_help : (new : ReaderState) (count : ℕ) (p : ℕ × ℕ) → HasStatement r file number text before true new → count ≡ help_line_count (physical_lines (drop next bytes))
       → HelpRead file bytes next (number + lines) count (Ok p) → IsOneRead r sub file bytes at number before new p.0 (lines + p.1)
   one_help new count p s e h = record {
     now = with_statement (at_line file number) s.statement before;
     describes = s.describes;
-    left = said_left true new s
+    left = statement_left true new s
         ∙ ap (λ n. read_lines sub r file (logical_lines_from 0 n (number + lines) (physical_lines (drop next bytes))) (with_statement (at_line file number) s.statement before)) (sym e)
         ∙ h.0 sub r (with_statement (at_line file number) s.statement before)
         ∙ ap (λ n. left_from sub r file bytes p.0 n (with_statement (at_line file number) s.statement before)) (omega arith);
@@ -80,7 +80,7 @@ module _ (r : FileSource) (sub : List ℕ → List Group → Outcome) (file : �
   one_help_faulty new count f s e (inl m) = inl m
   one_help_faulty new count f s e (inr h) =
       ended_as r (left_from sub r file bytes at number before) (record { read = with_statement (at_line file number) s.statement before; fault = Some f }) new f
-      (said_left true new s
+      (statement_left true new s
       ∙ ap (λ n. read_lines sub r file (logical_lines_from 0 n (number + lines) (physical_lines (drop next bytes))) (with_statement (at_line file number) s.statement before)) (sym e)
       ∙ h sub r (with_statement (at_line file number) s.statement before))
       (inr (refl, shown_of r new (with_statement (at_line file number) s.statement before) s.describes))
@@ -187,7 +187,7 @@ help_one sub r read file bytes begin n (suc k) p h l e u =
     ∙ ap (continue_after_line sub (read_lines sub r file (logical_lines_from 0 k (n + 1) (physical_lines (drop p.next bytes)))) r (at_line file n) read) (help_says read n (slice_range bytes begin p.end) e u)
     ∙ ap (λ j. read_lines sub r file (logical_lines_from 0 j (n + 1) (physical_lines (drop p.next bytes))) read) (omega arith)
 
--- so many lines are indented so far
+-- `n` lines are indented so far
 indented_one : (columns : ℕ) (bytes : List ℕ) (begin : ℕ) (p : PhysicalLine) → IsLineAt bytes begin p → is_of_help columns (line_of bytes begin p) ≡ true → indented columns bytes begin ≡ suc (indented columns bytes p.next)
 indented_one columns bytes begin p l e =
     ap (λ ls. length (take_while (is_of_help columns) ls)) l.lines

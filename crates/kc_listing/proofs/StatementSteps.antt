@@ -1,4 +1,4 @@
--- What a line says, step by step.
+-- The statement of a line, step by step.
 use Rattle.std.proofs.Common.{◌≡◌, ◌⊎◌, inl, inr, ℕ, Bool, true, false, not, cond, List, [], ◌∷◌, Option, Some, None, Result, Ok, Err, refl, ap, sym, ◌∙◌}
 use Rattle.std.proofs.lemmas.List.{append-nil}
 use Rattle.std.specs.Str.{is_utf8}
@@ -38,16 +38,16 @@ attribute_long before a e = rw e refl
 pub attribute_fits : (before : List Group) (a : Attribute) → too_many_by_attribute a ≡ false → limits before (attribute a) ≡ None
 attribute_fits before a e = rw e refl
 
--- what was put has no path
-pub head_said : (r : FileSource) (file line : ℕ) (before : List Group) (h : Head) (new : ReaderState) (put : Result (Unit {0}) TreeKind) → path_of_head h ≡ None → AppendsHead r file line before h new put
+-- the appended group has no path
+pub head_given : (r : FileSource) (file line : ℕ) (before : List Group) (h : Head) (new : ReaderState) (put : Result (Unit {0}) TreeKind) → path_of_head h ≡ None → AppendsHead r file line before h new put
     → AppendsStatement r file line before (head h) new (no_path put)
-head_said r file line before h new (Ok u) n p = (p.0, n, p.1)
-head_said r file line before h new (Err k) n p = p
+head_given r file line before h new (Ok u) n p = (p.0, n, p.1)
+head_given r file line before h new (Err k) n p = p
 
-pub attribute_said : (r : FileSource) (file line : ℕ) (before : List Group) (a : Attribute) (new : ReaderState) (put : Result (Unit {0}) TreeKind) → AppendsAttribute r line before a new put
+pub attribute_given : (r : FileSource) (file line : ℕ) (before : List Group) (a : Attribute) (new : ReaderState) (put : Result (Unit {0}) TreeKind) → AppendsAttribute r line before a new put
     → AppendsStatement r file line before (attribute a) new (no_path put)
-attribute_said r file line before a new (Ok u) p = (p.0, refl, p.1)
-attribute_said r file line before a new (Err k) p = p
+attribute_given r file line before a new (Ok u) p = (p.0, refl, p.1)
+attribute_given r file line before a new (Err k) p = p
 
 -- more expressions
 pub shows_grown : (l : Listing) (arena : Exprs) (before : List Group) → Grows l.names.arena arena → RepresentsListing l before → RepresentsListing (record l { names = record l.names { arena = arena } }) before
@@ -80,25 +80,25 @@ unlimited true b s e = cc
 unlimited false true s e = cc
 unlimited false false s e = refl
 
--- what is said once a form was read
+-- the statement once its form was read
 abbrev limited_by : List Group → Result Statement TreeKind → Result (Option Statement) TreeKind
 limited_by before given = given >>= λ s. unless (is_too_deep before s) TooDeep >>= λ _. unless (is_too_many before s) TooMany >>= λ _. Ok (Some s)
 
 module _ (before : List Group) (k : Keyword) (ts : List Lexeme) where
-  pub said_early : (kind : TreeKind) → fault_before before k ts ≡ Some kind → statement_by_keyword before k ts ≡ Err kind
-  said_early kind e = early (is_left_out before k ts) (not (is_allowed before k)) (is_stray_end before k) kind (limited_by before (statement_of k ts)) e
+  pub statement_early : (kind : TreeKind) → fault_before before k ts ≡ Some kind → statement_by_keyword before k ts ≡ Err kind
+  statement_early kind e = early (is_left_out before k ts) (not (is_allowed before k)) (is_stray_end before k) kind (limited_by before (statement_of k ts)) e
 
-  said_late : fault_before before k ts ≡ None → statement_by_keyword before k ts ≡ limited_by before (statement_of k ts)
-  said_late e = late (is_left_out before k ts) (not (is_allowed before k)) (is_stray_end before k) (limited_by before (statement_of k ts)) e
+  statement_late : fault_before before k ts ≡ None → statement_by_keyword before k ts ≡ limited_by before (statement_of k ts)
+  statement_late e = late (is_left_out before k ts) (not (is_allowed before k)) (is_stray_end before k) (limited_by before (statement_of k ts)) e
 
-  pub said_malformed : (kind : TreeKind) → fault_before before k ts ≡ None → statement_of k ts ≡ Err kind → statement_by_keyword before k ts ≡ Err kind
-  said_malformed kind e h = said_late e ∙ ap (limited_by before) h
+  pub statement_malformed : (kind : TreeKind) → fault_before before k ts ≡ None → statement_of k ts ≡ Err kind → statement_by_keyword before k ts ≡ Err kind
+  statement_malformed kind e h = statement_late e ∙ ap (limited_by before) h
 
-  said_limited : (s : Statement) (kind : TreeKind) → fault_before before k ts ≡ None → statement_of k ts ≡ Ok s → limits before s ≡ Some kind → statement_by_keyword before k ts ≡ Err kind
-  said_limited s kind e h l = said_late e ∙ ap (limited_by before) h ∙ limited (is_too_deep before s) (is_too_many before s) s kind l
+  statement_limited : (s : Statement) (kind : TreeKind) → fault_before before k ts ≡ None → statement_of k ts ≡ Ok s → limits before s ≡ Some kind → statement_by_keyword before k ts ≡ Err kind
+  statement_limited s kind e h l = statement_late e ∙ ap (limited_by before) h ∙ limited (is_too_deep before s) (is_too_many before s) s kind l
 
-  said_well : (s : Statement) → fault_before before k ts ≡ None → statement_of k ts ≡ Ok s → limits before s ≡ None → statement_by_keyword before k ts ≡ Ok (Some s)
-  said_well s e h l = said_late e ∙ ap (limited_by before) h ∙ unlimited (is_too_deep before s) (is_too_many before s) s l
+  statement_well : (s : Statement) → fault_before before k ts ≡ None → statement_of k ts ≡ Ok s → limits before s ≡ None → statement_by_keyword before k ts ≡ Ok (Some s)
+  statement_well s e h l = statement_late e ∙ ap (limited_by before) h ∙ unlimited (is_too_deep before s) (is_too_many before s) s l
 
 -- whether a help text follows
 no_help : (k : Keyword) (ts : List Lexeme) → is_help_word (Some k) ≡ false → begins_with k ts ≡ false
@@ -119,7 +119,7 @@ no_help_of_source k (t ∷ ts) path h = refl
 module _ (r : FileSource) (file line : ℕ) (before : List Group) (k : Keyword) (ts : List Lexeme) (s : Statement) (new : ReaderState) (early : fault_before before k ts ≡ None) (form : statement_of k ts ≡ Ok s) where
   pub source_given : (path : List ℕ) → AppendsStatement r file line before s new (Ok (Some path)) → IsSourceGiven r (statement_by_keyword before k ts) (begins_with k ts) path before new
   source_given path p = record {
-    says = said_well before k ts s early form p.0 ∙ ap (λ t. Ok (Some t)) p.1;
+    says = statement_well before k ts s early form p.0 ∙ ap (λ t. Ok (Some t)) p.1;
     follows = no_help_of_source k ts path (form ∙ ap Ok p.1);
     describes = p.2;
   }
@@ -127,7 +127,7 @@ module _ (r : FileSource) (file line : ℕ) (before : List Group) (k : Keyword) 
   pub next_given : is_help_word (Some k) ≡ false → AppendsStatement r file line before s new (Ok None) → IsGiven r file line (statement_by_keyword before k ts) (begins_with k ts) before false new
   next_given n p = record {
     statement = Some s;
-    says = said_well before k ts s early form p.0;
+    says = statement_well before k ts s early form p.0;
     without_path = p.1;
     follows = no_help k ts n;
     describes = p.2;
@@ -136,7 +136,7 @@ module _ (r : FileSource) (file line : ℕ) (before : List Group) (k : Keyword) 
   pub help_given : is_help_word (Some k) ≡ true → AppendsStatement r file line before s new (Ok None) → IsGiven r file line (statement_by_keyword before k ts) (begins_with k ts) before true new
   help_given n p = record {
     statement = Some s;
-    says = said_well before k ts s early form p.0;
+    says = statement_well before k ts s early form p.0;
     without_path = p.1;
     follows = a_help k ts s n form;
     describes = p.2;
@@ -144,7 +144,7 @@ module _ (r : FileSource) (file line : ℕ) (before : List Group) (k : Keyword) 
 
   pub limit_given : (kind : TreeKind) → AppendsStatement r file line before s new (Err kind) → (kind ≡ OutOfMemory) ⊎ ((statement_by_keyword before k ts ≡ Err kind) × RepresentsListing new.listing before)
   limit_given kind (inl m) = inl m
-  limit_given kind (inr h) = inr (said_limited before k ts s kind early form h.0, h.1)
+  limit_given kind (inr h) = inr (statement_limited before k ts s kind early form h.0, h.1)
 
 -- the tokens of a line
 pub word_unknown : (before : List Group) (t : Lexeme) (ts : List Lexeme) → keyword_of t ≡ None → statement_of_tokens before (t ∷ ts) ≡ Err UnknownStatement
@@ -167,35 +167,35 @@ behind_none (Ok ts) = refl
 behind_none (Err e) = refl
 
 -- the line
-says_tokens : (before : List Group) (line : ℕ) (text : List ℕ) → nat_lt MAX_LINE_BYTES (length text) ≡ false → is_utf8 text ≡ true → statement_on_line before (line_here line text) ≡ statement_or_fault before (lexemes_from 0 0 text)
+gives_tokens : (before : List Group) (line : ℕ) (text : List ℕ) → nat_lt MAX_LINE_BYTES (length text) ≡ false → is_utf8 text ≡ true → statement_on_line before (line_here line text) ≡ statement_or_fault before (lexemes_from 0 0 text)
 unfolding statement_on_line
-says_tokens before line text e u = rw (e, u) refl
+gives_tokens before line text e u = rw (e, u) refl
 
 module _ (r : FileSource) (file line : ℕ) (before : List Group) (text : List ℕ) (new : ReaderState) (short : nat_lt MAX_LINE_BYTES (length text) ≡ false) (utf8 : is_utf8 text ≡ true) where
   pub line_of_tokens : (ts : List Lexeme) (result : Result Step TreeKind) → lexemes_from 0 0 text ≡ Ok ts → ReturnsStatementRead r file line (statement_of_tokens before ts) (is_help ts) before new result → LineRead r file line text before new result
   line_of_tokens ts (Ok Next) e g = record {
     statement = g.statement;
-    says = says_tokens before line text short utf8 ∙ ap (statement_or_fault before) e ∙ g.says;
+    says = gives_tokens before line text short utf8 ∙ ap (statement_or_fault before) e ∙ g.says;
     no_path = g.without_path;
     begins = rw (e, begins_help) g.follows;
     describes = g.describes;
   }
   line_of_tokens ts (Ok Help) e g = record {
     statement = g.statement;
-    says = says_tokens before line text short utf8 ∙ ap (statement_or_fault before) e ∙ g.says;
+    says = gives_tokens before line text short utf8 ∙ ap (statement_or_fault before) e ∙ g.says;
     no_path = g.without_path;
     begins = rw (e, begins_help) g.follows;
     describes = g.describes;
   }
   line_of_tokens ts (Ok (Source path)) e g = record {
-    says = says_tokens before line text short utf8 ∙ ap (statement_or_fault before) e ∙ g.says;
+    says = gives_tokens before line text short utf8 ∙ ap (statement_or_fault before) e ∙ g.says;
     begins = rw (e, begins_help) g.follows;
     describes = g.describes;
   }
   line_of_tokens ts (Err kind) e (inl m) = inl m
-  line_of_tokens ts (Err kind) e (inr h) = inr (says_tokens before line text short utf8 ∙ ap (statement_or_fault before) e ∙ h.0, h.1)
+  line_of_tokens ts (Err kind) e (inr h) = inr (gives_tokens before line text short utf8 ∙ ap (statement_or_fault before) e ∙ h.0, h.1)
 
   -- the first fault of its tokens
   pub line_of_fault : (f : ExprFault) (kind : TreeKind) → kind ≡ kind_of_fault f.kind → (f.kind ≡ expr_kinds.OutOfMemory) ⊎ (lexemes_from 0 0 text ≡ Err f) → RepresentsListing new.listing before → LineRead r file line text before new (Err kind)
   line_of_fault f kind e (inl m) s = inl (e ∙ ap kind_of_fault m)
-  line_of_fault f kind e (inr h) s = inr (says_tokens before line text short utf8 ∙ ap (statement_or_fault before) h ∙ ap Err (sym e), s)
+  line_of_fault f kind e (inr h) s = inr (gives_tokens before line text short utf8 ∙ ap (statement_or_fault before) h ∙ ap Err (sym e), s)

@@ -24,11 +24,11 @@ pub place_known : (e : Exprs) (symbols numbers : List ℕ) (names : List (List �
 place_known e symbols numbers names x id h p = sym (h.numbered x) ∙ ap (option_and_then (λ i. number_in_slot (get_or numbers i 0))) p
 
 -- where there may be one more
-most_is : (n k : ℕ) → k ≡ n → MAX_SYMBOLS ≤ k → nat_le MAX_SYMBOLS n ≡ true
-most_is n k e h = grind (arith, nat_tests)
+limit_is : (n k : ℕ) → k ≡ n → MAX_SYMBOLS ≤ k → nat_le MAX_SYMBOLS n ≡ true
+limit_is n k e h = grind (arith, nat_tests)
 
-most_not : (n k : ℕ) → k ≡ n → k < MAX_SYMBOLS → nat_le MAX_SYMBOLS n ≡ false
-most_not n k e h = grind (arith, nat_tests)
+limit_not : (n k : ℕ) → k ≡ n → k < MAX_SYMBOLS → nat_le MAX_SYMBOLS n ≡ false
+limit_not n k e h = grind (arith, nat_tests)
 
 -- the last one
 got_last : (names : List (List ℕ)) (x : List ℕ) (n : ℕ) → n ≡ length names → slice_get (names ++ x ∷ []) n ≡ Some x
@@ -38,13 +38,13 @@ got_last names x n e =
     ∙ ap Some (get_or-append_right names (x ∷ []) (length names) n [] refl (omega arith) ∙ ap (λ k. get_or (x ∷ []) k []) z)
 
 module _ (e : Exprs) (symbols numbers : List ℕ) (names : List (List ℕ)) (x : List ℕ) (h : HasNames e symbols numbers names) (none : index_of_name x names ≡ None) where
-  pub told_full : 1000000 ≤ length symbols → is_full x names ≡ true
-  told_full l = full_is x names none ∙ most_is (length names) (length symbols) (as_many_names e symbols numbers names h) l
+  pub reported_full : 1000000 ≤ length symbols → is_full x names ≡ true
+  reported_full l = full_is x names none ∙ limit_is (length names) (length symbols) (as_many_names e symbols numbers names h) l
 
-  pub told_new : (new : SymbolTable) (result : Result ℕ TreeKind) → length symbols < 1000000 → IfOk result (λ n. n ≡ length symbols) → OnOk result (KeepsNames new (names ++ x ∷ [])) → IfErr result (λ k. k ≡ OutOfMemory) → ReturnsSymbol x names new result
-  told_new new (Ok n) l i k m = (
-    full_is x names none ∙ most_not (length names) (length symbols) (as_many_names e symbols numbers names h) l,
+  pub reported_new : (new : SymbolTable) (result : Result ℕ TreeKind) → length symbols < 1000000 → IfOk result (λ n. n ≡ length symbols) → OnOk result (KeepsNames new (names ++ x ∷ [])) → IfErr result (λ k. k ≡ OutOfMemory) → ReturnsSymbol x names new result
+  reported_new new (Ok n) l i k m = (
+    full_is x names none ∙ limit_not (length names) (length symbols) (as_many_names e symbols numbers names h) l,
     rw (with_new x names none) k,
     rw (with_new x names none) (got_last names x n (i ∙ as_many_names e symbols numbers names h)),
   )
-  told_new new (Err kind) l i k m = inl m
+  reported_new new (Err kind) l i k m = inl m

@@ -21,7 +21,7 @@ pub(crate) fn push_group(
     line: u32,
     head: GroupHead,
 ) -> Result<(), TreeKind>
-    ensures put { (before : List Placed) (m : Meant) → RepresentsListing listing.old before → IsMeant listing.old before head m
+    ensures appends { (before : List Placed) (m : Meant) → RepresentsListing listing.old before → IsMeant listing.old before head m
         → from_head name_of_head m ≡ None → OnOk result (RepresentsListing listing.new (with_group (at_line file line) m before)) }
     ensures texts { listing.new.texts ≡ listing.old.texts }
     ensures memory { IfErr result (λ k. k ≡ OutOfMemory) }
@@ -46,7 +46,7 @@ pub(crate) fn push_end(
     line: u32,
     head: GroupHead,
 ) -> Result<(), TreeKind>
-    ensures put { (r : FileSource) (before : List Placed) (m : Meant) → Describes r read.old before → IsMeant read.old.listing before head m
+    ensures appends { (r : FileSource) (before : List Placed) (m : Meant) → Describes r read.old before → IsMeant read.old.listing before head m
         → side_of m ≡ closing → OnOk result (Describes r read.new (with_group (at_line file line) m before)) }
     ensures memory { IfErr result (λ k. k ≡ OutOfMemory) }
 {
@@ -61,7 +61,7 @@ pub(crate) fn push_plain(
     line: u32,
     head: GroupHead,
 ) -> Result<(), TreeKind>
-    ensures put { (r : FileSource) (before : List Placed) (m : Meant) → Describes r read.old before → IsMeant read.old.listing before head m
+    ensures appends { (r : FileSource) (before : List Placed) (m : Meant) → Describes r read.old before → IsMeant read.old.listing before head m
         → side_of m ≡ inside → from_head name_of_head m ≡ None → OnOk result (Describes r read.new (with_group (at_line file line) m before)) }
     ensures memory { IfErr result (λ k. k ≡ OutOfMemory) }
 {
@@ -76,7 +76,7 @@ pub(crate) fn push_block(
     head: GroupHead,
     block: Block,
 ) -> Result<(), TreeKind>
-    ensures put { (r : FileSource) (before : List Placed) (m : Meant) → Describes r read.old before → IsMeant read.old.listing before head m
+    ensures appends { (r : FileSource) (before : List Placed) (m : Meant) → Describes r read.old before → IsMeant read.old.listing before head m
         → from_head block_of_head m ≡ Some block → same_block Block.Choice block ≡ false
         → OnOk result (Describes r read.new (with_group (at_line file line) m before)) }
     ensures memory { IfErr result (λ k. k ≡ OutOfMemory) }
@@ -94,7 +94,7 @@ pub(crate) fn push_choice_group(
     line: u32,
 ) -> Result<(), TreeKind>
     requires { read.old.choices < MAX_CHOICES }
-    ensures put { (r : FileSource) (before : List Placed) → Describes r read.old before
+    ensures appends { (r : FileSource) (before : List Placed) → Describes r read.old before
         → OnOk result (Describes r read.new (with_group (at_line file line) (of_head choice) before)) }
     ensures memory { IfErr result (λ k. k ≡ OutOfMemory) }
 {
@@ -130,7 +130,7 @@ pub(crate) fn push_source(
 ) -> Result<(), TreeKind>
     requires files { read.old.files < MAX_FILES }
     requires bytes { read.old.bytes + size ≤ MAX_TREE_BYTES }
-    ensures put { (r : FileSource) (before : List Placed) (path : List ℕ) → Describes r read.old before → slice_get read.old.listing.texts.items place ≡ Some path → size ≡ size_in r path
+    ensures appends { (r : FileSource) (before : List Placed) (path : List ℕ) → Describes r read.old before → slice_get read.old.listing.texts.items place ≡ Some path → size ≡ size_in r path
         → OnOk result (Describes r read.new (with_group (at_line file line) (of_head (source path)) before)) }
     ensures memory { IfErr result (λ k. k ≡ OutOfMemory) }
 {

@@ -1,4 +1,4 @@
-//! From the bytes of a tree's files to what they say: lines, help texts, sourced files, and the first fault that
+//! From the bytes of a tree's files to their statements: lines, help texts, sourced files, and the first fault that
 //! reading meets.
 #![tactic(auto)]
 

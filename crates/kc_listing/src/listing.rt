@@ -4,7 +4,7 @@ use kc_statements::Attribute;
 use kc_tree_model::Block;
 use kc_value::Text;
 
-/// A statement that closes the open entry, or the end of a sourced file. A symbol is told by its number in order of
+/// A statement that closes the open entry, or the end of a sourced file. A symbol is given by its number in order of
 /// first definition, a title or a path by its place among the texts.
 #[derive(Clone, Copy)]
 pub enum GroupHead {

@@ -92,7 +92,7 @@ fn read_all(alloc: Global, from: SourceFiles<'_>) -> (Listing, Option<TreeFault>
     read_first(alloc, from, file)
 }
 
-/// What the files of a tree say from a first one on, and the first fault that reading meets.
+/// The statements of a tree's files, from a first file on, and the first fault of reading.
 ///
 /// The listing has all up to that fault. Where memory runs out, the fault is `OutOfMemory`, without a file, and the
 /// listing is any. A path whose number doesn't fit 32 bits is out of memory.
@@ -110,7 +110,7 @@ pub fn read_files(alloc: Global, texts: &Texts, root: &str) -> (Listing, Option<
     )
 }
 
-/// The same where an absent path is an empty file.
+/// As `read_files`, but an absent path is read as an empty file.
 pub fn read_files_leniently(
     alloc: Global,
     texts: &Texts,

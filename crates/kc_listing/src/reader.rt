@@ -18,7 +18,7 @@ use kc_expr::Token;
 use kc_tree_model::TreeFault;
 use kc_value::Text;
 
-/// Reads the lines of a help text that is indented so far; answers the place after it, and how many lines it has.
+/// Reads the lines of a help text that is indented so far; returns the place after it, and its number of lines.
 fn read_indented(
     file: SourceFile<'_>,
     at: usize,
@@ -47,7 +47,7 @@ fn read_indented(
     Ok((begin, lines))
 }
 
-/// Reads the lines of a help text; answers the place after it, and how many lines it has.
+/// Reads the lines of a help text; returns the place after it, and its number of lines.
 fn read_help(file: SourceFile<'_>, at: usize, number: u32) -> Result<(usize, u32), TreeFault>
     requires within { at ≤ length file.bytes.now }
     requires few { number ≤ at + 1 }
@@ -61,7 +61,7 @@ fn read_help(file: SourceFile<'_>, at: usize, number: u32) -> Result<(usize, u32
     read_indented(file, at, number, columns)
 }
 
-/// Reads the file of a `source` and its end, where so many more may be open within each other.
+/// Reads the file of a `source` and its end; `depth` is the number of files that may be open within each other.
 #[cycle(files)]
 fn read_sourced(
     read: &mut ReaderState,
@@ -78,7 +78,7 @@ fn read_sourced(
     close_source(read, from, file, line)
 }
 
-/// Reads a logical line and what it leads to; answers the place after it, and how many lines these are.
+/// Reads a logical line with its help text or its sourced file; returns the place after it, and the number of lines.
 #[cycle(files)]
 fn read_statement<'a>(
     read: &mut ReaderState,
@@ -114,7 +114,7 @@ fn read_statement<'a>(
     }
 }
 
-/// Reads a file after what was read, where so many may be open within each other.
+/// Reads a file after the groups so far; `depth` is the number of files that may be open within each other.
 #[cycle(files)]
 pub(crate) fn read_open_file(
     read: &mut ReaderState,

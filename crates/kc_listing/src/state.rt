@@ -43,7 +43,7 @@ pub(crate) struct SourceFile<'a> {
     pub bytes: &'a [u8],
 }
 
-/// What a line leads to: the next line, a help text, or a sourced file.
+/// The next thing to read after a line: the next line, a help text, or a sourced file.
 #[derive(Drop)]
 pub(crate) enum Step {
     Next,

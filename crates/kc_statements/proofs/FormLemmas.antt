@@ -39,9 +39,9 @@ by_reading ts (Ok e) = refl
 by_reading ts (Err f) = refl
 
 -- tokens after a condition
-pub condition_behind : (ts : List Lexeme) (e : Expr) → read_expr (extent ts) ≡ Ok e → length (extent ts) < length ts → last_condition ts ≡ Err Malformed
+pub condition_after : (ts : List Lexeme) (e : Expr) → read_expr (extent ts) ≡ Ok e → length (extent ts) < length ts → last_condition ts ≡ Err Malformed
 unfolding behind
-condition_behind ts e reads h = by_reading ts (read_expr (extent ts)) ∙ ap (behind ts) reads ∙ more (conditional e) (drop (length (extent ts)) ts) (omega (arith, length-drop (length (extent ts)) ts))
+condition_after ts e reads h = by_reading ts (read_expr (extent ts)) ∙ ap (behind ts) reads ∙ more (conditional e) (drop (length (extent ts)) ts) (omega (arith, length-drop (length (extent ts)) ts))
 
 -- no tokens after a condition
 bare : {A : Type 0} (x : A) (ts : List Lexeme) → length ts ≡ 0 → no_more x ts ≡ Ok x
@@ -57,9 +57,9 @@ pub condition_unread : (ts : List Lexeme) (x : ExprKind × List Lexeme) → read
 unfolding behind
 condition_unread ts x reads = by_reading ts (read_expr (extent ts)) ∙ ap (behind ts) reads
 
-told_kind : (all : List Lexeme) (x : ExprKind × List Lexeme) → (fault_of all x).kind ≡ x.0
-told_kind all (k, []) = refl
-told_kind all (k, t ∷ ts) = refl
+reported_kind : (all : List Lexeme) (x : ExprKind × List Lexeme) → (fault_of all x).kind ≡ x.0
+reported_kind all (k, []) = refl
+reported_kind all (k, t ∷ ts) = refl
 
 -- the parser's fault as that of a form
 pub unread : {A : Type 0} (ps : List Lexeme) (at : ℕ) (e : ExprFault) (k : TreeKind) (given : Result A TreeKind) → ((e.kind ≡ expr_kinds.OutOfMemory) ⊎ RefusesExpr ps at e) → k ≡ kind_of_fault e.kind
@@ -67,7 +67,7 @@ pub unread : {A : Type 0} (ps : List Lexeme) (at : ℕ) (e : ExprFault) (k : Tre
 unread ps at e k given f q h = elim f [
   | inl m ↦ inl (q ∙ ap kind_of_fault m)
   | inr n ↦
-      let told : e.kind ≡ n.fault.0 = ap (λ (y : ExprFault). y.kind) n.placed ∙ told_kind (take (expr_end ps at) ps) n.fault in
+      let told : e.kind ≡ n.fault.0 = ap (λ (y : ExprFault). y.kind) n.placed ∙ reported_kind (take (expr_end ps at) ps) n.fault in
       inr (h n.fault n.reads ∙ ap Err (sym (q ∙ ap kind_of_fault told)))
 ]
 
@@ -84,7 +84,7 @@ if_given t ts e w c = rw w (rw c refl)
 pub if_refused : (t : Lexeme) (ts : List Lexeme) (k : TreeKind) → is_the_word (codes "if") t ≡ true → last_condition ts ≡ Err k → optional_if (t ∷ ts) ≡ Err k
 if_refused t ts k w c = rw w (rw c refl)
 
--- the token that stands past the end in a clause
+-- the token that a clause has past the end
 abbrev pub some_token : CodeToken
 some_token = record { kind = Word; start = 0; end = 0; text = record { ref_ptr = (0, 0); now = [] } }
 

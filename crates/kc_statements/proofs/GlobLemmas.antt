@@ -78,5 +78,5 @@ glob_by Or s e text h = absurd (false≢true h)
 glob_by Open s e text h = absurd (false≢true h)
 glob_by Close s e text h = absurd (false≢true h)
 
-pub glob_told : (t : Lexeme) → is_operand_kind t.kind ≡ true → is_glob_path t ≡ list_any is_pattern_byte t.text
-glob_told t h = glob_by t.kind t.start t.stop t.text h
+pub glob_reported : (t : Lexeme) → is_operand_kind t.kind ≡ true → is_glob_path t ≡ list_any is_pattern_byte t.text
+glob_reported t h = glob_by t.kind t.start t.stop t.text h

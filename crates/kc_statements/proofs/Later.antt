@@ -1,4 +1,4 @@
--- What stands in an arena stands there also once it has grown.
+-- The expressions of an arena are there also once it has grown.
 use Rattle.std.proofs.Common.{◌≡◌, ℕ, ◌<◌, ◌≤◌, List, [], ◌++◌, length, get_or, take, drop, refl, ap, sym, ◌∙◌, arith, Option, Some, None}
 use Rattle.std.proofs.lemmas.List.{take-append-drop, length-take, get_or_append_left}
 use Rattle.kc_value.specs.declared.tri.Tri.TheVariants.{N}
@@ -60,13 +60,13 @@ pub valued_held : (old new : Exprs) (d : CodeValued) → Grows old new → Defau
 valued_held old new d g h = (node_held old new d.value g h.0, if_held old new d.condition g h.1)
 
 -- a `select` or an `imply`
-pub aimed_same : (old new : Exprs) (s : CodeAimed) → Grows old new → TargetNodesExist old s → target_in new s ≡ target_in old s
-aimed_same old new s g h =
+pub target_same : (old new : Exprs) (s : CodeAimed) → Grows old new → TargetNodesExist old s → target_in new s ≡ target_in old s
+target_same old new s g h =
     ap (λ (x : List ℕ). let r : TargetAttribute = record { name = x; condition = if_in new s.condition } in r) (front_get old.names new.names s.name [] g.names h.0)
     ∙ ap (λ (c : Option Expr). let r : TargetAttribute = record { name = get_or old.names s.name []; condition = c } in r) (if_same old new s.condition g h.1)
 
-pub aimed_held : (old new : Exprs) (s : CodeAimed) → Grows old new → TargetNodesExist old s → TargetNodesExist new s
-aimed_held old new s g h = let l = front_long old.names new.names g.names in (omega (arith, h.0), if_held old new s.condition g h.1)
+pub target_held : (old new : Exprs) (s : CodeAimed) → Grows old new → TargetNodesExist old s → TargetNodesExist new s
+target_held old new s g h = let l = front_long old.names new.names g.names in (omega (arith, h.0), if_held old new s.condition g h.1)
 
 -- a range
 pub bounded_same : (old new : Exprs) (r : CodeBounded) → Grows old new → RangeNodesExist old r → range_in new r ≡ range_in old r
@@ -87,8 +87,8 @@ attribute_same old new (attributes.TypedDefault k d) g h = ap (typed_default k) 
 attribute_same old new (attributes.Prompt c) g h = ap prompt (if_same old new c g h)
 attribute_same old new (attributes.Default d) g h = ap default (valued_same old new d g h)
 attribute_same old new (attributes.Depends id) g h = ap depends (node_same old new id g h)
-attribute_same old new (attributes.Select s) g h = ap select (aimed_same old new s g h)
-attribute_same old new (attributes.Imply s) g h = ap imply (aimed_same old new s g h)
+attribute_same old new (attributes.Select s) g h = ap select (target_same old new s g h)
+attribute_same old new (attributes.Imply s) g h = ap imply (target_same old new s g h)
 attribute_same old new (attributes.Range r) g h = ap range (bounded_same old new r g h)
 attribute_same old new (attributes.Visible id) g h = ap visible (node_same old new id g h)
 attribute_same old new attributes.Help g h = refl
@@ -101,8 +101,8 @@ attribute_held old new (attributes.TypedDefault k d) g h = valued_held old new d
 attribute_held old new (attributes.Prompt c) g h = if_held old new c g h
 attribute_held old new (attributes.Default d) g h = valued_held old new d g h
 attribute_held old new (attributes.Depends id) g h = node_held old new id g h
-attribute_held old new (attributes.Select s) g h = aimed_held old new s g h
-attribute_held old new (attributes.Imply s) g h = aimed_held old new s g h
+attribute_held old new (attributes.Select s) g h = target_held old new s g h
+attribute_held old new (attributes.Imply s) g h = target_held old new s g h
 attribute_held old new (attributes.Range r) g h = bounded_held old new r g h
 attribute_held old new (attributes.Visible id) g h = node_held old new id g h
 attribute_held old new attributes.Help g h = tt

@@ -37,29 +37,29 @@ prompt_other f [] l h = absurd (omega (arith, l))
 prompt_other f (t ∷ ts) l h = rw h refl
 
 -- an `if` after a name
-aimed_as : (TargetAttribute → Attribute) → List ℕ → Option Expr → Statement
-aimed_as f x c = attribute (f (record { name = x; condition = c }))
+target_as : (TargetAttribute → Attribute) → List ℕ → Option Expr → Statement
+target_as f x c = attribute (f (record { name = x; condition = c }))
 
-aimed_is : (f : TargetAttribute → Attribute) (ts : List CodeToken) → 0 < length ts → is_name (lexeme_of (first_of ts)) ≡ true
-    → target_line f (lexemes_of ts) ≡ stepped (aimed_as f (first_of ts).text.now) (optional_if (drop 1 (lexemes_of ts)))
-unfolding aimed_as
-aimed_is f [] l h = absurd (omega (arith, l))
-aimed_is f (t ∷ ts) l h = rw h refl
+target_is : (f : TargetAttribute → Attribute) (ts : List CodeToken) → 0 < length ts → is_name (lexeme_of (first_of ts)) ≡ true
+    → target_line f (lexemes_of ts) ≡ stepped (target_as f (first_of ts).text.now) (optional_if (drop 1 (lexemes_of ts)))
+unfolding target_as
+target_is f [] l h = absurd (omega (arith, l))
+target_is f (t ∷ ts) l h = rw h refl
 
-pub aimed_other : (f : TargetAttribute → Attribute) (ts : List CodeToken) → 0 < length ts → is_name (lexeme_of (first_of ts)) ≡ false → target_line f (lexemes_of ts) ≡ Err Malformed
-aimed_other f [] l h = absurd (omega (arith, l))
-aimed_other f (t ∷ ts) l h = rw h refl
+pub target_other : (f : TargetAttribute → Attribute) (ts : List CodeToken) → 0 < length ts → is_name (lexeme_of (first_of ts)) ≡ false → target_line f (lexemes_of ts) ≡ Err Malformed
+target_other f [] l h = absurd (omega (arith, l))
+target_other f (t ∷ ts) l h = rw h refl
 
-pub aimed_told : (mid new : Exprs) (f : TargetAttribute → Attribute) (ts : List CodeToken) (id : ℕ) (c : Option ℕ) → 0 < length ts → is_name (lexeme_of (first_of ts)) ≡ true → Grows mid new
+pub target_told : (mid new : Exprs) (f : TargetAttribute → Attribute) (ts : List CodeToken) (id : ℕ) (c : Option ℕ) → 0 < length ts → is_name (lexeme_of (first_of ts)) ≡ true → Grows mid new
     → optional_if (drop 1 (lexemes_of ts)) ≡ Ok (if_in mid c) → IfNodeExists mid c → slice_index_or new.names id [] ≡ (first_of ts).text.now
     → target_line f (lexemes_of ts) ≡ Ok (attribute (f (target_in new (record { name = id; condition = c }))))
-unfolding aimed_as
-aimed_told mid new f ts id c l n g o h x =
-    let k : Option Expr → Statement = aimed_as f (first_of ts).text.now in
-    aimed_is f ts l n ∙ ap (stepped k) o ∙ ap (λ d. Ok (k d)) (sym (if_same mid new c g h)) ∙ ap (λ y. Ok (aimed_as f y (if_in new c))) (sym x)
+unfolding target_as
+target_told mid new f ts id c l n g o h x =
+    let k : Option Expr → Statement = target_as f (first_of ts).text.now in
+    target_is f ts l n ∙ ap (stepped k) o ∙ ap (λ d. Ok (k d)) (sym (if_same mid new c g h)) ∙ ap (λ y. Ok (target_as f y (if_in new c))) (sym x)
 
-pub aimed_refused : (f : TargetAttribute → Attribute) (ts : List CodeToken) (k : TreeKind) → 0 < length ts → is_name (lexeme_of (first_of ts)) ≡ true → optional_if (drop 1 (lexemes_of ts)) ≡ Err k → target_line f (lexemes_of ts) ≡ Err k
-aimed_refused f ts k l n o = aimed_is f ts l n ∙ ap (stepped (aimed_as f (first_of ts).text.now)) o
+pub target_refused : (f : TargetAttribute → Attribute) (ts : List CodeToken) (k : TreeKind) → 0 < length ts → is_name (lexeme_of (first_of ts)) ≡ true → optional_if (drop 1 (lexemes_of ts)) ≡ Err k → target_line f (lexemes_of ts) ≡ Err k
+target_refused f ts k l n o = target_is f ts l n ∙ ap (stepped (target_as f (first_of ts).text.now)) o
 
 -- one token
 either_way : (b : Bool) (x : Result Statement TreeKind) → (if b then x else x) ≡ x
@@ -104,15 +104,15 @@ unfolding source_by
 source_reading ts None = refl
 source_reading ts (Some x) = refl
 
-path_behind : (u : Lexeme) (ts : List Lexeme) (p : Option (List ℕ)) → source_by (u ∷ ts) p ≡ Err Malformed
+path_after : (u : Lexeme) (ts : List Lexeme) (p : Option (List ℕ)) → source_by (u ∷ ts) p ≡ Err Malformed
 unfolding source_by
-path_behind u ts None = refl
-path_behind u ts (Some x) = refl
+path_after u ts None = refl
+path_after u ts (Some x) = refl
 
 pub source_long : (ts : List CodeToken) → (length ts ≡ 1 → ⊥) → source_line (lexemes_of ts) ≡ Err Malformed
 source_long [] n = refl
 source_long (t ∷ []) n = absurd (n refl)
-source_long (t ∷ u ∷ ts) n = source_reading (lexemes_of (u ∷ ts)) (path_of (lexeme_of t)) ∙ path_behind (lexeme_of u) (lexemes_of ts) (path_of (lexeme_of t))
+source_long (t ∷ u ∷ ts) n = source_reading (lexemes_of (u ∷ ts)) (path_of (lexeme_of t)) ∙ path_after (lexeme_of u) (lexemes_of ts) (path_of (lexeme_of t))
 
 pub source_is : (ts : List CodeToken) (x : List ℕ) → length ts ≡ 1 → path_of (lexeme_of (first_of ts)) ≡ Some x → source_line (lexemes_of ts) ≡ Ok (head (source x))
 unfolding source_by
@@ -121,9 +121,9 @@ source_is (t ∷ []) x l h = source_reading [] (path_of (lexeme_of t)) ∙ ap (s
 source_is (t ∷ u ∷ ts) x l h = absurd (omega (arith, l))
 
 -- a test of the first token
-pub first_told : (test : Lexeme → Bool) (ts : List CodeToken) → 0 < length ts → test (lexeme_of (first_of ts)) ≡ first_is test (lexemes_of ts)
-first_told test [] l = absurd (omega (arith, l))
-first_told test (t ∷ ts) l = refl
+pub first_reported : (test : Lexeme → Bool) (ts : List CodeToken) → 0 < length ts → test (lexeme_of (first_of ts)) ≡ first_is test (lexemes_of ts)
+first_reported test [] l = absurd (omega (arith, l))
+first_reported test (t ∷ ts) l = refl
 
 pub first_none : (test : Lexeme → Bool) (ts : List CodeToken) (b : Bool) → b ≡ (length ts == 0) → b ≡ true → not b ≡ first_is test (lexemes_of ts)
 first_none test ts b e f = rw (none_there ts b e f) (ap not f)

@@ -36,9 +36,9 @@ read_as e = Ok e
 read_same : (x y : Expr) → read_as x ≡ read_as y → x ≡ y
 read_same x y q = cc
 
-pub operand_told : (e : Exprs) (id : ℕ) (p : Lexeme) (x : Expr) → is_operand_kind p.kind ≡ true → read_expr (p ∷ []) ≡ Ok x → Represents e id x
+pub operand_reported : (e : Exprs) (id : ℕ) (p : Lexeme) (x : Expr) → is_operand_kind p.kind ≡ true → read_expr (p ∷ []) ≡ Ok x → Represents e id x
     → (operand_of_lexeme p ≡ Some (operand_or_n e id)) × OperandNodeExists e id
-operand_told e id p x h r s =
+operand_reported e id p x h r s =
     let o = operand_by p.kind p.start p.stop p.text h in
     let is : node_expr e id ≡ alone o.0 = s.is ∙ read_same x (alone o.0) (sym r ∙ o.2) in
     let found : operand_or_n e id ≡ o.0 = ap operand_of_expr is in
@@ -48,11 +48,11 @@ operand_told e id p x h r s =
 valued_by : (DefaultAttribute → Attribute) → Expr → ℕ → Option Expr → Result Statement TreeKind
 valued_by f v n c = Ok (attribute (f (record { value = v; single = n == 1; condition = c })))
 
-pub valued_told : (mid new : Exprs) (f : DefaultAttribute → Attribute) (ps : List Lexeme) (id next : ℕ) (c : Option ℕ) (x : Expr) → Grows mid new → read_expr (extent ps) ≡ Ok x → Represents mid id x
+pub valued_reported : (mid new : Exprs) (f : DefaultAttribute → Attribute) (ps : List Lexeme) (id next : ℕ) (c : Option ℕ) (x : Expr) → Grows mid new → read_expr (extent ps) ≡ Ok x → Represents mid id x
     → next ≡ 0 + length (extent ps) → optional_if (drop next ps) ≡ Ok (if_in new c)
     → default_line f ps ≡ Ok (attribute (f (default_in new (record { value = id; single = next == 1; condition = c }))))
 unfolding valued_by
-valued_told mid new f ps id next c x g reads s end given =
+valued_reported mid new f ps id next c x g reads s end given =
     let n : next ≡ length (extent ps) = omega (arith, end) in
     let k : Option Expr → Statement = λ d. attribute (f (record { value = x; single = length (extent ps) == 1; condition = d })) in
     default_is f ps x reads

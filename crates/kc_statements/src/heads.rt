@@ -50,7 +50,7 @@ fn is_title(tokens: &[Token<'_>]) -> bool
     tokens.len() == 1 && is_quoted(&tokens[0])
 }
 
-/// The text for which a quoted token of a text stands.
+/// The text that a quoted token represents.
 fn unquoted(alloc: Global, text: &str) -> Result<Text, TreeKind>
     ensures ok { IfOk result (λ t. t ≡ text_meant text.now) }
     ensures memory { IfErr result (λ k. k ≡ OutOfMemory) }

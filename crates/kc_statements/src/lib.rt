@@ -1,4 +1,4 @@
-//! What the lines of a tree say, by their tokens: first words, forms, and the statements themselves.
+//! The statements of a tree's lines, by their tokens: first words, forms, and the statements themselves.
 #![tactic(auto)]
 
 mod attributes;

@@ -1,4 +1,4 @@
-//! What is looked at before a line's form: forms that are left out, and the attributes of each entry.
+//! The checks before a line's form: forms that are left out, and the attributes of each entry.
 ghost use Rattle.std.specs.Prelude.{◌≡◌, ◌||◌, ◌==◌, List};
 ghost use Rattle.std.specs.List.{list_any};
 ghost use Rattle.kc_expr.specs.Token.{lexemes_of, lexeme_of};
@@ -70,8 +70,7 @@ fn has_glob_byte(text: &[u8]) -> bool
     text.iter().any(|byte| is_glob_byte(*byte))
 }
 
-/// Whether a token is a path that is a pattern. Quotes and backslashes make none, so its text is looked at as it
-/// stands.
+/// Whether a token is a path that is a pattern. Quotes and backslashes make none, so its text is tested as it is.
 fn is_glob_path(token: &Token<'_>) -> bool
     ensures { result ≡ is_glob_path (lexeme_of token.now) }
 {

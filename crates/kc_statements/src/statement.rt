@@ -1,4 +1,4 @@
-//! What the lines of a tree say.
+//! The statements of a tree's lines.
 use kc_expr::{ExprId, NameId};
 use kc_tree_model::Block;
 use kc_value::{Kind, Text};
@@ -60,7 +60,7 @@ pub enum Attribute {
     Modules,
 }
 
-/// What a line says.
+/// The statement of a line.
 #[derive(Drop)]
 pub enum Statement<'a> {
     Head(Head<'a>),

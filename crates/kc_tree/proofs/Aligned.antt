@@ -1,4 +1,4 @@
--- What was read and how it is kept, place by place.
+-- The groups of the definition and those of the listing, place by place.
 use Rattle.std.proofs.Common.{◌≡◌, ℕ, zero, suc, ◌+◌, ◌-◌, ◌<◌, ◌≤◌, false, cond, List, [], ◌∷◌, ◌++◌, length, get_or, drop, reverse, refl, ap, sym, subst, ◌∙◌, arith, append_assoc, append-nil, length-append, length-drop, Some}
 use Rattle.std.specs.Prelude.{slice_get, slice_range, nat_lt}
 use Rattle.std.proofs.Math.Seq.{drop-length}

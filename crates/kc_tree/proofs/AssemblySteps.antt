@@ -1,4 +1,4 @@
--- What was gathered stands for the whole.
+-- The collected lists represent the tree.
 use Rattle.std.proofs.Common.{◌≡◌, ℕ, zero, suc, ◌+◌, ◌<◌, ◌≤◌, ◌^◌, Bool, true, false, cond, List, [], ◌∷◌, length, map, Option, Some, None, refl, ap, sym, subst, ◌∙◌, arith}
 use Rattle.std.specs.Prelude.{All, filter, filter_map, flat_map, slice_get, option_to_list, option_and_then}
 use Rattle.std.specs.List.{cons_option}
@@ -149,13 +149,13 @@ module _ (c : Contents) where
   keys_fit_at None x h = All-nil (λ n. n < length c.choices)
   keys_fit_at (Some k) x h = mapped_keys k (option_to_list (option_and_then (λ y. index_of_name y c.names) x)) (h k refl)
 
-  round_fits : (o : Option ℕ) (k : ℕ) → option_and_then (choice_number c) o ≡ Some k → k < length c.choices
-  round_fits None k e = cc
-  round_fits (Some n) k e = get_below c.choices k n (number-get n c.choices k e)
+  enclosing_fits : (o : Option ℕ) (k : ℕ) → option_and_then (choice_number c) o ≡ Some k → k < length c.choices
+  enclosing_fits None k e = cc
+  enclosing_fits (Some n) k e = get_below c.choices k n (number-get n c.choices k e)
 
   pub keys_fit : (ps : List GroupInContext) → All (λ n. n < length c.choices) (flat_map (member_keys_at c) ps)
   keys_fit [] = All-nil (λ n. n < length c.choices)
-  keys_fit (p ∷ ps) = All-append (λ n. n < length c.choices) (member_keys_at c p) (flat_map (member_keys_at c) ps) (keys_fit_at (enclosing_choice c p) (defined_name p.group) (round_fits p.enclosing.choice)) (keys_fit ps)
+  keys_fit (p ∷ ps) = All-append (λ n. n < length c.choices) (member_keys_at c p) (flat_map (member_keys_at c) ps) (keys_fit_at (enclosing_choice c p) (defined_name p.group) (enclosing_fits p.enclosing.choice)) (keys_fit ps)
 
 keys_of_all : (n : ℕ) (ks : List ℕ) → All (λ k. k < n) ks → AreKeys n ks
 keys_of_all n ks h i l = h i 0 l

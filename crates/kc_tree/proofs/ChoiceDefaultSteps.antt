@@ -1,4 +1,4 @@
--- The defaults of choices, as they are gathered.
+-- The defaults of choices, as they are collected.
 use Rattle.std.proofs.Common.{◌≡◌, ℕ, zero, suc, ◌+◌, ◌<◌, ◌≤◌, ◌==◌, Bool, true, false, cond, List, [], ◌∷◌, ◌++◌, length, get_or, take, map, Option, Some, None, refl, ap, sym, subst, ◌∙◌, arith, append_assoc, append-nil}
 use Rattle.std.specs.Prelude.{All, slice_get, slice_index, option_map, option_and_then, option_to_list, filter, filter_map, flat_map, is_none}
 use Rattle.std.specs.List.{cons_option}
@@ -99,7 +99,7 @@ keys_more n number ls cs i d c old mid new o h k e m f =
     ∙ ap (λ xs. old ++ xs) (sym (map-append key (member_default_rows n (take i ls) (take i cs)) (option_to_list o))
     ∙ ap (map key) (ap (λ x. member_default_rows n (take i ls) (take i cs) ++ option_to_list x) e ∙ sym (kept_more n ls cs i d c h (omega arith)) ∙ ap (λ j. member_default_rows n (take j ls) (take j cs)) (sym s)))
 
--- nothing is told of a choice's attributes
+-- a choice's attributes have no fault
 append_none : {X : Type 0} (xs ys : List X) → xs ++ ys ≡ [] → (xs ≡ []) × (ys ≡ [])
 append_none [] ys e = (refl, e)
 append_none (x ∷ xs) ys e = cc
@@ -186,10 +186,10 @@ module _ (n : SymbolTable) (symbols : List ℕ) (c : Contents) (has : HasNames n
   view_cons None xs = refl
   view_cons (Some x) xs = refl
 
-  said_cons : (p : GroupInContext) (o : Option DefaultAttribute) (l : Line) (ls : List Line) → default_of l.attribute ≡ o
+  statement_cons : (p : GroupInContext) (o : Option DefaultAttribute) (l : Line) (ls : List Line) → default_of l.attribute ≡ o
       → filter_map (member_default c p) (filter_map (λ (l : Line). default_of l.attribute) (l ∷ ls)) ≡ cons_option (option_and_then (member_default c p) o) (filter_map (member_default c p) (filter_map (λ (l : Line). default_of l.attribute) ls))
-  said_cons p None l ls e = rw e refl
-  said_cons p (Some d) l ls e = rw e refl
+  statement_cons p None l ls e = rw e refl
+  statement_cons p (Some d) l ls e = rw e refl
 
   pub all_defaults : (p : GroupInContext) (ls : List CodeLine) (xs : List ℕ) (prompted : Bool) → map (node_expr n.arena) xs ≡ map (condition_at p) (map (line_in n.arena) ls)
       → faults_of_lines p.group (choice_faults (member_names c p.group.number)) prompted (map (line_in n.arena) ls) ≡ []
@@ -203,7 +203,7 @@ module _ (n : SymbolTable) (symbols : List ℕ) (c : Contents) (has : HasNames n
       view_cons (member_default_row n l x) (member_default_rows n ls xs)
       ∙ ap (λ o. cons_option o (map (member_default_view n.arena) (member_default_rows n ls xs))) (one_default p l.number l.attribute x here q.0)
       ∙ ap (cons_option (option_and_then (member_default c p) (default_of (attribute_in n.arena l.attribute)))) (all_defaults p ls xs q.1.0 rest q.1.1)
-      ∙ sym (said_cons p (default_of (attribute_in n.arena l.attribute)) (line_in n.arena l) (map (line_in n.arena) ls) refl)
+      ∙ sym (statement_cons p (default_of (attribute_in n.arena l.attribute)) (line_in n.arena l) (map (line_in n.arena) ls) refl)
 
   -- their numbers are there
   kept_fits : (l : CodeLine) (x : ℕ) (o : Option ℕ) → option_and_then (symbol_bare n) (default_value_view l.attribute) ≡ o → x < length n.arena.nodes → (xs : List MemberDefault) → All (MemberDefaultFits (length n.arena.nodes) (length c.names)) xs
@@ -225,20 +225,20 @@ module _ (n : SymbolTable) (symbols : List ℕ) (c : Contents) (has : HasNames n
   all_fit (l ∷ ls) (x ∷ xs) h = kept_fits l x (option_and_then (symbol_bare n) (default_value_view l.attribute)) refl (h 0 x (omega arith)) (member_default_rows n ls xs) (all_fit ls xs (λ k d i. h (suc k) d (omega arith)))
 
 -- items under a new key
-pub items_behind : {T : Type 0} (k m : ℕ) (keys : List ℕ) (items xs : List T) → length items ≡ length keys → items_of k (keys ++ map (λ (_ : T). m) xs) (items ++ xs) ≡ items_of k keys items ++ cond (m == k) xs []
-items_behind {T} k m [] [] [] e = by (m == k)
+pub items_after : {T : Type 0} (k m : ℕ) (keys : List ℕ) (items xs : List T) → length items ≡ length keys → items_of k (keys ++ map (λ (_ : T). m) xs) (items ++ xs) ≡ items_of k keys items ++ cond (m == k) xs []
+items_after {T} k m [] [] [] e = by (m == k)
   where
     by : (b : Bool) → (let e : List T = [] in e) ≡ cond b [] []
     by true = refl
     by false = refl
-items_behind {T} k m [] [] (x ∷ xs) e = by (m == k) refl (items_behind k m [] [] xs refl)
+items_after {T} k m [] [] (x ∷ xs) e = by (m == k) refl (items_after k m [] [] xs refl)
   where
     by : (b : Bool) → (m == k) ≡ b → items_of k (map (λ (_ : T). m) xs) xs ≡ cond (m == k) xs [] → cond b (x ∷ items_of k (map (λ (_ : T). m) xs) xs) (items_of k (map (λ (_ : T). m) xs) xs) ≡ cond b (x ∷ xs) []
     by true f r = ap (λ t. x ∷ t) (r ∙ ap (λ t. cond t xs []) f)
     by false f r = r ∙ ap (λ t. cond t xs []) f
-items_behind {T} k m [] (y ∷ items) xs e = absurd (omega arith)
-items_behind {T} k m (y ∷ keys) [] xs e = absurd (omega arith)
-items_behind {T} k m (y ∷ keys) (z ∷ items) xs e = by (y == k) (items_behind k m keys items xs (omega arith))
+items_after {T} k m [] (y ∷ items) xs e = absurd (omega arith)
+items_after {T} k m (y ∷ keys) [] xs e = absurd (omega arith)
+items_after {T} k m (y ∷ keys) (z ∷ items) xs e = by (y == k) (items_after k m keys items xs (omega arith))
   where
     by : (b : Bool) → items_of k (keys ++ map (λ (_ : T). m) xs) (items ++ xs) ≡ items_of k keys items ++ cond (m == k) xs []
         → cond b (z ∷ items_of k (keys ++ map (λ (_ : T). m) xs) (items ++ xs)) (items_of k (keys ++ map (λ (_ : T). m) xs) (items ++ xs)) ≡ cond b (z ∷ items_of k keys items) (items_of k keys items) ++ cond (m == k) xs []
@@ -250,9 +250,9 @@ const_keys m [] i h = absurd (omega arith)
 const_keys m (x ∷ xs) zero h = omega arith
 const_keys m (x ∷ xs) (suc i) h = const_keys m xs i (omega arith)
 
-pub keys_behind : {T : Type 0} (m : ℕ) (keys : List ℕ) (xs : List T) → AreKeys m keys → AreKeys (m + 1) (keys ++ map (λ (_ : T). m) xs)
-keys_behind {T} m [] xs h = const_keys m xs
-keys_behind {T} m (k ∷ keys) xs h = by (keys_behind m keys xs (λ i l. h (suc i) (omega arith)))
+pub keys_after : {T : Type 0} (m : ℕ) (keys : List ℕ) (xs : List T) → AreKeys m keys → AreKeys (m + 1) (keys ++ map (λ (_ : T). m) xs)
+keys_after {T} m [] xs h = const_keys m xs
+keys_after {T} m (k ∷ keys) xs h = by (keys_after m keys xs (λ i l. h (suc i) (omega arith)))
   where
     by : AreKeys (m + 1) (keys ++ map (λ (_ : T). m) xs) → (i : ℕ) → i < length (k ∷ (keys ++ map (λ (_ : T). m) xs)) → slice_index (k ∷ (keys ++ map (λ (_ : T). m) xs)) i < m + 1
     by rest zero l = let a = h 0 (omega arith) in omega arith
@@ -286,21 +286,21 @@ choices_few x n = by (is_choice_code x) (choices_by x n)
     by true e = omega (arith, e)
     by false e = omega (arith, e)
 
-choice_said : (exprs : Exprs) (names texts : List (List ℕ)) (c : CodeWhat) (m : Group) → RepresentsHead exprs names texts c m.head → is_choice_code c ≡ true → m.head ≡ of_head choice
-choice_said exprs names texts (codes.Config s) m h e = cc
-choice_said exprs names texts codes.Choice m h e = h
-choice_said exprs names texts (codes.Menu t) m h e = cc
-choice_said exprs names texts (codes.Condition id) m h e = cc
-choice_said exprs names texts (codes.Comment t) m h e = cc
-choice_said exprs names texts (codes.Source t) m h e = cc
-choice_said exprs names texts codes.Mainmenu m h e = cc
-choice_said exprs names texts (codes.Ends b) m h e = cc
-choice_said exprs names texts codes.FileEnd m h e = cc
+choice_given : (exprs : Exprs) (names texts : List (List ℕ)) (c : CodeWhat) (m : Group) → RepresentsHead exprs names texts c m.head → is_choice_code c ≡ true → m.head ≡ of_head choice
+choice_given exprs names texts (codes.Config s) m h e = cc
+choice_given exprs names texts codes.Choice m h e = h
+choice_given exprs names texts (codes.Menu t) m h e = cc
+choice_given exprs names texts (codes.Condition id) m h e = cc
+choice_given exprs names texts (codes.Comment t) m h e = cc
+choice_given exprs names texts (codes.Source t) m h e = cc
+choice_given exprs names texts codes.Mainmenu m h e = cc
+choice_given exprs names texts (codes.Ends b) m h e = cc
+choice_given exprs names texts codes.FileEnd m h e = cc
 
 choice_group_faults : (c : Contents) (p : GroupInContext) → p.group.head ≡ of_head choice → faults_of_group c p ≡ faults_of_lines p.group (choice_faults (member_names c p.group.number)) false p.group.attributes
 choice_group_faults c p e = rw e refl
 
--- the defaults of the choices among the groups that were gone through
+-- the defaults of the choices among the groups that were visited
 module _ (l : Listing) (groups : List GroupConditions) (conditions : List ℕ) (read : List Group) (w : IsWalkOf l groups conditions read) where
   abbrev pub AreTo : ℕ → ℕ → Keyed MemberDefault → Type 0
   AreTo i n found = AreDefaultsOf l (contents_of read) (groups_in_context (read_before i read)) n found
@@ -336,7 +336,7 @@ module _ (l : Listing) (groups : List GroupConditions) (conditions : List ℕ) (
       let p : GroupInContext = group_in_context (open_blocks 0 (read_before i read)) x.group in
       let n = count_is l.names.arena (names_defined read) l.texts.items l.lines.items l.groups.items read w.shows.groups_are in
       let faults = flat_none (faults_of_group (contents_of read)) (groups_in_context read) i p none (place_numbered read i x.group (omega (arith, n, h)) x.now) in
-      let what = choice_said l.names.arena (names_defined read) l.texts.items (group_at l.groups.items i).head x.group x.shown.head b in
+      let what = choice_given l.names.arena (names_defined read) l.texts.items (group_at l.groups.items i).head x.group x.shown.head b in
       let lines : faults_of_lines p.group (choice_faults (member_names (contents_of read) p.group.number)) false p.group.attributes ≡ [] = sym (choice_group_faults (contents_of read) p what) ∙ faults in
       let own : map (node_expr l.names.arena) (own_conditions groups conditions i) ≡ map (condition_at p) (map (line_in l.names.arena) (own_lines l i)) = x.conditioned.own_are ∙ ap (map (condition_at p)) x.shown.attributes in
       all_defaults l.names l.names.symbols.items (contents_of read) w.shows.names p (own_lines l i) (own_conditions groups conditions i) false own (ap (λ ls. faults_of_lines p.group (choice_faults (member_names (contents_of read) p.group.number)) false ls) (sym x.shown.attributes) ∙ lines)
@@ -370,9 +370,9 @@ module _ (l : Listing) (groups : List GroupConditions) (conditions : List ℕ) (
       let F : List GroupInContext = filter opens (groups_in_context (read_before i read)) in
       let places = places_more l l.names.arena groups conditions read w.shows w.shown i h true b in
       record {
-        keys = rw e (keys_behind n old.keys.items xs d.keys);
+        keys = rw e (keys_after n old.keys.items xs d.keys);
         fits = rw f (All-append (MemberDefaultFits (length l.names.arena.nodes) (length l.names.symbols.items)) old.items.items xs d.fits (own_fit i h));
-        are = λ k. (let cut : items_of k new.keys.items new.items.items ≡ items_of k old.keys.items old.items.items ++ cond (n == k) xs [] = rw (e, f) (items_behind k n old.keys.items old.items.items xs old.even) in
+        are = λ k. (let cut : items_of k new.keys.items new.items.items ≡ items_of k old.keys.items old.items.items ++ cond (n == k) xs [] = rw (e, f) (items_after k n old.keys.items old.items.items xs old.even) in
             ap (map (member_default_view l.names.arena)) cut ∙ map-append (member_default_view l.names.arena) (items_of k old.keys.items old.items.items) (cond (n == k) xs [])
             ∙ by_key n k (n == k) F p (map (member_default_view l.names.arena) (items_of k old.keys.items old.items.items)) xs refl c (d.are k) (own_defaults i h b none)
             ∙ ap (λ ps. choice_defaults_of (contents_of read) (slice_get ps k)) (sym places));

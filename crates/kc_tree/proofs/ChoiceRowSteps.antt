@@ -80,11 +80,11 @@ prompt_held n (l ∷ ls) (o ∷ os) h i e = by (is_prompt l.attribute) (λ j f. 
     by false k e = k i e
 
 -- one row more
-rows_put : (exprs : Exprs) (ps : List GroupInContext) (rows : List ChoiceRow) (p : GroupInContext) (r : ChoiceRow) → AreChoiceRows exprs ps rows → IsChoiceRow exprs p r → AreChoiceRows exprs (ps ++ p ∷ []) (rows ++ r ∷ [])
-rows_put exprs [] [] p r h k = (k, tt)
-rows_put exprs [] (s ∷ rows) p r h k = absurd h
-rows_put exprs (q ∷ ps) [] p r h k = absurd h
-rows_put exprs (q ∷ ps) (s ∷ rows) p r h k = (h.0, rows_put exprs ps rows p r h.1 k)
+rows_pushed : (exprs : Exprs) (ps : List GroupInContext) (rows : List ChoiceRow) (p : GroupInContext) (r : ChoiceRow) → AreChoiceRows exprs ps rows → IsChoiceRow exprs p r → AreChoiceRows exprs (ps ++ p ∷ []) (rows ++ r ∷ [])
+rows_pushed exprs [] [] p r h k = (k, tt)
+rows_pushed exprs [] (s ∷ rows) p r h k = absurd h
+rows_pushed exprs (q ∷ ps) [] p r h k = absurd h
+rows_pushed exprs (q ∷ ps) (s ∷ rows) p r h k = (h.0, rows_pushed exprs ps rows p r h.1 k)
 
 -- a group and its conditions
 module _ (l : Listing) (exprs : Exprs) (groups : List GroupConditions) (conditions : List ℕ) (read : List Group) (s : RepresentsListing l read) (k : RepresentsAllConditions exprs l.texts.items conditions (length conditions) (reverse groups) read) where
@@ -150,7 +150,7 @@ module _ (l : Listing) (exprs : Exprs) (groups : List GroupConditions) (conditio
   rows_more i rows h e r =
       let p : GroupInContext = group_in_context (open_blocks 0 (read_before i read)) (both_at i h).group in
       let row = choice_row (group_at l.groups.items i) (own_lines l i) (own_conditions groups conditions i) in
-      subst (λ ps. AreChoiceRows exprs ps (rows ++ row ∷ [])) (sym (places_more i h true e)) (rows_put exprs (filter opens (groups_in_context (read_before i read))) rows p row r (row_shown i h))
+      subst (λ ps. AreChoiceRows exprs ps (rows ++ row ∷ [])) (sym (places_more i h true e)) (rows_pushed exprs (filter opens (groups_in_context (read_before i read))) rows p row r (row_shown i h))
 
   pub rows_same : (i : ℕ) (rows : List ChoiceRow) → i < length l.groups.items → is_choice_code (group_at l.groups.items i).head ≡ false → AreRowsTo i rows → AreRowsTo (i + 1) rows
   rows_same i rows h e r = subst (λ ps. AreChoiceRows exprs ps rows) (sym (places_more i h false e ∙ append-nil (filter opens (groups_in_context (read_before i read))))) r

@@ -210,7 +210,7 @@ module _ (C : Contents) (m : Group) (ms : List Group) (rest : List ℕ) (c : C.c
 abbrev entry_at : Contents → GroupInContext → Option tree.Entry
 entry_at C p = from_head (entry_of_head C p) p.group.head
 
--- an entry stands for what the definition has
+-- an entry represents that of the definition
 module _ (e e2 : Exprs) (texts : List (List ℕ)) (C : Contents) (d : Differ C.names) (p : GroupInContext) (n : ℕ) where
   abbrev at_place : GroupHead → Option tree.Entry
   at_place = from_head (entry_of_head C p)
@@ -322,7 +322,7 @@ module _ (e e2 : Exprs) (texts : List (List ℕ)) (lines : List CodeLine) (condi
   all_fit end end2 [] (x ∷ xs) [] rest h k c = absurd k
   all_fit end end2 (g ∷ gs) [] (m ∷ ms) rest h k c = absurd k
 
--- what the rows stand for once no group is left
+-- the entries that the rows represent once no group is left
 pub rows_are : (gs : List CodeGroup) (cs : List GroupConditions) (rows : List EntryRow) (n i : ℕ) → length cs ≡ length gs → length gs ≤ i → rows ++ entries_from n (drop i gs) (drop i cs) ≡ entries_from 0 gs cs → i ≤ length gs
     → rows ≡ entries_back (reverse gs) (reverse cs)
 rows_are gs cs rows n i m a e b =

@@ -97,9 +97,9 @@ left_more e g f prompted prompted2 lines i l h at fault p =
     ∙ ap (λ b. first_left e g f b (drop (suc i) lines)) (sym p)
     ∙ ap (λ n. first_left e g f prompted2 (drop n lines)) (let n : suc i ≡ i + 1 = omega arith in n)
 
-pub left_told : (e : Exprs) (g : Group) (f : Bool → Attribute → List TreeKind) (prompted : Bool) (lines : List CodeLine) (i : ℕ) (l : CodeLine) (kind : TreeKind) → i < length lines → l ≡ get_or lines i l → Some kind ≡ slice_get (f prompted (attribute_in e l.attribute)) 0
+pub left_reported : (e : Exprs) (g : Group) (f : Bool → Attribute → List TreeKind) (prompted : Bool) (lines : List CodeLine) (i : ℕ) (l : CodeLine) (kind : TreeKind) → i < length lines → l ≡ get_or lines i l → Some kind ≡ slice_get (f prompted (attribute_in e l.attribute)) 0
     → first_left e g f prompted (drop i lines) ≡ Some (fault_of g l.number kind)
-left_told e g f prompted lines i l kind h at fault =
+left_reported e g f prompted lines i l kind h at fault =
     left_at e g f prompted lines i l h
     ∙ ap (λ (x : CodeLine). option_or (option_map (fault_of g x.number) (slice_get (f prompted (attribute_in e x.attribute)) 0)) (first_left e g f (prompted || is_some (prompt_of (attribute_in e x.attribute))) (drop (suc i) lines))) (sym at)
     ∙ ap (λ o. option_or (option_map (fault_of g l.number) o) (first_left e g f (prompted || is_some (prompt_of (attribute_in e l.attribute))) (drop (suc i) lines))) (sym fault)

@@ -34,12 +34,12 @@ use Rattle.kc_tree.specs.declared.summary.Summary.{Summary}
 use Rattle.kc_tree.proofs.SymbolSummaries.{first_of_both}
 use Rattle.kc_tree.proofs.Aligned.{all_before, are_numbers, count_is, none_before, numbers_before, place_numbered, placed_before, placed_count, shown_at}
 use Rattle.kc_tree.proofs.FaultKinds.{definition_is, fault_of, first_mapped}
-use Rattle.kc_tree.proofs.Rounds.{begins_is, number_counts, round_numbered}
+use Rattle.kc_tree.proofs.Rounds.{begins_is, number_counts, enclosing_numbered}
 use Rattle.kc_tree.proofs.MemberMarks.{are_marked, keys_small, member_defined}
 use Rattle.kc_tree.proofs.MemberLaw.{members_are}
-use Rattle.kc_tree.proofs.Symbols.{choice_is, place_is, said_by}
+use Rattle.kc_tree.proofs.Symbols.{choice_is, place_is, statement_by}
 
--- what stands at a place, as it is kept
+-- the group at a place, as it is stored
 pub record IsPlaceAt (e : Exprs) (names texts : List (List ℕ)) (lines : List CodeLine) (groups : List CodeGroup) (read : List Group) (i : ℕ) (p : GroupInContext) : Type 0 where
   pub number : p.group.number ≡ i
   pub file : p.group.at.file ≡ (group_at groups i).file
@@ -78,9 +78,9 @@ config_there e names texts code s w h k = subst (λ v. RepresentsHead e names te
 pub choice_there : (e : Exprs) (names texts : List (List ℕ)) (code : CodeWhat) (w : GroupHead) → RepresentsHead e names texts code w → code ≡ codes.Choice → w ≡ of_head choice
 choice_there e names texts code w h k = subst (λ v. RepresentsHead e names texts v w) k h
 
--- the number of the choice round a place
-pub round_got : (read : List Group) (enclosing : List (Option ℕ)) (i : ℕ) (p : GroupInContext) (d : Option ℕ) → enclosing ≡ map (enclosing_choice (contents_of read)) (groups_in_context read) → slice_get (groups_in_context read) i ≡ Some p → get_or enclosing i d ≡ enclosing_choice (contents_of read) p
-round_got read enclosing i p d a at = get_or_from_slice_get enclosing i _ d (ap (λ xs. slice_get xs i) a ∙ map-get (enclosing_choice (contents_of read)) (groups_in_context read) i p at)
+-- the number of the choice that encloses a place
+pub enclosing_got : (read : List Group) (enclosing : List (Option ℕ)) (i : ℕ) (p : GroupInContext) (d : Option ℕ) → enclosing ≡ map (enclosing_choice (contents_of read)) (groups_in_context read) → slice_get (groups_in_context read) i ≡ Some p → get_or enclosing i d ≡ enclosing_choice (contents_of read) p
+enclosing_got read enclosing i p d a at = get_or_from_slice_get enclosing i _ d (ap (λ xs. slice_get xs i) a ∙ map-get (enclosing_choice (contents_of read)) (groups_in_context read) i p at)
 
 -- the word of a symbol's name
 pub word_is : (e : Exprs) (symbols numbers : List ℕ) (names : List (List ℕ)) (s : ℕ) (name : List ℕ) (d : ℕ) → HasNames e symbols numbers names → slice_get names s ≡ Some name → text_of_name e (get_or symbols s d) ≡ name
@@ -88,31 +88,31 @@ word_is e symbols numbers names s name d h at =
     let r = get-map (text_of_name e) symbols s name (ap (λ xs. slice_get xs s) h.words ∙ at) in
     ap (text_of_name e) (get_or_from_slice_get symbols s r.0 d r.1) ∙ r.2
 
--- whether a place stands in a choice
-round_by : (c : Contents) (o : Option ℕ) → ((n : ℕ) → o ≡ Some n → (k : ℕ) × (choice_number c n ≡ Some k)) → is_some (option_and_then (choice_number c) o) ≡ is_some o
-round_by c None k = refl
-round_by c (Some n) k = let j = k n refl in ap is_some j.1
+-- whether a choice encloses a place
+enclosing_by : (c : Contents) (o : Option ℕ) → ((n : ℕ) → o ≡ Some n → (k : ℕ) × (choice_number c n ≡ Some k)) → is_some (option_and_then (choice_number c) o) ≡ is_some o
+enclosing_by c None k = refl
+enclosing_by c (Some n) k = let j = k n refl in ap is_some j.1
 
-pub round_some : (read : List Group) (p : GroupInContext) → Has p (groups_in_context read) → is_some (enclosing_choice (contents_of read) p) ≡ is_some p.enclosing.choice
-round_some read p h = round_by (contents_of read) p.enclosing.choice (λ n e. round_numbered read p n h e)
+pub enclosing_some : (read : List Group) (p : GroupInContext) → Has p (groups_in_context read) → is_some (enclosing_choice (contents_of read) p) ≡ is_some p.enclosing.choice
+enclosing_some read p h = enclosing_by (contents_of read) p.enclosing.choice (λ n e. enclosing_numbered read p n h e)
 
 -- whether a place is the first definition
 first_by : (ds : List GroupInContext) (n : ℕ) → first_is (slice_get (flat_map number_at ds) 0) n ≡ elim (option_map (λ (q : GroupInContext). q.group) (slice_get ds 0)) as (λ _. Bool) [ None ↦ false | Some g ↦ g.number == n ]
 first_by [] n = refl
 first_by (d ∷ ds) n = refl
 
-pub first_told : (c : Contents) (name : List ℕ) (p : GroupInContext) (i : ℕ) → p.group.number ≡ i → first_is (first_in_definitions number_at c.places name) i ≡ is_first_definition c name p
-first_told c name p i e = ap (first_is (first_in_definitions number_at c.places name)) (sym e) ∙ first_by (definitions_of c name) p.group.number
+pub first_reported : (c : Contents) (name : List ℕ) (p : GroupInContext) (i : ℕ) → p.group.number ≡ i → first_is (first_in_definitions number_at c.places name) i ≡ is_first_definition c name p
+first_reported c name p i e = ap (first_is (first_in_definitions number_at c.places name)) (sym e) ∙ first_by (definitions_of c name) p.group.number
 
 -- the kind of fault of a definition
-pub definition_told : (read : List Group) (p : GroupInContext) (name : List ℕ) (i : ℕ) (about : SymbolSummary) (is_member is_first is_modules : Bool) → Has p (groups_in_context read) → p.group.number ≡ i → about ≡ summary_in (contents_of read) (groups_in_context read) name
+pub definition_reported : (read : List Group) (p : GroupInContext) (name : List ℕ) (i : ℕ) (about : SymbolSummary) (is_member is_first is_modules : Bool) → Has p (groups_in_context read) → p.group.number ≡ i → about ≡ summary_in (contents_of read) (groups_in_context read) name
     → is_member ≡ is_some (enclosing_choice (contents_of read) p) → is_first ≡ first_is about.first i → is_modules ≡ bytes_eq name modules_name → definition_kind about is_member is_first is_modules ≡ slice_get (definition_faults (contents_of read) p name) 0
-definition_told read p name i about is_member is_first is_modules has n a m f o =
+definition_reported read p name i about is_member is_first is_modules has n a m f o =
     definition_is (contents_of read) p name about is_member is_first is_modules
     (ap (λ (x : SymbolSummary). x.given) a)
     (ap (λ (x : SymbolSummary). is_some x.choice) a ∙ ap is_some (choice_is read name))
-    (m ∙ round_some read p has)
-    (f ∙ ap (λ (x : SymbolSummary). first_is x.first i) a ∙ first_told (contents_of read) name p i n)
+    (m ∙ enclosing_some read p has)
+    (f ∙ ap (λ (x : SymbolSummary). first_is x.first i) a ∙ first_reported (contents_of read) name p i n)
     o
 
 -- the first fault of a definition with its attributes
@@ -190,7 +190,7 @@ pub fault_more : (read : List Group) (i : ℕ) (m : Group) → read_before (i + 
 fault_more read i m now none =
     let f = faults_of_group (contents_of read) in
     let p : GroupInContext = group_in_context (open_blocks 0 (read_before i read)) m in
-    ap (λ xs. slice_get xs 0) (said_by f read i m now)
+    ap (λ xs. slice_get xs 0) (statement_by f read i m now)
     ∙ first_of_both (flat_map f (groups_in_context (read_before i read))) (f p)
     ∙ ap (λ o. option_or o (slice_get (f p) 0)) none
 
@@ -213,16 +213,16 @@ no_fault_yet read = ap (λ r. slice_get (flat_map (faults_of_group (contents_of 
 other_first : (c : Contents) (p : GroupInContext) (w : GroupHead) → p.group.head ≡ w → slice_get (faults_of_group c p) 0 ≡ slice_get (elim w as (λ _. List TreeFault) [ of_head h ↦ faults_of_head c p h | file_end ↦ [] ]) 0
 other_first c p w e = ap (λ v. slice_get (elim v as (λ _. List TreeFault) [ of_head h ↦ faults_of_head c p h | file_end ↦ [] ]) 0) e
 
-pub nothing_told : (e : Exprs) (names texts : List (List ℕ)) (code : CodeWhat) (c : Contents) (p : GroupInContext) → RepresentsHead e names texts code p.group.head → ((s : ℕ) → code ≡ codes.Config s → ⊥) → (code ≡ codes.Choice → ⊥) → slice_get (faults_of_group c p) 0 ≡ None
-nothing_told e names texts (codes.Config s) c p h n m = absurd (n s refl)
-nothing_told e names texts codes.Choice c p h n m = absurd (m refl)
-nothing_told e names texts (codes.Menu t) c p h n m = other_first c p _ h.2
-nothing_told e names texts (codes.Condition id) c p h n m = other_first c p _ h.1
-nothing_told e names texts (codes.Comment t) c p h n m = other_first c p _ h.2
-nothing_told e names texts (codes.Source t) c p h n m = other_first c p _ h.2
-nothing_told e names texts codes.Mainmenu c p h n m = other_first c p _ h
-nothing_told e names texts (codes.Ends b) c p h n m = other_first c p _ h
-nothing_told e names texts codes.FileEnd c p h n m = other_first c p _ h
+pub nothing_reported : (e : Exprs) (names texts : List (List ℕ)) (code : CodeWhat) (c : Contents) (p : GroupInContext) → RepresentsHead e names texts code p.group.head → ((s : ℕ) → code ≡ codes.Config s → ⊥) → (code ≡ codes.Choice → ⊥) → slice_get (faults_of_group c p) 0 ≡ None
+nothing_reported e names texts (codes.Config s) c p h n m = absurd (n s refl)
+nothing_reported e names texts codes.Choice c p h n m = absurd (m refl)
+nothing_reported e names texts (codes.Menu t) c p h n m = other_first c p _ h.2
+nothing_reported e names texts (codes.Condition id) c p h n m = other_first c p _ h.1
+nothing_reported e names texts (codes.Comment t) c p h n m = other_first c p _ h.2
+nothing_reported e names texts (codes.Source t) c p h n m = other_first c p _ h.2
+nothing_reported e names texts codes.Mainmenu c p h n m = other_first c p _ h
+nothing_reported e names texts (codes.Ends b) c p h n m = other_first c p _ h
+nothing_reported e names texts codes.FileEnd c p h n m = other_first c p _ h
 
 pub at_most_more : (b : Bool) (m n : ℕ) → m ≤ n → m ≤ cond b (n + 1) n
 at_most_more true m n h = omega arith
@@ -264,7 +264,7 @@ few_choices read =
     let m = placed_count read in
     omega arith
 
--- what is told of one group more
+-- the faults of one more group
 module _ (e : Exprs) (texts : List (List ℕ)) (lines : List CodeLine) (groups : List CodeGroup) (read : List Group) (h : RepresentsGroups e (names_defined read) texts lines (length lines) (reverse groups) read) where
   pub fault_here : (i : ℕ) (told : Option TreeFault) → i < length groups → slice_get (flat_map (faults_of_group (contents_of read)) (groups_in_context (read_before i read))) 0 ≡ None
       → ((p : GroupInContext) → slice_get (groups_in_context read) i ≡ Some p → told ≡ slice_get (faults_of_group (contents_of read) p) 0) → told ≡ slice_get (flat_map (faults_of_group (contents_of read)) (groups_in_context (read_before (i + 1) read))) 0
@@ -274,10 +274,10 @@ module _ (e : Exprs) (texts : List (List ℕ)) (lines : List CodeLine) (groups :
       let p : GroupInContext = group_in_context (open_blocks 0 (read_before i read)) s.group in
       t p (place_numbered read i s.group (omega arith) s.now) ∙ sym (fault_more read i s.group s.now none)
 
-pub told_some : (o : Option TreeFault) → is_some o ≡ true → (t : TreeFault) × (o ≡ Some t)
-told_some None e = cc
-told_some (Some t) e = (t, refl)
+pub reported_some : (o : Option TreeFault) → is_some o ≡ true → (t : TreeFault) × (o ≡ Some t)
+reported_some None e = cc
+reported_some (Some t) e = (t, refl)
 
-pub told_none : (o : Option TreeFault) → is_some o ≡ false → o ≡ None
-told_none None e = refl
-told_none (Some t) e = cc
+pub reported_none : (o : Option TreeFault) → is_some o ≡ false → o ≡ None
+reported_none None e = refl
+reported_none (Some t) e = cc

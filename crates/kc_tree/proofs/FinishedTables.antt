@@ -1,4 +1,4 @@
--- The tree of what was gathered.
+-- The tree of the collected lists.
 use Rattle.std.proofs.Common.{◌≡◌, ℕ, suc, ◌+◌, ◌<◌, List, [], ◌∷◌, length, map, get_or, Option, Some, None, refl, ap, sym, subst, ◌∙◌, arith, cond, Bool, true, false}
 use Rattle.std.specs.Prelude.{All, Contains, IfSome, slice_get, slice_index, slice_index_or, bytes_eq}
 use Rattle.std.specs.List.{position_or_len}
@@ -85,28 +85,28 @@ module _ (g : Gathered) (sound : IsConsistent (gathered_tree g)) (distinct : Are
   held x f = held_by x (symbol_named (gathered_tree g) x) refl f
 
   module _ (table : List (Option ℕ)) (t : IsTable (length g.arena.names) g.symbols.items (length g.symbols.items) table) where
-    told_some : (j s : ℕ) → get_or table j None ≡ Some s → symbol_named (gathered_tree g) (get_or g.arena.names j []) ≡ Some s
-    told_some j s e =
+    reported_some : (j s : ℕ) → get_or table j None ≡ Some s → symbol_named (gathered_tree g) (get_or g.arena.names j []) ≡ Some s
+    reported_some j s e =
         let k = t.there j s e in
         ap (λ i. symbol_named (gathered_tree g) (get_or g.arena.names i [])) (sym k.2) ∙ found_by_name (gathered_tree g) sound s (symbol_gathered g s k.0) (symbol_at g sound s k.0 k.1)
 
-    told_none : (j : ℕ) (o : Option ℕ) → j < length g.arena.names → get_or table j None ≡ None → symbol_named (gathered_tree g) (get_or g.arena.names j []) ≡ o → o ≡ None
-    told_none j None h e f = refl
-    told_none j (Some s) h e f =
+    reported_none : (j : ℕ) (o : Option ℕ) → j < length g.arena.names → get_or table j None ≡ None → symbol_named (gathered_tree g) (get_or g.arena.names j []) ≡ o → o ≡ None
+    reported_none j None h e f = refl
+    reported_none j (Some s) h e f =
         let k = row_named (get_or g.arena.names j []) s f in
         let i : j ≡ k.0.name = distinct j k.0.name h (name_at s k.0 k.1) k.2 in
         let a : get_or table j None ≡ Some s = ap (λ n. get_or table n None) i ∙ t.told s k.0 (slice_get_within g.symbols.items s k.0 k.1) k.1 in
         cc
 
-    told_same : (j : ℕ) (o : Option ℕ) → j < length g.arena.names → get_or table j None ≡ o → o ≡ symbol_named (gathered_tree g) (get_or g.arena.names j [])
-    told_same j None h e = sym (told_none j (symbol_named (gathered_tree g) (get_or g.arena.names j [])) h e refl)
-    told_same j (Some s) h e = sym (told_some j s e)
+    reported_same : (j : ℕ) (o : Option ℕ) → j < length g.arena.names → get_or table j None ≡ o → o ≡ symbol_named (gathered_tree g) (get_or g.arena.names j [])
+    reported_same j None h e = sym (reported_none j (symbol_named (gathered_tree g) (get_or g.arena.names j [])) h e refl)
+    reported_same j (Some s) h e = sym (reported_some j s e)
 
     pub table_is : table ≡ map (symbol_named (gathered_tree g)) g.arena.names
     table_is = ext_get_or None table (map (symbol_named (gathered_tree g)) g.arena.names) (t.len ∙ sym (length-map g.arena.names (symbol_named (gathered_tree g))))
-        (λ j h. (let l : j < length g.arena.names = omega (arith, t.len) in told_same j (get_or table j None) l refl ∙ sym (get_or-map (symbol_named (gathered_tree g)) g.arena.names j [] None l)))
+        (λ j h. (let l : j < length g.arena.names = omega (arith, t.len) in reported_same j (get_or table j None) l refl ∙ sym (get_or-map (symbol_named (gathered_tree g)) g.arena.names j [] None l)))
 
--- what was gathered, where these are the lists of its tree
+-- the collected lists, if these are the lists of their tree
 abbrev pub gathered_in : Parts → Attributes → Keyed ℕ → Keyed MemberDefault → Gathered
 gathered_in p A M D = record { arena = p.arena; symbols = p.symbols; attributes = A; choices = p.choices; members = M; member_defaults = D; entries = p.entries; titles = p.titles; units = p.units }
 

@@ -1,4 +1,4 @@
--- What all definitions give symbols.
+-- The attributes that all definitions give symbols.
 use Rattle.std.proofs.Common.{◌≡◌, inl, inr, ℕ, ◌+◌, ◌<◌, List, [], ◌∷◌, ◌++◌, length, map, reverse, Option, Some, None, ap, sym, ◌∙◌, subst}
 use Rattle.std.specs.Prelude.{slice_range, filter_map, option_map, unwrap_or, All, IfSome}
 use Rattle.std.proofs.lemmas.List.{length-map}
@@ -35,8 +35,8 @@ use Rattle.kc_tree.specs.declared.symbol.ReverseDependency.{ReverseDependency as
 use Rattle.kc_tree.specs.declared.group_walk.GroupConditions.{GroupConditions}
 use Rattle.kc_tree.proofs.Aligned.{all_before, count_is, none_before, placed_more, shown_at}
 use Rattle.kc_tree.proofs.Conditioned.{conditioned_at, conditions_count}
-use Rattle.kc_tree.proofs.GatherLaw.{by_name, AreListed, none_listed, listed_more, listed_same, number_of, number_is, own_key_of, own_item_of, own_keys, own_items, own_law, direct_keys, direct_items, direct_law, force_key_of, force_item_of, force_keys, force_items, force_law}
-use Rattle.kc_tree.proofs.GatherShown.{pairs_keys, pairs_items, pairs_fit, prompt_item, default_item, range_item, prompt_key, default_key, range_key, prompt_fit, default_fit, range_fit, RangeStands, own_below, aim_of, force_key, force_item, force_fit, target_below}
+use Rattle.kc_tree.proofs.GatherLaw.{by_name, AreListed, none_listed, listed_more, listed_same, number_of, number_is, own_key_of, own_item_of, own_keys, own_items, own_law, direct_keys, direct_items, direct_law, force_key_of, force_item_of, force_keys, force_items, reverse_dependency_law}
+use Rattle.kc_tree.proofs.GatherShown.{pairs_keys, pairs_items, pairs_fit, prompt_item, default_item, range_item, prompt_key, default_key, range_key, prompt_fit, default_fit, range_fit, RangeStands, own_below, aim_of, reverse_dependency_key, reverse_dependency_item, reverse_dependency_fit, target_below}
 use Rattle.kc_tree.proofs.Symbols.{nameless}
 
 abbrev pub prompt_meant : GroupInContext → Option Expr → Expr
@@ -51,7 +51,7 @@ range_meant p r = record { low = r.low; high = r.high; condition = attribute_con
 abbrev pub dependency_meant : GroupInContext → Expr
 dependency_meant p = dependency_of p.enclosing p.group
 
--- what so many places give
+-- the attributes of the first `i` places
 pub record AreGathered (e : Exprs) (names : List (List ℕ)) (places : List GroupInContext) (a : Attributes) : Type 0 where
   pub prompts : AreListed (node_expr e) (own_keys prompt_of names) (own_items prompt_of prompt_meant) (λ k. k < length e.nodes) (length names) places a.prompts.keys.items a.prompts.items.items
   pub defaults : AreListed (told.default_view e) (own_keys default_of names) (own_items default_of default_meant) (DefaultFits (length e.nodes)) (length names) places a.defaults.keys.items a.defaults.items.items
@@ -77,15 +77,15 @@ module _ (n : SymbolTable) (names : List (List ℕ)) (h : HasNames n.arena n.sym
       (pairs_fit P item n.arena ls cs held there fit)
       (pairs_fit (λ k. k < length names) (own_key s item) n.arena ls cs held there (λ y i w v. own_below item s (length names) below y i))
 
-  force_step : (f : ReverseKind) (old new : Keyed CodeForce)
+  reverse_dependency_step : (f : ReverseKind) (old new : Keyed CodeForce)
       → AreListed (told.reverse_dependency_view n.arena) (force_keys (aim_of f) names) (force_items (aim_of f) names) (ReverseDependencyFits (length n.arena.nodes) (length names)) (length names) prior old.keys.items old.items.items → HasAppended (aimed_at n f) (gathered_reverse_dependency n f s) old new ls cs
       → AreListed (told.reverse_dependency_view n.arena) (force_keys (aim_of f) names) (force_items (aim_of f) names) (ReverseDependencyFits (length n.arena.nodes) (length names)) (length names) (prior ++ p ∷ []) new.keys.items new.items.items
-  force_step f old new l more =
+  reverse_dependency_step f old new l more =
       listed_more (told.reverse_dependency_view n.arena) (force_keys (aim_of f) names) (force_items (aim_of f) names) (ReverseDependencyFits (length n.arena.nodes) (length names)) (length names) prior old.keys.items new.keys.items (gathered_items (aimed_at n f) ls cs) old.items.items new.items.items (gathered_items (gathered_reverse_dependency n f s) ls cs) p l more.keys more.items
-      (pairs_keys (aimed_at n f) (force_key_of (aim_of f) names) n.arena ls cs many (force_key n names h f) ∙ ap (filter_map (force_key_of (aim_of f) names)) (sym attributes) ∙ sym (ap (by_name (λ y. filter_map (force_key_of (aim_of f) names) p.group.attributes)) name))
-      (pairs_items (told.reverse_dependency_view n.arena) (gathered_reverse_dependency n f s) (force_item_of (aim_of f) names p x) (condition_at p) n.arena ls cs conditions held (force_item n names h f x s p number)
+      (pairs_keys (aimed_at n f) (force_key_of (aim_of f) names) n.arena ls cs many (reverse_dependency_key n names h f) ∙ ap (filter_map (force_key_of (aim_of f) names)) (sym attributes) ∙ sym (ap (by_name (λ y. filter_map (force_key_of (aim_of f) names) p.group.attributes)) name))
+      (pairs_items (told.reverse_dependency_view n.arena) (gathered_reverse_dependency n f s) (force_item_of (aim_of f) names p x) (condition_at p) n.arena ls cs conditions held (reverse_dependency_item n names h f x s p number)
       ∙ ap (filter_map (force_item_of (aim_of f) names p x)) (sym attributes) ∙ sym (ap (by_name (λ y. filter_map (force_item_of (aim_of f) names p y) p.group.attributes)) name))
-      (pairs_fit (ReverseDependencyFits (length n.arena.nodes) (length names)) (gathered_reverse_dependency n f s) n.arena ls cs held there (force_fit n names h f s (length names) below))
+      (pairs_fit (ReverseDependencyFits (length n.arena.nodes) (length names)) (gathered_reverse_dependency n f s) n.arena ls cs held there (reverse_dependency_fit n names h f s (length names) below))
       (pairs_fit (λ k. k < length names) (aimed_at n f) n.arena ls cs held there (λ y i w v. target_below n names h f y i))
 
   direct_step : (d : ℕ) (old new : Keyed ℕ) → AreListed (node_expr n.arena) (direct_keys names) (direct_items dependency_meant) (λ k. k < length n.arena.nodes) (length names) prior old.keys.items old.items.items
@@ -103,8 +103,8 @@ module _ (n : SymbolTable) (names : List (List ℕ)) (h : HasNames n.arena n.sym
     prompts = own_step (node_expr n.arena) prompt_of prompt_meant (λ k. k < length n.arena.nodes) gathered_prompt old.prompts new.prompts g.prompts more.prompts (prompt_key n.arena names x s number) (prompt_item n.arena p) (prompt_fit n.arena);
     defaults = own_step (told.default_view n.arena) default_of default_meant (DefaultFits (length n.arena.nodes)) gathered_default old.defaults new.defaults g.defaults more.defaults (default_key n.arena names x s number) (default_item n.arena p) (default_fit n.arena);
     ranges = own_step (told.range_view n.arena) range_of range_meant (RangeStands n.arena) gathered_range old.ranges new.ranges g.ranges more.ranges (range_key n.arena names x s number) (range_item n.arena p) (range_fit n.arena);
-    selectors = force_step Select old.selectors new.selectors g.selectors more.selectors;
-    impliers = force_step Imply old.impliers new.impliers g.impliers more.impliers;
+    selectors = reverse_dependency_step Select old.selectors new.selectors g.selectors more.selectors;
+    impliers = reverse_dependency_step Imply old.impliers new.impliers g.impliers more.impliers;
     direct = direct_step d old.direct new.direct g.direct more.direct_keys more.direct_items stands;
   }
 
@@ -125,7 +125,7 @@ nothing_more e names prior p a none g = record {
       (ap (by_name (λ x. number_of names x ∷ [])) none) (ap (by_name (λ x. dependency_meant p ∷ [])) none);
 }
 
--- nothing is gathered yet
+-- nothing is collected yet
 pub nothing_gathered : (e : Exprs) (names : List (List ℕ)) (a : Attributes) → (a.prompts.keys.items ≡ []) × (a.prompts.items.items ≡ []) → (a.defaults.keys.items ≡ []) × (a.defaults.items.items ≡ []) → (a.ranges.keys.items ≡ []) × (a.ranges.items.items ≡ [])
     → (a.selectors.keys.items ≡ []) × (a.selectors.items.items ≡ []) → (a.impliers.keys.items ≡ []) × (a.impliers.items.items ≡ []) → (a.direct.keys.items ≡ []) × (a.direct.items.items ≡ []) → AreGathered e names [] a
 nothing_gathered e names a p d r s i x = record {
@@ -137,7 +137,7 @@ nothing_gathered e names a p d r s i x = record {
   direct = rw (x.0, x.1) (none_listed (node_expr e) (direct_keys names) (direct_items dependency_meant) (λ k. k < length e.nodes) (length names));
 }
 
--- all was gathered
+-- all is collected
 pub all_gathered : (e : Exprs) (read : List Group) (a : Attributes) → AreGathered e (names_defined read) (groups_in_context read) a → AreAttributes e (contents_of read) a
 all_gathered e read a g = record {
   keys = record {
@@ -151,8 +151,8 @@ all_gathered e read a g = record {
   prompts_are = λ s x at. own_law (node_expr e) prompt_of prompt_meant (λ k. k < length e.nodes) (length (names_defined read)) read a.prompts.keys.items a.prompts.items.items s x g.prompts at;
   defaults_are = λ s x at. own_law (told.default_view e) default_of default_meant (DefaultFits (length e.nodes)) (length (names_defined read)) read a.defaults.keys.items a.defaults.items.items s x g.defaults at;
   ranges_are = λ s x at. own_law (told.range_view e) range_of range_meant (RangeStands e) (length (names_defined read)) read a.ranges.keys.items a.ranges.items.items s x g.ranges at;
-  selectors_are = λ s x at. force_law (told.reverse_dependency_view e) (aim_of Select) (ReverseDependencyFits (length e.nodes) (length (names_defined read))) (length (names_defined read)) read a.selectors.keys.items a.selectors.items.items s x g.selectors at;
-  impliers_are = λ s x at. force_law (told.reverse_dependency_view e) (aim_of Imply) (ReverseDependencyFits (length e.nodes) (length (names_defined read))) (length (names_defined read)) read a.impliers.keys.items a.impliers.items.items s x g.impliers at;
+  selectors_are = λ s x at. reverse_dependency_law (told.reverse_dependency_view e) (aim_of Select) (ReverseDependencyFits (length e.nodes) (length (names_defined read))) (length (names_defined read)) read a.selectors.keys.items a.selectors.items.items s x g.selectors at;
+  impliers_are = λ s x at. reverse_dependency_law (told.reverse_dependency_view e) (aim_of Imply) (ReverseDependencyFits (length e.nodes) (length (names_defined read))) (length (names_defined read)) read a.impliers.keys.items a.impliers.items.items s x g.impliers at;
   direct_are = λ s x at. direct_law (node_expr e) dependency_meant (λ k. k < length e.nodes) (length (names_defined read)) read a.direct.keys.items a.direct.items.items s x g.direct at;
   prompts_fit = g.prompts.fit;
   defaults_fit = g.defaults.fit;

@@ -1,4 +1,4 @@
--- What places give symbols, each under its number, is what the symbols have.
+-- The items that places give symbols, each under its number, are those that the symbols have.
 use Rattle.std.proofs.Common.{◌≡◌, inl, inr, ℕ, suc, ◌<◌, Bool, true, false, cond, ◌==◌, List, [], ◌∷◌, ◌++◌, length, map, filter, Option, Some, None, refl, ap, sym, ◌∙◌, subst, arith, append-nil}
 use Rattle.std.specs.Prelude.{slice_get, filter_map, flat_map, option_map, option_and_then, unwrap_or, bytes_eq, All}
 use Rattle.std.specs.List.{cons_option}
@@ -245,26 +245,26 @@ abbrev pub force_items : (Attribute → Option TargetAttribute) → List (List �
 force_items S names p = by_name (λ x. filter_map (force_item_of S names p x) p.group.attributes) (defined_name p.group)
 
 module _ (S : Attribute → Option TargetAttribute) (names : List (List ℕ)) where
-  forced_by : {A B : Type 0} (o : Option A) (y : B) (ks : List A) (xs : List B) → length ks ≡ length xs → length (cons_option o ks) ≡ length (cons_option (option_map (λ _. y) o) xs)
-  forced_by None y ks xs e = e
-  forced_by (Some a) y ks xs e = ap suc e
+  selected_by : {A B : Type 0} (o : Option A) (y : B) (ks : List A) (xs : List B) → length ks ≡ length xs → length (cons_option o ks) ≡ length (cons_option (option_map (λ _. y) o) xs)
+  selected_by None y ks xs e = e
+  selected_by (Some a) y ks xs e = ap suc e
 
-  forced_many : (p : GroupInContext) (x : List ℕ) (ls : List Line) → length (filter_map (force_key_of S names) ls) ≡ length (filter_map (force_item_of S names p x) ls)
-  forced_many p x [] = refl
-  forced_many p x (l ∷ ls) = by_aim (S l.attribute) (forced_many p x ls)
+  selected_many : (p : GroupInContext) (x : List ℕ) (ls : List Line) → length (filter_map (force_key_of S names) ls) ≡ length (filter_map (force_item_of S names p x) ls)
+  selected_many p x [] = refl
+  selected_many p x (l ∷ ls) = by_aim (S l.attribute) (selected_many p x ls)
     where
       by_aim : (o : Option TargetAttribute) → length (filter_map (force_key_of S names) ls) ≡ length (filter_map (force_item_of S names p x) ls)
           → length (cons_option (option_and_then (λ (a : TargetAttribute). index_of_name a.name names) o) (filter_map (force_key_of S names) ls))
           ≡ length (cons_option (option_and_then (λ (a : TargetAttribute). option_map (λ _. force_by (number_of names x) p a) (index_of_name a.name names)) o) (filter_map (force_item_of S names p x) ls))
       by_aim None e = e
-      by_aim (Some a) e = forced_by (index_of_name a.name names) (force_by (number_of names x) p a) (filter_map (force_key_of S names) ls) (filter_map (force_item_of S names p x) ls) e
+      by_aim (Some a) e = selected_by (index_of_name a.name names) (force_by (number_of names x) p a) (filter_map (force_key_of S names) ls) (filter_map (force_item_of S names p x) ls) e
 
-  pub force_many : (p : GroupInContext) → length (force_keys S names p) ≡ length (force_items S names p)
-  force_many p = by_case (defined_name p.group)
+  pub reverse_dependency_many : (p : GroupInContext) → length (force_keys S names p) ≡ length (force_items S names p)
+  reverse_dependency_many p = by_case (defined_name p.group)
     where
       by_case : (o : Option (List ℕ)) → length (by_name (λ x. filter_map (force_key_of S names) p.group.attributes) o) ≡ length (by_name (λ x. filter_map (force_item_of S names p x) p.group.attributes) o)
       by_case None = refl
-      by_case (Some x) = forced_many p x p.group.attributes
+      by_case (Some x) = selected_many p x p.group.attributes
 
   module _ (p : GroupInContext) (s t : ℕ) (name : List ℕ) (d : Differ names) (at : slice_get names t ≡ Some name) where
     no_place : (a : TargetAttribute) → index_of_name a.name names ≡ None → bytes_eq a.name name ≡ false
@@ -277,16 +277,16 @@ module _ (S : Attribute → Option TargetAttribute) (names : List (List ℕ)) wh
             let r = ap (λ y. index_of_name y names) (same_text a.name name u) in
             cc
 
-    forced_here : (b : Bool) (o : Option ℕ) (a : TargetAttribute) (ks : List ℕ) (xs : List ReverseDependency) (us : List TargetAttribute) → bytes_eq a.name name ≡ b → index_of_name a.name names ≡ o → items_of t ks xs ≡ map (force_by s p) us
+    selected_here : (b : Bool) (o : Option ℕ) (a : TargetAttribute) (ks : List ℕ) (xs : List ReverseDependency) (us : List TargetAttribute) → bytes_eq a.name name ≡ b → index_of_name a.name names ≡ o → items_of t ks xs ≡ map (force_by s p) us
         → items_of t (cons_option o ks) (cons_option (option_map (λ _. force_by s p a) o) xs) ≡ map (force_by s p) (cond b (a ∷ us) us)
-    forced_here true None a ks xs us u e ih = let f = no_place a e in cc
-    forced_here false None a ks xs us u e ih = ih
-    forced_here true (Some j) a ks xs us u e ih = rw (same_number names a.name name j t d e at ∙ u) (ap (λ r. force_by s p a ∷ r) ih)
-    forced_here false (Some j) a ks xs us u e ih = rw (same_number names a.name name j t d e at ∙ u) ih
+    selected_here true None a ks xs us u e ih = let f = no_place a e in cc
+    selected_here false None a ks xs us u e ih = ih
+    selected_here true (Some j) a ks xs us u e ih = rw (same_number names a.name name j t d e at ∙ u) (ap (λ r. force_by s p a ∷ r) ih)
+    selected_here false (Some j) a ks xs us u e ih = rw (same_number names a.name name j t d e at ∙ u) ih
 
-    forced_lines : (x : List ℕ) (ls : List Line) → number_of names x ≡ s → items_of t (filter_map (force_key_of S names) ls) (filter_map (force_item_of S names p x) ls) ≡ map (force_by s p) (filter (λ (a : TargetAttribute). bytes_eq a.name name) (filter_map (λ (l : Line). S l.attribute) ls))
-    forced_lines x [] e = refl
-    forced_lines x (l ∷ ls) e = by_aim (S l.attribute) (forced_lines x ls e)
+    selected_lines : (x : List ℕ) (ls : List Line) → number_of names x ≡ s → items_of t (filter_map (force_key_of S names) ls) (filter_map (force_item_of S names p x) ls) ≡ map (force_by s p) (filter (λ (a : TargetAttribute). bytes_eq a.name name) (filter_map (λ (l : Line). S l.attribute) ls))
+    selected_lines x [] e = refl
+    selected_lines x (l ∷ ls) e = by_aim (S l.attribute) (selected_lines x ls e)
       where
         by_aim : (o : Option TargetAttribute) → items_of t (filter_map (force_key_of S names) ls) (filter_map (force_item_of S names p x) ls) ≡ map (force_by s p) (filter (λ (a : TargetAttribute). bytes_eq a.name name) (filter_map (λ (q : Line). S q.attribute) ls))
             → items_of t (cons_option (option_and_then (λ (a : TargetAttribute). index_of_name a.name names) o) (filter_map (force_key_of S names) ls)) (cons_option (option_and_then (λ (a : TargetAttribute). option_map (λ _. force_by (number_of names x) p a) (index_of_name a.name names)) o) (filter_map (force_item_of S names p x) ls))
@@ -294,23 +294,23 @@ module _ (S : Attribute → Option TargetAttribute) (names : List (List ℕ)) wh
         by_aim None ih = ih
         by_aim (Some a) ih =
             ap (λ n. items_of t (cons_option (index_of_name a.name names) (filter_map (force_key_of S names) ls)) (cons_option (option_map (λ _. force_by n p a) (index_of_name a.name names)) (filter_map (force_item_of S names p x) ls))) e
-            ∙ forced_here (bytes_eq a.name name) (index_of_name a.name names) a (filter_map (force_key_of S names) ls) (filter_map (force_item_of S names p x) ls) (filter (λ (b : TargetAttribute). bytes_eq b.name name) (filter_map (λ (q : Line). S q.attribute) ls)) refl refl ih
+            ∙ selected_here (bytes_eq a.name name) (index_of_name a.name names) a (filter_map (force_key_of S names) ls) (filter_map (force_item_of S names p x) ls) (filter (λ (b : TargetAttribute). bytes_eq b.name name) (filter_map (λ (q : Line). S q.attribute) ls)) refl refl ih
 
--- what stands under a symbol is what forces it
-force_here : (S : Attribute → Option TargetAttribute) (c : Contents) (p : GroupInContext) (o : Option (List ℕ)) (name : List ℕ) (t : ℕ) → Differ c.names → slice_get c.names t ≡ Some name → ((x : List ℕ) → o ≡ Some x → Has x c.names)
+-- the items under a symbol are its reverse dependencies
+reverse_dependency_here : (S : Attribute → Option TargetAttribute) (c : Contents) (p : GroupInContext) (o : Option (List ℕ)) (name : List ℕ) (t : ℕ) → Differ c.names → slice_get c.names t ≡ Some name → ((x : List ℕ) → o ≡ Some x → Has x c.names)
     → items_of t (by_name (λ x. filter_map (force_key_of S c.names) p.group.attributes) o) (by_name (λ x. filter_map (force_item_of S c.names p x) p.group.attributes) o)
     ≡ elim o as (λ _. List ReverseDependency) [ None ↦ [] | Some by ↦ reverse_dependencies_by c p (filter (λ (a : TargetAttribute). bytes_eq a.name name) (attribute_values S p.group)) by ]
-force_here S c p None name t d at named = refl
-force_here S c p (Some x) name t d at named =
+reverse_dependency_here S c p None name t d at named = refl
+reverse_dependency_here S c p (Some x) name t d at named =
     let j = has-place x c.names (named x refl) in
     let n : number_of c.names x ≡ j.0 = ap (λ o. unwrap_or o 0) j.1 in
-    forced_lines S c.names p j.0 t name d at x p.group.attributes n
+    selected_lines S c.names p j.0 t name d at x p.group.attributes n
     ∙ sym (ap (λ o. elim o as (λ _. List ReverseDependency) [ None ↦ [] | Some s ↦ map (force_by s p) (filter (λ (a : TargetAttribute). bytes_eq a.name name) (attribute_values S p.group)) ]) j.1)
 
-pub force_law : {T : Type 0} (view : T → ReverseDependency) (S : Attribute → Option TargetAttribute) (P : T → Type 0) (count : ℕ) (read : List Group) (keys : List ℕ) (items : List T) (t : ℕ) (name : List ℕ)
+pub reverse_dependency_law : {T : Type 0} (view : T → ReverseDependency) (S : Attribute → Option TargetAttribute) (P : T → Type 0) (count : ℕ) (read : List Group) (keys : List ℕ) (items : List T) (t : ℕ) (name : List ℕ)
     → AreListed view (force_keys S (names_defined read)) (force_items S (names_defined read)) P count (groups_in_context read) keys items → slice_get (names_defined read) t ≡ Some name
     → map view (items_of t keys items) ≡ flat_map (reverse_dependencies_of S (contents_of read) name) (groups_in_context read)
-force_law view S P count read keys items t name l at =
+reverse_dependency_law view S P count read keys items t name l at =
     let names = names_defined read in
-    listed_law view (force_keys S names) (force_items S names) (reverse_dependencies_of S (contents_of read) name) P count (groups_in_context read) keys items t l (force_many S names)
-    (λ p k. force_here S (contents_of read) p (defined_name p.group) name t (Differ-once (filter_map defined_name read)) at (λ x e. named_there read p x k e))
+    listed_law view (force_keys S names) (force_items S names) (reverse_dependencies_of S (contents_of read) name) P count (groups_in_context read) keys items t l (reverse_dependency_many S names)
+    (λ p k. reverse_dependency_here S (contents_of read) p (defined_name p.group) name t (Differ-once (filter_map defined_name read)) at (λ x e. named_there read p x k e))

@@ -1,4 +1,4 @@
--- What attributes give stands for what the definition of a tree has there.
+-- The items of attributes represent those that the definition of a tree has there.
 use Rattle.std.proofs.Common.{◌≡◌, ℕ, suc, ◌<◌, Bool, true, false, cond, List, [], ◌∷◌, length, map, Option, Some, None, refl, ap, sym, ◌∙◌, subst, arith}
 use Rattle.std.specs.Prelude.{filter_map, option_map, option_and_then, All, IfSome, is_some}
 use Rattle.std.specs.List.{cons_option}
@@ -111,7 +111,7 @@ module _ (e : Exprs) (p : GroupInContext) where
       → option_map (told.range_view e) (gathered_range l i) ≡ own_item_of range_of (λ q (b : RangeAttribute). let x : tree.Range = record { low = b.low; high = b.high; condition = attribute_condition q.enclosing q.group b.condition } in x) p (line_in e l)
   range_item l i w s = range_by l.attribute l.number i w s
 
--- they stand under their symbol
+-- they are under their symbol
 module _ (e : Exprs) (names : List (List ℕ)) (x : List ℕ) (s : ℕ) (number : number_of names x ≡ s) where
   prompt_key_by : (a : CodeAttribute) (i : ℕ) → option_map (λ _. s) (cond (is_prompt a) (Some i) None) ≡ option_map (λ _. number_of names x) (prompt_of (attribute_in e a))
   prompt_key_by (attributes.Typed k) i = refl
@@ -191,34 +191,34 @@ module _ (n : SymbolTable) (names : List (List ℕ)) (h : HasNames n.arena n.sym
   target_by Imply (attributes.Imply a) = h.numbered (text_of_name n.arena a.name)
   target_by Imply a = refl
 
-  pub force_key : (f : ReverseKind) (l : CodeLine) (i : ℕ) → aimed_at n f l i ≡ force_key_of (aim_of f) names (line_in n.arena l)
-  force_key f l i = target_by f l.attribute
+  pub reverse_dependency_key : (f : ReverseKind) (l : CodeLine) (i : ℕ) → aimed_at n f l i ≡ force_key_of (aim_of f) names (line_in n.arena l)
+  reverse_dependency_key f l i = target_by f l.attribute
 
   made_by : (s i : ℕ) (p : GroupInContext) (o : Option ℕ) (a : TargetAttribute) → node_expr n.arena i ≡ attribute_condition p.enclosing p.group a.condition
       → option_map (told.reverse_dependency_view n.arena) (option_map (λ _. let y : ReverseDependency = record { by = s; condition = i } in y) o) ≡ option_map (λ _. force_by s p a) o
   made_by s i p None a e = refl
   made_by s i p (Some t) a e = ap (λ c. let y : tree.ReverseDependency = record { by = s; condition = c } in Some y) e
 
-  force_item_by : (f : ReverseKind) (a : CodeAttribute) (number s i : ℕ) (p : GroupInContext) → node_expr n.arena i ≡ condition_at p (record { number = number; attribute = attribute_in n.arena a })
+  reverse_dependency_item_by : (f : ReverseKind) (a : CodeAttribute) (number s i : ℕ) (p : GroupInContext) → node_expr n.arena i ≡ condition_at p (record { number = number; attribute = attribute_in n.arena a })
       → option_map (told.reverse_dependency_view n.arena) (option_map (λ _. let y : ReverseDependency = record { by = s; condition = i } in y) (option_and_then (λ id. number_in n.arena.names n.numbers.items (text_of_name n.arena id)) (gathered_target_name f a)))
       ≡ option_and_then (λ (b : TargetAttribute). option_map (λ _. force_by s p b) (index_of_name b.name names)) (aim_of f (attribute_in n.arena a))
-  force_item_by Select (attributes.Select a) number s i p e =
+  reverse_dependency_item_by Select (attributes.Select a) number s i p e =
       made_by s i p (number_in n.arena.names n.numbers.items (text_of_name n.arena a.name)) (said.target_in n.arena a) e
       ∙ ap (option_map (λ _. force_by s p (said.target_in n.arena a))) (h.numbered (text_of_name n.arena a.name))
-  force_item_by Select a number s i p e = refl
-  force_item_by Imply (attributes.Imply a) number s i p e =
+  reverse_dependency_item_by Select a number s i p e = refl
+  reverse_dependency_item_by Imply (attributes.Imply a) number s i p e =
       made_by s i p (number_in n.arena.names n.numbers.items (text_of_name n.arena a.name)) (said.target_in n.arena a) e
       ∙ ap (option_map (λ _. force_by s p (said.target_in n.arena a))) (h.numbered (text_of_name n.arena a.name))
-  force_item_by Imply a number s i p e = refl
+  reverse_dependency_item_by Imply a number s i p e = refl
 
-  pub force_item : (f : ReverseKind) (x : List ℕ) (s : ℕ) (p : GroupInContext) → number_of names x ≡ s → (l : CodeLine) (i : ℕ) → LineNodesExist n.arena l → node_expr n.arena i ≡ condition_at p (line_in n.arena l)
+  pub reverse_dependency_item : (f : ReverseKind) (x : List ℕ) (s : ℕ) (p : GroupInContext) → number_of names x ≡ s → (l : CodeLine) (i : ℕ) → LineNodesExist n.arena l → node_expr n.arena i ≡ condition_at p (line_in n.arena l)
       → option_map (told.reverse_dependency_view n.arena) (gathered_reverse_dependency n f s l i) ≡ force_item_of (aim_of f) names p x (line_in n.arena l)
-  force_item f x s p number l i w e =
-      force_item_by f l.attribute l.number s i p e
+  reverse_dependency_item f x s p number l i w e =
+      reverse_dependency_item_by f l.attribute l.number s i p e
       ∙ ap (λ k. option_and_then (λ (b : TargetAttribute). option_map (λ _. force_by k p b) (index_of_name b.name names)) (aim_of f (attribute_in n.arena l.attribute))) (sym number)
 
-  pub force_fit : (f : ReverseKind) (s count : ℕ) → s < count → (l : CodeLine) (i : ℕ) → LineNodesExist n.arena l → i < length n.arena.nodes → IfSome (gathered_reverse_dependency n f s l i) (ReverseDependencyFits (length n.arena.nodes) count)
-  force_fit f s count b l i w k = by_target (gathered_target n f l)
+  pub reverse_dependency_fit : (f : ReverseKind) (s count : ℕ) → s < count → (l : CodeLine) (i : ℕ) → LineNodesExist n.arena l → i < length n.arena.nodes → IfSome (gathered_reverse_dependency n f s l i) (ReverseDependencyFits (length n.arena.nodes) count)
+  reverse_dependency_fit f s count b l i w k = by_target (gathered_target n f l)
     where
       by_target : (o : Option ℕ) → IfSome (option_map (λ _. let y : ReverseDependency = record { by = s; condition = i } in y) o) (ReverseDependencyFits (length n.arena.nodes) count)
       by_target None = tt

@@ -1,4 +1,4 @@
--- The units of what was gathered.
+-- The units of the collected lists.
 use Rattle.std.proofs.Common.{◌≡◌, ℕ, zero, suc, ◌<◌, List, [], ◌∷◌, length, map, Option, Some, None, refl, ap, sym, subst, ◌∙◌, arith}
 use Rattle.std.specs.Prelude.{All, slice_get, slice_index, option_map}
 use Rattle.std.proofs.lemmas.Option.{slice_get-map, slice_get_within, get_or_from_slice_get}
@@ -13,7 +13,7 @@ use Rattle.kc_tree.specs.declared.gathered.Gathered.{Gathered}
 use Rattle.kc_tree_model.proofs.Lookups.{place_is, unit_is}
 use Rattle.kc_tree.proofs.RowViews.{seen_get, seen_length}
 
--- what stands inside a list
+-- an element of a list
 pub got : {X : Type 0} (xs : List X) (i : ℕ) → i < length xs → (x : X) × (slice_get xs i ≡ Some x)
 got [] i h = absurd (omega arith)
 got (x ∷ xs) zero h = (x, refl)

@@ -24,12 +24,12 @@ module _ {K : Type 0} (name : K → List ℕ) (v : K) where
   among_keys [] = refl
   among_keys (k ∷ ks) = rw (turned (name v) (name k), among_keys ks) refl
 
-  put_by : (b : Bool) (ks : List K) → map name (cond b ks (ks ++ v ∷ [])) ≡ cond b (map name ks) (map name ks ++ name v ∷ [])
-  put_by true ks = refl
-  put_by false ks = map-append name ks (v ∷ [])
+  pushed_by : (b : Bool) (ks : List K) → map name (cond b ks (ks ++ v ∷ [])) ≡ cond b (map name ks) (map name ks ++ name v ∷ [])
+  pushed_by true ks = refl
+  pushed_by false ks = map-append name ks (v ∷ [])
 
-  pub paths_put : (ks : List K) → map name (cond (list_any (λ k. bytes_eq (name v) (name k)) ks) ks (ks ++ v ∷ [])) ≡ with_path (name v) (map name ks)
-  paths_put ks = put_by (list_any (λ k. bytes_eq (name v) (name k)) ks) ks ∙ ap (λ b. cond b (map name ks) (map name ks ++ name v ∷ [])) (among_keys ks)
+  pub paths_pushed : (ks : List K) → map name (cond (list_any (λ k. bytes_eq (name v) (name k)) ks) ks (ks ++ v ∷ [])) ≡ with_path (name v) (map name ks)
+  paths_pushed ks = pushed_by (list_any (λ k. bytes_eq (name v) (name k)) ks) ks ∙ ap (λ b. cond b (map name ks) (map name ks ++ name v ∷ [])) (among_keys ks)
 
 -- the paths of a list that pass a test, each once
 module _ (f : List ℕ → Bool) where
@@ -85,12 +85,12 @@ module _ (f : List ℕ → Bool) where
   append_nil [] = refl
   append_nil (y ∷ l) = ap (λ m. y ∷ m) (append_nil l)
 
-  put_kept : (x : List ℕ) (ys : List (List ℕ)) (t : Bool) → f x ≡ t → (a : Bool) → is_in_list x ys ≡ a → filter f (cond a (without_repeats ys) (without_repeats ys ++ x ∷ [])) ≡ cond t (with_path x (filter f (without_repeats ys))) (filter f (without_repeats ys))
-  put_kept x ys true e true g = let n : is_in_list x (filter f (without_repeats ys)) ≡ true = among_kept x e (without_repeats ys) ∙ among_once x ys ∙ g in rw n refl
-  put_kept x ys true e false g = let n : is_in_list x (filter f (without_repeats ys)) ≡ false = among_kept x e (without_repeats ys) ∙ among_once x ys ∙ g in rw n (filter-append (without_repeats ys) x ∙ rw e refl)
-  put_kept x ys false e true g = refl
-  put_kept x ys false e false g = filter-append (without_repeats ys) x ∙ rw e (append_nil (filter f (without_repeats ys)))
+  pushed_kept : (x : List ℕ) (ys : List (List ℕ)) (t : Bool) → f x ≡ t → (a : Bool) → is_in_list x ys ≡ a → filter f (cond a (without_repeats ys) (without_repeats ys ++ x ∷ [])) ≡ cond t (with_path x (filter f (without_repeats ys))) (filter f (without_repeats ys))
+  pushed_kept x ys true e true g = let n : is_in_list x (filter f (without_repeats ys)) ≡ true = among_kept x e (without_repeats ys) ∙ among_once x ys ∙ g in rw n refl
+  pushed_kept x ys true e false g = let n : is_in_list x (filter f (without_repeats ys)) ≡ false = among_kept x e (without_repeats ys) ∙ among_once x ys ∙ g in rw n (filter-append (without_repeats ys) x ∙ rw e refl)
+  pushed_kept x ys false e true g = refl
+  pushed_kept x ys false e false g = filter-append (without_repeats ys) x ∙ rw e (append_nil (filter f (without_repeats ys)))
 
   -- one more path
   pub once_kept : (x : List ℕ) (ys : List (List ℕ)) → filter f (without_repeats (x ∷ ys)) ≡ cond (f x) (with_path x (filter f (without_repeats ys))) (filter f (without_repeats ys))
-  once_kept x ys = put_kept x ys (f x) refl (is_in_list x ys) refl
+  once_kept x ys = pushed_kept x ys (f x) refl (is_in_list x ys) refl

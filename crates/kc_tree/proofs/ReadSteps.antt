@@ -1,4 +1,4 @@
--- The faults and the absent paths that are told of files.
+-- The faults and the absent paths of files.
 use Rattle.std.proofs.Common.{◌≡◌, ◌≢◌, ◌⊎◌, inl, inr, ℕ, List, [], ◌∷◌, ◌++◌, refl, sym, ◌∙◌, Option, Some, None}
 use Rattle.std.specs.Prelude.{slice_get, filter, filter_map}
 use Rattle.kc_tree_model.specs.declared.fault.TreeFault.{TreeFault}
@@ -24,14 +24,14 @@ some_is : (f g : TreeFault) → Some f ≡ Some g → f ≡ g
 some_is f g e = cc
 
 module _ (files : Files) (root : List ℕ) (l : Listing) (given : Option TreeFault) (fault : (given ≡ Some no_memory) ⊎ (given ≡ (reading files root).fault)) (read : (given ≡ Some no_memory) ⊎ RepresentsListing l (reading files root).read) where
-  told_by : (f : TreeFault) → given ≡ Some f → (given ≡ Some no_memory) ⊎ (given ≡ (reading files root).fault) → (f ≡ no_memory) ⊎ (first_tree_fault files root ≡ Some f)
+  reported_by : (f : TreeFault) → given ≡ Some f → (given ≡ Some no_memory) ⊎ (given ≡ (reading files root).fault) → (f ≡ no_memory) ⊎ (first_tree_fault files root ≡ Some f)
   unfolding first_tree_fault
-  told_by f e (inl m) = inl (some_is f no_memory (sym e ∙ m))
-  told_by f e (inr h) = inr (after_some (reading files root) f (sym h ∙ e))
+  reported_by f e (inl m) = inl (some_is f no_memory (sym e ∙ m))
+  reported_by f e (inr h) = inr (after_some (reading files root) f (sym h ∙ e))
 
-  -- a fault of reading is the one that is told
-  pub told_of_reading : (f : TreeFault) → given ≡ Some f → (f ≡ no_memory) ⊎ (first_tree_fault files root ≡ Some f)
-  told_of_reading f e = told_by f e fault
+  -- a fault of reading is the one that is returned
+  pub reported_of_reading : (f : TreeFault) → given ≡ Some f → (f ≡ no_memory) ⊎ (first_tree_fault files root ≡ Some f)
+  reported_of_reading f e = reported_by f e fault
 
   unfailed_by : given ≡ None → (given ≡ Some no_memory) ⊎ (given ≡ (reading files root).fault) → (reading files root).fault ≡ None
   unfailed_by e (inl m) = cc
@@ -51,14 +51,14 @@ module _ (files : Files) (root : List ℕ) (l : Listing) (given : Option TreeFau
   of_reading e = record { read = (reading files root).read; shows = shown_of_reading e }
 
   -- where reading met none, the first of the others
-  pub told_behind : (o : Option TreeFault) → given ≡ None → o ≡ slice_get (tree_faults (reading files root).read) 0 → first_tree_fault files root ≡ o
+  pub reported_behind : (o : Option TreeFault) → given ≡ None → o ≡ slice_get (tree_faults (reading files root).read) 0 → first_tree_fault files root ≡ o
   unfolding first_tree_fault
-  told_behind o e h = after_none (reading files root) (unfailed_of e) ∙ sym h
+  reported_behind o e h = after_none (reading files root) (unfailed_of e) ∙ sym h
 
   pub of_tree : given ≡ None → None ≡ slice_get (tree_faults (reading files root).read) 0 → IsOfTree l
-  of_tree e h = record { files = files; root = root; untold = told_behind None e h; shows = shown_of_reading e }
+  of_tree e h = record { files = files; root = root; untold = reported_behind None e h; shows = shown_of_reading e }
 
--- what is told of absent paths
+-- the result for absent paths
 module _ (files : Files) (root : List ℕ) (l : Listing) (given : Option TreeFault) (ample : given ≢ Some no_memory) where
   fault_by : (given ≡ Some no_memory) ⊎ (given ≡ (lenient_reading files root).fault) → given ≡ (lenient_reading files root).fault
   fault_by (inl m) = absurd (ample m)

@@ -1,4 +1,4 @@
--- The choices round what was read.
+-- The enclosing choice of each group.
 use Rattle.std.proofs.Common.{◌≡◌, inl, inr, ℕ, suc, ◌+◌, ◌-◌, ◌<◌, Bool, true, false, cond, List, [], ◌∷◌, ◌++◌, length, drop, map, reverse, Option, Some, refl, ap, sym, subst, ◌∙◌, arith, append-nil, length-append, filter}
 use Rattle.std.specs.Prelude.{option_and_then, option_map, ◌==◌}
 use Rattle.std.proofs.lemmas.Bool.{eq-eqb, eqb-true}
@@ -80,9 +80,9 @@ numbers_before_others k read =
           ∙ map-append number (filter opens (groups_in_context (drop k read))) (filter opens r.0),
     )
 
-place_behind : (n k : ℕ) (ks rest : List ℕ) (b : Bool) → (k == n) ≡ b → (b ≡ true → ⊥) → index_of_number n ((ks ++ n ∷ []) ++ rest) ≡ Some (length ks) → cond b (Some 0) (option_map suc (index_of_number n ((ks ++ n ∷ []) ++ rest))) ≡ Some (suc (length ks))
-place_behind n k ks rest true e away ih = absurd (away refl)
-place_behind n k ks rest false e _ ih = ap (option_map suc) ih
+place_after : (n k : ℕ) (ks rest : List ℕ) (b : Bool) → (k == n) ≡ b → (b ≡ true → ⊥) → index_of_number n ((ks ++ n ∷ []) ++ rest) ≡ Some (length ks) → cond b (Some 0) (option_map suc (index_of_number n ((ks ++ n ∷ []) ++ rest))) ≡ Some (suc (length ks))
+place_after n k ks rest true e away ih = absurd (away refl)
+place_after n k ks rest false e _ ih = ap (option_map suc) ih
 
 place_first : (n : ℕ) (rest : List ℕ) (b : Bool) (o : Option ℕ) → b ≡ true → cond b (Some 0) (option_map suc o) ≡ Some 0
 place_first n rest true o e = refl
@@ -90,7 +90,7 @@ place_first n rest false o e = cc
 
 place_there : (n : ℕ) (ks rest : List ℕ) → (Has n ks → ⊥) → index_of_number n ((ks ++ n ∷ []) ++ rest) ≡ Some (length ks)
 place_there n [] rest _ = place_first n rest (n == n) (index_of_number n rest) (eq-eqb n n refl)
-place_there n (k ∷ ks) rest away = place_behind n k ks rest (k == n) refl (λ e. away (inl (eqb-true k n e))) (place_there n ks rest (λ h. away (inr h)))
+place_there n (k ∷ ks) rest away = place_after n k ks rest (k == n) refl (λ e. away (inl (eqb-true k n e))) (place_there n ks rest (λ h. away (inr h)))
 
 -- the number of a choice counts those before it
 pub number_counts : (read : List Group) (i : ℕ) (m : Group) → AreNumbers read → AreNumbers (read_before (i + 1) read) → read_before (i + 1) read ≡ m ∷ read_before i read → opens_choice m ≡ true
@@ -103,9 +103,9 @@ number_counts read i m a b now e =
     ap (index_of_number m.number) (r.1 ∙ ap (λ ns. ns ++ r.0) (ap numbers_of_choices now ∙ choices_more m prior e))
     ∙ place_there m.number (numbers_of_choices prior) r.0 apart
 
--- each choice round a place has a number
-pub round_numbered : (read : List Group) (p : GroupInContext) (n : ℕ) → Has p (groups_in_context read) → p.enclosing.choice ≡ Some n → (k : ℕ) × (choice_number (contents_of read) n ≡ Some k)
-round_numbered read p n h e =
+-- each choice that encloses a place has a number
+pub enclosing_numbered : (read : List Group) (p : GroupInContext) (n : ℕ) → Has p (groups_in_context read) → p.enclosing.choice ≡ Some n → (k : ℕ) × (choice_number (contents_of read) n ≡ Some k)
+enclosing_numbered read p n h e =
     let q = choice_read p read n h e in
     let there : Has q.0.group.number (numbers_of_choices read) = mapped_has number (filter opens (groups_in_context read)) q.0 (filter-has opens (groups_in_context read) q.0 q.1 q.3) in
     has-number n (numbers_of_choices read) (subst (λ m. Has m (numbers_of_choices read)) q.2 there)
@@ -165,7 +165,7 @@ begins_is e names texts codes.Mainmenu g h = rw h refl
 begins_is e names texts (codes.Ends b) g h = rw h refl
 begins_is e names texts codes.FileEnd g h = rw h refl
 
--- what is known of the choices round so many groups
+-- the enclosing choices of the first `i` groups
 pub record AreRound (read : List Group) (i : ℕ) (enclosing inner : List (Option ℕ)) (choices : ℕ) : Type 0 where
   pub around_is : enclosing ≡ map (enclosing_choice (contents_of read)) (groups_in_context (read_before i read))
   pub open_is : reverse inner ≡ open_choices (contents_of read) (open_blocks 0 (read_before i read))
@@ -185,9 +185,9 @@ counted read i m true n now o e = ap (λ k. k + 1) e ∙ sym (ap (λ r. length (
 counted read i m false n now o e = e ∙ sym (ap (λ r. length (numbers_of_choices r)) now ∙ ap length (choices_same m (read_before i read) o))
 
 module _ (e : Exprs) (names texts : List (List ℕ)) (lines : List CodeLine) (groups : List CodeGroup) (read : List Group) (h : RepresentsGroups e names texts lines (length lines) (reverse groups) read) where
-  pub round_more : (i : ℕ) (enclosing inner around2 inner2 : List (Option ℕ)) (choices choices2 : ℕ) (what : CodeWhat) → i < length groups → what ≡ (group_at groups i).head → AreRound read i enclosing inner choices
+  pub enclosing_more : (i : ℕ) (enclosing inner around2 inner2 : List (Option ℕ)) (choices choices2 : ℕ) (what : CodeWhat) → i < length groups → what ≡ (group_at groups i).head → AreRound read i enclosing inner choices
       → around2 ≡ enclosing ++ innermost_choice (reverse inner) ∷ [] → reverse inner2 ≡ choices_opened_after what choices (reverse inner) → choices2 ≡ cond (is_choice_code what) (choices + 1) choices → AreRound read (i + 1) around2 inner2 choices2
-  round_more i enclosing inner around2 inner2 choices choices2 what l w r ae oe ce =
+  enclosing_more i enclosing inner around2 inner2 choices choices2 what l w r ae oe ce =
       let s = shown_at e names texts lines groups read h i l in
       let c : Contents = contents_of read in
       let prior : List Group = read_before i read in

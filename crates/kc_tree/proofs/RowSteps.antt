@@ -33,11 +33,11 @@ pub record IsKeptAs (groups : List CodeGroup) (g : Group) : Type 0 where
 more_kept : (gs : List CodeGroup) (c : CodeGroup) (g : Group) → IsKeptAs (reverse gs) g → IsKeptAs (reverse (c ∷ gs)) g
 more_kept gs c g k = record { kept = k.kept; at = ap (λ xs. slice_get xs g.number) (reverse-append (c ∷ []) gs) ∙ get_more (reverse gs) (c ∷ []) g.number k.kept k.at; file_is = k.file_is; line_is = k.line_is }
 
-kept_behind : (e : Exprs) (names texts : List (List ℕ)) (lines : List CodeLine) (end : ℕ) (gs : List CodeGroup) (ms : List Group) → RepresentsGroups e names texts lines end gs ms → length gs ≡ length ms
-kept_behind e names texts lines end [] [] h = refl
-kept_behind e names texts lines end [] (m ∷ ms) h = absurd h
-kept_behind e names texts lines end (g ∷ gs) [] h = absurd h
-kept_behind e names texts lines end (g ∷ gs) (m ∷ ms) h = ap suc (kept_behind e names texts lines g.attributes gs ms h.2)
+kept_after : (e : Exprs) (names texts : List (List ℕ)) (lines : List CodeLine) (end : ℕ) (gs : List CodeGroup) (ms : List Group) → RepresentsGroups e names texts lines end gs ms → length gs ≡ length ms
+kept_after e names texts lines end [] [] h = refl
+kept_after e names texts lines end [] (m ∷ ms) h = absurd h
+kept_after e names texts lines end (g ∷ gs) [] h = absurd h
+kept_after e names texts lines end (g ∷ gs) (m ∷ ms) h = ap suc (kept_after e names texts lines g.attributes gs ms h.2)
 
 kept_newest : (e : Exprs) (names texts : List (List ℕ)) (lines : List CodeLine) (end : ℕ) (gs : List CodeGroup) (ms : List Group) (g : Group) → RepresentsGroups e names texts lines end gs ms → Has g ms → IsKeptAs (reverse gs) g
 kept_newest e names texts lines end [] [] g h k = absurd k
@@ -45,7 +45,7 @@ kept_newest e names texts lines end [] (m ∷ ms) g h k = absurd h
 kept_newest e names texts lines end (c ∷ gs) [] g h k = absurd k
 kept_newest e names texts lines end (c ∷ gs) (m ∷ ms) g h (inr k) = more_kept gs c g (kept_newest e names texts lines c.attributes gs ms g h.2 k)
 kept_newest e names texts lines end (c ∷ gs) (m ∷ ms) g h (inl same) =
-    let n : m.number ≡ length (reverse gs) = h.0.number_is ∙ sym (kept_behind e names texts lines c.attributes gs ms h.2) ∙ sym (length-reverse gs) in
+    let n : m.number ≡ length (reverse gs) = h.0.number_is ∙ sym (kept_after e names texts lines c.attributes gs ms h.2) ∙ sym (length-reverse gs) in
     subst (IsKeptAs (reverse (c ∷ gs))) same (record {
       kept = c;
       at = ap (λ xs. slice_get xs m.number) (reverse-append (c ∷ []) gs) ∙ ap (slice_get (reverse gs ++ c ∷ [])) n ∙ get_last (reverse gs) c;

@@ -1,4 +1,4 @@
--- What the rows of a tree stand for, by their places.
+-- The symbols and choices that the rows of a tree represent, by their places.
 use Rattle.std.proofs.Common.{◌≡◌, ℕ, zero, suc, ◌+◌, ◌-◌, List, [], ◌∷◌, length, drop, Some, refl, ap, arith}
 use Rattle.std.specs.Prelude.{All, slice_get, slice_index}
 use Rattle.std.proofs.lemmas.List.{length-map}

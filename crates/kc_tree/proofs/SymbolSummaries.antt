@@ -1,4 +1,4 @@
--- What is known of symbols.
+-- The summaries of symbols.
 use Rattle.std.proofs.Common.{◌≡◌, ℕ, zero, suc, ◌+◌, ◌<◌, ◌≤◌, Bool, true, false, cond, List, [], ◌∷◌, ◌++◌, length, get_or, set, drop, map, filter, Option, Some, None, refl, ap, sym, ◌∙◌, arith, append-nil}
 use Rattle.std.specs.Prelude.{slice_get, filter_map, flat_map, bytes_eq, option_to_list}
 use Rattle.std.specs.List.{cons_option}
@@ -36,23 +36,23 @@ one_place : {A : Type 0} (f : GroupInContext → List A) (b : Bool) (p : GroupIn
 one_place f true p = ap (λ xs. slice_get xs 0) (append-nil (f p))
 one_place f false p = refl
 
-said_more : {A : Type 0} (f : GroupInContext → List A) (ps : List GroupInContext) (p : GroupInContext) (name : List ℕ) → first_in_definitions f (ps ++ p ∷ []) name ≡ option_or (first_in_definitions f ps name) (cond (defines name p) (slice_get (f p) 0) None)
-said_more f ps p name =
+statement_more : {A : Type 0} (f : GroupInContext → List A) (ps : List GroupInContext) (p : GroupInContext) (name : List ℕ) → first_in_definitions f (ps ++ p ∷ []) name ≡ option_or (first_in_definitions f ps name) (cond (defines name p) (slice_get (f p) 0) None)
+statement_more f ps p name =
     ap (λ qs. slice_get (flat_map f qs) 0) (filter-append (defines name) ps (p ∷ []))
     ∙ ap (λ xs. slice_get xs 0) (flat_map-append f (filter (defines name) ps) (cond (defines name p) (p ∷ []) []))
     ∙ first_of_both (flat_map f (filter (defines name) ps)) (flat_map f (cond (defines name p) (p ∷ []) []))
     ∙ ap (option_or (first_in_definitions f ps name)) (one_place f (defines name p) p)
 
--- what a definition says
+-- the summary of one definition
 abbrev pub about_at : Contents → GroupInContext → SymbolSummary
 about_at c p = record { first = Some p.group.number; given = slice_get (attribute_values type_of p.group) 0; choice = enclosing_choice c p }
 
 pub about_same : (c : Contents) (ps : List GroupInContext) (p : GroupInContext) (name : List ℕ) → defines name p ≡ false → summary_in c (ps ++ p ∷ []) name ≡ summary_in c ps name
 about_same c ps p name e = ap (λ (a : SymbolSummary). a) (
-    let first : first_in_definitions number_at (ps ++ p ∷ []) name ≡ first_in_definitions number_at ps name = said_more number_at ps p name ∙ ap (λ b. option_or (first_in_definitions number_at ps name) (cond b (slice_get (number_at p) 0) None)) e ∙ or_nothing (first_in_definitions number_at ps name) in
+    let first : first_in_definitions number_at (ps ++ p ∷ []) name ≡ first_in_definitions number_at ps name = statement_more number_at ps p name ∙ ap (λ b. option_or (first_in_definitions number_at ps name) (cond b (slice_get (number_at p) 0) None)) e ∙ or_nothing (first_in_definitions number_at ps name) in
     let types : GroupInContext → List Kind = λ (q : GroupInContext). attribute_values type_of q.group in
-    let given : first_in_definitions types (ps ++ p ∷ []) name ≡ first_in_definitions types ps name = said_more types ps p name ∙ ap (λ b. option_or (first_in_definitions types ps name) (cond b (slice_get (types p) 0) None)) e ∙ or_nothing (first_in_definitions types ps name) in
-    let choice : first_in_definitions (choices_at c) (ps ++ p ∷ []) name ≡ first_in_definitions (choices_at c) ps name = said_more (choices_at c) ps p name ∙ ap (λ b. option_or (first_in_definitions (choices_at c) ps name) (cond b (slice_get (choices_at c p) 0) None)) e ∙ or_nothing (first_in_definitions (choices_at c) ps name) in
+    let given : first_in_definitions types (ps ++ p ∷ []) name ≡ first_in_definitions types ps name = statement_more types ps p name ∙ ap (λ b. option_or (first_in_definitions types ps name) (cond b (slice_get (types p) 0) None)) e ∙ or_nothing (first_in_definitions types ps name) in
+    let choice : first_in_definitions (choices_at c) (ps ++ p ∷ []) name ≡ first_in_definitions (choices_at c) ps name = statement_more (choices_at c) ps p name ∙ ap (λ b. option_or (first_in_definitions (choices_at c) ps name) (cond b (slice_get (choices_at c p) 0) None)) e ∙ or_nothing (first_in_definitions (choices_at c) ps name) in
     ap (λ o. record { first = o; given = first_in_definitions types (ps ++ p ∷ []) name; choice = first_in_definitions (choices_at c) (ps ++ p ∷ []) name }) first
     ∙ ap (λ o. record { first = first_in_definitions number_at ps name; given = o; choice = first_in_definitions (choices_at c) (ps ++ p ∷ []) name }) given
     ∙ ap (λ o. record { first = first_in_definitions number_at ps name; given = first_in_definitions types ps name; choice = o }) choice)
@@ -60,10 +60,10 @@ about_same c ps p name e = ap (λ (a : SymbolSummary). a) (
 pub about_more : (c : Contents) (ps : List GroupInContext) (p : GroupInContext) (name : List ℕ) → defines name p ≡ true → summary_in c (ps ++ p ∷ []) name ≡ first_summary (summary_in c ps name) (about_at c p)
 about_more c ps p name e =
     let types : GroupInContext → List Kind = λ (q : GroupInContext). attribute_values type_of q.group in
-    let first : first_in_definitions number_at (ps ++ p ∷ []) name ≡ option_or (first_in_definitions number_at ps name) (Some p.group.number) = said_more number_at ps p name ∙ ap (λ b. option_or (first_in_definitions number_at ps name) (cond b (slice_get (number_at p) 0) None)) e in
-    let given : first_in_definitions types (ps ++ p ∷ []) name ≡ option_or (first_in_definitions types ps name) (slice_get (types p) 0) = said_more types ps p name ∙ ap (λ b. option_or (first_in_definitions types ps name) (cond b (slice_get (types p) 0) None)) e in
+    let first : first_in_definitions number_at (ps ++ p ∷ []) name ≡ option_or (first_in_definitions number_at ps name) (Some p.group.number) = statement_more number_at ps p name ∙ ap (λ b. option_or (first_in_definitions number_at ps name) (cond b (slice_get (number_at p) 0) None)) e in
+    let given : first_in_definitions types (ps ++ p ∷ []) name ≡ option_or (first_in_definitions types ps name) (slice_get (types p) 0) = statement_more types ps p name ∙ ap (λ b. option_or (first_in_definitions types ps name) (cond b (slice_get (types p) 0) None)) e in
     let choice : first_in_definitions (choices_at c) (ps ++ p ∷ []) name ≡ option_or (first_in_definitions (choices_at c) ps name) (enclosing_choice c p) =
-    said_more (choices_at c) ps p name ∙ ap (λ b. option_or (first_in_definitions (choices_at c) ps name) (cond b (slice_get (choices_at c p) 0) None)) e
+    statement_more (choices_at c) ps p name ∙ ap (λ b. option_or (first_in_definitions (choices_at c) ps name) (cond b (slice_get (choices_at c p) 0) None)) e
     ∙ ap (option_or (first_in_definitions (choices_at c) ps name)) (first_of_option (enclosing_choice c p)) in
     ap (λ o. record { first = o; given = first_in_definitions types (ps ++ p ∷ []) name; choice = first_in_definitions (choices_at c) (ps ++ p ∷ []) name }) first
     ∙ ap (λ o. record { first = option_or (first_in_definitions number_at ps name) (Some p.group.number); given = o; choice = first_in_definitions (choices_at c) (ps ++ p ∷ []) name }) given

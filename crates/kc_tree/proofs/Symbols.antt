@@ -30,7 +30,7 @@ use Rattle.kc_tree.specs.checker.Summaries.{summary_in, first_summary, symbol_su
 use Rattle.kc_tree.specs.declared.summary.SymbolSummary.{SymbolSummary}
 use Rattle.kc_tree.proofs.SymbolSummaries.{about_at, abouts_more, abouts_same, types_of_lines}
 use Rattle.kc_tree.proofs.Aligned.{all_before, count_is, none_before, place_numbered, placed_more, shown_at}
-use Rattle.kc_tree.proofs.Rounds.{round_numbered}
+use Rattle.kc_tree.proofs.Rounds.{enclosing_numbered}
 
 -- a name that a place defines is among those that are defined
 pub named_there : (read : List Group) (p : GroupInContext) (name : List ℕ) → Has p (groups_in_context read) → defined_name p.group ≡ Some name → Has name (names_defined read)
@@ -90,7 +90,7 @@ choice_first c [] numbered = refl
 choice_first c (p ∷ ds) numbered = choice_by c p p.enclosing.choice refl (λ n e. numbered p n (inl refl) e) (flat_map (choices_at c) ds) (filter_map (λ (q : GroupInContext). q.enclosing.choice) ds) (choice_first c ds (λ q n h e. numbered q n (inr h) e))
 
 pub choice_is : (read : List Group) (name : List ℕ) → (summary_in (contents_of read) (groups_in_context read) name).choice ≡ choice_of_symbol (contents_of read) name
-choice_is read name = choice_first (contents_of read) (definitions_of (contents_of read) name) (λ p n h e. round_numbered read p n (has-filter (defines name) (groups_in_context read) p h).0 e)
+choice_is read name = choice_first (contents_of read) (definitions_of (contents_of read) name) (λ p n h e. enclosing_numbered read p n (has-filter (defines name) (groups_in_context read) p h).0 e)
 
 pub kind_is : (read : List Group) (name : List ℕ) (a : SymbolSummary) → a ≡ summary_in (contents_of read) (groups_in_context read) name → kind_or_bool a.given (is_some a.choice) ≡ kind_of (contents_of read) name
 kind_is read name a e =
@@ -121,15 +121,15 @@ module _ (read : List Group) (symbols : List SymbolSummary) (h : symbols ≡ sym
   about_is s name d e = get_or_from_slice_get symbols s _ d (ap (λ xs. slice_get xs s) h ∙ map-get (summary_in (contents_of read) (groups_in_context read)) (names_defined read) s name e)
 
 -- what is selected or implied
-pub force_some : (c : Contents) (k : Kind) (a : Attribute) (x : List ℕ) → aim_of a ≡ Some x → is_wrong_reverse_dependency c k a ≡ (not (is_tri_kind k) || not (is_selectable c x))
-force_some c k (select s) x e = let same : s.name ≡ x = cc in ap (λ y. not (is_tri_kind k) || not (is_selectable c y)) same
-force_some c k (imply s) x e = let same : s.name ≡ x = cc in ap (λ y. not (is_tri_kind k) || not (is_selectable c y)) same
-force_some c k a x e = cc
+pub reverse_dependency_some : (c : Contents) (k : Kind) (a : Attribute) (x : List ℕ) → aim_of a ≡ Some x → is_wrong_reverse_dependency c k a ≡ (not (is_tri_kind k) || not (is_selectable c x))
+reverse_dependency_some c k (select s) x e = let same : s.name ≡ x = cc in ap (λ y. not (is_tri_kind k) || not (is_selectable c y)) same
+reverse_dependency_some c k (imply s) x e = let same : s.name ≡ x = cc in ap (λ y. not (is_tri_kind k) || not (is_selectable c y)) same
+reverse_dependency_some c k a x e = cc
 
-pub force_none : (c : Contents) (k : Kind) (a : Attribute) → aim_of a ≡ None → is_wrong_reverse_dependency c k a ≡ false
-force_none c k (select s) e = cc
-force_none c k (imply s) e = cc
-force_none c k a e = refl
+pub reverse_dependency_none : (c : Contents) (k : Kind) (a : Attribute) → aim_of a ≡ None → is_wrong_reverse_dependency c k a ≡ false
+reverse_dependency_none c k (select s) e = cc
+reverse_dependency_none c k (imply s) e = cc
+reverse_dependency_none c k a e = refl
 
 -- a default of a choice
 pub bare_is : (e : Expr) → name_alone e ≡ bare_name e
@@ -158,10 +158,10 @@ name_some members d x s e =
     mapped None = refl
     mapped (Some i) = refl
 
--- the symbols that so many groups define
+-- the symbols that the first `i` groups define
 module _ (e : Exprs) (texts : List (List ℕ)) (lines : List CodeLine) (groups : List CodeGroup) (read : List Group) (h : RepresentsGroups e (names_defined read) texts lines (length lines) (reverse groups) read) where
-  pub round_at : (i : ℕ) (enclosing : List (Option ℕ)) (p : GroupInContext) → enclosing ≡ map (enclosing_choice (contents_of read)) (groups_in_context read) → slice_get (groups_in_context read) i ≡ Some p → get_or enclosing i None ≡ enclosing_choice (contents_of read) p
-  round_at i enclosing p a at = get_or_from_slice_get enclosing i _ None (ap (λ xs. slice_get xs i) a ∙ map-get (enclosing_choice (contents_of read)) (groups_in_context read) i p at)
+  pub enclosing_at : (i : ℕ) (enclosing : List (Option ℕ)) (p : GroupInContext) → enclosing ≡ map (enclosing_choice (contents_of read)) (groups_in_context read) → slice_get (groups_in_context read) i ≡ Some p → get_or enclosing i None ≡ enclosing_choice (contents_of read) p
+  enclosing_at i enclosing p a at = get_or_from_slice_get enclosing i _ None (ap (λ xs. slice_get xs i) a ∙ map-get (enclosing_choice (contents_of read)) (groups_in_context read) i p at)
 
   types_at : (m : Group) (own : List CodeLine) → m.attributes ≡ map (line_in e) own → attribute_values type_of m ≡ filter_map (type_in e) own
   types_at m own a = ap (filter_map (λ (l : Line). type_of l.attribute)) a ∙ types_of_lines e own
@@ -184,7 +184,7 @@ module _ (e : Exprs) (texts : List (List ℕ)) (lines : List CodeLine) (groups :
       k
       ∙ ap (λ f. let x : SymbolSummary = record { first = Some f; given = slice_get (filter_map (type_in e) own) 0; choice = get_or enclosing i None } in x) (sym t.shown.number_is)
       ∙ ap (λ f. let x : SymbolSummary = record { first = Some t.group.number; given = slice_get f 0; choice = get_or enclosing i None } in x) (sym (types_at t.group own t.shown.attributes))
-      ∙ ap (λ f. let x : SymbolSummary = record { first = Some t.group.number; given = slice_get (attribute_values type_of t.group) 0; choice = f } in x) (round_at i enclosing p r at) in
+      ∙ ap (λ f. let x : SymbolSummary = record { first = Some t.group.number; given = slice_get (attribute_values type_of t.group) 0; choice = f } in x) (enclosing_at i enclosing p r at) in
       ap (λ x. set symbols s (first_summary x here)) was
       ∙ ap (λ x. set symbols s (first_summary (summary_in c (groups_in_context prior) what.0) x)) is
       ∙ ap (λ xs. set xs s (first_summary (summary_in c (groups_in_context prior) what.0) (about_at c p))) a
@@ -218,14 +218,14 @@ all_abouts read i e = ap (λ r. symbol_summaries (contents_of read) (groups_in_c
 pub as_many_abouts : (c : Contents) (ps : List GroupInContext) (symbols : List SymbolSummary) → symbols ≡ symbol_summaries c ps → length symbols ≡ length c.names
 as_many_abouts c ps symbols e = ap length e ∙ length-map c.names (summary_in c ps)
 
--- what one place more says
-pub said_by : {A : Type 0} (f : GroupInContext → List A) (read : List Group) (i : ℕ) (m : Group) → read_before (i + 1) read ≡ m ∷ read_before i read
+-- the summary with one more place
+pub statement_by : {A : Type 0} (f : GroupInContext → List A) (read : List Group) (i : ℕ) (m : Group) → read_before (i + 1) read ≡ m ∷ read_before i read
     → flat_map f (groups_in_context (read_before (i + 1) read)) ≡ flat_map f (groups_in_context (read_before i read)) ++ f (group_in_context (open_blocks 0 (read_before i read)) m)
-said_by f read i m now =
+statement_by f read i m now =
     let p : GroupInContext = group_in_context (open_blocks 0 (read_before i read)) m in
     ap (flat_map f) (placed_more read i m now) ∙ flat_map-append f (groups_in_context (read_before i read)) (p ∷ []) ∙ ap (λ xs. flat_map f (groups_in_context (read_before i read)) ++ xs) (append-nil (f p))
 
--- the members that so many groups define
+-- the members that the first `i` groups define
 pub record AreMembers (read : List Group) (i : ℕ) (keys members : List ℕ) : Type 0 where
   pub keys_are : keys ≡ flat_map (member_keys_at (contents_of read)) (groups_in_context (read_before i read))
   pub members_are : members ≡ flat_map (members_at (contents_of read)) (groups_in_context (read_before i read))
@@ -256,8 +256,8 @@ module _ (e : Exprs) (texts : List (List ℕ)) (lines : List CodeLine) (groups :
   here_more i m ks ms keys members now k s a =
       let c = contents_of read in
       record {
-        keys_are = ap (λ xs. xs ++ ks) a.keys_are ∙ ap (λ xs. flat_map (member_keys_at c) (groups_in_context (read_before i read)) ++ xs) (sym k) ∙ sym (said_by (member_keys_at c) read i m now);
-        members_are = ap (λ xs. xs ++ ms) a.members_are ∙ ap (λ xs. flat_map (members_at c) (groups_in_context (read_before i read)) ++ xs) (sym s) ∙ sym (said_by (members_at c) read i m now);
+        keys_are = ap (λ xs. xs ++ ks) a.keys_are ∙ ap (λ xs. flat_map (member_keys_at c) (groups_in_context (read_before i read)) ++ xs) (sym k) ∙ sym (statement_by (member_keys_at c) read i m now);
+        members_are = ap (λ xs. xs ++ ms) a.members_are ∙ ap (λ xs. flat_map (members_at c) (groups_in_context (read_before i read)) ++ xs) (sym s) ∙ sym (statement_by (members_at c) read i m now);
       }
 
   none_more : (i : ℕ) (m : Group) (keys members : List ℕ) → read_before (i + 1) read ≡ m ∷ read_before i read → members_at (contents_of read) (group_in_context (open_blocks 0 (read_before i read)) m) ≡ []
@@ -281,7 +281,7 @@ module _ (e : Exprs) (texts : List (List ℕ)) (lines : List CodeLine) (groups :
       let what = subst (λ v. RepresentsHead e (names_defined read) texts v t.group.head) w t.shown.head in
       let p : GroupInContext = group_in_context (open_blocks 0 (read_before i read)) t.group in
       let at = place_numbered read i t.group (omega arith) t.now in
-      let chosen : enclosing_choice c p ≡ Some k = sym (round_at e texts lines groups read h i enclosing p r at) ∙ a in
+      let chosen : enclosing_choice c p ≡ Some k = sym (enclosing_at e texts lines groups read h i enclosing p r at) ∙ a in
       let named : defined_name p.group ≡ Some what.0 = ap (from_head name_of_head) what.2 in
       let is : members_at c p ≡ s ∷ [] =
       ap (λ o. member_in c o (defined_name p.group)) chosen ∙ ap (member_in c (Some k)) named
@@ -296,7 +296,7 @@ module _ (e : Exprs) (texts : List (List ℕ)) (lines : List CodeLine) (groups :
       let n = count_is e (names_defined read) texts lines groups read h in
       let p : GroupInContext = group_in_context (open_blocks 0 (read_before i read)) t.group in
       let at = place_numbered read i t.group (omega arith) t.now in
-      none_more i t.group keys members t.now (ap (λ o. member_in c o (defined_name p.group)) (sym (round_at e texts lines groups read h i enclosing p r at) ∙ a)) m
+      none_more i t.group keys members t.now (ap (λ o. member_in c o (defined_name p.group)) (sym (enclosing_at e texts lines groups read h i enclosing p r at) ∙ a)) m
 
   pub nameless_more : (i : ℕ) (keys members : List ℕ) → i < length groups → ((s : ℕ) → (group_at groups i).head ≡ codes.Config s → ⊥) → AreMembers read i keys members → AreMembers read (i + 1) keys members
   nameless_more i keys members l w m =

@@ -41,9 +41,9 @@ unit_at read name p =
     ap (λ b. b && is_none (summary_in (contents_of read) (groups_in_context read) name).choice) (first_by (definitions_of (contents_of read) name) p.group.number)
     ∙ ap (λ o. is_first_definition (contents_of read) name p && is_none o) (choice_is read name)
 
-told_by : (b : Bool) (s : ℕ) (o : Option ℕ) → o ≡ Some s → cond b (Some (of_symbol s)) None ≡ cond b (option_map of_symbol o) None
-told_by true s o e = ap (option_map of_symbol) (sym e)
-told_by false s o e = refl
+reported_by : (b : Bool) (s : ℕ) (o : Option ℕ) → o ≡ Some s → cond b (Some (of_symbol s)) None ≡ cond b (option_map of_symbol o) None
+reported_by true s o e = ap (option_map of_symbol) (sym e)
+reported_by false s o e = refl
 
 -- the unit of a group
 module _ (read : List Group) (symbols : List SymbolSummary) (a : symbols ≡ symbol_summaries (contents_of read) (groups_in_context read)) (e : Exprs) (texts : List (List ℕ)) (p : GroupInContext) (n choices : ℕ) (number : p.group.number ≡ n) where
@@ -52,7 +52,7 @@ module _ (read : List Group) (symbols : List SymbolSummary) (a : symbols ≡ sym
       ap (λ xs. first_unit n s (slice_get xs s)) a
       ∙ ap (first_unit n s) (map-get (summary_in (contents_of read) (groups_in_context read)) (names_defined read) s name at)
       ∙ ap (λ b. cond b (Some (of_symbol s)) None) (ap (λ k. is_unit_at k (summary_in (contents_of read) (groups_in_context read) name)) (sym number) ∙ unit_at read name p)
-      ∙ told_by (is_first_definition (contents_of read) name p && is_none (choice_of_symbol (contents_of read) name)) s (index_of_name name (names_defined read)) (place_is (names_defined read) name s (Differ-once (filter_map defined_name read)) at)
+      ∙ reported_by (is_first_definition (contents_of read) name p && is_none (choice_of_symbol (contents_of read) name)) s (index_of_name name (names_defined read)) (place_is (names_defined read) name s (Differ-once (filter_map defined_name read)) at)
 
   pub unit_shown : (w : CodeWhat) → RepresentsHead e (names_defined read) texts w p.group.head → (is_choice_code w ≡ true → choice_number (contents_of read) p.group.number ≡ Some choices)
       → unit_of_group symbols n choices w ≡ unit_read (contents_of read) p
@@ -66,7 +66,7 @@ module _ (read : List Group) (symbols : List SymbolSummary) (a : symbols ≡ sym
   unit_shown (codes.Ends b) h c = sym (ap (from_head (unit_of_head (contents_of read) p)) h)
   unit_shown codes.FileEnd h c = sym (ap (from_head (unit_of_head (contents_of read) p)) h)
 
--- the units of so many groups
+-- the units of the first `i` groups
 pub record AreUnits (read : List Group) (i : ℕ) (units : List TreeUnit) (choices : ℕ) : Type 0 where
   pub units_are : units ≡ filter_map (unit_read (contents_of read)) (groups_in_context (read_before i read))
   pub choices_are : choices ≡ length (numbers_of_choices (read_before i read))

@@ -31,7 +31,7 @@ use Rattle.kc_tree.specs.declared.conditions.EntryConditions.{EntryConditions}
 use Rattle.kc_tree.specs.declared.group_walk.GroupConditions.{GroupConditions}
 use Rattle.kc_tree.specs.declared.group_walk.GroupWalk.{GroupWalk}
 use Rattle.kc_statements.proofs.Growing.{grows_on}
-use Rattle.kc_tree.proofs.Growth.{conjoins_on, joined_on, stand_on, held_on, stands_all, condition_on}
+use Rattle.kc_tree.proofs.Growth.{conjoins_on, joined_on, represent_on, held_on, represents_all, condition_on}
 
 -- the next attribute
 pub first_step : (lines : List CodeLine) (conditions : List ℕ) (i : ℕ) (d : CodeLine) → i < length lines → length conditions ≡ length lines → is_prompt (get_or lines i d).attribute ≡ false
@@ -62,8 +62,8 @@ pub menu_inside : (exprs : Exprs) (texts : List (List ℕ)) (y t : ℕ) (title :
     → AreJoined exprs c (dependencies_of (context opened) m) (context opened).visibles (attribute_values visible_of m) → Represents exprs y (conjunction_of [])
     → RepresentsEnclosing exprs texts y (record { dependencies = c.dependencies; visibles = c.visibles; title = Some t }) (m ∷ opened)
 menu_inside exprs texts y t title m c opened e s j h =
-    let d = stands_all exprs c.dependencies y (dependencies_of (context opened) m) j.dependencies_are h in
-    let v = stands_all exprs c.visibles y ((context opened).visibles ++ attribute_values visible_of m) j.visibles_are h in
+    let d = represents_all exprs c.dependencies y (dependencies_of (context opened) m) j.dependencies_are h in
+    let v = represents_all exprs c.visibles y ((context opened).visibles ++ attribute_values visible_of m) j.visibles_are h in
     record {
       dependencies_are = rw e j.dependencies_are;
       visibles_are = rw e j.visibles_are;
@@ -78,7 +78,7 @@ source_inside exprs texts y path m a opened e h = record {
   ends = rw e refl;
 }
 
--- what stands round the innermost place
+-- the context of the innermost place
 pub top_shown : (exprs : Exprs) (texts : List (List ℕ)) (y : ℕ) (rs : List EnclosingConditions) (gs : List Group) → RepresentsEnclosings exprs texts y rs gs → RepresentsEnclosing exprs texts y (innermost_enclosing rs) gs
 top_shown exprs texts y [] [] h = record { dependencies_are = refl; visibles_are = refl; ends = refl }
 top_shown exprs texts y [] (g ∷ gs) h = absurd h
@@ -91,7 +91,7 @@ outer_shown exprs texts y [] (g ∷ gs) h = absurd h
 outer_shown exprs texts y (a ∷ outer) [] h = absurd h
 outer_shown exprs texts y (a ∷ outer) (g ∷ gs) h = h.1
 
--- what attributes say, by the code and by the definition
+-- the values of attributes, by the code and by the definition
 depends_one : (exprs : Exprs) (n : ℕ) (a : CodeAttribute) (xs : List Expr) (rest : List Line) → xs ≡ filter_map (λ (l : Line). depends_of l.attribute) rest
     → conjunct exprs (conjunct_view Dependencies a) ++ xs ≡ filter_map (λ (l : Line). depends_of l.attribute) (record { number = n; attribute = attribute_in exprs a } ∷ rest)
 depends_one exprs n (attributes.Typed k) xs rest e = e
@@ -107,11 +107,11 @@ depends_one exprs n (attributes.Visible id) xs rest e = e
 depends_one exprs n attributes.Help xs rest e = e
 depends_one exprs n attributes.Modules xs rest e = e
 
-depends_said : (exprs : Exprs) (lines : List CodeLine) → conjunct_views Dependencies exprs lines ≡ filter_map (λ (l : Line). depends_of l.attribute) (map (line_in exprs) lines)
-depends_said exprs [] = refl
-depends_said exprs (l ∷ lines) = depends_one exprs l.number l.attribute (conjunct_views Dependencies exprs lines) (map (line_in exprs) lines) (depends_said exprs lines)
+depends_given : (exprs : Exprs) (lines : List CodeLine) → conjunct_views Dependencies exprs lines ≡ filter_map (λ (l : Line). depends_of l.attribute) (map (line_in exprs) lines)
+depends_given exprs [] = refl
+depends_given exprs (l ∷ lines) = depends_one exprs l.number l.attribute (conjunct_views Dependencies exprs lines) (map (line_in exprs) lines) (depends_given exprs lines)
 
--- what attributes say, by the code and by the definition
+-- the values of attributes, by the code and by the definition
 visible_one : (exprs : Exprs) (n : ℕ) (a : CodeAttribute) (xs : List Expr) (rest : List Line) → xs ≡ filter_map (λ (l : Line). visible_of l.attribute) rest
     → conjunct exprs (conjunct_view Visibles a) ++ xs ≡ filter_map (λ (l : Line). visible_of l.attribute) (record { number = n; attribute = attribute_in exprs a } ∷ rest)
 visible_one exprs n (attributes.Typed k) xs rest e = e
@@ -127,9 +127,9 @@ visible_one exprs n (attributes.Visible id) xs rest e = ap (λ es. node_expr exp
 visible_one exprs n attributes.Help xs rest e = e
 visible_one exprs n attributes.Modules xs rest e = e
 
-visible_said : (exprs : Exprs) (lines : List CodeLine) → conjunct_views Visibles exprs lines ≡ filter_map (λ (l : Line). visible_of l.attribute) (map (line_in exprs) lines)
-visible_said exprs [] = refl
-visible_said exprs (l ∷ lines) = visible_one exprs l.number l.attribute (conjunct_views Visibles exprs lines) (map (line_in exprs) lines) (visible_said exprs lines)
+visible_given : (exprs : Exprs) (lines : List CodeLine) → conjunct_views Visibles exprs lines ≡ filter_map (λ (l : Line). visible_of l.attribute) (map (line_in exprs) lines)
+visible_given exprs [] = refl
+visible_given exprs (l ∷ lines) = visible_one exprs l.number l.attribute (conjunct_views Visibles exprs lines) (map (line_in exprs) lines) (visible_given exprs lines)
 
 -- the condition of an attribute, by the code and by the definition
 condition_one : (exprs : Exprs) (ds vs : List Expr) (a : CodeAttribute) → condition_view exprs ds vs a ≡ condition_among ds vs (attribute_in exprs a)
@@ -146,11 +146,11 @@ condition_one exprs ds vs (attributes.Visible id) = refl
 condition_one exprs ds vs attributes.Help = refl
 condition_one exprs ds vs attributes.Modules = refl
 
-conditions_said : (exprs : Exprs) (ds vs : List Expr) (lines : List CodeLine) → map (line_condition exprs ds vs) lines ≡ map (λ (l : Line). condition_among ds vs l.attribute) (map (line_in exprs) lines)
-conditions_said exprs ds vs [] = refl
-conditions_said exprs ds vs (l ∷ lines) =
+conditions_given : (exprs : Exprs) (ds vs : List Expr) (lines : List CodeLine) → map (line_condition exprs ds vs) lines ≡ map (λ (l : Line). condition_among ds vs l.attribute) (map (line_in exprs) lines)
+conditions_given exprs ds vs [] = refl
+conditions_given exprs ds vs (l ∷ lines) =
     let e = condition_one exprs ds vs l.attribute in
-    let f = conditions_said exprs ds vs lines in
+    let f = conditions_given exprs ds vs lines in
     cc
 
 pub lines_kept : (old new : Exprs) (lines : List CodeLine) → Grows old new → All (LineNodesExist old) lines → map (line_in new) lines ≡ map (line_in old) lines
@@ -170,7 +170,7 @@ own_shown : (old mid far later : Exprs) (before after : List ℕ) (lines : List 
     → Grows old mid → Grows far later → All (LineNodesExist old) lines → m.attributes ≡ map (line_in old) lines
     → map (node_expr later) b.own ≡ map (condition_at (group_in_context opened m)) m.attributes
 own_shown old mid far later before after lines m opened b g h held e =
-    stand_on far later b.own h b.held ∙ b.stand ∙ conditions_said mid (dependencies_of (context opened) m) (context opened).visibles lines
+    represent_on far later b.own h b.held ∙ b.stand ∙ conditions_given mid (dependencies_of (context opened) m) (context opened).visibles lines
     ∙ ap (map (condition_at (group_in_context opened m))) (lines_kept old mid lines g held ∙ sym e)
 
 slice_own : (xs own : List ℕ) → slice_range (xs ++ own) (length xs) (length (xs ++ own)) ≡ own
@@ -188,9 +188,9 @@ all_kept exprs texts xs ys end l (c ∷ cs) (m ∷ ms) h =
     (subst (λ own. RepresentsConditions exprs texts own c (group_in_context (open_blocks 0 ms) m)) (sym (range_kept xs ys c.first end h.1 l)) h.0, h.1, all_kept exprs texts xs ys c.first (let k = h.1 in omega arith) cs ms h.2)
 
 -- one group more
-put_shown : (exprs : Exprs) (texts : List (List ℕ)) (xs own : List ℕ) (c : GroupConditions) (cs : List GroupConditions) (before : List Group) (m : Group) → c.first ≡ length xs → RepresentsConditions exprs texts own c (group_in_context (open_blocks 0 before) m)
+pushed_shown : (exprs : Exprs) (texts : List (List ℕ)) (xs own : List ℕ) (c : GroupConditions) (cs : List GroupConditions) (before : List Group) (m : Group) → c.first ≡ length xs → RepresentsConditions exprs texts own c (group_in_context (open_blocks 0 before) m)
     → RepresentsAllConditions exprs texts xs (length xs) cs before → RepresentsAllConditions exprs texts (xs ++ own) (length (xs ++ own)) (c ∷ cs) (m ∷ before)
-put_shown exprs texts xs own c cs before m e h rest = (
+pushed_shown exprs texts xs own c cs before m e h rest = (
   subst (λ ys. RepresentsConditions exprs texts ys c (group_in_context (open_blocks 0 before) m)) (sym (slice_own xs own) ∙ ap (λ n. slice_range (xs ++ own) n (length (xs ++ own))) (sym e)) h,
   omega (arith, e, length-append xs own),
   subst (λ n. RepresentsAllConditions exprs texts (xs ++ own) n cs before) (sym e) (all_kept exprs texts xs own (length xs) (omega arith) cs before rest),
@@ -246,8 +246,8 @@ module _ (w new : GroupWalk) (texts : List (List ℕ)) (before : List Group) (m 
       → AreJoined mid e (dependencies_of (context (open_blocks 0 before)) m) (context (open_blocks 0 before)).visibles (attribute_values visible_of m)
   entry_is f =
       let j = f (context (open_blocks 0 before)).dependencies (context (open_blocks 0 before)).visibles top.dependencies_are top.visibles_are in
-      let d : conjunct_views Dependencies w.arena lines ≡ attribute_values depends_of m = depends_said w.arena lines ∙ ap (filter_map (λ (l : Line). depends_of l.attribute)) (sym attributes_are) in
-      let v : conjunct_views Visibles w.arena lines ≡ attribute_values visible_of m = visible_said w.arena lines ∙ ap (filter_map (λ (l : Line). visible_of l.attribute)) (sym attributes_are) in
+      let d : conjunct_views Dependencies w.arena lines ≡ attribute_values depends_of m = depends_given w.arena lines ∙ ap (filter_map (λ (l : Line). depends_of l.attribute)) (sym attributes_are) in
+      let v : conjunct_views Visibles w.arena lines ≡ attribute_values visible_of m = visible_given w.arena lines ∙ ap (filter_map (λ (l : Line). visible_of l.attribute)) (sym attributes_are) in
       subst (λ ds. AreJoined mid e ((context (open_blocks 0 before)).dependencies ++ ds) (context (open_blocks 0 before)).visibles (attribute_values visible_of m)) d
       (subst (λ vs. AreJoined mid e ((context (open_blocks 0 before)).dependencies ++ conjunct_views Dependencies w.arena lines) (context (open_blocks 0 before)).visibles vs) v j)
 
@@ -274,7 +274,7 @@ module _ (w new : GroupWalk) (texts : List (List ℕ)) (before : List Group) (m 
           yes_is = rw yes_same was.yes_is;
           no_is = rw no_same was.no_is;
           stack_is = rw (stack, popped m before side, yes_same) (outer_shown later texts w.yes (reverse w.stack.items) (open_blocks 0 before) was.stack_is);
-          groups_are = groups_to later c groups (put_shown later texts w.conditions.items b.own c (reverse w.groups.items) before m (ap (λ (x : GroupConditions). x.first) is) (record {
+          groups_are = groups_to later c groups (pushed_shown later texts w.conditions.items b.own c (reverse w.groups.items) before m (ap (λ (x : GroupConditions). x.first) is) (record {
             own_are = own_shown w.arena mid far later w.conditions.items new.conditions.items lines m (open_blocks 0 before) b to_mid (grows_on far new.arena later to_new g) held attributes_are;
             held = held_on far later b.own (grows_on far new.arena later to_new g) b.held;
             dependency_is = inl side;
@@ -294,11 +294,11 @@ module _ (w new : GroupWalk) (texts : List (List ℕ)) (before : List Group) (m 
           yes_is = rw yes_same was.yes_is;
           no_is = rw no_same was.no_is;
           stack_is = rw (stack, yes_same) (stack_entered later texts w.yes w.stack.items o m before side (opened later g) was.stack_is);
-          groups_are = groups_to later c groups (put_shown later texts w.conditions.items b.own c (reverse w.groups.items) before m (ap (λ (x : GroupConditions). x.first) is) (record {
+          groups_are = groups_to later c groups (pushed_shown later texts w.conditions.items b.own c (reverse w.groups.items) before m (ap (λ (x : GroupConditions). x.first) is) (record {
             own_are = own_shown w.arena mid far later w.conditions.items new.conditions.items lines m (open_blocks 0 before) b to_mid (grows_on far new.arena later to_new g) held attributes_are;
             held = held_on far later b.own (grows_on far new.arena later to_new g) b.held;
-            dependency_is = inr (rw is (stands_all later e.dependencies w.yes (dependencies_of (context (open_blocks 0 before)) m) k.dependencies_are was.yes_is));
-            visible_is = inr (rw is (stands_all later e.visibles w.yes ((context (open_blocks 0 before)).visibles ++ attribute_values visible_of m) k.visibles_are was.yes_is));
+            dependency_is = inr (rw is (represents_all later e.dependencies w.yes (dependencies_of (context (open_blocks 0 before)) m) k.dependencies_are was.yes_is));
+            visible_is = inr (rw is (represents_all later e.visibles w.yes ((context (open_blocks 0 before)).visibles ++ attribute_values visible_of m) k.visibles_are was.yes_is));
             ended_is = λ s. absurd (side s);
           }) was.groups_are);
         }
@@ -383,9 +383,9 @@ module _ (old mid far : Exprs) (before after : List ℕ) (ds vs : List Expr) (li
   pub prompt_there : (p : Option ℕ) (first : ℕ) → first ≡ length before → p ≡ first_prompt lines (drop first after) → IfSome p (λ i. i < length far.nodes)
   prompt_there p first l e = subst (λ q. IfSome q (λ i. i < length far.nodes)) (sym (e ∙ ap (λ n. first_prompt lines (drop n after)) l ∙ ap (first_prompt lines) own_is)) (first_there (length far.nodes) lines b.own b.held)
 
-  pub prompt_stands : (p : Option ℕ) (first : ℕ) → Grows old mid → All (LineNodesExist old) lines → first ≡ length before → p ≡ first_prompt lines (drop first after)
+  pub prompt_represents : (p : Option ℕ) (first : ℕ) → Grows old mid → All (LineNodesExist old) lines → first ≡ length before → p ≡ first_prompt lines (drop first after)
       → RepresentsPrompt far p (slice_get (prompts_among ds vs (map (line_in old) lines)) 0)
-  prompt_stands p first g held l e =
+  prompt_represents p first g held l e =
       subst (λ q. RepresentsPrompt far q (slice_get (prompts_among ds vs (map (line_in old) lines)) 0)) (sym (e ∙ ap (λ n. first_prompt lines (drop n after)) l ∙ ap (first_prompt lines) own_is))
       (prompt_first old far ds vs lines b.own b.held (b.stand ∙ conditions_on old mid ds vs lines g held))
 

@@ -83,7 +83,7 @@ fn choice_parts(alloc: Global, walked: &WalkedListing) -> Result<ChoiceParts, Al
     })
 }
 
-/// All parts gathered after a walk.
+/// All parts collected after a walk.
 #[derive(Drop)]
 struct AllParts {
     summary: Summary,
@@ -156,7 +156,7 @@ fn gathered(walked: WalkedListing, parts: AllParts) -> Gathered
     }
 }
 
-/// What is gathered after a walk. An `Err` means out of memory.
+/// The parts collected after a walk. An `Err` means out of memory.
 fn gathered_of(alloc: Global, walked: WalkedListing) -> Result<Gathered, AllocError>
     requires walk { (files : Files) × (root : List ℕ) × IsWalk walked files root }
     ensures { (files : Files) (root : List ℕ) → IsWalk walked files root → IfOk result (IsGathering (reading files root).read) }

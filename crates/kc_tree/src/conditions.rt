@@ -14,7 +14,7 @@ use kc_expr::{Arena, ExprFault, ExprId};
 use kc_listing::Line;
 use kc_statements::Attribute;
 
-/// Which conjuncts of an entry's attributes are joined.
+/// The conjuncts of an entry's attributes that are joined.
 #[derive(Clone, Copy)]
 pub(crate) enum Conjuncts {
     Dependencies,
@@ -88,7 +88,7 @@ pub(crate) fn is_prompt_attribute(attribute: &Attribute) -> bool
     )
 }
 
-/// What an attribute gives an entry's dependency, or its `visible if`.
+/// The conjunct that an attribute gives an entry's dependency, or its `visible if`.
 fn conjunct_in(attribute: &Attribute, which: Conjuncts) -> Option<ExprId>
     ensures { result ≡ conjunct_view which attribute.now }
 {

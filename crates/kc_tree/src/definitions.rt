@@ -81,7 +81,7 @@ fn push_definition(
     found.direct.push(symbol, dependency)
 }
 
-/// What all definitions give symbols, by the conditions of groups and of their attributes. An `Err` means out of
+/// The attributes that all definitions give symbols, with the conditions of groups and of attributes. An `Err` means out of
 /// memory.
 pub(crate) fn gather_attributes(
     alloc: Global,

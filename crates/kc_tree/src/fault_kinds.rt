@@ -66,7 +66,7 @@ fn is_stray_modules(is_modules_symbol: bool, attribute: &Attribute) -> bool
     is_modules(attribute) && !is_modules_symbol
 }
 
-/// The fault of an attribute of a symbol of this type; `is_wrong` tells whether it selects or implies where it may
+/// The fault of an attribute of a symbol of this type; `is_wrong` is set if it selects or implies where it may
 /// not.
 pub(crate) fn typed_attribute_fault(
     kind: Kind,
@@ -94,7 +94,7 @@ pub(crate) fn typed_attribute_fault(
     }
 }
 
-/// The fault of an attribute of a choice; `is_no_member` tells whether it is a default that names no member.
+/// The fault of an attribute of a choice; `is_no_member` is set if it is a default that names no member.
 pub(crate) fn choice_attribute_kind(
     prompted: bool,
     is_no_member: bool,

@@ -40,7 +40,7 @@ pub(crate) struct GroupedAttributes {
 impl Attributes {
     ghost use Rattle.kc_tree.specs.checker.GatheredAttributes.{HaveKeys, AreGrouped};
 
-    /// Puts together the attributes of each of so many symbols. An `Err` means out of memory.
+    /// Groups the attributes by symbol. An `Err` means out of memory.
     fn grouped(&self, alloc: Global, count: usize) -> Result<GroupedAttributes, AllocError>
         requires keys { HaveKeys count self.now }
         requires few { count < 2 ^ 32 }
@@ -79,7 +79,7 @@ pub(crate) struct FinishedTables {
     pub lists: Lists,
 }
 
-/// The lists gathered from all groups.
+/// The lists collected from all groups.
 #[derive(Drop)]
 pub(crate) struct Gathered {
     pub arena: Arena,
@@ -139,7 +139,7 @@ impl Gathered {
         })
     }
 
-    /// All that is made of what was gathered. An `Err` means out of memory.
+    /// The finished tables of the collected lists. An `Err` means out of memory.
     fn made(&self, alloc: Global) -> Result<FinishedTables, AllocError>
         requires fits { GatheredFit self.now }
         requires distinct { AreDistinct self.now.arena.names }
@@ -153,7 +153,7 @@ impl Gathered {
         })
     }
 
-    /// The lists of the tree of what was gathered.
+    /// The lists of the tree that the collected lists make.
     fn into_parts(self, made: FinishedTables) -> Parts
         ensures { result ≡ parts_made self made.lists made.tables }
     {
@@ -179,7 +179,7 @@ impl Gathered {
         }
     }
 
-    /// The tree of what was gathered. An `Err` means out of memory.
+    /// The tree that the collected lists make. An `Err` means out of memory.
     pub(crate) fn into_tree(self, alloc: Global) -> Result<Tree, AllocError>
         requires fits { GatheredFit self }
         requires distinct { AreDistinct self.arena.names }

@@ -206,7 +206,7 @@ impl GroupWalk {
     }
 
     /// Appends a group with these conditions.
-    fn put(
+    fn push_group(
         &mut self,
         dependencies: Option<ExprId>,
         visibles: Option<ExprId>,
@@ -240,7 +240,7 @@ impl GroupWalk {
         ensures conditions { self.new.conditions.items ≡ self.old.conditions.items }
     {
         let _ = self.stack.pop();
-        self.put(
+        self.push_group(
             enclosing.dependencies,
             enclosing.visibles,
             enclosing.title,
@@ -275,7 +275,7 @@ impl GroupWalk {
     }
 
     /// Walks a group, which has these attributes.
-    pub(crate) fn step(&mut self, head: &GroupHead, lines: &[Line]) -> Result<(), ExprFault>
+    pub(crate) fn visit(&mut self, head: &GroupHead, lines: &[Line]) -> Result<(), ExprFault>
         requires walked { (texts : List (List ℕ)) × (before : List Read) × HasWalked texts self.old before }
         requires head { GroupHeadNodesExist (length self.old.arena.nodes) head.now }
         requires lines { All (LineNodesExist self.old.arena) lines.now }
@@ -301,6 +301,6 @@ impl GroupWalk {
         let prompt = self.first_prompt_condition(lines, first);
         let opened = inside(&mut self.arena, self.no, head, &enclosing, &entry, prompt)?;
         self.enter(opened)?;
-        self.put(entry.dependencies, entry.visibles, None, first)
+        self.push_group(entry.dependencies, entry.visibles, None, first)
     }
 }

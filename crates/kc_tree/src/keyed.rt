@@ -40,7 +40,7 @@ impl<T: Copy> Keyed<T> {
         Ok(())
     }
 
-    /// Puts together the items of each of so many keys. An `Err` means out of memory.
+    /// Groups the items by keys below `count`. An `Err` means out of memory.
     pub(crate) fn grouped(&self, alloc: Global, count: usize) -> Result<Grouped<T>, AllocError>
         requires keys { (i : ℕ) → i < length self.now.keys.items → slice_index self.now.keys.items i < count }
         requires few { count < 2 ^ 32 }

@@ -1,4 +1,4 @@
-//! What the files of a Kconfig tree hold: symbols, choices, entries and units, with all conditions joined.
+//! The tree that Kconfig files define: symbols, choices, entries and units, with all conditions joined.
 #![tactic(auto)]
 
 mod attribute;

@@ -12,7 +12,7 @@ use kc_expr::{Arena, ExprFault, ExprId};
 use kc_listing::{Group, Line, Listing, SymbolTable};
 use std::alloc::Global;
 
-/// What was read, with an arena that also has the joined conditions; the conditions of each group, and those of the
+/// The listing, with an arena that also has the joined conditions; the conditions of each group, and those of the
 /// attributes of all groups, in reading order.
 #[derive(Drop)]
 pub(crate) struct WalkedListing {
@@ -46,7 +46,7 @@ fn walk_through(
 {
     let mut walk = GroupWalk::new(alloc, arena)?;
     for i in 0..groups.len() {
-        walk.step(&groups[i].head, lines_at(groups, lines, i))?;
+        walk.visit(&groups[i].head, lines_at(groups, lines, i))?;
     }
     Ok(walk)
 }

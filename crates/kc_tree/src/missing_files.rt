@@ -55,7 +55,7 @@ fn push_absent(paths: &mut Paths, texts: &Texts, path: &str) -> Result<(), Alloc
 {
     match texts.get(path) {
         Some(_) => Ok(()),
-        None => paths.put(path),
+        None => paths.insert(path),
     }
 }
 
@@ -131,9 +131,9 @@ fn missing_paths(
 }
 
 /// The paths that a tree lacks: the absent ones that are met, from the path of the first file on, where an absent path
-/// is read as an empty file. Each stands once, in order of first sight.
+/// is read as an empty file. Each occurs once, in order of first sight.
 ///
-/// With none, the files can be read by [`read_tree`](super::read_tree). After the paths that are told were put to
+/// With none, the files can be read by [`read_tree`](super::read_tree). After the returned paths were added to
 /// `texts`, others may be wanted.
 ///
 /// # Errors

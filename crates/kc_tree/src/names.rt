@@ -7,7 +7,7 @@ use super::parts::SymbolRow;
 use kc_tree_model::Sym;
 use std::alloc::{AllocError, Global};
 
-/// For each name of an arena, which holds so many, the symbol of that name.
+/// For each of the `count` names of an arena, the symbol of that name.
 pub(crate) fn symbols_of_names(
     alloc: Global,
     names: usize,

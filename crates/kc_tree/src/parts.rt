@@ -1,4 +1,4 @@
-//! How a tree is kept: flat lists, in which what belongs to one symbol or choice stands together.
+//! The lists that store a tree: flat, with the items of one symbol or choice next to each other.
 ghost use Rattle.std.specs.Prelude.{◌≡◌, ◌<◌, ℕ, [], length, Some, slice_get, slice_index_or, option_map};
 ghost use Rattle.kc_tree_model.specs.TreeLookup.{unit_of, index_of_unit};
 ghost use Rattle.kc_tree_model.specs.declared.ids.Unit.TheVariants.{Choice as of_choice};

@@ -33,7 +33,7 @@ impl Paths {
     }
 
     /// Appends a path, unless it is there. An `Err` means out of memory.
-    pub(crate) fn put(&mut self, path: &str) -> Result<(), AllocError>
+    pub(crate) fn insert(&mut self, path: &str) -> Result<(), AllocError>
         ensures { OnOk result (paths_in self.new ≡ with_path path.now (paths_in self.old)) }
     {
         self.paths.insert(String::from_str(self.alloc, path)?)?;

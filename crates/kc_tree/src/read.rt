@@ -21,7 +21,7 @@ use std::alloc::Global;
 /// # Errors
 ///
 /// The first fault, with its file and line: in reading order the first fault of a line, of a `source` or of a file's
-/// end, and where there is none the first of the faults that are looked for in all that was read, as a symbol without a
+/// end, or if there is none the first fault of the checks on the whole tree, as a symbol without a
 /// type. Where memory runs out, `OutOfMemory` with no file.
 pub fn read_tree(alloc: Global, texts: &Texts, root: &str) -> Result<Tree, TreeFault>
     ensures accepted { IfOk result (λ tree. first_tree_fault texts.now root.now ≡ None) }

@@ -40,7 +40,7 @@ impl SymbolSummary {
         }
     }
 
-    /// The first of what both say.
+    /// The first type and the first choice that either has.
     fn or(self, other: SymbolSummary) -> SymbolSummary
         ensures { result ≡ first_summary self other }
     {

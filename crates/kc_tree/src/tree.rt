@@ -13,7 +13,7 @@ use kc_expr::{Arena, NameId};
 use kc_tree_model::{Sym, Unit};
 use std::marker::Model;
 
-/// What the files of a tree hold. Contracts see the names and expressions of its arena, and the tree of the definition.
+/// The tree that files define. Contracts see the names and expressions of its arena, and the tree of the definition.
 ///
 /// Every query takes constant time.
 #[derive(Drop)]

@@ -54,35 +54,35 @@ Agree files f g = (read : List Group) → AllThere files (g read) → f read ≡
 abbrev Stays : (List Group → Outcome) → Type 0
 Stays f = (path : List ℕ) (read : List Group) → Sourced path read → Sourced path (f read).read
 
-behind_stays : (rest : List Group → Outcome) (at : Position) (o : Outcome) (k : Option TreeFault) → Stays rest → (path : List ℕ) → Sourced path o.read → Sourced path (continue_after_file rest at o k).read
-behind_stays rest at o (Some k) stay path h = h
-behind_stays rest at o None stay path h = stay path (with_group at file_end o.read) h
+after_stays : (rest : List Group → Outcome) (at : Position) (o : Outcome) (k : Option TreeFault) → Stays rest → (path : List ℕ) → Sourced path o.read → Sourced path (continue_after_file rest at o k).read
+after_stays rest at o (Some k) stay path h = h
+after_stays rest at o None stay path h = stay path (with_group at file_end o.read) h
 
 source_stays : (sub : List ℕ → List Group → Outcome) (rest : List Group → Outcome) (at : Position) (path : List ℕ) (read : List Group) (k : Option TreeKind) → ((p : List ℕ) → Stays (sub p)) → Stays rest → (p : List ℕ) → Sourced p read → Sourced p (continue_after_source sub rest at path read k).read
 source_stays sub rest at path read (Some k) subs stay p h = h
-source_stays sub rest at path read None subs stay p h = behind_stays rest at (sub path read) (sub path read).fault stay p (subs path p read h)
+source_stays sub rest at path read None subs stay p h = after_stays rest at (sub path read) (sub path read).fault stay p (subs path p read h)
 
-path_put : (path : List ℕ) (read : List Group) (at : Position) (s : Option Statement) → path_to_read s ≡ Some path → Sourced path (with_statement at s read)
-path_put path read at None e = cc
-path_put path read at (Some (attribute a)) e = cc
-path_put path read at (Some (head x)) e = subst (λ o. Has path (cons_option o (filter_map sourced_path read))) (sym e) (inl refl)
+path_pushed : (path : List ℕ) (read : List Group) (at : Position) (s : Option Statement) → path_to_read s ≡ Some path → Sourced path (with_statement at s read)
+path_pushed path read at None e = cc
+path_pushed path read at (Some (attribute a)) e = cc
+path_pushed path read at (Some (head x)) e = subst (λ o. Has path (cons_option o (filter_map sourced_path read))) (sym e) (inl refl)
 
 module _ (files : Files) (root : List ℕ) (f g : List ℕ → List Group → Outcome) (within : (path : List ℕ) → Agree files (f path) (g path)) (subs : (path : List ℕ) → Stays (g path)) where
-  same_behind : (p q : List Group → Outcome) (at : Position) (o : Outcome) (k : Option TreeFault) → Agree files p q → AllThere files (continue_after_file q at o k) → continue_after_file p at o k ≡ continue_after_file q at o k
-  same_behind p q at o (Some k) agree all = refl
-  same_behind p q at o None agree all = agree (with_group at file_end o.read) all
+  same_after : (p q : List Group → Outcome) (at : Position) (o : Outcome) (k : Option TreeFault) → Agree files p q → AllThere files (continue_after_file q at o k) → continue_after_file p at o k ≡ continue_after_file q at o k
+  same_after p q at o (Some k) agree all = refl
+  same_after p q at o None agree all = agree (with_group at file_end o.read) all
 
   same_source : (p q : List Group → Outcome) (at : Position) (path : List ℕ) (read : List Group) (k : Option TreeKind) → Agree files p q → Stays q → AllThere files (continue_after_source g q at path read k) → continue_after_source f p at path read k ≡ continue_after_source g q at path read k
   same_source p q at path read (Some k) agree stay all = refl
   same_source p q at path read None agree stay all =
-      let sub : f path read ≡ g path read = within path read (λ x h. all x (behind_stays q at (g path read) (g path read).fault stay x h)) in
-      ap (λ (o : Outcome). continue_after_file p at o o.fault) sub ∙ same_behind p q at (g path read) (g path read).fault agree all
+      let sub : f path read ≡ g path read = within path read (λ x h. all x (after_stays q at (g path read) (g path read).fault stay x h)) in
+      ap (λ (o : Outcome). continue_after_file p at o o.fault) sub ∙ same_after p q at (g path read) (g path read).fault agree all
 
   same_statement : (p q : List Group → Outcome) (at : Position) (read : List Group) (s : Option Statement) (path : Option (List ℕ)) → path_to_read s ≡ path → Agree files p q → Stays q
       → AllThere files (continue_after_statement g q (empty files root) at read s path) → continue_after_statement f p (found files root) at read s path ≡ continue_after_statement g q (empty files root) at read s path
   same_statement p q at read s None e agree stay all = agree (with_statement at s read) all
   same_statement p q at read s (Some path) e agree stay all =
-      let there = all path (source_stays g q at path (with_statement at s read) (source_fault (empty files root) read path) subs stay path (path_put path read at s e)) in
+      let there = all path (source_stays g q at path (with_statement at s read) (source_fault (empty files root) read path) subs stay path (path_pushed path read at s e)) in
       ap (λ k. continue_after_source f p at path (with_statement at s read) k) (source_same files root read path there)
       ∙ same_source p q at path (with_statement at s read) (source_fault (empty files root) read path) agree stay all
 
@@ -91,13 +91,13 @@ module _ (files : Files) (root : List ℕ) (f g : List ℕ → List Group → Ou
   same_line p q at read (Err k) agree stay all = refl
   same_line p q at read (Ok s) agree stay all = same_statement p q at read s (path_to_read s) refl agree stay all
 
-  stays_behind : (file : ℕ) (ls : List LogicalLine) → AreOneLine ls → Stays (read_lines g (empty files root) file ls)
+  stays_after : (file : ℕ) (ls : List LogicalLine) → AreOneLine ls → Stays (read_lines g (empty files root) file ls)
   unfolding Keeps
-  stays_behind file ls one path = lines_kept (Sourced path) (stays path) g (empty files root) file ls one (λ p. subs p path)
+  stays_after file ls one path = lines_kept (Sourced path) (stays path) g (empty files root) file ls one (λ p. subs p path)
 
   same_lines : (file : ℕ) (ls : List LogicalLine) → AreOneLine ls → Agree files (read_lines f (found files root) file ls) (read_lines g (empty files root) file ls)
   same_lines file [] one = λ read all. refl
-  same_lines file (l ∷ ls) one = λ read all. same_line (read_lines f (found files root) file ls) (read_lines g (empty files root) file ls) (record { file = file; line = l.number }) read (statement_on_line read l) (same_lines file ls one.1) (stays_behind file ls one.1) all
+  same_lines file (l ∷ ls) one = λ read all. same_line (read_lines f (found files root) file ls) (read_lines g (empty files root) file ls) (record { file = file; line = l.number }) read (statement_on_line read l) (same_lines file ls one.1) (stays_after file ls one.1) all
 
 file_stays : (n : ℕ) (files : Files) (root path : List ℕ) → Stays (read_file n (empty files root) path)
 unfolding Keeps
@@ -138,24 +138,24 @@ same_reading files root none =
     (λ path h. there files root none path (append-has_left path (filter_map sourced_path (lenient_reading files root).read) (root ∷ []) h))
 
 -- so if nothing is wanted, the fault of `wanted` is that of reading the files
-told_none : (paths : List (List ℕ)) (f : Option TreeFault) → paths_or_fault paths f ≡ Ok [] → (paths ≡ []) × (f ≡ None)
-told_none [] None e = (refl, refl)
-told_none [] (Some f) e = cc
-told_none (p ∷ ps) f e = let same : p ∷ ps ≡ [] = cc in cc
+reported_none : (paths : List (List ℕ)) (f : Option TreeFault) → paths_or_fault paths f ≡ Ok [] → (paths ≡ []) × (f ≡ None)
+reported_none [] None e = (refl, refl)
+reported_none [] (Some f) e = cc
+reported_none (p ∷ ps) f e = let same : p ∷ ps ≡ [] = cc in cc
 
-told_fault : (paths : List (List ℕ)) (f : Option TreeFault) (g : TreeFault) → paths_or_fault paths f ≡ Err g → (paths ≡ []) × (f ≡ Some g)
-told_fault [] None g e = cc
-told_fault [] (Some f) g e = (refl, cc)
-told_fault (p ∷ ps) f g e = cc
+reported_fault : (paths : List (List ℕ)) (f : Option TreeFault) (g : TreeFault) → paths_or_fault paths f ≡ Err g → (paths ≡ []) × (f ≡ Some g)
+reported_fault [] None g e = cc
+reported_fault [] (Some f) g e = (refl, cc)
+reported_fault (p ∷ ps) f g e = cc
 
 pub nothing_missing : (files : Files) (root : List ℕ) → files_wanted files root ≡ Ok [] → (reading files root).fault ≡ None
 unfolding files_wanted
 nothing_missing files root e =
-    let t = told_none (wanted_by files root) (lenient_reading files root).fault e in
+    let t = reported_none (wanted_by files root) (lenient_reading files root).fault e in
     ap (λ (o : Outcome). o.fault) (same_reading files root t.0) ∙ t.1
 
 pub first_fault : (files : Files) (root : List ℕ) (fault : TreeFault) → files_wanted files root ≡ Err fault → (reading files root).fault ≡ Some fault
 unfolding files_wanted
 first_fault files root fault e =
-    let t = told_fault (wanted_by files root) (lenient_reading files root).fault fault e in
+    let t = reported_fault (wanted_by files root) (lenient_reading files root).fault fault e in
     ap (λ (o : Outcome). o.fault) (same_reading files root t.0) ∙ t.1

@@ -28,7 +28,7 @@ pub record IsLogicalAt (bytes : List ℕ) (at : ℕ) (text : List ℕ) (next lin
   pub within : next ≤ length bytes
   pub few : lines ≤ next - at
 
--- so many lines that go on in the next one, from a place on up to another
+-- `n` lines, each continued in the next one, from a place on up to another
 pub record AreJoined (bytes : List ℕ) (at begin : ℕ) (text : List ℕ) (lines : ℕ) : Type 0 where
   pub text_is : text ++ joined_bytes (physical_lines (drop begin bytes)) ≡ joined_bytes (physical_lines (drop at bytes))
   pub lines_are : begin < length bytes → lines + continuation_count (physical_lines (drop begin bytes)) ≡ continuation_count (physical_lines (drop at bytes))

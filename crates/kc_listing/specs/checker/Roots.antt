@@ -1,4 +1,4 @@
--- What the reading of the first file answers.
+-- The result of reading the first file.
 use Rattle.std.specs.Prelude.{◌≡◌, ◌⊎◌, [], Option, Some}
 use Rattle.kc_tree_model.specs.declared.fault.TreeFault.{TreeFault}
 use Rattle.kc_tree_model.specs.Limits.{FileSource}

@@ -1,4 +1,4 @@
--- What the counts and the open blocks of a reading represent.
+-- The counts and the open blocks of a reading, as the definitions have them.
 use Rattle.std.specs.Prelude.{◌≡◌, ℕ, List, [], ◌∷◌, length, reverse, filter, slice_get, sum_by, Some, None}
 use Rattle.kc_tree_model.specs.TreeFiles.{file_at, index_of_file}
 use Rattle.kc_tree_model.specs.Blocks.{Group, GroupHead, Position, open_blocks, opened_block, sourced_path, opens_choice}
@@ -38,7 +38,7 @@ pub record IsCounted (r : FileSource) (texts : List (List ℕ)) (opened : List O
 abbrev pub at_line : ℕ → ℕ → Position
 at_line file line = record { file = file; line = line }
 
--- what the code has for a group represents what the group says
+-- the code's head of a group represents the definition's
 abbrev pub IsMeant : Listing → List Group → CodeWhat → GroupHead → Type 0
 IsMeant l before what m = RepresentsHead l.names.arena (names_defined before) l.texts.items what m
 

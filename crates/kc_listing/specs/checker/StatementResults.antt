@@ -27,12 +27,12 @@ AppendsStatement r file line before s new (Ok None) = (limits before s ≡ None)
 AppendsStatement r file line before s new (Ok (Some path)) = (limits before s ≡ None) × (s ≡ head (source path)) × Describes r new before
 AppendsStatement r file line before s new (Err k) = (k ≡ OutOfMemory) ⊎ ((limits before s ≡ Some k) × RepresentsListing new.listing before)
 
--- whether a keyword begins a help text and stands alone
+-- whether a line is `help` alone, which begins a help text
 abbrev pub begins_with : Keyword → List Lexeme → Bool
 begins_with k [] = is_help_word (Some k)
 begins_with k (t ∷ ts) = false
 
--- a line of which this is given said something, and whether a help text follows
+-- the step of a line with this statement, and whether a help text follows
 pub record IsGiven (r : FileSource) (file line : ℕ) (given : Result (Option Statement) TreeKind) (begins : Bool) (before : List Group) (help : Bool) (new : ReaderState) : Type 0 where
   pub statement : Option Statement
   pub says : given ≡ Ok statement

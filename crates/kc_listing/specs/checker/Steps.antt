@@ -56,7 +56,7 @@ abbrev pub FileRead : FileSource → Outcome → ReaderState → Result (Unit {0
 FileRead r o new (Ok u) = (o.fault ≡ None) × Describes r new o.read
 FileRead r o new (Err f) = IsEnded r o new f
 
--- the lines of a help text say nothing; the first fault of one ends the reading
+-- the lines of a help text have no statements; the first fault of one ends the reading
 abbrev pub HelpRead : ℕ → List ℕ → ℕ → ℕ → ℕ → Result (ℕ × ℕ) TreeFault → Type 0
 HelpRead file bytes at number count (Ok p) =
     ((sub : List ℕ → List Group → Outcome) (r : FileSource) (read : List Group) → read_lines sub r file (logical_lines_from 0 count number (physical_lines (drop at bytes))) read ≡ read_lines sub r file (logical_lines_from 0 0 (number + p.1) (physical_lines (drop p.0 bytes))) read)

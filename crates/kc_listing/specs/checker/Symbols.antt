@@ -1,4 +1,4 @@
--- The number of a symbol that is told.
+-- The number that is returned for a symbol.
 use Rattle.std.specs.Prelude.{◌≡◌, ◌⊎◌, ℕ, Bool, true, false, not, ◌&&◌, nat_le, List, length, slice_get, is_some, Some, Result, Ok, Err}
 use Rattle.kc_expr.specs.Lookup.{index_of_name}
 use Rattle.kc_expr.specs.between.Names.{with_name}

@@ -1,4 +1,4 @@
--- The definitions' statements for which those of the code stand, under the expressions of an arena.
+-- Statements of the code as the definitions see them, over the expressions of an arena.
 use Rattle.std.specs.Prelude.{◌≡◌, ◌⊎◌, ℕ, ◌<◌, [], length, Option, Some, None, option_map, unwrap_or, slice_index_or, Result, Ok, Err}
 use Rattle.kc_value.specs.declared.tri.Tri.TheVariants.{N}
 use Rattle.kc_expr.specs.between.Arena.{Exprs, Represents, node_expr}

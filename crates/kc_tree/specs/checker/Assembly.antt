@@ -25,7 +25,7 @@ use Rattle.kc_tree.specs.declared.builder.SymbolParts.{SymbolParts}
 use Rattle.kc_tree.specs.declared.gathered.Gathered.{Gathered}
 use Rattle.kc_tree.specs.declared.listing_walk.WalkedListing.{WalkedListing}
 
--- a walk through what was read of files, over which no fault is told
+-- a walk through the groups of files without a fault
 pub record IsWalk (w : WalkedListing) (files : Files) (root : List ℕ) : Type 0 where
   pub walk : IsWalkOf w.listing w.groups.items w.conditions.items (reading files root).read
   pub untold : first_tree_fault files root ≡ None

@@ -1,4 +1,4 @@
--- What attributes say.
+-- Attributes as the definitions see them.
 use Rattle.std.specs.Prelude.{ℕ, List, Option, Some, None}
 use Rattle.kc_tree_model.specs.Statements.{Attribute, select, imply}
 

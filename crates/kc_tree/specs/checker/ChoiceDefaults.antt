@@ -1,4 +1,4 @@
--- The defaults of choices, as they are gathered.
+-- The defaults of choices, as they are collected.
 use Rattle.std.specs.Prelude.{◌≡◌, ℕ, List, [], ◌∷◌, All, length, map, filter, filter_map, reverse, slice_get, Option, Some, None, option_map, option_and_then, if◌then◌else◌}
 use Rattle.std.specs.List.{cons_option}
 use Rattle.kc_expr.specs.between.Arena.{node_expr}

@@ -59,7 +59,7 @@ condition_view exprs dependencies visibles a =
 abbrev pub line_condition : Exprs → List Expr → List Expr → CodeLine → Expr
 line_condition exprs dependencies visibles l = condition_view exprs dependencies visibles l.attribute
 
--- the conditions of attributes stand after others
+-- the conditions of attributes come after others
 pub record AreAppended (old new : Exprs) (before after : List ℕ) (dependencies visibles : List Expr) (lines : List CodeLine) : Type 0 where
   pub own : List ℕ
   pub is : after ≡ before ++ own

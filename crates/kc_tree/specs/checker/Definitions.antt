@@ -1,4 +1,4 @@
--- What definitions give symbols, by the conditions of groups and of their attributes.
+-- The attributes that definitions give symbols, by the conditions of groups and of their attributes.
 use Rattle.std.specs.Prelude.{◌≡◌, ℕ, ◌<◌, List, [], ◌∷◌, ◌++◌, length, map, All, Some, slice_get}
 use Rattle.kc_expr.specs.between.Arena.{Exprs, node_expr}
 use Rattle.kc_tree_model.specs.Contents.{Contents, symbol_of}

@@ -18,7 +18,7 @@ choices_before i read = length (contents_of (read_before i read)).choices
 abbrev pub CountsChoices : Listing → ℕ → ℕ → Type 0
 CountsChoices l i choices = (read : List Group) → RepresentsListing l read → choices ≡ choices_before i read
 
--- the members of each choice, put together
+-- the members of each choice, as one list
 abbrev pub HasMembers : Summary → List ℕ → List ℕ → Type 0
 HasMembers s starts items = IsGrouped s.choices s.members.keys.items s.members.items.items starts items
 

@@ -4,7 +4,7 @@ use Rattle.kc_tree.specs.checker.GroupedItems.{IsGrouped}
 use Rattle.kc_tree.specs.declared.gathered.Attributes.{Attributes}
 use Rattle.kc_tree.specs.declared.gathered.GroupedAttributes.{GroupedAttributes}
 
--- each key is one of so many
+-- each key is below a count
 abbrev pub AreKeys : ℕ → List ℕ → Type 0
 AreKeys count keys = (i : ℕ) → i < length keys → slice_index keys i < count
 
@@ -16,7 +16,7 @@ pub record HaveKeys (count : ℕ) (a : Attributes) : Type 0 where
   pub impliers : AreKeys count a.impliers.keys.items
   pub direct : AreKeys count a.direct.keys.items
 
--- each list is put together
+-- each list is grouped by its keys
 pub record AreGrouped (count : ℕ) (a : Attributes) (g : GroupedAttributes) : Type 0 where
   pub prompts : IsGrouped count a.prompts.keys.items a.prompts.items.items g.prompts.starts.items g.prompts.items.items
   pub defaults : IsGrouped count a.defaults.keys.items a.defaults.items.items g.defaults.starts.items g.defaults.items.items

@@ -1,4 +1,4 @@
--- What the lists that were gathered keep.
+-- The bounds of the numbers in the collected lists.
 use Rattle.std.specs.Prelude.{◌≡◌, ℕ, ◌<◌, ◌^◌, length, All, Some, slice_get}
 use Rattle.kc_tree.specs.between.Views.{DefaultFits, RangeFits, HasOperands, ReverseDependencyFits, MemberDefaultFits}
 use Rattle.kc_tree.specs.checker.GatheredAttributes.{AreKeys, HaveKeys}

@@ -1,4 +1,4 @@
--- What the attributes of a definition give symbols.
+-- The items that the attributes of a definition give symbols.
 use Rattle.std.specs.Prelude.{◌≡◌, ℕ, List, [], ◌∷◌, ◌++◌, Option, Some, None, option_map, option_and_then, if◌then◌else◌}
 use Rattle.std.specs.List.{cons_option}
 use Rattle.kc_statements.specs.declared.statement.Attribute.{Attribute as CodeAttribute}

@@ -1,4 +1,4 @@
--- The lists that are made of what was gathered.
+-- The lists that are made of the collected items.
 use Rattle.std.specs.Prelude.{length}
 use Rattle.kc_tree.specs.checker.GatheredAttributes.{AreGrouped}
 use Rattle.kc_tree.specs.checker.GatheredView.{gathered_tree}
@@ -10,7 +10,7 @@ use Rattle.kc_tree.specs.declared.gathered.Gathered.{Gathered}
 use Rattle.kc_tree.specs.declared.gathered.Lists.{Lists}
 use Rattle.kc_tree.specs.declared.gathered.Tables.{Tables}
 
--- what belongs to one symbol or choice is put together
+-- the items of one symbol or choice are one row
 pub record AreLists (g : Gathered) (l : Lists) : Type 0 where
   pub attributes : AreGrouped (length g.symbols.items) g.attributes l.attributes
   pub members : IsGrouped (length g.choices.items) g.members.keys.items g.members.items.items l.members.starts.items l.members.items.items

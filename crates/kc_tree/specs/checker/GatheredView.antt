@@ -1,4 +1,4 @@
--- What the lists that were gathered represent.
+-- The tree that the collected lists represent.
 use Rattle.std.specs.Prelude.{ℕ, [], map, option_map, slice_index_or}
 use Rattle.kc_expr.specs.between.Arena.{node_expr}
 use Rattle.kc_tree_model.specs.Trees as tree

@@ -17,7 +17,7 @@ with_path path paths = if is_in_list path paths then paths else paths ++ path �
 abbrev pub is_absent : Files → List ℕ → Bool
 is_absent files path = not (is_some (file_at files path))
 
--- the same of a path that is absent
+-- the paths with one more, if it is absent
 abbrev pub with_absent : Files → List (List ℕ) → Option (List ℕ) → List (List ℕ)
 with_absent files paths None = paths
 with_absent files paths (Some path) = if is_absent files path then with_path path paths else paths

@@ -2,7 +2,7 @@
 use Rattle.std.specs.Prelude.{◌≡◌, ℕ, ◌<◌, List, length, Option, Some, None, slice_get, slice_index_or}
 use Rattle.kc_tree.specs.declared.parts.SymbolRow.{SymbolRow}
 
--- the first so many symbols stand at their names, and nothing else does
+-- the first `n` symbols are at their names, and the other names have none
 pub record IsTable (names : ℕ) (symbols : List SymbolRow) (n : ℕ) (table : List (Option ℕ)) : Type 0 where
   pub len : length table ≡ names
   pub told : (s : ℕ) (r : SymbolRow) → s < n → slice_get symbols s ≡ Some r → slice_index_or table r.name None ≡ Some s

@@ -3,7 +3,7 @@ use Rattle.std.specs.Prelude.{◌≡◌, ℕ, ◌<◌, List, length, Option, Som
 use Rattle.kc_tree_model.specs.declared.ids.Unit.{Unit as TreeUnit}
 use Rattle.kc_tree_model.specs.declared.ids.Unit.TheVariants.{Symbol as SymbolUnit, Choice as ChoiceUnit}
 
--- the first so many units have their numbers
+-- the first `n` units have their numbers
 pub record AreNumbered (symbols choices : ℕ) (units : List TreeUnit) (n : ℕ) (of_symbol of_choice : List ℕ) : Type 0 where
   pub symbols_len : length of_symbol ≡ symbols
   pub choices_len : length of_choice ≡ choices

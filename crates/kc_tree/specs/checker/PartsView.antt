@@ -1,4 +1,4 @@
--- What the lists of a tree represent.
+-- The tree that stored lists represent.
 use Rattle.std.specs.Prelude.{ℕ, suc, List, [], ◌∷◌, map, option_map, slice_index_or}
 use Rattle.kc_expr.specs.between.Arena.{Exprs, node_expr}
 use Rattle.kc_tree_model.specs.Trees as tree

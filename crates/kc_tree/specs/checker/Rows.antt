@@ -14,7 +14,7 @@ abbrev pub place_of_group : Option CodeGroup → ℕ × ℕ
 place_of_group None = (0, 0)
 place_of_group (Some g) = (g.file, g.line)
 
--- the same of the group of that number
+-- the row of the choice whose group has this number
 abbrev pub place_of_group_number : List CodeGroup → Option ℕ → ℕ × ℕ
 place_of_group_number groups None = (0, 0)
 place_of_group_number groups (Some i) = place_of_group (slice_get groups i)

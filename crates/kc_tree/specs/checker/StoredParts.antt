@@ -1,4 +1,4 @@
--- What the lists of a tree keep.
+-- The bounds of the numbers in a tree's lists.
 use Rattle.std.specs.Prelude.{◌≡◌, ℕ, ◌+◌, ◌<◌, ◌^◌, List, length, map, All, Some, None, slice_get, slice_index}
 use Rattle.kc_expr.specs.Lookup.{index_of_name}
 use Rattle.kc_tree_model.specs.declared.ids.Unit.TheVariants.{Symbol as of_symbol, Choice as of_choice}

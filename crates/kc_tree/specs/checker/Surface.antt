@@ -1,4 +1,4 @@
--- What the builder of a tree knows of what was read.
+-- The facts about the listing that the builder of a tree needs.
 use Rattle.std.specs.Prelude.{◌≡◌, ℕ, List, None}
 use Rattle.kc_tree_model.specs.TreeFiles.{Files}
 use Rattle.kc_tree_model.specs.Reading.{reading}
@@ -6,7 +6,7 @@ use Rattle.kc_tree_model.specs.TreeFaults.{first_tree_fault}
 use Rattle.kc_listing.specs.declared.listing.Listing.{Listing}
 use Rattle.kc_listing.specs.between.ListingView.{RepresentsListing}
 
--- a listing shows a reading of files over which no fault is told
+-- a listing of files that have no fault
 pub record IsOfTree (l : Listing) : Type 0 where
   pub files : Files
   pub root : List ℕ

@@ -18,12 +18,12 @@ is_number n (Some k) = k == n
 abbrev pub is_unit_at : ℕ → SymbolSummary → Bool
 is_unit_at n a = is_number n a.first && is_none a.choice
 
--- the unit of that symbol, if it stands first there
+-- the unit of that symbol, if it is first defined there
 abbrev pub first_unit : ℕ → ℕ → Option SymbolSummary → Option TreeUnit
 first_unit n s None = None
 first_unit n s (Some a) = if is_unit_at n a then Some (of_symbol s) else None
 
--- the unit that stands first in a group of this number, before which so many choices stand
+-- the unit that begins with a group of this number, after `choices` choices
 abbrev pub unit_of_group : List SymbolSummary → ℕ → ℕ → CodeWhat → Option TreeUnit
 unit_of_group symbols n choices codes.Choice = Some (of_choice choices)
 unit_of_group symbols n choices (codes.Config s) = first_unit n s (slice_get symbols s)

@@ -30,32 +30,32 @@ below_choices c s n k h =
     omega (arith, length-map (choice_places c) (choice_of c))
 
 -- a selector and an implier is a symbol
-force_numbered : (p : GroupInContext) (aims : List TargetAttribute) (o : Option ℕ) (f : ReverseDependency)
+reverse_dependency_numbered : (p : GroupInContext) (aims : List TargetAttribute) (o : Option ℕ) (f : ReverseDependency)
     → Has f (elim o as (λ _. List ReverseDependency) [ None ↦ [] | Some s ↦ map (λ (a : TargetAttribute). record { by = s; condition = attribute_condition p.enclosing p.group a.condition }) aims ]) → o ≡ Some f.by
-force_numbered p aims None f h = absurd h
-force_numbered p aims (Some s) f h =
+reverse_dependency_numbered p aims None f h = absurd h
+reverse_dependency_numbered p aims (Some s) f h =
     let a = has_mapped (λ (a : TargetAttribute). record { by = s; condition = attribute_condition p.enclosing p.group a.condition }) aims f h in
     ap (λ (y : ReverseDependency). Some y.by) a.2
 
-forces_from : (g : Attribute → Option TargetAttribute) (c : Contents) (name : List ℕ) (p : GroupInContext) (o : Option (List ℕ)) (f : ReverseDependency)
+reverse_dependencies_from : (g : Attribute → Option TargetAttribute) (c : Contents) (name : List ℕ) (p : GroupInContext) (o : Option (List ℕ)) (f : ReverseDependency)
     → Has f (elim o as (λ _. List ReverseDependency) [ None ↦ [] | Some by ↦ reverse_dependencies_by c p (filter (λ (a : TargetAttribute). bytes_eq a.name name) (attribute_values g p.group)) by ]) → f.by < length (symbols_of c)
-forces_from g c name p None f h = absurd h
-forces_from g c name p (Some by) f h = below_symbols c by f.by (force_numbered p (filter (λ (a : TargetAttribute). bytes_eq a.name name) (attribute_values g p.group)) (index_of_name by c.names) f h)
+reverse_dependencies_from g c name p None f h = absurd h
+reverse_dependencies_from g c name p (Some by) f h = below_symbols c by f.by (reverse_dependency_numbered p (filter (λ (a : TargetAttribute). bytes_eq a.name name) (attribute_values g p.group)) (index_of_name by c.names) f h)
 
-forces_below : (g : Attribute → Option TargetAttribute) (c : Contents) (name : List ℕ) → list_all (λ (f : ReverseDependency). nat_lt f.by (length (symbols_of c))) (flat_map (reverse_dependencies_of g c name) c.places) ≡ true
-forces_below g c name =
+reverse_dependencies_below : (g : Attribute → Option TargetAttribute) (c : Contents) (name : List ℕ) → list_all (λ (f : ReverseDependency). nat_lt f.by (length (symbols_of c))) (flat_map (reverse_dependencies_of g c name) c.places) ≡ true
+reverse_dependencies_below g c name =
     all_pass (λ (f : ReverseDependency). nat_lt f.by (length (symbols_of c))) (flat_map (reverse_dependencies_of g c name) c.places)
-    (λ f h. let r = has_flat_map (reverse_dependencies_of g c name) c.places f h in lt-ltb f.by (length (symbols_of c)) (forces_from g c name r.0 (defined_name r.0.group) f r.2))
+    (λ f h. let r = has_flat_map (reverse_dependencies_of g c name) c.places f h in lt-ltb f.by (length (symbols_of c)) (reverse_dependencies_from g c name r.0 (defined_name r.0.group) f r.2))
 
 pub selectors_there : (c : Contents) → IsSound c → (i : ℕ) (symbol : Symbol) → slice_get (symbols_of c) i ≡ Some symbol → list_all (λ (f : ReverseDependency). nat_lt f.by (length (symbols_of c))) symbol.selectors ≡ true
 selectors_there c s i symbol h =
     let r = symbol_at c i symbol h in
-    subst (λ (y : Symbol). list_all (λ (f : ReverseDependency). nat_lt f.by (length (symbols_of c))) y.selectors ≡ true) r.2 (forces_below select_of c r.0)
+    subst (λ (y : Symbol). list_all (λ (f : ReverseDependency). nat_lt f.by (length (symbols_of c))) y.selectors ≡ true) r.2 (reverse_dependencies_below select_of c r.0)
 
 pub impliers_there : (c : Contents) → IsSound c → (i : ℕ) (symbol : Symbol) → slice_get (symbols_of c) i ≡ Some symbol → list_all (λ (f : ReverseDependency). nat_lt f.by (length (symbols_of c))) symbol.impliers ≡ true
 impliers_there c s i symbol h =
     let r = symbol_at c i symbol h in
-    subst (λ (y : Symbol). list_all (λ (f : ReverseDependency). nat_lt f.by (length (symbols_of c))) y.impliers ≡ true) r.2 (forces_below imply_of c r.0)
+    subst (λ (y : Symbol). list_all (λ (f : ReverseDependency). nat_lt f.by (length (symbols_of c))) y.impliers ≡ true) r.2 (reverse_dependencies_below imply_of c r.0)
 
 -- a choice is a unit
 pub units_of_choices : (c : Contents) → IsSound c → (k : ℕ) (x : Choice) → slice_get (choices_of c) k ≡ Some x → (u : ℕ) × (slice_get (units_of c) u ≡ Some (of_choice k))

@@ -22,9 +22,9 @@ taken_by : (ts : List Lexeme) (r : Result Expr (ExprKind × List Lexeme)) (x : P
 taken_by ts (Ok e) x h k = let same : record { expr = e; single = length (extent ts) == 1; rest = drop (length (extent ts)) ts } ≡ x = taken_same (record { expr = e; single = length (extent ts) == 1; rest = drop (length (extent ts)) ts }) x (Ok (record { expr = e; single = length (extent ts) == 1; rest = drop (length (extent ts)) ts })) refl k in h ∙ ap (λ (y : ParsedExpr). Ok y.expr) same
 taken_by ts (Err f) x h k = cc
 
-pieces_front : (P : List ℕ → Type 0) (ts us : List Lexeme) → AllTexts P (ts ++ us) → AllTexts P ts
-pieces_front P [] us h = tt
-pieces_front P (t ∷ ts) us h = (h.0, pieces_front P ts us h.1)
+lexemes_front : (P : List ℕ → Type 0) (ts us : List Lexeme) → AllTexts P (ts ++ us) → AllTexts P ts
+lexemes_front P [] us h = tt
+lexemes_front P (t ∷ ts) us h = (h.0, lexemes_front P ts us h.1)
 
 extent_by : (P : List ℕ → Type 0) (b : Bool) (t : Lexeme) (us : List Lexeme) → P t.text → AllTexts P us → AllTexts P (cond b (t ∷ []) (t ∷ us))
 extent_by P true t us h k = (h, tt)
@@ -62,7 +62,7 @@ module _ (P : List ℕ → Type 0) (nothing : P []) (unquoted : (text : List ℕ
   of_expr (operand t {a = x} e q) a = of_operand t.kind t.text x (subst (AllTexts P) q a).0 e
   of_expr (relation t r u op e k f q) a = nothing
   of_expr (negation t k h q) a = nothing
-  of_expr (parentheses {ts = ts} o c k h m q) a = of_expr h (pieces_front P ts (c ∷ []) (subst (AllTexts P) q a).1)
+  of_expr (parentheses {ts = ts} o c k h m q) a = of_expr h (lexemes_front P ts (c ∷ []) (subst (AllTexts P) q a).1)
 
   pub own_text_of_value : (tokens : Result (List Lexeme) ExprFault) (value : Expr) → ((ts : List Lexeme) → tokens ≡ Ok ts → AllTexts P ts) → IsValueOf tokens value → P (own_text value)
   own_text_of_value tokens value all v =

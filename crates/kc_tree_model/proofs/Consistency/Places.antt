@@ -49,18 +49,18 @@ word_of_name t h =
     let c = both_true _ _ b.1 in
     (below 0 (length t.text) c.0, c.1)
 
-word_said : (read : List Group) (l : LogicalLine) (h : Head) → statement_on_line read l ≡ Ok (Some (head h)) → NamesWord (of_head h)
-word_said read l (config name) e = let r = line_names read l name e in subst IsWord r.1 (word_of_name r.0 r.2)
-word_said read l choice e = tt
-word_said read l (menu title) e = tt
-word_said read l (condition c) e = tt
-word_said read l (comment title) e = tt
-word_said read l (source path) e = tt
-word_said read l mainmenu e = tt
-word_said read l (ends b) e = tt
+word_given : (read : List Group) (l : LogicalLine) (h : Head) → statement_on_line read l ≡ Ok (Some (head h)) → NamesWord (of_head h)
+word_given read l (config name) e = let r = line_names read l name e in subst IsWord r.1 (word_of_name r.0 r.2)
+word_given read l choice e = tt
+word_given read l (menu title) e = tt
+word_given read l (condition c) e = tt
+word_given read l (comment title) e = tt
+word_given read l (source path) e = tt
+word_given read l mainmenu e = tt
+word_given read l (ends b) e = tt
 
-values_said : (read : List Group) (l : LogicalLine) (a : Attribute) → has_newline l.text ≡ false → statement_on_line read l ≡ Ok (Some (attribute a)) → (d : DefaultAttribute) → default_of a ≡ Some d → IsPlainText (own_text d.value)
-values_said read l a one e d m = value_is_plain l.text d.value (one, line_utf8 read l (Some (attribute a)) e) (line_values read l a d m e)
+values_given : (read : List Group) (l : LogicalLine) (a : Attribute) → has_newline l.text ≡ false → statement_on_line read l ≡ Ok (Some (attribute a)) → (d : DefaultAttribute) → default_of a ≡ Some d → IsPlainText (own_text d.value)
+values_given read l a one e d m = value_is_plain l.text d.value (one, line_utf8 read l (Some (attribute a)) e) (line_values read l a d m e)
 
 AreValues-append : (ls : List Line) (l : Line) → AreValues ls → ((d : DefaultAttribute) → default_of l.attribute ≡ Some d → IsPlainText (own_text d.value)) → AreValues (ls ++ l ∷ [])
 AreValues-append [] l h k = (k, tt)
@@ -77,8 +77,8 @@ value_of_group (x ∷ xs) l d v (inr k) e = value_of_group xs l d v.1 k e
 
 line_read : (read : List Group) (at : Position) (l : LogicalLine) (s : Option Statement) → IsRead read → has_newline l.text ≡ false → statement_on_line read l ≡ Ok s → IsRead (with_statement at s read)
 line_read read at l None h one e = h
-line_read read at l (Some (head x)) h one e = (refl, word_said read l x e, tt, h)
-line_read read at l (Some (attribute a)) h one e = attribute_read read at.line a (values_said read l a one e) h
+line_read read at l (Some (head x)) h one e = (refl, word_given read l x e, tt, h)
+line_read read at l (Some (attribute a)) h one e = attribute_read read at.line a (values_given read l a one e) h
 
 pub is_read : (files : Files) (root : List ℕ) → IsRead (reading files root).read
 is_read files root = reading_keeps IsRead (record { by_line = line_read; by_end = λ read at h. (refl, tt, tt, h) }) tt files root

@@ -12,7 +12,7 @@ use Rattle.kc_tree_model.specs.declared.keyword.Keyword.TheVariants as words
 use Rattle.kc_tree_model.specs.Forms.{statement_of, titled_line, path_of, no_more, last_condition}
 use Rattle.kc_tree_model.specs.Blocks.{Group}
 use Rattle.kc_tree_model.specs.Reading.{statement_on_line}
-use Rattle.kc_tree_model.proofs.NestedTrees.LineFits.{bind_ok, sort_of_head, sort_of_word, other_sort, line_said}
+use Rattle.kc_tree_model.proofs.NestedTrees.LineFits.{bind_ok, sort_of_head, sort_of_word, other_sort, line_given}
 
 -- the title of a menu or comment
 abbrev pub title_in : Head → Option (List ℕ)
@@ -70,6 +70,6 @@ titled_sort h title e = cc
 pub line_titles : (read : List Group) (l : LogicalLine) (h : Head) (title : List ℕ) → title_in h ≡ Some title → statement_on_line read l ≡ Ok (Some (head h))
     → (first : Lexeme) × (t : Lexeme) × (us : List Lexeme) × (lexemes_from 0 0 l.text ≡ Ok (first ∷ t ∷ us)) × (quoted_text t.text ≡ title)
 line_titles read l h title e k =
-    let s = line_said read l (Some (head h)) k in
+    let s = line_given read l (Some (head h)) k in
     let t = title_said s.keyword s.rest h title e (sym (titled_sort h title e) ∙ s.sort) s.form in
     (s.first, t.0, t.1, s.stand ∙ ap (λ ts. Ok (s.first ∷ ts)) t.2, t.3)

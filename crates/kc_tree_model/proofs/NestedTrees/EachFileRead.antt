@@ -16,7 +16,7 @@ use Rattle.kc_tree_model.specs.Reading.{statement_on_line, with_statement, with_
 use Rattle.kc_tree_model.proofs.NestedTrees.Building.{EndsMatch, ends_first}
 use Rattle.kc_tree_model.proofs.NestedTrees.LineFits.{Fits, line_fits}
 use Rattle.kc_tree_model.proofs.NestedTrees.OpenBlocks.{popped}
-use Rattle.kc_tree_model.proofs.NestedTrees.ReadingNests.{AllBlocks, Since, Closes, Reads, after_said, source_group, file_closes}
+use Rattle.kc_tree_model.proofs.NestedTrees.ReadingNests.{AllBlocks, Since, Closes, Reads, after_given, source_group, file_closes}
 
 -- blocks of a file are no files
 no_file : (w : GroupHead) (b : Block) → from_head block_of_head w ≡ Some b → from_head path_of_head w ≡ None
@@ -66,11 +66,11 @@ AgreeWithin r start f g = (path : List ℕ) (inner : List Group) → innermost i
     → length (open_files r inner) ≡ suc (length (open_files r start)) → f path inner ≡ g path inner
 
 module _ (r : FileSource) (start : List Group) (first : innermost start ≡ None) (f g : List ℕ → List Group → Outcome) (closes : Reads f) (within : AgreeWithin r start f g) where
-  same_behind : (p q : List Group → Outcome) (at : Position) (read : List Group) (path : List ℕ) (o : Outcome) (k : Option TreeFault) → o.fault ≡ k → Agree start p q → Since start read
+  same_after : (p q : List Group → Outcome) (at : Position) (read : List Group) (path : List ℕ) (o : Outcome) (k : Option TreeFault) → o.fault ≡ k → Agree start p q → Since start read
       → (o.fault ≡ None → Closes (source_group read at path ∷ read) o.read) → continue_after_file p at o k ≡ continue_after_file q at o k
   unfolding source_group
-  same_behind p q at read path o (Some k) e agree s c = refl
-  same_behind p q at read path o None e agree s c =
+  same_after p q at read path o (Some k) e agree s c = refl
+  same_after p q at read path o None e agree s c =
       let closed = c e in
       let back : open_blocks 0 (with_group at file_end o.read) ≡ open_blocks 0 read = popped (record { number = length o.read; at = at; head = file_end; attributes = [] }) o.read refl ∙ ap (drop 1) closed.opened in
       agree (with_group at file_end o.read) (record {
@@ -90,13 +90,13 @@ module _ (r : FileSource) (start : List Group) (first : innermost start ≡ None
       let same = same_files r start read s in
       let matched : EndsMatch (source_group read at path ∷ read) = ((λ c. cc), s.matched) in
       let agreed : f path (source_group read at path ∷ read) ≡ g path (source_group read at path ∷ read) = within path (source_group read at path ∷ read) refl matched (omega (arith, room, same)) (one_more_file r read at path ∙ ap suc same) in
-      same_behind p q at read path o o.fault refl agree s (λ h. closes path (source_group read at path ∷ read) refl matched h)
+      same_after p q at read path o o.fault refl agree s (λ h. closes path (source_group read at path ∷ read) refl matched h)
       ∙ ap (λ (x : Outcome). continue_after_file q at x x.fault) agreed
 
   same_head : (p q : List Group → Outcome) (at : Position) (read : List Group) (x : Head) (path : Option (List ℕ)) → path_of_head x ≡ path → Agree start p q → Since start read → Fits read (Some (head x))
       → continue_after_statement f p r at read (Some (head x)) path ≡ continue_after_statement g q r at read (Some (head x)) path
   unfolding source_group
-  same_head p q at read x None e agree s fits = agree (with_statement at (Some (head x)) read) (after_said start read at (Some (head x)) first s e fits)
+  same_head p q at read x None e agree s fits = agree (with_statement at (Some (head x)) read) (after_given start read at (Some (head x)) first s e fits)
   same_head p q at read (source y) (Some path) e agree s fits =
       let same : y ≡ path = cc in
       ap (λ z. continue_after_source f p at path (with_statement at (Some (head (source z))) read) (source_fault r read path)) same
@@ -107,7 +107,7 @@ module _ (r : FileSource) (start : List Group) (first : innermost start ≡ None
   same_statement : (p q : List Group → Outcome) (at : Position) (read : List Group) (x : Option Statement) (path : Option (List ℕ)) → path_to_read x ≡ path → Agree start p q → Since start read → Fits read x
       → continue_after_statement f p r at read x path ≡ continue_after_statement g q r at read x path
   same_statement p q at read (Some (head x)) path e agree s fits = same_head p q at read x path e agree s fits
-  same_statement p q at read (Some (attribute a)) None e agree s fits = agree (with_statement at (Some (attribute a)) read) (after_said start read at (Some (attribute a)) first s e fits)
+  same_statement p q at read (Some (attribute a)) None e agree s fits = agree (with_statement at (Some (attribute a)) read) (after_given start read at (Some (attribute a)) first s e fits)
   same_statement p q at read (Some (attribute a)) (Some path) e agree s fits = cc
   same_statement p q at read None None e agree s fits = agree read s
   same_statement p q at read None (Some path) e agree s fits = cc

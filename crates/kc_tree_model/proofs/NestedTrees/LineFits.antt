@@ -224,8 +224,8 @@ abbrev pub SaidIfSome : List Group → Result (List Lexeme) ExprFault → Option
 SaidIfSome read tokens None = Unit {0}
 SaidIfSome read tokens (Some s) = Said read tokens s
 
-said_keyword : (read : List Group) (k : Keyword) (t : Lexeme) (ts : List Lexeme) (o : Option Statement) → statement_by_keyword read k ts ≡ Ok o → SaidIfSome read (Ok (t ∷ ts)) o
-said_keyword read k t ts o h =
+statement_keyword : (read : List Group) (k : Keyword) (t : Lexeme) (ts : List Lexeme) (o : Option Statement) → statement_by_keyword read k ts ≡ Ok o → SaidIfSome read (Ok (t ∷ ts)) o
+statement_keyword read k t ts o h =
     let a = unless_ok (is_left_out read k ts) LeftOut _ o h in
     let b = unless_ok (not (is_allowed read k)) Misplaced _ o a.1 in
     let c = unless_ok (is_stray_end read k) StrayEnd _ o b.1 in
@@ -246,36 +246,36 @@ said_keyword read k t ts o h =
 
 said_by_keyword : (read : List Group) (w : Option Keyword) (t : Lexeme) (ts : List Lexeme) (o : Option Statement) → statement_by_word read ts w ≡ Ok o → SaidIfSome read (Ok (t ∷ ts)) o
 said_by_keyword read None t ts o h = cc
-said_by_keyword read (Some k) t ts o h = said_keyword read k t ts o h
+said_by_keyword read (Some k) t ts o h = statement_keyword read k t ts o h
 
-said_in_line : (read : List Group) (ts : List Lexeme) (o : Option Statement) → statement_of_tokens read ts ≡ Ok o → SaidIfSome read (Ok ts) o
-said_in_line read [] None h = tt
-said_in_line read [] (Some s) h = cc
-said_in_line read (t ∷ ts) o h = said_by_keyword read (keyword_of t) t ts o h
+statement_in_line : (read : List Group) (ts : List Lexeme) (o : Option Statement) → statement_of_tokens read ts ≡ Ok o → SaidIfSome read (Ok ts) o
+statement_in_line read [] None h = tt
+statement_in_line read [] (Some s) h = cc
+statement_in_line read (t ∷ ts) o h = said_by_keyword read (keyword_of t) t ts o h
 
-said_lexed : (read : List Group) (r : Result (List Lexeme) ExprFault) (o : Option Statement) → statement_or_fault read r ≡ Ok o → SaidIfSome read r o
-said_lexed read (Err e) o h = cc
-said_lexed read (Ok ts) o h = said_in_line read ts o h
+statement_lexed : (read : List Group) (r : Result (List Lexeme) ExprFault) (o : Option Statement) → statement_or_fault read r ≡ Ok o → SaidIfSome read r o
+statement_lexed read (Err e) o h = cc
+statement_lexed read (Ok ts) o h = statement_in_line read ts o h
 
-said_or_help : (read : List Group) (b : Bool) (r : Result (List Lexeme) ExprFault) (o : Option Statement) → cond b (Ok None) (statement_or_fault read r) ≡ Ok o → SaidIfSome read r o
-said_or_help read true r None h = tt
-said_or_help read true r (Some s) h = cc
-said_or_help read false r o h = said_lexed read r o h
+statement_or_help : (read : List Group) (b : Bool) (r : Result (List Lexeme) ExprFault) (o : Option Statement) → cond b (Ok None) (statement_or_fault read r) ≡ Ok o → SaidIfSome read r o
+statement_or_help read true r None h = tt
+statement_or_help read true r (Some s) h = cc
+statement_or_help read false r o h = statement_lexed read r o h
 
 pub past_test : (b : Bool) (e : TreeKind) (r : Result (Option Statement) TreeKind) (o : Option Statement) → cond b (Err e) r ≡ Ok o → r ≡ Ok o
 past_test true e r o h = cc
 past_test false e r o h = h
 
-pub line_said : (read : List Group) (l : LogicalLine) (o : Option Statement) → statement_on_line read l ≡ Ok o → SaidIfSome read (lexemes_from 0 0 l.text) o
+pub line_given : (read : List Group) (l : LogicalLine) (o : Option Statement) → statement_on_line read l ≡ Ok o → SaidIfSome read (lexemes_from 0 0 l.text) o
 unfolding statement_on_line
-line_said read l o h = said_or_help read l.help (lexemes_from 0 0 l.text) o (past_test (not (is_utf8 l.text)) NotUtf8 _ o (past_test (nat_lt MAX_LINE_BYTES (length l.text)) LineTooLong _ o h))
+line_given read l o h = statement_or_help read l.help (lexemes_from 0 0 l.text) o (past_test (not (is_utf8 l.text)) NotUtf8 _ o (past_test (nat_lt MAX_LINE_BYTES (length l.text)) LineTooLong _ o h))
 
-fits_said : (read : List Group) (r : Result (List Lexeme) ExprFault) (o : Option Statement) → SaidIfSome read r o → Fits read o
-fits_said read r None h = tt
-fits_said read r (Some s) h = fits_statement read h.keyword s h.sort h.allowed h.matched
+fits_given : (read : List Group) (r : Result (List Lexeme) ExprFault) (o : Option Statement) → SaidIfSome read r o → Fits read o
+fits_given read r None h = tt
+fits_given read r (Some s) h = fits_statement read h.keyword s h.sort h.allowed h.matched
 
 pub line_fits : (read : List Group) (l : LogicalLine) (o : Option Statement) → statement_on_line read l ≡ Ok o → Fits read o
-line_fits read l o h = fits_said read (lexemes_from 0 0 l.text) o (line_said read l o h)
+line_fits read l o h = fits_given read (lexemes_from 0 0 l.text) o (line_given read l o h)
 
 -- the name that a line defines
 named_well : (t : Lexeme) (ts : List Lexeme) (name : List ℕ) (b : Bool) → is_name t ≡ b → cond b (no_more (head (config t.text)) ts) (Err Malformed) ≡ Ok (head (config name)) → (t.text ≡ name) × (is_name t ≡ true)
@@ -287,12 +287,12 @@ config_named : (ts : List Lexeme) (name : List ℕ) → config_line ts ≡ Ok (h
 config_named [] name h = cc
 config_named (t ∷ ts) name h = let r = named_well t ts name (is_name t) refl h in (t, r.0, r.1)
 
-config_said : (k : Keyword) (ts : List Lexeme) (name : List ℕ) → config_sort ≡ sort_of_word k → statement_of k ts ≡ Ok (head (config name)) → (t : Lexeme) × (t.text ≡ name) × (is_name t ≡ true)
-config_said words.Config ts name e h = config_named ts name h
-config_said k ts name e h = cc
+config_given : (k : Keyword) (ts : List Lexeme) (name : List ℕ) → config_sort ≡ sort_of_word k → statement_of k ts ≡ Ok (head (config name)) → (t : Lexeme) × (t.text ≡ name) × (is_name t ≡ true)
+config_given words.Config ts name e h = config_named ts name h
+config_given k ts name e h = cc
 
 pub line_names : (read : List Group) (l : LogicalLine) (name : List ℕ) → statement_on_line read l ≡ Ok (Some (head (config name))) → (t : Lexeme) × (t.text ≡ name) × (is_name t ≡ true)
-line_names read l name h = let s = line_said read l (Some (head (config name))) h in config_said s.keyword s.rest name s.sort s.form
+line_names read l name h = let s = line_given read l (Some (head (config name))) h in config_given s.keyword s.rest name s.sort s.form
 
 -- the value of a default is read of the tokens after its word
 pub record IsValueOf (tokens : Result (List Lexeme) ExprFault) (value : Expr) : Type 0 where
@@ -329,7 +329,7 @@ sorted_default a d h = cc
 
 pub line_values : (read : List Group) (l : LogicalLine) (a : Attribute) (d : DefaultAttribute) → default_of a ≡ Some d → statement_on_line read l ≡ Ok (Some (attribute a)) → IsValueOf (lexemes_from 0 0 l.text) d.value
 line_values read l a d m h =
-    let s = line_said read l (Some (attribute a)) h in
+    let s = line_given read l (Some (attribute a)) h in
     let x = default_said s.keyword s.rest a d (sym (sorted_default a d m) ∙ s.sort) m s.form in
     record { first = s.first; rest = s.rest; stand = s.stand; taken = x.0; read_as = x.1; is = x.2 }
 

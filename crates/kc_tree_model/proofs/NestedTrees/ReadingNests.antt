@@ -124,10 +124,10 @@ after_attribute start [] line a o k i s = cc
 after_attribute start (g ∷ before) line a o k i s = attribute_by start before g g.head line a o refl k i s
 
 -- a line that sources no file
-pub after_said : (start read : List Group) (at : Position) (s : Option Statement) → innermost start ≡ None → Since start read → path_to_read s ≡ None → Fits read s → Since start (with_statement at s read)
-after_said start read at None i k p f = k
-after_said start read at (Some (head h)) i k p f = after_head start read at h i k p f
-after_said start read at (Some (attribute a)) i k p f = after_attribute start read at.line a f.0 f.1 i k
+pub after_given : (start read : List Group) (at : Position) (s : Option Statement) → innermost start ≡ None → Since start read → path_to_read s ≡ None → Fits read s → Since start (with_statement at s read)
+after_given start read at None i k p f = k
+after_given start read at (Some (head h)) i k p f = after_head start read at h i k p f
+after_given start read at (Some (attribute a)) i k p f = after_attribute start read at.line a f.0 f.1 i k
 
 -- the end of a file that has no block open
 after_last : (start read blocks : List Group) → AllBlocks blocks → open_blocks 0 read ≡ blocks ++ open_blocks 0 start → EndsMatch read → innermost read ≡ None → Closes start read
@@ -178,7 +178,7 @@ after_statement_head start read at x (Some path) sub rest r e i subs s f g h = c
 after_statement : (start read : List Group) (at : Position) (s : Option Statement) (p : Option (List ℕ)) (sub : List ℕ → List Group → Outcome) (rest : List Group → Outcome) (r : FileSource) → path_to_read s ≡ p → innermost start ≡ None → Reads sub → Since start read → Fits read s → GoesOn start rest → (continue_after_statement sub rest r at read s p).fault ≡ None → Closes start (continue_after_statement sub rest r at read s p).read
 unfolding GoesOn
 after_statement start read at (Some (head x)) p sub rest r e i subs k f g h = after_statement_head start read at x p sub rest r e i subs k f g h
-after_statement start read at (Some (attribute a)) None sub rest r e i subs k f g h = g (with_statement at (Some (attribute a)) read) (after_said start read at (Some (attribute a)) i k e f) h
+after_statement start read at (Some (attribute a)) None sub rest r e i subs k f g h = g (with_statement at (Some (attribute a)) read) (after_given start read at (Some (attribute a)) i k e f) h
 after_statement start read at (Some (attribute a)) (Some path) sub rest r e i subs k f g h = cc
 after_statement start read at None None sub rest r e i subs k f g h = g read k h
 after_statement start read at None (Some path) sub rest r e i subs k f g h = cc

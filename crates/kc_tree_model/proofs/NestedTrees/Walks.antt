@@ -31,9 +31,9 @@ onto-reverse (g ∷ gs) before = onto-reverse gs (g ∷ before) ∙ sym (ap (λ 
 pub listed_of : (gs read : List Group) → onto gs [] ≡ read → gs ≡ reverse read
 listed_of gs read e = sym (reverse-reverse gs) ∙ ap reverse (sym (append-nil (reverse gs)) ∙ sym (onto-reverse gs []) ∙ e)
 
-behind-append : (gs hs before : List Group) → behind before (gs ++ hs) ≡ behind before gs ++ behind (onto gs before) hs
-behind-append [] hs before = refl
-behind-append (g ∷ gs) hs before = ap (λ ps. group_in_context (open_blocks 0 before) g ∷ ps) (behind-append gs hs (g ∷ before))
+after-append : (gs hs before : List Group) → behind before (gs ++ hs) ≡ behind before gs ++ behind (onto gs before) hs
+after-append [] hs before = refl
+after-append (g ∷ gs) hs before = ap (λ ps. group_in_context (open_blocks 0 before) g ∷ ps) (after-append gs hs (g ∷ before))
 
 -- a whole nested tree leaves the open blocks as they are
 pub open-listing : (t : Items) (n : ℕ) (before : List Group) → IsNested t → open_blocks n (onto (listing t) before) ≡ open_blocks n before
@@ -59,7 +59,7 @@ walk-listing (block g w e rest) before h =
     let there : open_blocks 0 after ≡ g ∷ path = open-listing w 0 (g ∷ before) h.1 ∙ pushed g before opens in
     let back : open_blocks 0 (e ∷ after) ≡ path = open_closing 0 e after closes ∙ open-listing w 1 (g ∷ before) h.1 ∙ open_opening 0 g before opens in
     ap (λ ps. group_in_context path g ∷ ps)
-    (behind-append (listing w) (e ∷ listing rest) (g ∷ before)
+    (after-append (listing w) (e ∷ listing rest) (g ∷ before)
     ∙ ap (λ ps. ps ++ behind after (e ∷ listing rest)) (walk-listing w (g ∷ before) h.1 ∙ ap (λ os. walk os w) (pushed g before opens))
     ∙ ap (λ os. walk (g ∷ path) w ++ group_in_context os e ∷ behind (e ∷ after) (listing rest)) there
     ∙ ap (λ ps. walk (g ∷ path) w ++ group_in_context (g ∷ path) e ∷ ps) (walk-listing rest (e ∷ after) h.2 ∙ ap (λ os. walk os rest) back))

@@ -125,9 +125,9 @@ several_visible_if : map (λ (s : Symbol). s.prompts) (whole (codes "menu \"m\"\
 unfolding next_token is_utf8 chars read_expr lines_of source_fault statement_on_line reading tree_faults first_tree_fault lib.Utf8.encode tree_of_groups
 several_visible_if = refl
 
-title_as_it_stands : (whole (codes "menu \"CONFIG_A is not set\"\nconfig A\n\tbool \"a\"\n\tdefault y\nendmenu\n")).entries ≡ (menu_begins (codes "CONFIG_A is not set") yes yes ∷ definition 0 ∷ menu_ends (codes "CONFIG_A is not set") yes yes ∷ [])
+title_as_it_represents : (whole (codes "menu \"CONFIG_A is not set\"\nconfig A\n\tbool \"a\"\n\tdefault y\nendmenu\n")).entries ≡ (menu_begins (codes "CONFIG_A is not set") yes yes ∷ definition 0 ∷ menu_ends (codes "CONFIG_A is not set") yes yes ∷ [])
 unfolding next_token is_utf8 chars read_expr lines_of source_fault statement_on_line reading tree_faults first_tree_fault lib.Utf8.encode tree_of_groups
-title_as_it_stands = refl
+title_as_it_represents = refl
 
 escaped_title : (whole (codes "comment \"a\\\"b\\\\c\"\n")).entries ≡ (comment (codes "a\"b\\c") yes ∷ [])
 unfolding next_token is_utf8 chars read_expr lines_of source_fault statement_on_line reading tree_faults first_tree_fault lib.Utf8.encode tree_of_groups

@@ -102,9 +102,9 @@ word_behind_a_name : fault (codes "config A B\n") ≡ Some (1, Malformed)
 unfolding next_token is_utf8 chars read_expr lines_of source_fault statement_on_line reading tree_faults first_tree_fault lib.Utf8.encode
 word_behind_a_name = refl
 
-innermost_open_block_is_told : fault (codes "if A\nmenu \"m\"\nendmenu\nif B\n") ≡ Some (4, Unclosed)
+innermost_open_block_is_reported : fault (codes "if A\nmenu \"m\"\nendmenu\nif B\n") ≡ Some (4, Unclosed)
 unfolding next_token is_utf8 chars read_expr lines_of source_fault statement_on_line reading tree_faults first_tree_fault lib.Utf8.encode
-innermost_open_block_is_told = refl
+innermost_open_block_is_reported = refl
 
 def_tristate_is_a_tristate : fault (codes "config A\n\tdef_bool y\n\tdef_tristate y\n") ≡ Some (3, TypeConflict)
 unfolding next_token is_utf8 chars read_expr lines_of source_fault statement_on_line reading tree_faults first_tree_fault lib.Utf8.encode

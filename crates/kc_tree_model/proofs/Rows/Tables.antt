@@ -152,12 +152,12 @@ in_an_if_of_a_choice : map (kind_of (codes "choice\nif X\n")) lines
 unfolding next_token is_utf8 chars read_expr lines_of source_fault statement_on_line reading tree_faults first_tree_fault lib.Utf8.encode
 in_an_if_of_a_choice = refl
 
-behind_an_end : map (kind_of (codes "menu \"m\"\nendmenu\n")) lines
+after_an_end : map (kind_of (codes "menu \"m\"\nendmenu\n")) lines
     ≡ Some NoType ∷ Some NoType ∷ Some Unclosed ∷ Some StrayEnd ∷ Some Unclosed ∷ Some StrayEnd ∷ Some Unclosed ∷ Some StrayEnd ∷ None ∷ None ∷ None ∷ None ∷ Some Misplaced ∷ Some Misplaced ∷ Some Misplaced ∷ Some Misplaced ∷ Some Misplaced ∷ Some Misplaced ∷ Some Misplaced ∷ Some Misplaced ∷ Some Misplaced ∷ Some Misplaced ∷ Some Misplaced ∷ Some Misplaced ∷ Some Misplaced ∷ Some Misplaced ∷ Some Misplaced ∷ Some Misplaced ∷ Some Misplaced ∷ Some Misplaced ∷ Some Misplaced ∷ Some Misplaced ∷ Some Misplaced ∷ Some Misplaced ∷ Some Misplaced ∷ Some Misplaced ∷ Some LeftOut ∷ Some LeftOut ∷ Some LeftOut ∷ Some Misplaced ∷ Some LeftOut ∷ Some LeftOut ∷ Some LeftOut ∷ Some LeftOut ∷ Some LeftOut ∷ Some LeftOut ∷ Some LeftOut ∷ Some LeftOut ∷ Some LeftOut ∷ Some Malformed ∷ Some LeftOut ∷ Some LeftOut ∷ Some LeftOut ∷ Some Malformed ∷ Some UnknownStatement ∷ Some UnknownStatement ∷ Some Misplaced ∷ Some Misplaced ∷ Some Misplaced ∷ Some StrayEnd ∷ Some StrayEnd ∷ Some StrayEnd ∷ Some Malformed ∷ Some Malformed ∷ Some Malformed ∷ Some Malformed ∷ Some Malformed ∷ Some Malformed ∷ Some Misplaced ∷ Some Misplaced ∷ Some Misplaced ∷ Some Misplaced ∷ Some Misplaced ∷ Some Misplaced ∷ Some Misplaced ∷ Some Malformed ∷ Some Malformed ∷ Some Malformed ∷ Some Malformed ∷ Some Malformed ∷ Some Malformed ∷ Some Malformed ∷ Some Misplaced ∷ Some Misplaced ∷ Some Misplaced ∷ Some Misplaced ∷ Some Misplaced ∷ Some Misplaced ∷ Some Misplaced ∷ Some Misplaced ∷ Some Misplaced ∷ Some Misplaced ∷ []
 unfolding next_token is_utf8 chars read_expr lines_of source_fault statement_on_line reading tree_faults first_tree_fault lib.Utf8.encode
-behind_an_end = refl
+after_an_end = refl
 
-behind_a_source_in_a_menu : map (kind_of (codes "menu \"m\"\nsource b\n")) lines
+after_a_source_in_a_menu : map (kind_of (codes "menu \"m\"\nsource b\n")) lines
     ≡ Some Unclosed ∷ Some Unclosed ∷ Some Unclosed ∷ Some StrayEnd ∷ Some Unclosed ∷ None ∷ Some Unclosed ∷ Some StrayEnd ∷ Some Unclosed ∷ Some Unclosed ∷ Some Unclosed ∷ Some Misplaced ∷ Some Misplaced ∷ Some Misplaced ∷ Some Misplaced ∷ Some Misplaced ∷ Some Misplaced ∷ Some Misplaced ∷ Some Misplaced ∷ Some Misplaced ∷ Some Misplaced ∷ Some Misplaced ∷ Some Misplaced ∷ Some Misplaced ∷ Some Misplaced ∷ Some Misplaced ∷ Some Misplaced ∷ Some Misplaced ∷ Some Misplaced ∷ Some Misplaced ∷ Some Misplaced ∷ Some Misplaced ∷ Some Misplaced ∷ Some Misplaced ∷ Some Misplaced ∷ Some Misplaced ∷ Some LeftOut ∷ Some LeftOut ∷ Some LeftOut ∷ Some Misplaced ∷ Some LeftOut ∷ Some LeftOut ∷ Some LeftOut ∷ Some LeftOut ∷ Some LeftOut ∷ Some LeftOut ∷ Some LeftOut ∷ Some LeftOut ∷ Some LeftOut ∷ Some Malformed ∷ Some LeftOut ∷ Some LeftOut ∷ Some LeftOut ∷ Some Malformed ∷ Some UnknownStatement ∷ Some UnknownStatement ∷ Some Misplaced ∷ Some Misplaced ∷ Some Misplaced ∷ Some StrayEnd ∷ Some Malformed ∷ Some StrayEnd ∷ Some Malformed ∷ Some Malformed ∷ Some Malformed ∷ Some Malformed ∷ Some Misplaced ∷ Some Malformed ∷ Some Misplaced ∷ Some Misplaced ∷ Some Misplaced ∷ Some Misplaced ∷ Some Misplaced ∷ Some Misplaced ∷ Some Misplaced ∷ Some Malformed ∷ Some Malformed ∷ Some Malformed ∷ Some Malformed ∷ Some Malformed ∷ Some Malformed ∷ Some Malformed ∷ Some Misplaced ∷ Some Misplaced ∷ Some Misplaced ∷ Some Misplaced ∷ Some Misplaced ∷ Some Misplaced ∷ Some Misplaced ∷ Some Misplaced ∷ Some Misplaced ∷ Some Misplaced ∷ []
 unfolding next_token is_utf8 chars read_expr lines_of source_fault statement_on_line reading tree_faults first_tree_fault lib.Utf8.encode
-behind_a_source_in_a_menu = refl
+after_a_source_in_a_menu = refl

@@ -92,9 +92,9 @@ option_modules : fault (codes "config MODULES\n\tbool\n\toption modules\n") ≡ 
 unfolding next_token is_utf8 chars read_expr lines_of source_fault statement_on_line reading tree_faults first_tree_fault lib.Utf8.encode
 option_modules = refl
 
-earlier_place_is_told : fault (codes "config A\n\tbool\n\trange 1 2\nconfig B\n") ≡ Some (3, RangeType)
+earlier_place_is_reported : fault (codes "config A\n\tbool\n\trange 1 2\nconfig B\n") ≡ Some (3, RangeType)
 unfolding next_token is_utf8 chars read_expr lines_of source_fault statement_on_line reading tree_faults first_tree_fault lib.Utf8.encode
-earlier_place_is_told = refl
+earlier_place_is_reported = refl
 
 lower_number_is_told_on_one_line : fault (codes "config A\n\tbool \"a\"\n\ttristate \"b\"\n") ≡ Some (3, TypeConflict)
 unfolding next_token is_utf8 chars read_expr lines_of source_fault statement_on_line reading tree_faults first_tree_fault lib.Utf8.encode

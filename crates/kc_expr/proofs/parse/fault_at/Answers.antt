@@ -2,7 +2,7 @@ use Rattle.std.proofs.Common.{ap, sym, ◌∙◌, ℕ, arith}
 use Rattle.std.proofs.lemmas.Grind.{common_steps}
 use Rattle.std.proofs.lemmas.Bool.{eqb-true}
 use Rattle.kc_expr.specs.declared.fault.ExprFault.{ExprFault}
-use Rattle.kc_expr.proofs.TokenPlaces.{start_at, behind_all, end_last, end_none, some_left}
+use Rattle.kc_expr.proofs.TokenPlaces.{start_at, after_all, end_last, end_none, some_left}
 use Rattle.kc_expr.proofs.parse.fault_at.Goals as goal
 
 pub returns-then-at-tokens : goal.returns-then-at-tokens
@@ -12,13 +12,13 @@ pub returns-else-is_empty : goal.returns-else-is_empty
 returns-else-is_empty c =
     let some = some_left _ (sym c.is_empty.ensures ∙ c.if-is_empty.false) in
     let at_end : (o : ℕ) → ExprFault = λ o. record { offset = o; kind = c.args.kind } in
-    sym (behind_all c.args.tokens.now c.args.at c.args.kind c.if-at-tokens.false ∙ ap at_end (end_last c.args.tokens.now _ some))
+    sym (after_all c.args.tokens.now c.args.at c.args.kind c.if-at-tokens.false ∙ ap at_end (end_last c.args.tokens.now _ some))
 
 pub returns-then-is_empty : goal.returns-then-is_empty
 returns-then-is_empty c =
     let none = eqb-true _ 0 (sym c.is_empty.ensures ∙ c.if-is_empty.true) in
     let at_end : (o : ℕ) → ExprFault = λ o. record { offset = o; kind = c.args.kind } in
-    sym (behind_all c.args.tokens.now c.args.at c.args.kind c.if-at-tokens.false ∙ ap at_end (end_none c.args.tokens.now none))
+    sym (after_all c.args.tokens.now c.args.at c.args.kind c.if-at-tokens.false ∙ ap at_end (end_none c.args.tokens.now none))
 
 pub bounds-tokens-tokens : goal.bounds-tokens-tokens
 bounds-tokens-tokens c = grind (arith, common_steps)

@@ -4,8 +4,8 @@ use Rattle.std.proofs.Math.Seq.{take-length}
 use Rattle.kc_expr.specs.Token.{with_front}
 use Rattle.std.proofs.lemmas.Str.{IsCharBoundary-start}
 use Rattle.kc_expr.specs.Token.{lexemes_from, lexemes_of}
-use Rattle.kc_expr.proofs.KeptLists.{kept_behind}
-use Rattle.kc_expr.proofs.Lexing.{step_white, step_token_of, cut_after_token, rest_is, pieces_more, text_is}
+use Rattle.kc_expr.proofs.KeptLists.{kept_after}
+use Rattle.kc_expr.proofs.Lexing.{step_white, step_token_of, cut_after_token, rest_is, lexemes_more, text_is}
 use Rattle.kc_expr.proofs.token.scan_line.Goals as goal
 
 pub loop-at-init : goal.loop-at-init
@@ -34,8 +34,8 @@ loop-at-preserved c =
     let e = rw r at c.in-Token.ensures.lead in
     let b = rw r at c.in-Token.ensures.reaches in
     record {
-      read = rw (c.in_ok-push-in-Token.ensures.items, pieces_more, text_is c.args.line.now c.loop-at.at c.in-Token.len c.range-text.result.now c.range-text.ensures.value) (step_token_of c.args.line.now c.loop-at.at (lexemes_of c.loop-at.found.items) (with_front (lexemes_of c.args.found.now.items) (lexemes_from 0 0 c.args.line.now)) (omega (arith, c.as_bytes-bytes.ensures.len)) c.loop-at.invariant.read c.in-Token.kind c.in-Token.len b.0 (sym e));
-      kept = rw c.in_ok-push-in-Token.ensures.items (kept_behind c.args.found.now.items c.loop-at.found.items _ c.loop-at.invariant.kept);
+      read = rw (c.in_ok-push-in-Token.ensures.items, lexemes_more, text_is c.args.line.now c.loop-at.at c.in-Token.len c.range-text.result.now c.range-text.ensures.value) (step_token_of c.args.line.now c.loop-at.at (lexemes_of c.loop-at.found.items) (with_front (lexemes_of c.args.found.now.items) (lexemes_from 0 0 c.args.line.now)) (omega (arith, c.as_bytes-bytes.ensures.len)) c.loop-at.invariant.read c.in-Token.kind c.in-Token.len b.0 (sym e));
+      kept = rw c.in_ok-push-in-Token.ensures.items (kept_after c.args.found.now.items c.loop-at.found.items _ c.loop-at.invariant.kept);
       cut = cut_after_token c.args.line.now c.loop-at.at c.in-Token.len c.utf8.line b.0 b.1 (omega (arith, c.as_bytes-bytes.ensures.len)) b.2;
     }
 

@@ -7,9 +7,9 @@ use Rattle.kc_listing.specs.checker.StateViews.{Describes, at_line}
 use Rattle.kc_listing.proofs.AppendSteps.{counted_choice, on_ok}
 use Rattle.kc_listing.proofs.append.push_choice_group.Goals as goal
 
-pub returns-clause-put : goal.returns-clause-put
+pub returns-clause-appends : goal.returns-clause-appends
 unfolding Describes
-returns-clause-put c = λ r before d.
+returns-clause-appends c = λ r before d.
     on_ok c.push_group.result (RepresentsListing c.push_group.new.listing (with_group (at_line c.args.file c.args.line) (of_head choice) before)) _
     (λ h. record { shows = h; counted = rw c.push_group.ensures.texts (counted_choice r _ _ _ _ _ before c.args.file c.args.line (of_head choice) d.counted c.push.new.self.items _ refl c.in-Ok.ensures.items refl) })
-    (c.push_group.ensures.put before (of_head choice) d.shows refl refl)
+    (c.push_group.ensures.appends before (of_head choice) d.shows refl refl)

@@ -7,12 +7,12 @@ use Rattle.kc_listing.specs.checker.StateViews.{Describes, at_line}
 use Rattle.kc_listing.proofs.AppendSteps.{counted_source, on_ok}
 use Rattle.kc_listing.proofs.append.push_source.Goals as goal
 
-pub returns-clause-put : goal.returns-clause-put
+pub returns-clause-appends : goal.returns-clause-appends
 unfolding Describes
-returns-clause-put c = λ r before path d t z.
+returns-clause-appends c = λ r before path d t z.
     on_ok c.push_group.result (RepresentsListing c.push_group.new.listing (with_group (at_line c.args.file c.args.line) (of_head (source path)) before)) _
     (λ h. record { shows = h; counted = rw c.push_group.ensures.texts (counted_source r _ _ _ _ _ before c.args.file c.args.line (of_head (source path)) d.counted c.args.place path c.push.new.self.items _ _ refl t c.in-Ok.ensures.items refl (ap (λ n. c.args.read.now.bytes + n) z)) })
-    (c.push_group.ensures.put before (of_head (source path)) d.shows (path, t, refl) refl)
+    (c.push_group.ensures.appends before (of_head (source path)) d.shows (path, t, refl) refl)
 
-pub returns-in_default-clause-put : goal.returns-in_default-clause-put
-returns-in_default-clause-put c = omega arith
+pub returns-in_default-clause-appends : goal.returns-in_default-clause-appends
+returns-in_default-clause-appends c = omega arith

@@ -6,7 +6,7 @@ use Rattle.kc_expr.specs.between.Arena.{node_expr}
 use Rattle.kc_listing.specs.checker.StateViews.{Describes}
 use Rattle.kc_listing.specs.checker.OpenBlockViews.{is_block}
 use Rattle.kc_listing.proofs.OpenBlockSteps.{blocks_are}
-use Rattle.kc_listing.proofs.HeadSteps.{head_put, if_deep, if_fits}
+use Rattle.kc_listing.proofs.HeadSteps.{head_pushed, if_deep, if_fits}
 use Rattle.kc_listing.proofs.heads.push_if_block.Goals as goal
 
 pub returns-then-is_at_block_limit : goal.returns-then-is_at_block_limit
@@ -16,6 +16,6 @@ returns-then-is_at_block_limit c = λ r before d. inr (if_deep before (node_expr
 pub returns : goal.returns
 unfolding Describes
 returns c = λ r before d.
-    head_put r c.args.file c.args.line before (condition (node_expr c.args.read.now.listing.names.arena c.args.id)) _ c.push_block.result (if_fits before (node_expr c.args.read.now.listing.names.arena c.args.id) (sym (ap (nat_le 64) (blocks_are r _ _ _ _ _ before d.counted)) ∙ ap (λ xs. nat_le 64 (count_by is_block xs)) (sym c.deref.ensures.value) ∙ sym c.is_at_block_limit.ensures ∙ c.if-is_at_block_limit.false))
-    (c.push_block.ensures.put r before (of_head (condition (node_expr c.args.read.now.listing.names.arena c.args.id))) d (c.requires, refl) refl refl)
+    head_pushed r c.args.file c.args.line before (condition (node_expr c.args.read.now.listing.names.arena c.args.id)) _ c.push_block.result (if_fits before (node_expr c.args.read.now.listing.names.arena c.args.id) (sym (ap (nat_le 64) (blocks_are r _ _ _ _ _ before d.counted)) ∙ ap (λ xs. nat_le 64 (count_by is_block xs)) (sym c.deref.ensures.value) ∙ sym c.is_at_block_limit.ensures ∙ c.if-is_at_block_limit.false))
+    (c.push_block.ensures.appends r before (of_head (condition (node_expr c.args.read.now.listing.names.arena c.args.id))) d (c.requires, refl) refl refl)
     c.push_block.ensures.memory

@@ -6,7 +6,7 @@ use Rattle.kc_tree_model.specs.Statements.{menu}
 use Rattle.kc_listing.specs.checker.StateViews.{Describes}
 use Rattle.kc_listing.specs.checker.OpenBlockViews.{is_block}
 use Rattle.kc_listing.proofs.OpenBlockSteps.{blocks_are}
-use Rattle.kc_listing.proofs.HeadSteps.{head_put, menu_deep, menu_fits}
+use Rattle.kc_listing.proofs.HeadSteps.{head_pushed, menu_deep, menu_fits}
 use Rattle.kc_listing.proofs.heads.push_menu.Goals as goal
 
 pub returns-then-is_at_block_limit : goal.returns-then-is_at_block_limit
@@ -16,8 +16,8 @@ returns-then-is_at_block_limit c = λ r before d. inr (menu_deep before c.args.t
 pub returns : goal.returns
 unfolding Describes
 returns c = λ r before d.
-    head_put r c.args.file c.args.line before (menu c.args.title) _ c.push_block.result (menu_fits before c.args.title (sym (ap (nat_le 64) (blocks_are r _ _ _ _ _ before d.counted)) ∙ ap (λ xs. nat_le 64 (count_by is_block xs)) (sym c.deref.ensures.value) ∙ sym c.is_at_block_limit.ensures ∙ c.if-is_at_block_limit.false))
-    (c.push_block.ensures.put r before (of_head (menu c.args.title)) (c.in-Ok.ensures.describes r before d) (c.args.title, c.in-Ok.ensures.kept, refl) refl refl)
+    head_pushed r c.args.file c.args.line before (menu c.args.title) _ c.push_block.result (menu_fits before c.args.title (sym (ap (nat_le 64) (blocks_are r _ _ _ _ _ before d.counted)) ∙ ap (λ xs. nat_le 64 (count_by is_block xs)) (sym c.deref.ensures.value) ∙ sym c.is_at_block_limit.ensures ∙ c.if-is_at_block_limit.false))
+    (c.push_block.ensures.appends r before (of_head (menu c.args.title)) (c.in-Ok.ensures.describes r before d) (c.args.title, c.in-Ok.ensures.kept, refl) refl refl)
     c.push_block.ensures.memory
 
 pub returns-in_default : goal.returns-in_default

@@ -3,17 +3,17 @@ use Rattle.kc_expr.specs.Token.{lexemes_of}
 use Rattle.kc_statements.specs.between.StatementViews.{statement_in}
 use Rattle.kc_listing.specs.checker.StateViews.{Describes}
 use Rattle.kc_listing.proofs.ReaderSteps.{shown_of}
-use Rattle.kc_listing.proofs.StatementSteps.{shows_grown, said_early, said_malformed, source_given, next_given, help_given, limit_given}
+use Rattle.kc_listing.proofs.StatementSteps.{shows_grown, statement_early, statement_malformed, source_given, next_given, help_given, limit_given}
 use Rattle.kc_listing.proofs.line.read_form.Goals as goal
 
 pub returns-in-Some : goal.returns-in-Some
-returns-in-Some c = λ r before d. inr (said_early before c.args.keyword (lexemes_of c.args.tokens.now) c.in-Some.kind (sym (c.fault_before_form.ensures r before d) ∙ c.in-Some.is), shown_of r _ before d)
+returns-in-Some c = λ r before d. inr (statement_early before c.args.keyword (lexemes_of c.args.tokens.now) c.in-Some.kind (sym (c.fault_before_form.ensures r before d) ∙ c.in-Some.is), shown_of r _ before d)
 
 pub returns-in-Err : goal.returns-in-Err
 returns-in-Err c = λ r before d. elim c.in-Err.ensures.gives [
   | inl m ↦ inl m
   | inr e ↦ inr (
-    said_malformed before c.args.keyword (lexemes_of c.args.tokens.now) c.in-Err.kind (sym (c.fault_before_form.ensures r before d) ∙ c.in_default.is) e,
+    statement_malformed before c.args.keyword (lexemes_of c.args.tokens.now) c.in-Err.kind (sym (c.fault_before_form.ensures r before d) ∙ c.in_default.is) e,
     shows_grown c.args.read.now.listing c.statement_of.new.arena before c.in-Err.ensures.grows (shown_of r _ before d),
   )
 ]

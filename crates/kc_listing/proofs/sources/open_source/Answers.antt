@@ -10,7 +10,7 @@ use Rattle.kc_listing.proofs.sources.open_source.Goals as goal
 pub returns-in-Ok-push_group-clause-sourced : goal.returns-in-Ok-push_group-clause-sourced
 returns-in-Ok-push_group-clause-sourced c = λ before d.
     let kept = shown_of (file_source_of c.args.from) _ before (c.in-Ok.ensures.describes (file_source_of c.args.from) before d) in
-    let shows = c.in-Ok-push_group.ensures.put before (of_head (source c.args.path)) kept (c.args.path, c.in-Ok.ensures.kept, refl) refl in
+    let shows = c.in-Ok-push_group.ensures.appends before (of_head (source c.args.path)) kept (c.args.path, c.in-Ok.ensures.kept, refl) refl in
     elim (c.in-Err.ensures.sourced before d) [
       | inl m ↦ inl (c.fault_or_out_of_memory.ensures.memory m)
       | inr e ↦ elim c.fault_or_out_of_memory.ensures.told [

@@ -4,7 +4,7 @@ use Rattle.kc_expr.specs.Token.{lexemes_of, lexeme_of}
 use Rattle.kc_statements.proofs.AttributeLemmas.{extent_within, default_unread}
 use Rattle.kc_statements.proofs.Growing.{grows_on}
 use Rattle.kc_statements.proofs.Later.{node_held}
-use Rattle.kc_statements.proofs.ValueLemmas.{valued_told, valued_refused}
+use Rattle.kc_statements.proofs.ValueLemmas.{valued_reported, valued_refused}
 use Rattle.kc_statements.proofs.FormLemmas.{unread}
 use Rattle.kc_tree_model.specs.Forms.{default_line}
 use Rattle.kc_statements.proofs.attributes.default_attribute.Goals as goal
@@ -17,7 +17,7 @@ pub returns-in-Ok-optional_if-clause-gives : goal.returns-in-Ok-optional_if-clau
 returns-in-Ok-optional_if-clause-gives c = λ f.
     let r = c.in-Ok.ensures.ok in
     let s = c.in-Ok-optional_if.ensures in
-    valued_told c.parse_expr.new.self c.optional_if.new.arena f (lexemes_of c.args.tokens.now) c.in-Ok.read.0 c.in-Ok.read.1 c.in-Ok-optional_if.condition r.expr s.grows r.reads r.stands c.in-Ok.ensures.end s.gives
+    valued_reported c.parse_expr.new.self c.optional_if.new.arena f (lexemes_of c.args.tokens.now) c.in-Ok.read.0 c.in-Ok.read.1 c.in-Ok-optional_if.condition r.expr s.grows r.reads r.stands c.in-Ok.ensures.end s.gives
 
 pub returns-in-Err-optional_if-clause-gives : goal.returns-in-Err-optional_if-clause-gives
 returns-in-Err-optional_if-clause-gives c = λ f.

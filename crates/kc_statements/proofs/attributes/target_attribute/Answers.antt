@@ -3,7 +3,7 @@ use Rattle.std.proofs.Common.{inl, inr, refl, sym, ◌∙◌, length, arith}
 use Rattle.std.proofs.lemmas.Grind.{common_steps, elements}
 use Rattle.kc_statements.proofs.FormLemmas.{there}
 use Rattle.kc_statements.proofs.Later.{if_held}
-use Rattle.kc_statements.proofs.LineLemmas.{aimed_told, aimed_refused, aimed_other}
+use Rattle.kc_statements.proofs.LineLemmas.{target_told, target_refused, target_other}
 use Rattle.kc_statements.proofs.attributes.target_attribute.Goals as goal
 
 pub returns-in-Ok-intern-clause-grows : goal.returns-in-Ok-intern-clause-grows
@@ -21,12 +21,12 @@ returns-then-not-is_name-clause-grows c = grows_none c.args.arena.now
 pub returns-then-not-is_name-clause-gives : goal.returns-then-not-is_name-clause-gives
 returns-then-not-is_name-clause-gives c =
     let some = there (length c.args.tokens.now) c.is_empty.result c.is_empty.ensures c.if-is_empty.false in
-    λ f. inr (aimed_other f c.args.tokens.now some (sym c.is_name.ensures ∙ c.if-not-is_name.true))
+    λ f. inr (target_other f c.args.tokens.now some (sym c.is_name.ensures ∙ c.if-not-is_name.true))
 
 pub returns-in-Err-clause-gives : goal.returns-in-Err-clause-gives
 returns-in-Err-clause-gives c =
     let some = there (length c.args.tokens.now) c.is_empty.result c.is_empty.ensures c.if-is_empty.false in
-    λ f. elim c.in-Err.ensures.gives [ inl m ↦ inl m | inr e ↦ inr (aimed_refused f c.args.tokens.now c.in-Err.kind some (sym c.is_name.ensures ∙ c.if-not-is_name.false) e) ]
+    λ f. elim c.in-Err.ensures.gives [ inl m ↦ inl m | inr e ↦ inr (target_refused f c.args.tokens.now c.in-Err.kind some (sym c.is_name.ensures ∙ c.if-not-is_name.false) e) ]
 
 pub returns-in-Err-intern-clause-gives : goal.returns-in-Err-intern-clause-gives
 returns-in-Err-intern-clause-gives c = λ f. inl refl
@@ -37,7 +37,7 @@ returns-in-Ok-intern-clause-held c = (c.in-Ok-intern.ensures.within, if_held c.o
 pub returns-in-Ok-intern-clause-gives : goal.returns-in-Ok-intern-clause-gives
 returns-in-Ok-intern-clause-gives c =
     let some = there (length c.args.tokens.now) c.is_empty.result c.is_empty.ensures c.if-is_empty.false in
-    λ f. aimed_told c.optional_if.new.arena c.intern.new.self f c.args.tokens.now c.in-Ok-intern.name c.in-Ok.condition some (sym c.is_name.ensures ∙ c.if-not-is_name.false) c.intern.ensures.grows c.in-Ok.ensures.gives c.in-Ok.ensures.held c.in-Ok-intern.ensures.name
+    λ f. target_told c.optional_if.new.arena c.intern.new.self f c.args.tokens.now c.in-Ok-intern.name c.in-Ok.condition some (sym c.is_name.ensures ∙ c.if-not-is_name.false) c.intern.ensures.grows c.in-Ok.ensures.gives c.in-Ok.ensures.held c.in-Ok-intern.ensures.name
 
 pub returns-then-is_empty-clause-gives : goal.returns-then-is_empty-clause-gives
 returns-then-is_empty-clause-gives c = grind (arith, common_steps)

@@ -1,14 +1,14 @@
 use Rattle.std.proofs.Common.{arith, inr, drop, length-drop, ap, sym, ◌∙◌, Ok}
 use Rattle.std.proofs.lemmas.List.{length-map}
 use Rattle.kc_expr.specs.Token.{lexemes_of, lexeme_of}
-use Rattle.kc_statements.proofs.FormLemmas.{condition_behind, condition_last, condition_unread, unread}
+use Rattle.kc_statements.proofs.FormLemmas.{condition_after, condition_last, condition_unread, unread}
 use Rattle.kc_tree_model.specs.Forms.{last_condition}
 use Rattle.kc_statements.proofs.condition.last_condition.Goals as goal
 
 pub returns-then-next-tokens-clause-gives : goal.returns-then-next-tokens-clause-gives
 returns-then-next-tokens-clause-gives c =
     let r = c.in-Ok.ensures.ok in
-    inr (condition_behind (drop c.args.at (lexemes_of c.args.tokens.now)) r.expr r.reads (omega (arith, c.in-Ok.ensures.end, c.if-next-tokens.true, length-drop c.args.at (lexemes_of c.args.tokens.now), length-map c.args.tokens.now lexeme_of)))
+    inr (condition_after (drop c.args.at (lexemes_of c.args.tokens.now)) r.expr r.reads (omega (arith, c.in-Ok.ensures.end, c.if-next-tokens.true, length-drop c.args.at (lexemes_of c.args.tokens.now), length-map c.args.tokens.now lexeme_of)))
 
 pub returns-clause-gives : goal.returns-clause-gives
 returns-clause-gives c =

@@ -5,7 +5,7 @@ use Rattle.kc_tree_model.specs.declared.fault.TreeFault.{TreeFault}
 use Rattle.kc_tree_model.specs.Statements.{prompt_of}
 use Rattle.kc_tree_model.specs.TreeFaults.{choice_faults}
 use Rattle.kc_statements.specs.between.StatementViews.{attribute_in}
-use Rattle.kc_tree.proofs.FaultKinds.{left_more, left_told, left_none}
+use Rattle.kc_tree.proofs.FaultKinds.{left_more, left_reported, left_none}
 use Rattle.kc_tree.proofs.attribute_checks.first_choice_fault.Goals as goal
 use Rattle.kc_tree.proofs.attribute_checks.first_choice_fault.Goals.{then-prompted, else-prompted}
 
@@ -13,7 +13,7 @@ pub returns-in-Some : goal.returns-in-Some
 returns-in-Some c = λ read g members h m f.
     let e = c.args.listing.now.names.arena in
     let l = c.index-lines-i.result in
-    let told = left_told e g (choice_faults members) c.loop-i.prompted c.args.lines.now c.loop-i.i l c.in-Some.kind (omega arith) c.index-lines-i.is (c.in-Some.ensures read members h m) in
+    let told = left_reported e g (choice_faults members) c.loop-i.prompted c.args.lines.now c.loop-i.i l c.in-Some.kind (omega arith) c.index-lines-i.is (c.in-Some.ensures read members h m) in
     ap Some (c.fault_at.ensures ∙ ap (λ n. let t : TreeFault = record { file = Some n; line = l.number; kind = c.in-Some.kind } in t) (sym f)) ∙ sym (c.loop-i.invariant read g members h m f ∙ told)
 
 pub loop-i-preserved : goal.loop-i-preserved

@@ -6,7 +6,7 @@ use Rattle.kc_tree_model.specs.Contents.{contents_of}
 use Rattle.kc_tree_model.specs.Statements.{prompt_of}
 use Rattle.kc_tree_model.specs.TreeFaults.{attribute_faults}
 use Rattle.kc_statements.specs.between.StatementViews.{attribute_in}
-use Rattle.kc_tree.proofs.FaultKinds.{left_more, left_told, left_none}
+use Rattle.kc_tree.proofs.FaultKinds.{left_more, left_reported, left_none}
 use Rattle.kc_tree.proofs.attribute_checks.first_symbol_fault.Goals as goal
 use Rattle.kc_tree.proofs.attribute_checks.first_symbol_fault.Goals.{then-prompted, else-prompted}
 
@@ -15,7 +15,7 @@ returns-in-Some c = λ read g name h m f.
     let e = c.args.listing.now.names.arena in
     let l = c.index-lines-i.result in
     let faults = attribute_faults (contents_of read) name c.args.kind in
-    let told = left_told e g faults c.loop-i.prompted c.args.lines.now c.loop-i.i l c.in-Some.kind (omega arith) c.index-lines-i.is (c.in-Some.ensures read name h m) in
+    let told = left_reported e g faults c.loop-i.prompted c.args.lines.now c.loop-i.i l c.in-Some.kind (omega arith) c.index-lines-i.is (c.in-Some.ensures read name h m) in
     ap Some (c.fault_at.ensures ∙ ap (λ n. let t : TreeFault = record { file = Some n; line = l.number; kind = c.in-Some.kind } in t) (sym f)) ∙ sym (c.loop-i.invariant read g name h m f ∙ told)
 
 pub loop-i-preserved : goal.loop-i-preserved

@@ -3,14 +3,14 @@ use Rattle.std.proofs.lemmas.Grind.{common_steps}
 use Rattle.std.proofs.lemmas.List.{take_all}
 use Rattle.kc_tree.specs.checker.Conjuncts.{AreAppended}
 use Rattle.kc_statements.proofs.Growing.{grows_on}
-use Rattle.kc_tree.proofs.Growth.{joined_on, behind_more, none_behind, there_on}
+use Rattle.kc_tree.proofs.Growth.{joined_on, after_more, none_after, there_on}
 use Rattle.kc_expr.specs.between.Arena.{Exprs, Grows}
 use Rattle.kc_listing.proofs.AppendSteps.{grows_same}
 use Rattle.kc_listing.specs.between.ListingView.{LineNodesExist}
 use Rattle.kc_listing.specs.declared.listing.Line.{Line as CodeLine}
 use Rattle.kc_statements.specs.between.StatementViews.{AttributeNodesExist}
 use Rattle.kc_statements.proofs.Later.{attribute_held}
-use Rattle.kc_expr.proofs.StoreLemmas.{stands_on}
+use Rattle.kc_expr.proofs.StoreLemmas.{represents_on}
 use Rattle.kc_tree.proofs.conditions.push_conditions.Goals as goal
 
 line_held : (old mid : Exprs) (lines : List CodeLine) (k : ℕ) (d : CodeLine) → Grows old mid → All (LineNodesExist old) lines → k < length lines → d ≡ get_or lines k d → AttributeNodesExist mid d.attribute
@@ -19,7 +19,7 @@ line_held old mid lines k d g held h e = subst (λ (l : CodeLine). AttributeNode
 pub loop-line-init : goal.loop-line-init
 loop-line-init c = record {
   grows = grows_same c.args.arena.now;
-  stand = λ ds vs own j y. none_behind c.args.arena.now c.args.conditions.now.items ds vs;
+  stand = λ ds vs own j y. none_after c.args.arena.now c.args.conditions.now.items ds vs;
   longer = omega arith;
 }
 
@@ -42,9 +42,9 @@ loop-line-preserved c =
     record {
       grows = grows_on old mid new inv.grows c.condition_of.ensures.grows;
       stand = λ ds vs own j y.
-          rw c.in_ok-push.ensures.items (behind_more old mid new c.args.conditions.now.items c.loop-line.conditions.items ds vs c.args.lines.now c.loop-line.line-index c.in_ok-condition.condition c.line-item.result
+          rw c.in_ok-push.ensures.items (after_more old mid new c.args.conditions.now.items c.loop-line.conditions.items ds vs c.args.lines.now c.loop-line.line-index c.in_ok-condition.condition c.line-item.result
           inv.grows c.condition_of.ensures.grows c.requires.held c.loop-line-test.true c.line-item.is (inv.stand ds vs own j y)
-          (c.in_ok-condition.ensures.stands ds vs own (joined_on old mid inv.grows c.args.entry.now ds vs own j) (stands_on old mid c.args.yes _ inv.grows y)));
+          (c.in_ok-condition.ensures.stands ds vs own (joined_on old mid inv.grows c.args.entry.now ds vs own j) (represents_on old mid c.args.yes _ inv.grows y)));
       longer = omega (arith, ap length c.in_ok-push.ensures.items, length-append c.loop-line.conditions.items (c.in_ok-condition.condition ∷ []), inv.longer);
     }
 

@@ -4,7 +4,7 @@ use Rattle.std.proofs.lemmas.List.{get_or_read}
 use Rattle.kc_listing.specs.between.ListingView.{RepresentsListing}
 use Rattle.kc_tree.specs.checker.Summaries.{is_choice_code, no_group}
 use Rattle.kc_tree.proofs.Aligned.{count_is}
-use Rattle.kc_tree.proofs.Rounds.{all_round, round_more}
+use Rattle.kc_tree.proofs.Rounds.{all_round, enclosing_more}
 use Rattle.kc_tree.proofs.enclosing_choices.choices_enclosing.Goals as goal
 use Rattle.kc_tree.proofs.enclosing_choices.choices_enclosing.Goals.{then-begins_choice, else-begins_choice}
 
@@ -21,7 +21,7 @@ loop-group-preserved c = record {
         | then-begins_choice w ↦ w.choices-is ∙ sym (ap (λ b. cond b (c.loop-group.choices + 1) c.loop-group.choices) (sym c.begins_choice.ensures ∙ w.if-begins_choice.true))
         | else-begins_choice w ↦ w.choices-is ∙ sym (ap (λ b. cond b (c.loop-group.choices + 1) c.loop-group.choices) (sym c.begins_choice.ensures ∙ w.if-begins_choice.false))
       ] in
-      round_more l.names.arena _ l.texts.items l.lines.items l.groups.items read h.groups_are c.loop-group.group-index c.loop-group.enclosing.items c.loop-group.inside.items _ _ c.loop-group.choices _ c.group-item.result.head
+      enclosing_more l.names.arena _ l.texts.items l.lines.items l.groups.items read h.groups_are c.loop-group.group-index c.loop-group.enclosing.items c.loop-group.inside.items _ _ c.loop-group.choices _ c.group-item.result.head
       within (ap (λ g. g.head) what) (c.loop-group.invariant.round read h)
       (c.in_ok-push_enclosing.ensures.enclosing)
       c.in_ok-push_enclosing.ensures.inside

@@ -30,21 +30,21 @@ lines_at-requires-clause-within c =
     let k = c.requires.shown in
     (shown_at c.args.arena k.0 k.1 c.args.lines.now c.args.groups.now k.2 k.3 c.loop-i.i c.loop-i-test.true).within
 
-pub step-requires-clause-walked : goal.step-requires-clause-walked
-step-requires-clause-walked c =
+pub visit-requires-clause-walked : goal.visit-requires-clause-walked
+visit-requires-clause-walked c =
     let k = c.requires.shown in
     (k.1, read_before c.loop-i.i k.2, c.loop-i.invariant.walked k.0 k.1 k.2 k.3)
 
-pub step-requires-clause-head : goal.step-requires-clause-head
-step-requires-clause-head c =
+pub visit-requires-clause-head : goal.visit-requires-clause-head
+visit-requires-clause-head c =
     let k = c.requires.shown in
     let s = shown_at c.args.arena k.0 k.1 c.args.lines.now c.args.groups.now k.2 k.3 c.loop-i.i c.loop-i-test.true in
     let own : get_or c.args.groups.now c.loop-i.i c.index-groups-i.result ≡ group_at c.args.groups.now c.loop-i.i = sym c.index-groups-i.is ∙ get_or_read c.args.groups.now _ _ c.loop-i-test.true c.index-groups-i.is no_group in
     subst (λ (g : CodeGroup). GroupHeadNodesExist (length c.loop-i.walk.arena.nodes) g.head) (sym own)
     (what_held c.loop-i.walk.arena k.0 k.1 _ _ (what_on c.args.arena c.loop-i.walk.arena k.0 k.1 _ _ c.loop-i.invariant.grows s.shown.head))
 
-pub step-requires-clause-lines : goal.step-requires-clause-lines
-step-requires-clause-lines c =
+pub visit-requires-clause-lines : goal.visit-requires-clause-lines
+visit-requires-clause-lines c =
     let begin = (group_at c.args.groups.now c.loop-i.i).attributes in
     let end = attributes_end c.args.groups.now c.args.lines.now c.loop-i.i in
     subst (All (LineNodesExist c.loop-i.walk.arena)) (sym c.lines_at.ensures)
@@ -53,7 +53,7 @@ step-requires-clause-lines c =
 
 pub loop-i-preserved : goal.loop-i-preserved
 loop-i-preserved c = record {
-  grows = grows_on c.args.arena c.loop-i.walk.arena c.step.new.self.arena c.loop-i.invariant.grows c.step.ensures.grows;
+  grows = grows_on c.args.arena c.loop-i.walk.arena c.visit.new.self.arena c.loop-i.invariant.grows c.visit.ensures.grows;
   walked = λ names texts read h.
       let begin = (group_at c.args.groups.now c.loop-i.i).attributes in
       let end = attributes_end c.args.groups.now c.args.lines.now c.loop-i.i in
@@ -63,7 +63,7 @@ loop-i-preserved c = record {
       let kept = lines_kept c.args.arena c.loop-i.walk.arena (slice_range c.args.lines.now begin end) c.loop-i.invariant.grows
       (All-take (LineNodesExist c.args.arena) (end - begin) (drop begin c.args.lines.now) (All-drop (LineNodesExist c.args.arena) begin c.args.lines.now c.requires.held)) in
       let said : s.group.attributes ≡ map (line_in c.loop-i.walk.arena) c.lines_at.result.now = s.shown.attributes ∙ sym kept ∙ ap (map (line_in c.loop-i.walk.arena)) (sym c.lines_at.ensures) in
-      subst (HasWalked texts c.step.new.self) (sym s.now) (c.in_ok-step.ensures.walked names texts (read_before c.loop-i.i read) s.group (c.loop-i.invariant.walked names texts read h) what said);
+      subst (HasWalked texts c.visit.new.self) (sym s.now) (c.in_ok-visit.ensures.walked names texts (read_before c.loop-i.i read) s.group (c.loop-i.invariant.walked names texts read h) what said);
 }
 
 pub returns-clause-walked : goal.returns-clause-walked

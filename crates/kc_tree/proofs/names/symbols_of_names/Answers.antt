@@ -11,11 +11,11 @@ use Rattle.kc_tree.proofs.names.symbols_of_names.Goals as goal
 
 module _ (names s : ℕ) (symbols : List SymbolRow) (row : SymbolRow) (table : List (Option ℕ)) (differ : (a b : ℕ) (p q : SymbolRow) → slice_get symbols a ≡ Some p → slice_get symbols b ≡ Some q → p.name ≡ q.name → a ≡ b)
     (here : slice_get symbols s ≡ Some row) (within : row.name < length table) (t : IsTable names symbols s table) where
-  told_more : (a : ℕ) (r : SymbolRow) → a < s + 1 → slice_get symbols a ≡ Some r → (a < s) ⊎ (s ≤ a) → get_or (set table row.name (Some s)) r.name None ≡ Some a
-  told_more a r h f (inl l) =
+  reported_more : (a : ℕ) (r : SymbolRow) → a < s + 1 → slice_get symbols a ≡ Some r → (a < s) ⊎ (s ≤ a) → get_or (set table row.name (Some s)) r.name None ≡ Some a
+  reported_more a r h f (inl l) =
       let apart : r.name ≢ row.name = λ e. (let k = differ a s r row f here e in omega arith) in
       get_or-set_other table row.name r.name (Some s) None apart ∙ t.told a r l f
-  told_more a r h f (inr g) =
+  reported_more a r h f (inr g) =
       let e : a ≡ s = omega arith in
       let k : Some r ≡ Some row = sym f ∙ ap (slice_get symbols) e ∙ here in
       let q : r ≡ row = cc in
@@ -34,7 +34,7 @@ module _ (names s : ℕ) (symbols : List SymbolRow) (row : SymbolRow) (table : L
   table_more : IsTable names symbols (s + 1) (set table row.name (Some s))
   table_more = record {
     len = length-set table row.name (Some s) ∙ t.len;
-    told = λ a r h f. told_more a r h f (cases_lt a s);
+    told = λ a r h f. reported_more a r h f (cases_lt a s);
     there = λ j u f. there_more j u (j == row.name) refl f;
   }
 

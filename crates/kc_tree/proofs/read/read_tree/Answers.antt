@@ -1,12 +1,12 @@
 use Rattle.std.proofs.Common.{inr, Some, None, arith}
 use Rattle.std.proofs.lemmas.Grind.{common_steps}
-use Rattle.kc_tree.proofs.ReadSteps.{told_of_reading, shown_of_reading, of_reading, told_behind, of_tree}
+use Rattle.kc_tree.proofs.ReadSteps.{reported_of_reading, shown_of_reading, of_reading, reported_behind, of_tree}
 use Rattle.kc_tree_model.specs.Reading.{reading}
 use Rattle.kc_tree.proofs.read.read_tree.Goals as goal
 
 pub returns-in-Some-clause-fault : goal.returns-in-Some-clause-fault
 returns-in-Some-clause-fault c =
-    told_of_reading c.args.texts.now c.args.root.now c.read_files-listing.result.0 c.read_files-listing.result.1 c.read_files-listing.ensures.fault c.read_files-listing.ensures.read c.in-Some.fault c.in-Some.is
+    reported_of_reading c.args.texts.now c.args.root.now c.read_files-listing.result.0 c.read_files-listing.result.1 c.read_files-listing.ensures.fault c.read_files-listing.ensures.read c.in-Some.fault c.in-Some.is
 
 pub first_fault-requires : goal.first_fault-requires
 first_fault-requires c =
@@ -14,7 +14,7 @@ first_fault-requires c =
 
 pub returns-in-Ok-Some-clause-fault : goal.returns-in-Ok-Some-clause-fault
 returns-in-Ok-Some-clause-fault c =
-    inr (told_behind c.args.texts.now c.args.root.now c.read_files-listing.result.0 c.read_files-listing.result.1 c.read_files-listing.ensures.fault c.read_files-listing.ensures.read (Some c.in-Ok-Some.fault) c.in-None.is
+    inr (reported_behind c.args.texts.now c.args.root.now c.read_files-listing.result.0 c.read_files-listing.result.1 c.read_files-listing.ensures.fault c.read_files-listing.ensures.read (Some c.in-Ok-Some.fault) c.in-None.is
     (rw c.in-Ok-Some.field-0-is at (c.in-Ok-Some.ensures (reading c.args.texts.now c.args.root.now).read (shown_of_reading c.args.texts.now c.args.root.now c.read_files-listing.result.0 c.read_files-listing.result.1 c.read_files-listing.ensures.fault c.read_files-listing.ensures.read c.in-None.is))))
 
 pub tree_of-requires : goal.tree_of-requires
@@ -24,13 +24,13 @@ tree_of-requires c =
 
 pub returns-in-Ok-clause-accepted : goal.returns-in-Ok-clause-accepted
 returns-in-Ok-clause-accepted c =
-    told_behind c.args.texts.now c.args.root.now c.read_files-listing.result.0 c.read_files-listing.result.1 c.read_files-listing.ensures.fault c.read_files-listing.ensures.read None c.in-None.is
+    reported_behind c.args.texts.now c.args.root.now c.read_files-listing.result.0 c.read_files-listing.result.1 c.read_files-listing.ensures.fault c.read_files-listing.ensures.read None c.in-None.is
     (rw c.in-Ok-None.field-0-is at (c.in-Ok-None.ensures (reading c.args.texts.now c.args.root.now).read (shown_of_reading c.args.texts.now c.args.root.now c.read_files-listing.result.0 c.read_files-listing.result.1 c.read_files-listing.ensures.fault c.read_files-listing.ensures.read c.in-None.is)))
 
 pub returns-in-Ok-clause-tree : goal.returns-in-Ok-clause-tree
 returns-in-Ok-clause-tree c =
     c.in-Ok.ensures c.args.texts.now c.args.root.now
-    (told_behind c.args.texts.now c.args.root.now c.read_files-listing.result.0 c.read_files-listing.result.1 c.read_files-listing.ensures.fault c.read_files-listing.ensures.read None c.in-None.is
+    (reported_behind c.args.texts.now c.args.root.now c.read_files-listing.result.0 c.read_files-listing.result.1 c.read_files-listing.ensures.fault c.read_files-listing.ensures.read None c.in-None.is
     (rw c.in-Ok-None.field-0-is at (c.in-Ok-None.ensures (reading c.args.texts.now c.args.root.now).read (shown_of_reading c.args.texts.now c.args.root.now c.read_files-listing.result.0 c.read_files-listing.result.1 c.read_files-listing.ensures.fault c.read_files-listing.ensures.read c.in-None.is))))
     (shown_of_reading c.args.texts.now c.args.root.now c.read_files-listing.result.0 c.read_files-listing.result.1 c.read_files-listing.ensures.fault c.read_files-listing.ensures.read c.in-None.is)
 

@@ -13,7 +13,7 @@ use Rattle.kc_listing.proofs.NameLemmas.{as_many_names}
 use Rattle.kc_tree.specs.checker.Summaries.{IsSummary, enclosing_choice, group_at, no_group}
 use Rattle.kc_tree.proofs.Aligned.{count_is, placed_count}
 use Rattle.kc_tree.proofs.FaultKinds.{fault_of}
-use Rattle.kc_tree.proofs.FaultSearch.{config_first, config_there, definition_told, place_at, round_got}
+use Rattle.kc_tree.proofs.FaultSearch.{config_first, config_there, definition_reported, place_at, enclosing_got}
 use Rattle.kc_tree.proofs.Symbols.{about_is, as_many_abouts, kind_is, symbol_there}
 use Rattle.kc_tree.proofs.search.config_fault.Goals as goal
 
@@ -58,8 +58,8 @@ returns-in-Some c = λ read p h at.
     let name = w.0 in
     let known = c.requires.summary read h in
     let about = c.index.ensures ∙ about_is read m.symbols.items known.symbols c.args.s name c.index.result.now w.1 in
-    let member = c.is_some-is_member.ensures ∙ ap is_some (c.index-2.ensures ∙ round_got read m.enclosing.items c.args.i p c.index-2.result.now known.enclosing at) in
-    let told = definition_told read p name c.args.i c.index.result.now c.is_some-is_member.result c.is_first.result c.is_modules-is_modules.result a.has a.number about member c.is_first.ensures (c.is_modules-is_modules.ensures read name h w.1) in
+    let member = c.is_some-is_member.ensures ∙ ap is_some (c.index-2.ensures ∙ enclosing_got read m.enclosing.items c.args.i p c.index-2.result.now known.enclosing at) in
+    let told = definition_reported read p name c.args.i c.index.result.now c.is_some-is_member.result c.is_first.result c.is_modules-is_modules.result a.has a.number about member c.is_first.ensures (c.is_modules-is_modules.ensures read name h w.1) in
     let file = ap (λ g. g.file) (get_or_read l.groups.items _ _ c.requires.here c.index-3.ensures no_group) ∙ sym a.file in
     let line = ap (λ g. g.line) (get_or_read l.groups.items _ _ c.requires.here c.index-in-Some.ensures no_group) ∙ sym a.line in
     ap Some (c.fault_at.ensures
@@ -83,8 +83,8 @@ returns c = λ read p h at.
     let name = w.0 in
     let known = c.requires.summary read h in
     let about = c.index.ensures ∙ about_is read m.symbols.items known.symbols c.args.s name c.index.result.now w.1 in
-    let member = c.is_some-is_member.ensures ∙ ap is_some (c.index-2.ensures ∙ round_got read m.enclosing.items c.args.i p c.index-2.result.now known.enclosing at) in
-    let told = definition_told read p name c.args.i c.index.result.now c.is_some-is_member.result c.is_first.result c.is_modules-is_modules.result a.has a.number about member c.is_first.ensures (c.is_modules-is_modules.ensures read name h w.1) in
+    let member = c.is_some-is_member.ensures ∙ ap is_some (c.index-2.ensures ∙ enclosing_got read m.enclosing.items c.args.i p c.index-2.result.now known.enclosing at) in
+    let told = definition_reported read p name c.args.i c.index.result.now c.is_some-is_member.result c.is_first.result c.is_modules-is_modules.result a.has a.number about member c.is_first.ensures (c.is_modules-is_modules.ensures read name h w.1) in
     let file = ap (λ g. g.file) (get_or_read l.groups.items _ _ c.requires.here c.index-3.ensures no_group) ∙ sym a.file in
     let lines = ap (map (line_in l.names.arena)) c.lines_of-lines.ensures.lines ∙ sym a.attributes in
     let kind = c.kind.ensures ∙ kind_is read name c.index.result.now about in

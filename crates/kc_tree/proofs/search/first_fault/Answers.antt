@@ -8,7 +8,7 @@ use Rattle.kc_tree.specs.checker.FaultSearch.{AreSmall}
 use Rattle.kc_tree.specs.checker.Summaries.{IsSummary, is_choice_code, no_group}
 use Rattle.kc_tree.proofs.Aligned.{count_is}
 use Rattle.kc_tree.proofs.Rounds.{one_counted}
-use Rattle.kc_tree.proofs.FaultSearch.{fault_all, fault_here, fault_none, few_choices, keys_fit, told_none, told_some}
+use Rattle.kc_tree.proofs.FaultSearch.{fault_all, fault_here, fault_none, few_choices, keys_fit, reported_none, reported_some}
 use Rattle.kc_tree.proofs.search.first_fault.Goals as goal
 use Rattle.kc_tree.proofs.search.first_fault.Goals.{then-begins_choice, else-begins_choice}
 
@@ -34,7 +34,7 @@ returns-then-is_some c = λ read h.
     let l = c.args.listing.now in
     let within : c.loop-i.i < length l.groups.items = omega arith in
     let here = fault_here l.names.arena l.texts.items l.lines.items l.groups.items read h.groups_are c.loop-i.i c.group_fault-fault.result within (c.loop-i.invariant.none read h) (λ p at. c.group_fault-fault.ensures.fault read p h at) in
-    let t = told_some c.group_fault-fault.result (sym c.is_some.ensures ∙ c.if-is_some.true) in
+    let t = reported_some c.group_fault-fault.result (sym c.is_some.ensures ∙ c.if-is_some.true) in
     t.1 ∙ sym (fault_all read (c.loop-i.i + 1) t.0 (sym here ∙ t.1))
 
 pub loop-i-preserved : goal.loop-i-preserved
@@ -55,7 +55,7 @@ loop-i-preserved c =
       counted = λ read h. one_counted l.names.arena (names_defined read) l.texts.items l.lines.items l.groups.items read h.groups_are c.loop-i.i c.loop-i.choices c.if-begins_choice.choices c.index.result.now.head within what (c.loop-i.invariant.counted read h) count;
       none = λ read h.
           let here = fault_here l.names.arena l.texts.items l.lines.items l.groups.items read h.groups_are c.loop-i.i c.group_fault-fault.result within (c.loop-i.invariant.none read h) (λ p at. c.group_fault-fault.ensures.fault read p h at) in
-          sym here ∙ told_none c.group_fault-fault.result (sym c.is_some.ensures ∙ c.if-is_some.false);
+          sym here ∙ reported_none c.group_fault-fault.result (sym c.is_some.ensures ∙ c.if-is_some.false);
     }
 
 pub returns : goal.returns

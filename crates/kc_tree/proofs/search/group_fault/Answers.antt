@@ -10,7 +10,7 @@ use Rattle.kc_listing.proofs.NameLemmas.{as_many_names}
 use Rattle.kc_tree.specs.checker.Marks.{AreMarked}
 use Rattle.kc_tree.specs.checker.Summaries.{IsSummary, group_at, is_choice_code, no_group}
 use Rattle.kc_tree.proofs.MemberMarks.{members_small}
-use Rattle.kc_tree.proofs.FaultSearch.{are_marked_in, at_most_choice, at_most_more, choice_below, marks_small, members_kept, nothing_told, place_at, place_there}
+use Rattle.kc_tree.proofs.FaultSearch.{are_marked_in, at_most_choice, at_most_more, choice_below, marks_small, members_kept, nothing_reported, place_at, place_there}
 use Rattle.kc_tree.proofs.search.group_fault.Goals as goal
 
 pub get-requires : goal.get-requires
@@ -63,7 +63,7 @@ returns-in_default c =
     record {
       fault = λ read p h at.
           let a = place_at l.names.arena (names_defined read) l.texts.items l.lines.items l.groups.items read h.groups_are c.args.i p c.requires.here at in
-          sym (nothing_told l.names.arena (names_defined read) l.texts.items (group_at l.groups.items c.args.i).head (contents_of read) p a.head (λ s w. c.in_default.not-Config s (group ∙ w)) (λ w. c.in_default.not-Choice (group ∙ w)));
+          sym (nothing_reported l.names.arena (names_defined read) l.texts.items (group_at l.groups.items c.args.i).head (contents_of read) p a.head (λ s w. c.in_default.not-Config s (group ∙ w)) (λ w. c.in_default.not-Choice (group ∙ w)));
       many = c.requires.many;
       marks = λ s. at_most_more (is_choice_code (group_at l.groups.items c.args.i).head) _ c.args.choices (c.requires.small s);
     }

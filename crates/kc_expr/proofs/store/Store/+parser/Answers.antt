@@ -12,7 +12,7 @@ use Rattle.kc_expr.specs.Token.{lexeme_of, lexemes_of}
 use Rattle.kc_expr.proofs.NamesRead.{read_negated, read_joined}
 use Rattle.kc_expr.proofs.ParseSteps.{as_both, as_either, factor_is_operand, factor_beyond, not_fails, not_parsed, open_fails, open_unclosed, open_parsed, parses_by, kind_within, chain_first_fails, chain_begins, chain_fails, chain_goes_on, chain_ends}
 use Rattle.kc_expr.proofs.ReaderSteps.{ands_on, ors_on, ands_first_fails, ands_first, ands_link_fails, ands_link, ands_end, ors_first_fails, ors_first, ors_link_fails, ors_link, ors_end}
-use Rattle.kc_expr.proofs.StoreLemmas.{stands_later, stands_node, extends_on}
+use Rattle.kc_expr.proofs.StoreLemmas.{represents_later, represents_node, extends_on}
 use Rattle.kc_expr.proofs.store.Store.+parser.Goals as goal
 use Rattle.kc_expr.proofs.store.Store.+parser.Goals.{parse_factor-else-not-negated-via-then-not-negated+else-not-is_kind_at, parse_factor-else-not-negated-via-else-not-negated}
 
@@ -36,8 +36,8 @@ parse_ands-returns-in_err-right-clause-parses t c =
 
 pub parse_ands-push-requires-clause-fits : goal.parse_ands-push-requires-clause-fits
 parse_ands-push-requires-clause-fits t c =
-    let left = stands_later c.ands.self c.parse_factor-in-ands.new.self c.ands.left _ c.ands.invariant.sound c.parse_factor-in-ands.ensures.extends c.ands.invariant.chained.stands in
-    (stands_node c.parse_factor-in-ands.new.self c.ands.left _ left, stands_node c.parse_factor-in-ands.new.self c.in_ok-right.right _ c.in_ok-right.ensures.parses.stands)
+    let left = represents_later c.ands.self c.parse_factor-in-ands.new.self c.ands.left _ c.ands.invariant.sound c.parse_factor-in-ands.ensures.extends c.ands.invariant.chained.stands in
+    (represents_node c.parse_factor-in-ands.new.self c.ands.left _ left, represents_node c.parse_factor-in-ands.new.self c.in_ok-right.right _ c.in_ok-right.ensures.parses.stands)
 
 pub parse_ands-ands-preserved : goal.parse_ands-ands-preserved
 parse_ands-ands-preserved t c = record {
@@ -70,8 +70,8 @@ parse_ors-returns-in_err-right-clause-parses t c =
 
 pub parse_ors-push-requires-clause-fits : goal.parse_ors-push-requires-clause-fits
 parse_ors-push-requires-clause-fits t c =
-    let left = stands_later c.ors.self c.parse_ands-in-ors.new.self c.ors.left _ c.ors.invariant.sound c.parse_ands-in-ors.ensures.extends c.ors.invariant.chained.stands in
-    (stands_node c.parse_ands-in-ors.new.self c.ors.left _ left, stands_node c.parse_ands-in-ors.new.self c.in_ok-right.right _ c.in_ok-right.ensures.parses.stands)
+    let left = represents_later c.ors.self c.parse_ands-in-ors.new.self c.ors.left _ c.ors.invariant.sound c.parse_ands-in-ors.ensures.extends c.ors.invariant.chained.stands in
+    (represents_node c.parse_ands-in-ors.new.self c.ors.left _ left, represents_node c.parse_ands-in-ors.new.self c.in_ok-right.right _ c.in_ok-right.ensures.parses.stands)
 
 pub parse_ors-ors-preserved : goal.parse_ors-ors-preserved
 parse_ors-ors-preserved t c = record {
@@ -99,7 +99,7 @@ parse_factor-returns-in_err-part-clause-parses t c =
     rw (p.1, p.2) (not_fails (lexemes_of c.args.tokens.now) c.args.condition c.args.at c.args.depth (c.args.depth - 1) (omega arith) (c.is_kind_at-negated.ensures.0 c.if-negated.true) _ c.in_err-part.ensures.parses)
 
 pub parse_factor-push-requires-clause-fits : goal.parse_factor-push-requires-clause-fits
-parse_factor-push-requires-clause-fits t c = stands_node c.parse_factor.new.self c.in_ok-part.part _ c.in_ok-part.ensures.parses.stands
+parse_factor-push-requires-clause-fits t c = represents_node c.parse_factor.new.self c.in_ok-part.part _ c.in_ok-part.ensures.parses.stands
 
 pub parse_factor-returns-then-negated-clause-parses : goal.parse_factor-returns-then-negated-clause-parses
 parse_factor-returns-then-negated-clause-parses t c =

@@ -7,8 +7,8 @@ use Rattle.std.specs.declared.alloc.Global.{Global}
 use Rattle.kc_expr.specs.Lookup.{index_of_name, AreDistinct}
 use Rattle.kc_expr.specs.between.Names.{with_name}
 use Rattle.kc_expr.specs.checker.Store.{Extends}
-use Rattle.kc_expr.proofs.Places.{place_put, distinct_put, names_put, place_there}
-use Rattle.kc_expr.proofs.StoreLemmas.{extends_self, sound_on, put_prefix, put_long}
+use Rattle.kc_expr.proofs.Places.{place_pushed, distinct_pushed, names_pushed, place_there}
+use Rattle.kc_expr.proofs.StoreLemmas.{extends_self, sound_on, pushed_prefix, pushed_long}
 use Rattle.kc_expr.proofs.store.Store.insert_name.Goals as goal
 
 placed : (c : goal.In_ok-index) → index_of_name c.args.name.now (map string_bytes c.insert_full.new.self.keys) ≡ Some c.in_ok-index.index
@@ -16,13 +16,13 @@ placed c =
     let v = c.in_ok-from_str.field-0 in
     ap (λ (x : List ℕ). index_of_name x (map string_bytes c.insert_full.new.self.keys)) (sym c.in_ok-from_str.ensures.ok)
     ∙ ap (λ (ks : List (String Global)). index_of_name (string_bytes v) (map string_bytes ks)) c.in_ok-index.ensures.keys
-    ∙ place_put string_bytes (string_bytes v) v refl c.args.self.now.names.keys
+    ∙ place_pushed string_bytes (string_bytes v) v refl c.args.self.now.names.keys
     ∙ ap Some (sym c.in_ok-index.ensures.index)
 
 extended : (c : goal.In_ok-index) → Extends c.args.self.now (record c.args.self.now { names = c.insert_full.new.self })
 extended c =
     let v = c.in_ok-from_str.field-0 in
-    record { names = rw c.in_ok-index.ensures.keys (put_prefix (list_any (λ k. bytes_eq (string_bytes v) (string_bytes k)) c.args.self.now.names.keys) c.args.self.now.names.keys v); texts = take-length c.args.self.now.texts.items; nodes = take-length c.args.self.now.nodes.items }
+    record { names = rw c.in_ok-index.ensures.keys (pushed_prefix (list_any (λ k. bytes_eq (string_bytes v) (string_bytes k)) c.args.self.now.names.keys) c.args.self.now.names.keys v); texts = take-length c.args.self.now.texts.items; nodes = take-length c.args.self.now.nodes.items }
 
 pub returns-clause-extends : goal.returns-clause-extends
 returns-clause-extends c = extended c
@@ -31,9 +31,9 @@ pub returns-clause-sound : goal.returns-clause-sound
 returns-clause-sound c =
     let v = c.in_ok-from_str.field-0 in
     let distinct : AreDistinct (map string_bytes c.insert_full.new.self.keys) =
-    subst (λ (ks : List (String Global)). AreDistinct (map string_bytes ks)) (sym c.in_ok-index.ensures.keys) (distinct_put string_bytes (string_bytes v) v refl c.args.self.now.names.keys c.requires.distinct) in
+    subst (λ (ks : List (String Global)). AreDistinct (map string_bytes ks)) (sym c.in_ok-index.ensures.keys) (distinct_pushed string_bytes (string_bytes v) v refl c.args.self.now.names.keys c.requires.distinct) in
     let few : length c.insert_full.new.self.keys ≤ 2 ^ 32 =
-    omega (arith, ap length c.in_ok-index.ensures.keys, put_long (list_any (λ k. bytes_eq (string_bytes v) (string_bytes k)) c.args.self.now.names.keys) c.args.self.now.names.keys v, c.in_ok-index_of_32_bits.ensures.below, c.len.ensures) in
+    omega (arith, ap length c.in_ok-index.ensures.keys, pushed_long (list_any (λ k. bytes_eq (string_bytes v) (string_bytes k)) c.args.self.now.names.keys) c.args.self.now.names.keys v, c.in_ok-index_of_32_bits.ensures.below, c.len.ensures) in
     sound_on c.args.self.now (record c.args.self.now { names = c.insert_full.new.self }) c.requires (extended c) refl distinct few
 
 pub returns-clause-place : goal.returns-clause-place
@@ -43,7 +43,7 @@ pub returns-clause-names : goal.returns-clause-names
 returns-clause-names c =
     let v = c.in_ok-from_str.field-0 in
     ap (λ (ks : List (String Global)). map string_bytes ks) c.in_ok-index.ensures.keys
-    ∙ names_put string_bytes (string_bytes v) v refl c.args.self.now.names.keys
+    ∙ names_pushed string_bytes (string_bytes v) v refl c.args.self.now.names.keys
     ∙ ap (λ (x : List ℕ). with_name x (map string_bytes c.args.self.now.names.keys)) c.in_ok-from_str.ensures.ok
 
 pub returns-clause-within : goal.returns-clause-within

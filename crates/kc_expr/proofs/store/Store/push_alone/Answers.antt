@@ -6,19 +6,19 @@ use Rattle.kc_expr.specs.between.Arena.{Represents, node_expr}
 use Rattle.kc_expr.specs.Expr.{alone, both, constant, named, modules}
 use Rattle.kc_expr.specs.checker.Store.{stored_names, exprs_in}
 use Rattle.kc_expr.proofs.LeafLemmas.{m_condition, m_leaf}
-use Rattle.kc_expr.proofs.StoreLemmas.{stands_later, stands_node, extends_on}
+use Rattle.kc_expr.proofs.StoreLemmas.{represents_later, represents_node, extends_on}
 use Rattle.kc_expr.proofs.store.Store.push_alone.Goals as goal
 
 pub push-requires-3-clause-fits : goal.push-requires-3-clause-fits
 push-requires-3-clause-fits c =
-    let id = stands_later c.push.new.self c.push-2.new.self c.in_ok-id.id _ c.push.ensures.sound (extends_on c.push.new.self c.intern.new.self c.push-2.new.self c.intern.ensures.extends c.push-2.ensures.extends) c.in_ok-id.ensures.stands in
-    (stands_node c.push-2.new.self c.in_ok-id.id _ id, stands_node c.push-2.new.self c.in_ok-name.name _ c.in_ok-name.ensures.stands)
+    let id = represents_later c.push.new.self c.push-2.new.self c.in_ok-id.id _ c.push.ensures.sound (extends_on c.push.new.self c.intern.new.self c.push-2.new.self c.intern.ensures.extends c.push-2.ensures.extends) c.in_ok-id.ensures.stands in
+    (represents_node c.push-2.new.self c.in_ok-id.id _ id, represents_node c.push-2.new.self c.in_ok-name.name _ c.in_ok-name.ensures.stands)
 
 pub returns-clause-stands : goal.returns-clause-stands
 returns-clause-stands c =
     let m = sym c.is_constant_m.ensures ∙ c.if-not-is_constant_m.false in
     let alone_m = ap alone (m_leaf c.args.leaf (stored_names c.args.self.now) c.args.self.now.texts.items m) in
-    let id = stands_later c.push.new.self c.push-2.new.self c.in_ok-id.id _ c.push.ensures.sound (extends_on c.push.new.self c.intern.new.self c.push-2.new.self c.intern.ensures.extends c.push-2.ensures.extends) c.in_ok-id.ensures.stands in
+    let id = represents_later c.push.new.self c.push-2.new.self c.in_ok-id.id _ c.push.ensures.sound (extends_on c.push.new.self c.intern.new.self c.push-2.new.self c.intern.ensures.extends c.push-2.ensures.extends) c.in_ok-id.ensures.stands in
     let left : node_expr (exprs_in c.push-2.new.self) c.in_ok-id.id ≡ alone (constant M) = id.is ∙ alone_m in
     let right : node_expr (exprs_in c.push-2.new.self) c.in_ok-name.name ≡ alone (named modules) = c.in_ok-name.ensures.stands.is ∙ ap (λ x. alone (named x)) c.in_ok-modules.ensures.name in
     let whole = ap (λ e. both e (node_expr (exprs_in c.push-2.new.self) c.in_ok-name.name)) left ∙ ap (both (alone (constant M))) right ∙ sym (m_condition c.args.condition c.args.leaf (stored_names c.args.self.now) c.args.self.now.texts.items c.if-not-condition.false m) in

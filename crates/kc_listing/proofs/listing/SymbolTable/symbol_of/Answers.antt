@@ -2,7 +2,7 @@ use Rattle.std.proofs.Common.{◌≡◌, ◌∙◌, sym, refl, inr, arith, Some,
 use Rattle.std.proofs.lemmas.Grind.{common_steps}
 use Rattle.kc_expr.specs.Lookup.{index_of_name}
 use Rattle.kc_listing.proofs.NameLemmas.{full_there, with_there, place_get, names_later}
-use Rattle.kc_listing.proofs.SymbolSteps.{place_known, told_full, told_new}
+use Rattle.kc_listing.proofs.SymbolSteps.{place_known, reported_full, reported_new}
 use Rattle.kc_listing.proofs.listing.SymbolTable.symbol_of.Goals as goal
 
 pub returns-in-Some-clause-told : goal.returns-in-Some-clause-told
@@ -16,7 +16,7 @@ pub returns-then-len-ge-MAX_SYMBOLS-clause-told : goal.returns-then-len-ge-MAX_S
 returns-then-len-ge-MAX_SYMBOLS-clause-told c = λ names h.
     let l = names_later c.args.self.now.arena c.intern.new.self c.args.self.now.symbols.items c.args.self.now.numbers.items names c.in-Ok.ensures.grows h in
     let none : index_of_name c.args.name.now names ≡ None = place_known c.intern.new.self c.args.self.now.symbols.items c.args.self.now.numbers.items names c.args.name.now c.in-Ok.id l c.in-Ok.ensures.place ∙ sym (rw c.as_slice.ensures.value at c.number_at.ensures) ∙ c.in_default-number_at.is in
-    inr (refl, told_full c.intern.new.self c.args.self.now.symbols.items c.args.self.now.numbers.items names c.args.name.now l none (let t = c.if-len-ge-MAX_SYMBOLS.true in let k = c.len.ensures in omega arith), l)
+    inr (refl, reported_full c.intern.new.self c.args.self.now.symbols.items c.args.self.now.numbers.items names c.args.name.now l none (let t = c.if-len-ge-MAX_SYMBOLS.true in let k = c.len.ensures in omega arith), l)
 
 pub define-requires-clause-few : goal.define-requires-clause-few
 define-requires-clause-few c = let t = c.if-len-ge-MAX_SYMBOLS.false in let k = c.len.ensures in omega arith
@@ -25,7 +25,7 @@ pub returns-clause-told : goal.returns-clause-told
 returns-clause-told c = λ names h.
     let l = names_later c.args.self.now.arena c.intern.new.self c.args.self.now.symbols.items c.args.self.now.numbers.items names c.in-Ok.ensures.grows h in
     let none : index_of_name c.args.name.now names ≡ None = place_known c.intern.new.self c.args.self.now.symbols.items c.args.self.now.numbers.items names c.args.name.now c.in-Ok.id l c.in-Ok.ensures.place ∙ sym (rw c.as_slice.ensures.value at c.number_at.ensures) ∙ c.in_default-number_at.is in
-    told_new c.intern.new.self c.args.self.now.symbols.items c.args.self.now.numbers.items names c.args.name.now l none c.define.new.self c.define.result
+    reported_new c.intern.new.self c.args.self.now.symbols.items c.args.self.now.numbers.items names c.args.name.now l none c.define.new.self c.define.result
     (let t = c.if-len-ge-MAX_SYMBOLS.false in let k = c.len.ensures in omega arith)
     c.define.ensures.number (c.define.ensures.named c.args.name.now names l c.in-Ok.ensures.place none) c.define.ensures.memory
 

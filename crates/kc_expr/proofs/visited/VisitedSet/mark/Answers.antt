@@ -2,7 +2,7 @@ use Rattle.std.proofs.Common.{true, ap, ◌∙◌, arith}
 use Rattle.std.proofs.lemmas.Grind.{common_steps}
 use Rattle.std.specs.Prelude.{slice_set}
 use Rattle.kc_expr.proofs.VisitLemmas.{stamped_set}
-use Rattle.kc_expr.proofs.visited.VisitedSet.stamp.Goals as goal
+use Rattle.kc_expr.proofs.visited.VisitedSet.mark.Goals as goal
 
 pub returns : goal.returns
 returns c = stamped_set c.self.inside.turn c.self.inside.stamps.items c.args.index ∙ ap (λ w. slice_set w c.args.index true) c.self.view_is
