@@ -68,6 +68,7 @@ fn a_copy_changes_apart_from_its_session(rt: HostRuntime) -> Result<(), Fail> {
     assert_eq!(rt; report.changed.as_slice(), [1, 2].as_slice());
     assert_eq!(rt; report.evaluated, 2);
     assert_eq!(rt; session.values(), [1, 7, 9].as_slice());
+    assert_eq!(rt; session.users(), [None, Some(7), None].as_slice());
     Ok(())
 }
 
@@ -142,6 +143,8 @@ fn more_than_65536_units_and_links_fit_in_memory(rt: HostRuntime) -> Result<(), 
     assert_eq!(rt; report.changed.last().copied(), Some(MANY));
     assert_eq!(rt; report.evaluated, MANY as u64 + 1);
     assert_eq!(rt; session.values().last().copied(), Some(8));
+    let copy = copied(&session)?;
+    assert_eq!(rt; copy.values().last().copied(), Some(8));
     Ok(())
 }
 

@@ -71,6 +71,7 @@ fn solved(
 fn each_unit_is_one_more_than_the_sum_of_its_dependencies(rt: HostRuntime) -> Result<(), Fail> {
     let system = sums_of(rt.alloc(), &[&[], &[0], &[0, 1]])?;
     let order = order_of(rt.alloc(), &system)?;
+    assert_eq!(rt; order.units(), [0, 1, 2].as_slice());
     for (users, values) in [
         ([None, None, None], [1, 2, 4]),
         ([None, Some(7), None], [1, 7, 9]),
