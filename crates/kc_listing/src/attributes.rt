@@ -25,7 +25,7 @@ fn has_long_name(arena: &Arena, attribute: &Attribute) -> bool
     }
 }
 
-/// Puts an attribute to the newest group.
+/// Appends an attribute to the newest group.
 pub(crate) fn push_attribute(
     read: &mut ReaderState,
     line: u32,

@@ -30,7 +30,7 @@ pub(crate) fn fault_at(file: u32, line: u32, kind: TreeKind) -> TreeFault
 /// A fault at a line of a file, but out of memory has no place.
 pub(crate) fn fault_or_out_of_memory(file: u32, line: u32, kind: TreeKind) -> TreeFault
     ensures memory { kind ≡ OutOfMemory → IsMemory result }
-    ensures told { IsMemory result ⊎ (result ≡ fault_in file line kind) }
+    ensures placed { IsMemory result ⊎ (result ≡ fault_in file line kind) }
 {
     match kind {
         TreeKind::OutOfMemory => out_of_memory(),

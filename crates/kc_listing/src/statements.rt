@@ -17,10 +17,10 @@ use kc_tree_model::TreeKind;
 use kc_value::Text;
 
 /// The result for a statement that names no file to read.
-fn without_path(put: Result<(), TreeKind>) -> Result<Option<Text>, TreeKind>
-    ensures { result ≡ no_path put }
+fn without_path(pushed: Result<(), TreeKind>) -> Result<Option<Text>, TreeKind>
+    ensures { result ≡ no_path pushed }
 {
-    match put {
+    match pushed {
         Ok(()) => Ok(None),
         Err(kind) => Err(kind),
     }

@@ -70,7 +70,7 @@ impl SymbolTable {
     /// are as many symbols as there may be.
     pub(crate) fn symbol_of(&mut self, name: &str) -> Result<u32, TreeKind>
         ensures grows { Grows self.old.arena self.new.arena }
-        ensures told { (names : List (List ℕ)) → HasNames self.old.arena self.old.symbols.items self.old.numbers.items names
+        ensures returned { (names : List (List ℕ)) → HasNames self.old.arena self.old.symbols.items self.old.numbers.items names
             → ReturnsSymbol name.now names self.new result }
     {
         let Ok(id) = self.arena.intern(name) else {

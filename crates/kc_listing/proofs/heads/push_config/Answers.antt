@@ -16,7 +16,7 @@ returns-then-name-gt-MAX_NAME_BYTES c = λ r before d. inr (config_long before c
 pub returns-in-Err : goal.returns-in-Err
 unfolding Describes RepresentsListing
 returns-in-Err c = λ r before d.
-    elim (c.in-Err.ensures.told (names_defined before) d.shows.names) [
+    elim (c.in-Err.ensures.returned (names_defined before) d.shows.names) [
       | inl m ↦ inl m
       | inr e ↦ inr (
         config_full before c.args.name.now (name_short c.args.name.now (length c.args.name.now) refl c.if-name-gt-MAX_NAME_BYTES.false) e.1 ∙ ap Some (sym e.0),
@@ -27,7 +27,7 @@ returns-in-Err c = λ r before d.
 pub returns : goal.returns
 unfolding Describes RepresentsListing
 returns c = λ r before d.
-    let t = c.in-Ok.ensures.told (names_defined before) d.shows.names in (
+    let t = c.in-Ok.ensures.returned (names_defined before) d.shows.names in (
       config_fits before c.args.name.now (name_short c.args.name.now (length c.args.name.now) refl c.if-name-gt-MAX_NAME_BYTES.false) t.0,
       record {
         shows = lists_put_config _ _ _ _ _ _ _ _ _ _ before c.args.file c.args.line c.len-attributes.result c.in-Ok.number c.args.name.now c.in-Ok.ensures.grows (search rules) c.in-Ok-push.ensures.items d.shows t.1 t.2;

@@ -1,6 +1,5 @@
-use Rattle.std.proofs.Common.{sym, ap, ◌∙◌, inr, arith}
+use Rattle.std.proofs.Common.{sym, ◌∙◌, inr, arith}
 use Rattle.std.proofs.lemmas.Grind.{common_steps}
-use Rattle.std.specs.Prelude.{option_map}
 use Rattle.kc_expr.specs.Token.{lexeme_of, lexemes_of}
 use Rattle.kc_listing.proofs.ReaderSteps.{shown_of}
 use Rattle.kc_listing.proofs.StatementSteps.{word_unknown, given_by_word}

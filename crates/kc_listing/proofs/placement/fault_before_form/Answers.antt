@@ -1,5 +1,4 @@
 use Rattle.std.proofs.Common.{sym, ap, ◌∙◌}
-use Rattle.std.specs.Prelude.{option_map}
 use Rattle.kc_expr.specs.Token.{lexemes_of}
 use Rattle.kc_tree_model.specs.Placement.{is_choice_open}
 use Rattle.kc_listing.specs.between.ListingView.{RepresentsListing}

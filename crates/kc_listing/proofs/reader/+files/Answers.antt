@@ -8,7 +8,7 @@ use Rattle.kc_listing.proofs.reader.+files.Goals as goal
 
 pub read_statement-returns-in-Err-clause-read : goal.read_statement-returns-in-Err-clause-read
 read_statement-returns-in-Err-clause-read t c = λ before d.
-    one_faulty (file_source_of c.args.from) (read_file c.args.depth (file_source_of c.args.from)) c.args.file.number c.args.file.bytes.now c.args.at c.args.number before _ _ _ c.requires.here c.in-Ok.ensures c.read_logical.new.read c.in-Err.kind _ (c.in-Err.ensures before d) c.fault_or_out_of_memory.ensures.memory c.fault_or_out_of_memory.ensures.told
+    one_faulty (file_source_of c.args.from) (read_file c.args.depth (file_source_of c.args.from)) c.args.file.number c.args.file.bytes.now c.args.at c.args.number before _ _ _ c.requires.here c.in-Ok.ensures c.read_logical.new.read c.in-Err.kind _ (c.in-Err.ensures before d) c.fault_or_out_of_memory.ensures.memory c.fault_or_out_of_memory.ensures.placed
 
 pub read_statement-returns-in-Ok-Next-clause-read : goal.read_statement-returns-in-Ok-Next-clause-read
 read_statement-returns-in-Ok-Next-clause-read t c = λ before d.

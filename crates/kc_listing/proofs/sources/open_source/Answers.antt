@@ -13,7 +13,7 @@ returns-in-Ok-push_group-clause-sourced c = λ before d.
     let shows = c.in-Ok-push_group.ensures.appends before (of_head (source c.args.path)) kept (c.args.path, c.in-Ok.ensures.kept, refl) refl in
     elim (c.in-Err.ensures.sourced before d) [
       | inl m ↦ inl (c.fault_or_out_of_memory.ensures.memory m)
-      | inr e ↦ elim c.fault_or_out_of_memory.ensures.told [
+      | inr e ↦ elim c.fault_or_out_of_memory.ensures.placed [
         | inl m ↦ inl m
         | inr f ↦ inr (c.in-Err.kind, ap (source_fault (file_source_of c.args.from) before) (sym c.as_str.ensures.characters) ∙ e, f, shows)
       ]
