@@ -39,8 +39,8 @@ fn large_tree(alloc: Global) -> Result<Settled, AllocError> {
     settled(alloc, &twice!(text(alloc)), Profile::Present)
 }
 
-/// A file that is laid over what is held or put in its place, the units whose values it changes, and how many are
-/// evaluated.
+/// A file that is merged into a configuration or replaces its assignment, the units whose values it changes, and how
+/// many units are evaluated.
 struct Change {
     file: &'static str,
     is_merged: bool,
@@ -109,7 +109,7 @@ fn are_made(
     Ok(true)
 }
 
-/// Whether a copy holds what its original does, as a file tells that takes its place.
+/// Whether a copy holds the same as its original, as replacing its assignment shows.
 fn is_copied(alloc: Global, config: &Config<'_>) -> Result<bool, AllocError> {
     let mut copy = config.copy()?;
     let is_made = is_made(alloc, &mut copy, &OF_A_COPY);
@@ -123,7 +123,7 @@ fn is_missed(config: &Config<'_>, number: u32) -> Result<bool, AllocError> {
     Ok(missed.len() == 1 && missed[0].number() == number)
 }
 
-/// Whether a configuration of the tree holds what files assign, and tells what changes.
+/// Whether a configuration of the tree holds what files assign, and reports the changes.
 fn holds(alloc: Global, config: &mut Config<'_>) -> Result<bool, AllocError> {
     let first = are_made(alloc, config, &FIRST)?;
     let is_copied = twice!(is_copied(alloc, config));

@@ -61,7 +61,7 @@ fn cases() -> [Case<'static>; 7] {
     ]
 }
 
-/// What minimising a file gives that comes in pieces of at most so many bytes; an `Err` where memory was refused.
+/// The answer to minimising a file that comes in pieces of at most `most` bytes; an `Err` where memory was refused.
 fn answer(
     alloc: Global,
     tree: &Settled,
@@ -92,7 +92,7 @@ fn is_memory(fault: RunFault) -> bool {
     fault == RunFault::Memory || fault == RunFault::Load(line_0)
 }
 
-/// Whether a file in pieces is answered as it should be, to a writer with room for so many bytes that then fails.
+/// Whether a file in pieces is answered as it should be, to a writer that takes `room` bytes and then fails.
 fn is_answered(
     alloc: Global,
     tree: &Settled,
