@@ -1,4 +1,4 @@
--- What is taken of a line.
+-- The meaning of a line is accumulated.
 use Rattle.std.proofs.Common.{◌≡◌, ℕ, ◌+◌, true, List, [], ◌∷◌, ◌++◌, length, Option, Some, None, sym, ◌∙◌, ap, subst}
 use Rattle.std.specs.Prelude.{Result, Ok, Err, OnOk, IfSome, option_map}
 use Rattle.std.specs.BTreeMap.{insert_entry}

@@ -1,4 +1,4 @@
--- What was gathered of an accepted file fits the tree.
+-- The user values accumulated from an accepted file fit the tree.
 use Rattle.std.proofs.Common.{◌≡◌, ℕ, zero, suc, ◌+◌, ◌<◌, true, IsTrue, IfSome, List, [], ◌∷◌, length, Option, Some, None, refl, sym, ◌∙◌, ap, subst, arith}
 use Rattle.std.specs.Prelude.{slice_get, slice_set, slice_index, replicate}
 use Rattle.std.specs.List.Sorted.{IsStrictlyIncreasing}

@@ -1,4 +1,4 @@
--- What units have user values after changes.
+-- The units that have user values after changes.
 use Rattle.std.proofs.Common.{◌≡◌, ◌≢◌, ◌⊎◌, inl, inr, ℕ, zero, suc, ◌<◌, Bool, true, false, cond, IsTrue, IfSome, List, [], ◌∷◌, ◌++◌, length, Option, Some, None, refl, sym, ◌∙◌, ap, subst, arith}
 use Rattle.std.specs.Prelude.{slice_get, slice_set, slice_index_or, replicate, Contains, filter}
 use Rattle.std.proofs.lemmas.Bool.{cases_eq}

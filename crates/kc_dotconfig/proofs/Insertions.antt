@@ -1,4 +1,4 @@
--- A user value put into a sorted list is a change of the assignment.
+-- A user value inserted into a sorted list is a change of the assignment.
 use Rattle.std.proofs.Common.{◌≡◌, ◌≢◌, inl, inr, ℕ, zero, suc, ◌+◌, ◌<◌, List, [], ◌∷◌, ◌++◌, length, length-append, map, Option, Some, refl, sym, ◌∙◌, ap, subst, arith}
 use Rattle.std.specs.Prelude.{slice_set}
 use Rattle.std.specs.Cmp.{nat_cmp_is}

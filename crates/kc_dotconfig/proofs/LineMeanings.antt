@@ -1,4 +1,4 @@
--- What the texts of strings say.
+-- The meanings of string texts.
 use Rattle.std.proofs.Common.{◌≡◌, ◌<◌, ℕ, Bool, true, false, not, ◌==◌, cond, List, [], ◌∷◌, length, find, Option, Some, None, refl, sym, ◌∙◌, ap, subst, zero, suc, arith}
 use Rattle.std.specs.Prelude.{IfSome, IfNone, IfOk, Result, Ok, Err, slice_get, is_some, option_map, bytes_eq}
 use Rattle.std.proofs.lemmas.Bool.{eqb-true}
@@ -73,7 +73,7 @@ slice_there [] k h = absurd (omega (arith, h))
 slice_there (x ∷ xs) zero h = (x, refl)
 slice_there (x ∷ xs) (suc k) h = slice_there xs k (omega (arith, h))
 
--- what is said of a symbol that is there
+-- the meaning of a line of a symbol that is there
 pub named_at : (tree : Tree) (say : ℕ → Symbol → LineMeaning) (s : ℕ) (x : LineMeaning) → s < length tree.symbols → ((symbol : Symbol) → slice_get tree.symbols s ≡ Some symbol → x ≡ say s symbol) → x ≡ of_named tree say (Some s)
 named_at tree say s x h is = go (slice_get tree.symbols s) refl (slice_there tree.symbols s h) where
   go : (o : Option Symbol) → slice_get tree.symbols s ≡ o → ((symbol : Symbol) × (slice_get tree.symbols s ≡ Some symbol)) → x ≡ of_symbol_at say s o

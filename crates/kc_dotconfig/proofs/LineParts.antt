@@ -1,4 +1,4 @@
--- What is read of a line's parts.
+-- The parts of a line.
 use Rattle.std.proofs.Common.{◌≡◌, ℕ, suc, ◌+◌, ◌<◌, Bool, true, false, not, ◌==◌, cond, List, [], ◌∷◌, ◌++◌, Option, Some, None, length, take, drop, get_or, length-append, ◌-◌, refl, sym, ◌∙◌, ap, subst, arith}
 use Rattle.std.specs.Prelude.{option_map, IfNone}
 use Rattle.std.specs.Str.{IsAscii, IsUtf8, IsCharBoundary}
@@ -81,7 +81,7 @@ cut_none b (c ∷ text) e = go (c == b) e (cut_none b text) where
   go true e next = absurd (omega (arith, e))
   go false e next = ap (option_map (λ (q : Parts). (c ∷ q.0, q.1))) (next (omega (arith, e)))
 
--- the parts round the first such byte
+-- the parts before and after the first such byte
 pub cut_parts : (b : ℕ) (text name rest : List ℕ) → name ≡ before_first (λ c. c == b) text → rest ≡ after_first (λ c. c == b) text → position_or_len (λ c. c == b) text < length text → split_at_byte b text ≡ Some (name, rest)
 cut_parts b text name rest front back h =
     cut_is b text h ∙ ap {B = Option Parts} (λ x. Some (x, after_first (λ c. c == b) text)) (sym front) ∙ ap {B = Option Parts} (λ x. Some (name, x)) (sym back)

@@ -201,7 +201,7 @@ ends_refused prefix tree line g kind lines some same odd bad kinds = elim kinds 
       (subst (λ k. IsFirstFault prefix tree complete told k (length h.0 + 1)) kinds
       (subst (λ b. IsFirstFault prefix tree complete b from (length h.0 + 1)) (append-nil told) fault))
 
--- the same of what a call answered
+-- a refused line or piece, by the result of the call
 abbrev AsErr : (T : Type 0) → LoadKind → Result T LoadKind
 AsErr T kind = Err kind
 

@@ -1,4 +1,4 @@
--- What a configuration holds and keeps after a change.
+-- The state of a configuration after a change.
 use Rattle.std.proofs.Common.{◌≡◌, inl, inr, ℕ, ◌<◌, IsTrue, List, [], ◌++◌, length, Option, Some, None, refl, sym, ◌∙◌, ap, subst, arith}
 use Rattle.std.specs.Prelude.{Contains, filter, is_none, replicate}
 use Rattle.kc_system.specs.Changes.{changed_users}
@@ -27,7 +27,7 @@ solved_by old new before same fits gives =
       gives = gives;
     }
 
--- the one solution that a session of a settled tree tells
+-- the one solution that a session of a settled tree has
 pub solved_as : (settled : Settled) (new : Configured) → new.system ≡ settled → IsSettledTree (tree_of_settled settled) → FitsUsers (length (tree_in new).units) (λ u x. IsTrue (user_fits (tree_in new) u x)) new.users
     → FitsValues (length (tree_in new).units) (λ u v. IsTrue (value_fits (tree_in new) u v)) new.values → UniquelySolves (length (tree_in new).units) (rule (profile_of new.system) (tree_in new)) new.users new.values → IsSolved new
 solved_as settled new same tree fits fits_values gives = record {

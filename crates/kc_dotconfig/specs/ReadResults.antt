@@ -25,7 +25,7 @@ pub record IsReadAs (prefix : List ℕ) (tree : Tree) (before after : Option (Li
 abbrev pub MAX_READ : ℕ
 MAX_READ = 4096
 
--- the first fault of the bytes told: they are the whole file, or it is the first whatever follows them; no fault stands
+-- the first fault of the known bytes: they are the whole file, or it is the first whatever follows them; no fault comes
 -- before the bytes that were read last
 pub record IsRefused (prefix : List ℕ) (tree : Tree) (before after : Option (List ℕ)) (kind : LoadKind) (number : ℕ) : Type 0 where
   pub told : List ℕ

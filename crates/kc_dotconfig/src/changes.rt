@@ -25,7 +25,7 @@ pub(crate) fn push_users(
     Ok(())
 }
 
-/// Puts after some changes that units have no user value.
+/// Appends the changes after which these units have no user value.
 pub(crate) fn push_cleared(
     changes: &mut Vec<(u32, Option<UserValue>)>,
     units: &[u32],
@@ -52,7 +52,7 @@ pub(crate) fn units_assigned(
     Ok(units)
 }
 
-/// No user value for each of so many units.
+/// No user value for each of `size` units.
 fn blank_users(alloc: Global, size: u32) -> Result<Vec<Option<UserValue>>, AllocError>
     ensures { IfOk result (λ users. users.items ≡ replicate size None) }
 {
@@ -63,7 +63,7 @@ fn blank_users(alloc: Global, size: u32) -> Result<Vec<Option<UserValue>>, Alloc
     Ok(users)
 }
 
-/// The assignment of user values and no others, over so many units.
+/// The assignment of these user values and no others, over `size` units.
 pub(crate) fn users_assigned(
     alloc: Global,
     size: u32,

@@ -42,7 +42,7 @@ impl LineBuffer {
         self.line.as_slice()
     }
 
-    /// Puts a piece after the line so far, if that isn't too long. An `Err` leaves the line.
+    /// Appends a piece to the line so far, if that isn't too long. An `Err` leaves the line.
     pub(crate) fn push(&mut self, piece: &[u8]) -> Result<(), LoadKind>
         ensures ok { OnOk result (self.new ≡ self.old ++ piece.now) }
         ensures short { OnOk result (length self.old + length piece.now ≤ MAX_LINE_BYTES) }

@@ -27,7 +27,7 @@ const MAX_LINES: u32 = 1_048_576;
 /// How many bytes are read at once.
 const BLOCK: usize = 4096;
 
-/// A piece of a line, which goes on.
+/// Takes a piece of a line that goes on.
 fn take_piece(cutter: &mut LineBuffer, lines: u32, piece: &[u8]) -> Result<(), LoadKind>
     requires few { lines ≤ MAX_LINES }
     requires one_line { lacks 10 piece.now ≡ true }
@@ -43,7 +43,7 @@ fn take_piece(cutter: &mut LineBuffer, lines: u32, piece: &[u8]) -> Result<(), L
     cutter.push(piece)
 }
 
-/// The last piece of a line, before its newline.
+/// Takes the last piece of a line, before its newline.
 fn take_ended(
     alloc: Global,
     settled: &Settled,
@@ -73,7 +73,7 @@ fn take_ended(
     Ok(())
 }
 
-/// Bytes of which none is past the size.
+/// Takes bytes, none of which is past the limit of the file.
 fn take_bytes(
     alloc: Global,
     settled: &Settled,
@@ -95,7 +95,7 @@ fn take_bytes(
     take_piece(cutter, gathered.lines, rest)
 }
 
-/// A block, after so many bytes.
+/// Takes a block, which follows `size` bytes of the file.
 fn take_block(
     alloc: Global,
     settled: &Settled,
@@ -120,7 +120,7 @@ fn take_block(
     take_bytes(alloc, settled, prefix, cutter, gathered, block)
 }
 
-/// The end of the file.
+/// Takes the last line at the end of the file, if it has no newline.
 fn take_end(
     alloc: Global,
     settled: &Settled,
@@ -182,7 +182,7 @@ fn finish(
 /// 67,108,864, `TooManyLines` at the first byte of line 1,048,577, `LineTooLong` at the first byte of a line past 65,536,
 /// `NotUtf8` and `Malformed` at a line's end, `Read` where the reader failed after lines without a fault. Then no file
 /// that begins with the bytes read is accepted, but where the file ends there or a read failed. `OutOfMemory` has the
-/// line 0, and says nothing of the file. A refused reader is left at an unstated place. At most one read fails: the
+/// line 0, and means nothing for the file. A refused reader is left at an unstated place. At most one read fails: the
 /// first that does ends the reading.
 pub fn read_config<R: Source>(
     alloc: Global,

@@ -1,4 +1,4 @@
--- Which fault of a configuration file is reported: the one whose byte comes first.
+-- The fault of a configuration file that is reported is the one whose byte comes first.
 use Rattle.std.specs.Prelude.{◌≡◌, ◌⊎◌, ℕ, ◌+◌, ◌<◌, ◌≤◌, List, [], ◌∷◌, ◌++◌, length, take, ◌==◌, true}
 use Rattle.std.specs.List.{count_by}
 use Rattle.std.specs.Str.{IsUtf8}

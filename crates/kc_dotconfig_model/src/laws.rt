@@ -23,7 +23,7 @@ pub fn files_lie_over_assignments()
     ensures { FilesLieOverAssignments }
 {}
 
-/// What a file of UTF-8 assigns fits its units, over a consistent tree.
+/// The user values that a file of UTF-8 assigns fit their units, over a consistent tree.
 pub fn files_fit()
     ensures { FilesFit }
 {}

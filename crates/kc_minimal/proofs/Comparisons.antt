@@ -30,7 +30,7 @@ compared law l r solved other tree profile found is prefix valid =
     let both = law prefix (profile_of l.system) (tree_in l) l.users r.users l.values r.values valid solved.settled solved.fits fits solved.gives gives in
     (λ none. both.0 (none_told (differences (tree_in l) l.values r.values) (sym is ∙ none)), λ same. is ∙ ap (map difference_view) (both.1 same))
 
--- what is told of equal trees and values
+-- the differences of equal trees and values
 pub told_of : (s t : Settled) (v v_held w w_held : List UnitValue) → s ≡ t → v ≡ v_held → w ≡ w_held → (found : List Told) → found ≡ map difference_view (differences (tree_of_settled s) v w) → found ≡ map difference_view (differences (tree_of_settled t) v_held w_held)
 told_of s t v v_held w w_held es ev ew found is =
     is ∙ ap (λ x. map difference_view (differences (tree_of_settled x) v w)) es ∙ ap (λ x. map difference_view (differences (tree_of_settled t) x w)) ev ∙ ap (λ x. map difference_view (differences (tree_of_settled t) v_held x)) ew

@@ -70,7 +70,7 @@ module _ (prefix : List ℕ) (tree : Tree) (values : List UnitValue) (left : Lis
   marked_now : (d : IsDraft prefix tree values (definition s ∷ left) old) (t : ℕ) → t < length tree.symbols → slice_index_or new.defined.items t false ≡ list_any (nat_eq t) (s ∷ d.seen)
   marked_now d t within = ap (λ ds. slice_index_or ds t false) defined ∙ marked_more (length tree.symbols) old.defined.items d.seen s (omega (arith, marks, there)) d.marked t within
 
-  -- what the definition writes, as the marks tell
+  -- a definition is written if no mark has its symbol
   definition_pieces : (d : IsDraft prefix tree values (definition s ∷ left) old) (b : Bool) → (is_written tree values s && not (slice_index_or old.defined.items s false)) ≡ b
       → entry_texts prefix tree values d.seen old.gap (definition s ∷ left)
       ≡ cond b (cond old.gap (10 ∷ ended_line prefix tree values s) (ended_line prefix tree values s) ++ entry_texts prefix tree values (s ∷ d.seen) false left) (entry_texts prefix tree values (s ∷ d.seen) old.gap left)

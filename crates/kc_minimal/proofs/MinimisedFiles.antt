@@ -1,4 +1,4 @@
--- What is written for a file that was read.
+-- A file that was read is minimised, whole or in part.
 use Rattle.std.proofs.Common.{◌≡◌, ℕ, ◌<◌, ◌-◌, ◌^◌, true, List, Option, length, take, subst}
 use Rattle.std.specs.Io.KnownBytes.{Appends}
 use Rattle.kc_tree_model.specs.Trees.{Tree}

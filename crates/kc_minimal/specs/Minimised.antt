@@ -1,4 +1,4 @@
--- What it means to minimise a configuration file.
+-- Minimising a configuration file from a reader to a writer.
 use Rattle.std.specs.Prelude.{◌≡◌, ℕ, ◌<◌, ◌-◌, ◌^◌, List, Option, length, map, take}
 use Rattle.std.specs.Io.KnownBytes.{Consumes, IsAtEnd, Appends, Keeps}
 use Rattle.kc_tree_model.specs.Trees.{Tree}
@@ -16,7 +16,7 @@ use Rattle.kc_minimal_model.specs.Loading.{Loads}
 
 -- The bytes of a reader are minimised to a writer.
 pub record IsMinimised (prefix : List ℕ) (profile : Profile) (tree : Tree) (before after taken taken_after : Option (List ℕ)) (notices : List Notice) : Type 0 where
-  -- the bytes that the reader told, to its end
+  -- the bytes that the reader supplied, to its end
   pub told : List ℕ
   pub consumed : Consumes before after told
   pub ended : IsAtEnd after

@@ -14,7 +14,7 @@ use std::alloc::{AllocError, Global};
 
 /// The symbols whose values differ, in order of first definition, each with both values: none exactly if the minimal
 /// files are equal byte for byte, whatever the prefix. An `Err` means out of memory. The caller owes that both
-/// configurations stand over the same tree, in the same profile.
+/// configurations are over the same tree, in the same profile.
 pub fn compare(
     alloc: Global,
     left: &Config<'_>,

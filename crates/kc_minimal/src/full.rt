@@ -26,8 +26,8 @@ pub(crate) struct Draft {
     gap: bool,
 }
 
-/// Appends what stands before a menu or for a comment. A title that begins with the prefix stands after two spaces, so
-/// that it is never read as an unset line.
+/// Appends the heading of a menu or a comment. A title that begins with the prefix comes after two spaces, so that it
+/// is never read as an unset line.
 fn push_heading(out: &mut Vec<u8>, prefix: &Prefix, title: &str) -> Result<(), AllocError>
     ensures { OnOk result (out.new.items ≡ out.old.items ++ heading (prefix_bytes prefix.now) title.now) }
 {

@@ -66,7 +66,7 @@ fn push_plain(out: &mut Vec<u8>, text: &str) -> Result<(), AllocError>
     }
 }
 
-/// Appends the text that stands after `=`: that of a string in quotes.
+/// Appends the text after `=`: that of a string in quotes.
 fn push_spelled(out: &mut Vec<u8>, kind: Kind, text: &str) -> Result<(), AllocError>
     ensures { OnOk result (out.new.items ≡ out.old.items ++ spelled kind text.now) }
 {

@@ -49,7 +49,7 @@ pub fn minimal_text(
 /// The full file of a configuration: its symbols that are visible, have a default or are selected, each at its first
 /// definition, with the titles of menus and comments. An `Err` means out of memory.
 ///
-/// Where no tristate stands above its visibility, reading it gives the values back.
+/// Where no tristate is above its visibility, reading it gives the values back.
 pub fn full_text(alloc: Global, config: &Config<'_>, prefix: &Prefix) -> Result<Vec<u8>, AllocError>
     ensures text { IfOk result (λ text. text.items ≡ full_file (prefix_bytes prefix.now) (tree_in config.now) config.now.values) }
     ensures back { IfOk result (λ text. IsUnlifted (profile_of config.now.system) (tree_in config.now) config.now.values → ReadsTo (prefix_bytes prefix.now) (profile_of config.now.system) (tree_in config.now) text.items config.now.values) }

@@ -1,4 +1,4 @@
--- What can be read is accepted within the limits.
+-- A file that can be read is accepted within the limits.
 use Rattle.std.proofs.Common.{◌≡◌, ℕ, zero, suc, ◌≤◌, Bool, true, false, ◌&&◌, IsTrue, cond, List, [], ◌∷◌, ◌++◌, Option, Some, length, map, filter, refl, sym, ap, ◌∙◌, subst, arith, length-append}
 use Rattle.std.specs.Prelude.{slice_get, nat_le}
 use Rattle.std.specs.Str.{is_utf8}
@@ -33,7 +33,7 @@ passes_at p [] i x all at = cc
 passes_at p (y ∷ xs) zero x all at = let same : y ≡ x = cc in ap p (sym same) ∙ (and_parts (p y) (list_all p xs) all).0
 passes_at p (y ∷ xs) (suc i) x all at = passes_at p xs i x (and_parts (p y) (list_all p xs) all).1 at
 
--- a line of a file that says something
+-- a line of a file that has a meaning
 line_says : (prefix : List ℕ) (tree : Tree) (lines : List (List ℕ)) (sayings : List LineMeaning) (i : ℕ) (line : List ℕ) → AllZip (λ l saying. Means prefix tree (without_white_end l) saying) lines sayings → slice_get lines i ≡ Some line
     → (saying : LineMeaning) × Means prefix tree (without_white_end line) saying
 line_says prefix tree [] sayings i line all at = cc

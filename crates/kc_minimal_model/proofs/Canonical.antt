@@ -58,7 +58,7 @@ module _ (prefix : List ℕ) (valid : is_prefix prefix ≡ true) (profile : Prof
       let found = solving.solution (length tree.units) (dependencies tree) (rule profile tree) (λ u x. IsTrue (user_fits tree u x)) settled.order settled.ordered (rules_frame profile tree) (file_assignment tree sayings) fitting.1 in
       (found.0, record { utf8 = utf8; sayings = sayings; says = says; gives = solving.gives (length tree.units) (dependencies tree) (rule profile tree) (λ u x. IsTrue (user_fits tree u x)) settled.order settled.ordered (rules_frame profile tree) (file_assignment tree sayings) fitting.1 found.0 found.1 })
 
-  -- a file says one thing
+  -- a file has one meaning
   same_sayings : (bytes : List ℕ) (a b : List LineMeaning) → FileMeans prefix tree bytes a → FileMeans prefix tree bytes b → a ≡ b
   same_sayings bytes a b first second = let e = (file_read prefix tree bytes a valid).1 first in let f = (file_read prefix tree bytes b valid).1 second in cc (e, f)
 

@@ -1,4 +1,4 @@
--- What differs between two valuations.
+-- Differences of small valuations.
 use Rattle.std.proofs.Common.{◌≡◌, [], ◌∷◌, Some, refl}
 use Rattle.std.specs.Prelude.{codes}
 use Rattle.kc_value.specs.declared.tri.Tri.TheVariants.{N, Y}

@@ -54,7 +54,7 @@ by_a_line (assigns w x ∷ sayings) held u some = elim (by_a_line sayings (slice
   | inr later ↦ inr (or_right (eqb u w) (list_any (eqb u) (assigned_units sayings)) later)
 ]
 
--- numbers that a list has, by a function that tells those of a test apart
+-- the values of a function on the numbers that pass a test, where it gives each another one
 apart : (p : ℕ → Bool) (f : ℕ → ℕ) (a n x : ℕ) → x < a → p x ≡ true → ((s t : ℕ) → p s ≡ true → p t ≡ true → f s ≡ f t → s ≡ t)
     → AllByRecursion (λ y. eqb (f x) y ≡ false) (map f (filter p (range_with_len a n)))
 apart p f a zero x below has one = tt

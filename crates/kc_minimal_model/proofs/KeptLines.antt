@@ -39,7 +39,7 @@ saying_of_user u (Some x) = assigns u x
 abbrev pub user_meant : List UnitValue → ℕ → Option UserValue
 user_meant values u = option_and_then as_user (slice_get values u)
 
--- what a line of this unit says
+-- the meaning of a line of this unit
 abbrev pub meant : List UnitValue → ℕ → LineMeaning
 meant values u = saying_of_user u (user_meant values u)
 

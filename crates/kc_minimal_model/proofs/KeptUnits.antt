@@ -1,4 +1,4 @@
--- What is known of a unit whose value its rule doesn't give without a user value.
+-- Units whose value their rule doesn't give without a user value.
 use Rattle.std.proofs.Common.{◌≡◌, ◌≢◌, inl, inr, ℕ, ◌<◌, true, false, not, IsTrue, List, Option, Some, None, length, refl, sym, ◌∙◌, ap}
 use Rattle.std.specs.Prelude.{slice_get}
 use Rattle.std.proofs.lemmas.Bool.{cases_Bool, false≢true}
@@ -33,7 +33,7 @@ module _ (profile : Profile) (tree : Tree) (users : List (Option UserValue)) (va
       let again = (rules_restore profile tree).restored u (user_of users u) values inside solved.one_each (fitting.1 u inside) differs in
       record { held = held; again = again.0; has = has; assigned = again.1; fits = again.2 }
 
-  -- the test tells what is kept
+  -- the test passes for the units that are kept
   pub kept_passes : (u : ℕ) → u < length tree.units → IsKept (rule profile tree) values u → is_kept profile tree values u ≡ true
   kept_passes u inside kept =
       let without = rule profile tree u None values in

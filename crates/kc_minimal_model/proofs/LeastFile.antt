@@ -1,4 +1,4 @@
--- What the lines of a minimal file assign is the least assignment of its values.
+-- The lines of a minimal file assign the least assignment of its values.
 use Rattle.std.proofs.Common.{◌≡◌, inl, inr, ℕ, zero, suc, ◌+◌, ◌<◌, ◌≤◌, Bool, true, false, not, ◌||◌, ◌==◌, cond, IsTrue, List, [], ◌∷◌, ◌++◌, Option, Some, None, length, get_or, map, filter, refl, sym, ◌∙◌, ap, subst, append_assoc, arith}
 use Rattle.std.specs.Prelude.{slice_get, slice_set, replicate}
 use Rattle.std.specs.Option.{option_map, option_and_then}
@@ -106,7 +106,7 @@ same_length w None users = refl
 same_length w (Some x) users = length-set users w (Some x)
 
 module _ (tree : Tree) (values : List UnitValue) where
-  -- what the lines of some symbols say
+  -- the meanings of the lines of some symbols
   abbrev pub meanings : List ℕ → List LineMeaning
   meanings xs = map (λ s. meant values (unit_of tree s)) xs
 

@@ -28,7 +28,7 @@ use Rattle.kc_rules_model.proofs.Ink.{is_ink, all_weaker}
 use Rattle.kc_rules_model.proofs.Numbers.{IsInk, number_ink}
 use Rattle.kc_tree_model.proofs.Lookups.{found_by_name}
 
--- the escaped text is what stands between the quotes of a text
+-- the escaped text is the part between the quotes of a text
 body_of : (text : List ℕ) → IsBody 34 (flat_map escaped_byte text) text
 body_of [] = none
 body_of (c ∷ text) = go (c == 34 || (c == 92)) refl (body_of text) where

@@ -84,7 +84,7 @@ module _ (prefix : List ℕ) (profile : Profile) (tree : Tree) (bytes : List ℕ
   fitting : FitsUsers (length tree.units) (λ u x. IsTrue (user_fits tree u x)) (file_assignment tree reads.sayings)
   fitting = file_fits prefix tree bytes reads.sayings settled.consistent reads.utf8 reads.says
 
-  -- a text that the file assigns to a symbol stands on a short line
+  -- a text that the file assigns to a symbol is on a short line
   text_is_short : (s : ℕ) (symbol : Symbol) (text : List ℕ) → slice_get tree.symbols s ≡ Some symbol → symbol.choice ≡ None → unit_of tree s < length tree.units → user_of (file_assignment tree reads.sayings) (unit_of tree s) ≡ Some (TextUser text)
       → (length prefix + length symbol.name + 1 + length (spelled symbol.kind text) ≤ MAX_LINE_BYTES) × IsUtf8 (spelled symbol.kind text)
   text_is_short s symbol text at out below has =

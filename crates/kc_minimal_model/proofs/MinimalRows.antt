@@ -43,7 +43,7 @@ strings : (minimal_file (codes "CONFIG_") Present tree_string (text (codes "x") 
 unfolding rule symbol_line
 strings = (refl, refl, refl)
 
--- of a choice the selected member alone; lines stand in order of definition
+-- of a choice the selected member alone; lines are in order of definition
 choices : (minimal_file (codes "CONFIG_") Present tree_pick (picks 1 ∷ n ∷ []) ≡ []) × (minimal_file (codes "CONFIG_") Present tree_pick (picks 2 ∷ y ∷ []) ≡ codes "CONFIG_C=y\nCONFIG_X=y\n")
 unfolding rule symbol_line
 choices = (refl, refl)

@@ -63,7 +63,7 @@ no_cycle cycle is =
 settled : IsSettledTree tree
 settled = record { consistent = tree_is_consistent files (codes "K") no_fault; acyclic = no_cycle }
 
--- a file, and what it says
+-- a file, and its meaning
 abbrev plain : List ℕ
 plain = codes "CONFIG_"
 
@@ -87,6 +87,6 @@ file_accepted =
 nothing_accepted : IsAccepted plain tree []
 nothing_accepted = accepted_within plain tree [] [] refl tt (omega arith) (omega arith) refl
 
--- so the headline says something of them
+-- so the headline holds of them
 both : AreComparedByMinimalFiles plain Present tree file []
 both = compared plain Present tree file [] refl settled file_accepted nothing_accepted

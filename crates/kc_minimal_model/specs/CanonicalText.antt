@@ -1,4 +1,4 @@
--- What makes a text the canonical file of its values.
+-- The canonical file of values.
 use Rattle.std.specs.Prelude.{◌≡◌, ◌↔◌, ℕ, ◌+◌, ◌<◌, ◌≤◌, Bool, true, false, eqb, List, [], ◌∷◌, ◌++◌, Option, Some, length, slice_get, IsTrue, if◌then◌else◌}
 use Rattle.std.specs.List.{list_any, flat_map}
 use Rattle.kc_tree_model.specs.Trees.{Tree}

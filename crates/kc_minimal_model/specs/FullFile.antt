@@ -9,7 +9,7 @@ use Rattle.kc_rules_model.specs.SymbolValues.{condition}
 use Rattle.kc_rules_model.specs.Reports.{is_written}
 use Rattle.kc_minimal_model.specs.Spelling.{ended_line}
 
--- a title that begins with the prefix stands after two spaces, so that it is never read as an unset line
+-- a title that begins with the prefix comes after two spaces, so that it is never read as an unset line
 abbrev pub heading_title : List ℕ → List ℕ → List ℕ
 heading_title prefix title = if starts_with nat_eq title prefix then 32 ∷ title else title
 
@@ -24,8 +24,8 @@ end_line title = codes "# end of " ++ (title ++ 10 ∷ [])
 abbrev pub applies : Tree → List UnitValue → Expr → Bool
 applies tree values e = not (is_n (condition tree values e))
 
--- What the entries write, where `seen` are the symbols that were defined before, and `gap` tells that an end line
--- came last and no heading or symbol since. A symbol is written at its first definition.
+-- The text of the entries. `seen` are the symbols that were defined before; with `gap` an end line came last, and no
+-- heading or symbol since. A symbol is written at its first definition.
 abbrev pub entry_texts : List ℕ → Tree → List UnitValue → List ℕ → Bool → List Entry → List ℕ
 entry_texts prefix tree values seen gap [] = []
 entry_texts prefix tree values seen gap (definition s ∷ entries) =

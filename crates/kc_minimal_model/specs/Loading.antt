@@ -1,4 +1,4 @@
--- What reading a file gives.
+-- The values that reading a file gives.
 use Rattle.std.specs.Prelude.{◌≡◌, ◌≢◌, ℕ, Bool, true, nat_le, List, length}
 use Rattle.std.specs.List.{list_all}
 use Rattle.kc_tree_model.specs.Trees.{Tree}

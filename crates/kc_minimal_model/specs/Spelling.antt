@@ -10,7 +10,7 @@ use Rattle.kc_rules_model.specs.Kinds.{is_n}
 use Rattle.kc_value.specs.Kinds.{is_tri_kind}
 use Rattle.kc_rules_model.specs.SymbolValues.{value_of_symbol}
 
--- the text after `=`: a string stands in quotes
+-- the text after `=`: a string is in quotes
 abbrev pub spelled : Kind → List ℕ → List ℕ
 spelled Text text = quoted text
 spelled _ text = text
@@ -22,7 +22,7 @@ value_line prefix name text = prefix ++ (name ++ (61 ∷ text))
 abbrev pub unset_line : List ℕ → List ℕ → List ℕ
 unset_line prefix name = codes "# " ++ (prefix ++ (name ++ codes " is not set"))
 
--- a bool or tristate of value `n` isn't set, and any other value stands after `=`; without the newline
+-- a bool or tristate of value `n` isn't set, and any other value comes after `=`; without the newline
 abbrev pub line_with : List ℕ → List ℕ → SymbolValue → List ℕ
 line_with prefix name seen = if is_tri_kind seen.kind && is_n seen.tri
     then unset_line prefix name

@@ -45,7 +45,7 @@ pub fn minimal_files_are_accepted()
     ensures { MinimalFilesAreAccepted }
 {}
 
-/// Where no tristate stands above its visibility, reading the full file gives the values back.
+/// Where no tristate is above its visibility, reading the full file gives the values back.
 pub fn full_files_lead_back()
     ensures { FullFilesLeadBack }
 {}

@@ -9,7 +9,8 @@ fn notices_and_faults_are_printed_by_the_names_of_their_kinds(rt: HostRuntime) -
         (NoticeKind::UnknownSymbol, "UnknownSymbol"),
         (NoticeKind::NotOfType, "NotOfType"),
     ] {
-        assert!(rt; twice!(is_printed(rt.alloc(), &kind, name)));
+        assert_eq!(rt; kind.name(), name);
+        assert!(rt; twice!(is_printed(rt.alloc(), &kind, kind.name())));
     }
     for (kind, text) in [
         (LoadKind::Malformed, "Malformed at line 3"),
@@ -20,6 +21,7 @@ fn notices_and_faults_are_printed_by_the_names_of_their_kinds(rt: HostRuntime) -
         (LoadKind::OutOfMemory, "OutOfMemory at line 3"),
         (LoadKind::TooLarge, "TooLarge at line 3"),
     ] {
+        assert!(rt; twice!(is_printed(rt.alloc(), &kind, kind.name())));
         let fault = LoadFault { line: 3, kind };
         assert!(rt; twice!(is_printed(rt.alloc(), &fault, text)));
     }

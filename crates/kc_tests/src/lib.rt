@@ -42,6 +42,8 @@ mod loads;
 #[cfg(test)]
 mod minimal;
 #[cfg(test)]
+mod pieces;
+#[cfg(test)]
 mod printing;
 #[cfg(test)]
 mod rules;

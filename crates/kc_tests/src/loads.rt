@@ -2,6 +2,7 @@
 use super::settling::{merged, replaced, settled};
 use kc_dotconfig::Config;
 use kc_rules::{Profile, Settled};
+use kc_value::{Tri, ValueRef};
 use std::alloc::{AllocError, Global};
 use std::test::Fail;
 
@@ -38,8 +39,8 @@ fn large_tree(alloc: Global) -> Result<Settled, AllocError> {
     settled(alloc, &twice!(text(alloc)), Profile::Present)
 }
 
-/// A file that is laid over what is held or put in its place, the units whose values it changes, and how many are
-/// evaluated.
+/// A file that is merged into a configuration or replaces its assignment, the units whose values it changes, and how
+/// many units are evaluated.
 struct Change {
     file: &'static str,
     is_merged: bool,
@@ -108,7 +109,7 @@ fn are_made(
     Ok(true)
 }
 
-/// Whether a copy holds what its original does, as a file tells that takes its place.
+/// Whether a copy holds the same as its original, as replacing its assignment shows.
 fn is_copied(alloc: Global, config: &Config<'_>) -> Result<bool, AllocError> {
     let mut copy = config.copy()?;
     let is_made = is_made(alloc, &mut copy, &OF_A_COPY);
@@ -122,7 +123,7 @@ fn is_missed(config: &Config<'_>, number: u32) -> Result<bool, AllocError> {
     Ok(missed.len() == 1 && missed[0].number() == number)
 }
 
-/// Whether a configuration of the tree holds what files assign, and tells what changes.
+/// Whether a configuration of the tree holds what files assign, and reports the changes.
 fn holds(alloc: Global, config: &mut Config<'_>) -> Result<bool, AllocError> {
     let first = are_made(alloc, config, &FIRST)?;
     let is_copied = twice!(is_copied(alloc, config));
@@ -146,6 +147,54 @@ fn holds_in(alloc: Global, tree: &Settled) -> Result<bool, AllocError> {
     let holds = holds(alloc, &mut config);
     drop(config);
     holds
+}
+
+/// A bool, two with its value, and one below both.
+const DIAMOND: &[u8] =
+    b"config A\n\tbool \"a\"\nconfig B\n\tbool\n\tdefault A\nconfig C\n\tbool\n\tdefault A\nconfig D\n\tbool\n\tdefault B && C\n";
+
+const OF_THE_DIAMOND: [Change; 2] = [
+    Change {
+        file: "CONFIG_A=y\n",
+        is_merged: true,
+        changed: &[0, 1, 2, 3],
+        evaluated: 4,
+    },
+    Change {
+        file: "CONFIG_A=y\n",
+        is_merged: true,
+        changed: &[],
+        evaluated: 0,
+    },
+];
+
+/// Whether the files change the diamond as they should, and a refused file leaves it.
+fn is_diamond_changed(alloc: Global) -> Result<bool, AllocError> {
+    let tree = settled(alloc, DIAMOND, Profile::Present)?;
+    let is_changed = is_diamond_changed_in(alloc, &tree);
+    drop(tree);
+    is_changed
+}
+
+/// Whether they do so over this tree.
+fn is_diamond_changed_in(alloc: Global, tree: &Settled) -> Result<bool, AllocError> {
+    let mut config = twice!(Config::new(alloc, tree));
+    let are_made = are_made(alloc, &mut config, &OF_THE_DIAMOND);
+    let is_refused = merged(alloc, &mut config, "CONFIG_A=n\n# x\nFOO=y\n").is_err();
+    let is_kept = is_y(&config, "A") && is_y(&config, "D");
+    drop(config);
+    Ok(are_made? && is_refused && is_kept)
+}
+
+/// Whether the value of a name is `y`.
+fn is_y(config: &Config<'_>, name: &str) -> bool {
+    matches!(config.value(name), Some(ValueRef::Tri(Tri::Y)))
+}
+
+#[test]
+fn each_unit_of_a_diamond_is_evaluated_once(rt: HostRuntime) -> Result<(), Fail> {
+    assert!(rt; is_diamond_changed(rt.alloc())?);
+    Ok(())
 }
 
 #[test]

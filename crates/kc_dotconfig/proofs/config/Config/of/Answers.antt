@@ -12,7 +12,7 @@ use Rattle.kc_dotconfig.proofs.Holding.{users_fit}
 use Rattle.kc_dotconfig.proofs.Solving.{solved_as, held_kept}
 use Rattle.kc_dotconfig.proofs.config.Config.of.Goals as goal
 
--- user values over so many units, as the assignment of a tree
+-- user values over a number of units, as the assignment of a tree
 assigned : (tree : Tree) (size : ℕ) (told es : List (ℕ × UserValue)) (users : List (Option UserValue)) → users ≡ changed_users (changes_of told) (replicate size None) → told ≡ es → size ≡ length tree.units
     → users ≡ users_of tree es
 assigned tree size told es users is same all =

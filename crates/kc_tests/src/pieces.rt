@@ -1,0 +1,184 @@
+//! Files that are minimised from a reader that gives them in pieces or fails, and to a writer that fails.
+ghost use Rattle.std.specs.Prelude.{◌<◌};
+
+use super::settling::settled;
+use kc_dotconfig::Prefix;
+use kc_dotconfig_model::{LoadFault, LoadKind};
+use kc_minimal::{RunFault, WriteFault, minimise};
+use kc_rules::{Profile, Settled};
+use kc_value::{Bounded, Script, Then};
+use std::alloc::{AllocError, Global};
+use std::test::Fail;
+
+/// A file, and what its reader does after it; how many notices it has or why it isn't minimised, and what is written.
+#[derive(Clone, Copy)]
+struct Case<'a> {
+    file: &'a [u8],
+    then: Then,
+    answer: Result<usize, RunFault>,
+    written: &'static [u8],
+}
+
+/// A file that is refused.
+fn refused(file: &[u8], then: Then, line: u32, kind: LoadKind) -> Case<'_> {
+    Case {
+        file,
+        then,
+        answer: Err(RunFault::Load(LoadFault { line, kind })),
+        written: b"",
+    }
+}
+
+const BOOL: &[u8] = b"config A\n\tbool \"a\"\n";
+
+const NUMBER: &[u8] = b"config N\n\tint \"n\"\n\trange 10 20\n\tdefault 5\n";
+
+/// Files over the bool.
+fn cases() -> [Case<'static>; 7] {
+    [
+        Case {
+            file: b"#\n# Automatically generated file; DO NOT EDIT.\n#\nCONFIG_A=y  \n",
+            then: Then::End,
+            answer: Ok(0),
+            written: b"CONFIG_A=y\n",
+        },
+        Case {
+            file: b"CONFIG_GONE=1\nCONFIG_A=m\n",
+            then: Then::End,
+            answer: Ok(2),
+            written: b"",
+        },
+        refused(
+            b"CONFIG_A=n\n# x\nFOO=y\n",
+            Then::End,
+            3,
+            LoadKind::Malformed,
+        ),
+        refused(b"CONFIG_A=y\n#\xff\n", Then::End, 2, LoadKind::NotUtf8),
+        refused(b"CONFIG_A=y\n", Then::Fail, 2, LoadKind::Read),
+        refused(b"FOO=y\n", Then::Fail, 1, LoadKind::Malformed),
+        refused(b"CONFIG_A=y\nCONFIG_A", Then::Fail, 2, LoadKind::Read),
+    ]
+}
+
+/// The answer to minimising a file that comes in pieces of at most `most` bytes; an `Err` where memory was refused.
+fn answer(
+    alloc: Global,
+    tree: &Settled,
+    case: &Case<'_>,
+    most: usize,
+    sink: &mut Bounded,
+) -> Result<Result<usize, RunFault>, AllocError>
+    requires { 0 < most }
+{
+    let bytes = Vec::from_slice(alloc, case.file)?;
+    let mut source = Script::new(bytes, most, case.then);
+    match minimise(alloc, tree, &Prefix::plain(), &mut source, sink) {
+        Ok(notices) => Ok(Ok(notices.len())),
+        Err(fault) => if is_memory(fault) {
+            Err(AllocError)
+        } else {
+            Ok(Err(fault))
+        },
+    }
+}
+
+/// Whether memory was refused; no line of the file has part in that.
+fn is_memory(fault: RunFault) -> bool {
+    let line_0 = LoadFault {
+        line: 0,
+        kind: LoadKind::OutOfMemory,
+    };
+    fault == RunFault::Memory || fault == RunFault::Load(line_0)
+}
+
+/// Whether a file in pieces is answered as it should be, to a writer that takes `room` bytes and then fails.
+fn is_answered(
+    alloc: Global,
+    tree: &Settled,
+    case: &Case<'_>,
+    most: usize,
+    room: usize,
+) -> Result<bool, AllocError>
+    requires { 0 < most }
+{
+    let mut sink = twice!(Bounded::new(alloc, room, true));
+    let answer = twice_on!(
+        sink.bytes().len(),
+        answer(alloc, tree, case, most, &mut sink)
+    );
+    Ok(answer == case.answer && sink.bytes() == case.written)
+}
+
+/// Whether each of the cases is, in pieces of each size.
+fn are_answered(alloc: Global) -> Result<bool, AllocError> {
+    let tree = settled(alloc, BOOL, Profile::Present)?;
+    let are_answered = are_answered_over(alloc, &tree);
+    drop(tree);
+    are_answered
+}
+
+/// Whether they are over this tree.
+fn are_answered_over(alloc: Global, tree: &Settled) -> Result<bool, AllocError> {
+    let mut are_answered = true;
+    for case in &cases() {
+        are_answered &= is_answered(alloc, tree, case, 1, 64)?;
+        are_answered &= is_answered(alloc, tree, case, 2, 64)?;
+        are_answered &= is_answered(alloc, tree, case, 3, 64)?;
+        are_answered &= is_answered(alloc, tree, case, 7, 64)?;
+        are_answered &= is_answered(alloc, tree, case, 4_096, 64)?;
+    }
+    Ok(are_answered)
+}
+
+#[test]
+fn files_in_pieces_are_minimised_alike(rt: HostRuntime) -> Result<(), Fail> {
+    assert!(rt; are_answered(rt.alloc())?);
+    Ok(())
+}
+
+/// Whether a file over a tree is answered as it should be.
+fn is_answered_once(
+    alloc: Global,
+    tree: &[u8],
+    case: &Case<'_>,
+    room: usize,
+) -> Result<bool, AllocError> {
+    let tree = settled(alloc, tree, Profile::Present)?;
+    let is_answered = is_answered(alloc, &tree, case, 4_096, room);
+    drop(tree);
+    is_answered
+}
+
+#[test]
+fn a_failed_write_is_reported_with_what_was_written(rt: HostRuntime) -> Result<(), Fail> {
+    let case = Case {
+        file: b"CONFIG_N=20\n",
+        then: Then::End,
+        answer: Err(RunFault::Write(WriteFault { written: 5 })),
+        written: b"CONFI",
+    };
+    assert!(rt; is_answered_once(rt.alloc(), NUMBER, &case, 5)?);
+    Ok(())
+}
+
+/// 65,535 empty lines, and one that is malformed.
+fn long_file(alloc: Global) -> Result<Vec<u8>, AllocError> {
+    let mut file = Vec::with_capacity(alloc, 65_536)?;
+    file.resize(65_535, b'\n')?;
+    file.push(b'x')?;
+    Ok(file)
+}
+
+/// Whether the last of more lines than 16 bits can count is refused, and not reported as out of memory.
+fn is_line_refused(alloc: Global) -> Result<bool, AllocError> {
+    let file = twice!(long_file(alloc));
+    let case = refused(&file, Then::End, 65_536, LoadKind::Malformed);
+    is_answered_once(alloc, BOOL, &case, 64)
+}
+
+#[test]
+fn line_65536_is_refused_and_not_out_of_memory(rt: HostRuntime) -> Result<(), Fail> {
+    assert!(rt; is_line_refused(rt.alloc())?);
+    Ok(())
+}
