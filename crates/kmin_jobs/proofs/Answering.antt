@@ -1,113 +1,168 @@
--- The answers, put together.
-use Rattle.std.proofs.Common.{◌≡◌, ◌≢◌, ℕ, ◌≤◌, List, [], ◌∷◌, Option, Some, Result, Ok, Err, Vec, IfOk, codes, length, map, take, drop, refl, ap, ◌∙◌, arith}
+-- The answers of commands.
+use Rattle.std.proofs.Common.{◌≡◌, ◌≢◌, ℕ, zero, suc, ◌≤◌, ◌⊎◌, inl, inr, append-nil, List, [], ◌∷◌, ◌++◌, Option, Result, Ok, Err, IfOk, IfErr, map, refl, sym, ap, ◌∙◌, subst, arith}
 use Rattle.std.specs.Borrow.{Bor}
-use Rattle.std.specs.declared.alloc.Global.{Global}
 use Rattle.std.specs.List.{flat_map}
-use Rattle.kc_tree_model.specs.TreeFiles.{Files}
+use Rattle.kc_tree_model.specs.TreeFiles.{Files, file_at}
 use Rattle.kc_tree_model.specs.Trees.{Tree}
-use Rattle.kc_rules_model.specs.declared.profile.Profile.TheVariants.{Present}
-use Rattle.kc_rules_model.specs.declared.values.UnitValue.{UnitValue}
-use Rattle.kc_rules_model.specs.declared.values.UserValue.{UserValue}
-use Rattle.kc_dotconfig_model.specs.LoadFaults.{IsAccepted}
-use Rattle.kc_minimal_model.specs.FullFile.{full_file}
-use Rattle.kc_minimal_model.specs.Differences.{Difference, differences}
+use Rattle.kc_system.specs.Solutions.{UniquelySolves}
+use Rattle.kc_rules_model.specs.Rule.{rule}
+use Rattle.kc_rules_model.specs.declared.profile.Profile.{Profile}
 use Rattle.kc_rules.specs.declared.rules.Settled.{Settled}
 use Rattle.kc_rules.specs.SettledViews.{tree_of_settled, profile_of}
+use Rattle.kc_dotconfig_model.specs.ConfigLines.{LineMeaning}
+use Rattle.kc_dotconfig_model.specs.ConfigFiles.{empty_assignment}
+use Rattle.kc_rules_model.specs.declared.values.UnitValue.{UnitValue}
 use Rattle.kc_dotconfig.specs.Configured.{Configured, IsSolved, tree_in}
-use Rattle.kmin_words.specs.declared.job.Verb.TheVariants.{Full, Compare}
+use Rattle.kc_minimal_model.specs.Differences.{Difference, differences}
+use Rattle.kmin_words.specs.Jobs.{Settings, Task, over, compare, paths_of}
+use Rattle.kmin_words.specs.declared.job.Verb.{Verb}
 use Rattle.kmin_jobs.specs.declared.run_error.RunError.{RunError}
 use Rattle.kmin_jobs.specs.declared.verb_texts.AnswerText.{AnswerText}
 use Rattle.kmin_jobs.specs.FileContents.{FileContent, AreTextsBelow}
-use Rattle.kmin_jobs.specs.Requests.{Request, bundle_request}
-use Rattle.kmin_jobs.specs.Answers.{AreAccepted, Assign, Resolve, Answer, one, two, text_of_verb, difference_line, status_of_differences}
-use Rattle.kmin_jobs.specs.Bundles.{IsBundle}
-use Rattle.kmin_jobs.specs.BundleAnswers.{bundle_files, AnswersBundle, RefusesTree, RefusesConfiguration}
-use Rattle.kmin_jobs.proofs.Assigning.{assign_again, gives_over}
+use Rattle.kmin_jobs.specs.Reports.{notice_lines, output_line, last_lines}
+use Rattle.kmin_jobs.specs.StandardError.{TakesLines}
+use Rattle.kmin_jobs.specs.Answers.{AreAccepted, Resolve, Answer, FilesMean, files_assignment, of_files, of_comparison, text_of_verb, difference_line, status_of_differences}
+use Rattle.kmin_jobs.specs.Stops.{Stops, StopsAmongFiles, at_tree, among_files, for_memory}
+use Rattle.kmin_jobs.specs.Stops as stops
+use Rattle.kmin_jobs.specs.between.Loaded.{AreLoaded}
+use Rattle.kmin_jobs.specs.between.RunErrors.{status_of}
+use Rattle.kmin_jobs.specs.between.TreeStops.{StopsAtTexts}
+use Rattle.kmin_jobs.specs.between.TreeStops as tree_stops
+use Rattle.kmin_jobs.proofs.Taking.{lines_append}
+use Rattle.kmin_jobs.proofs.Sequences.{mean_again}
 
--- what all verbs but one answer
-pub answers_one : (content_of : List ℕ → FileContent) (asked : Request) (texts : Files) (paths given : List (List ℕ)) (held : Configured) (rules : Settled) (text : List ℕ) (status : ℕ)
-    → given ≡ paths → AreAccepted texts asked.tree (tree_of_settled rules) → asked.verb ≢ Compare → profile_of rules ≡ asked.profile → held.system ≡ rules
-    → Assign content_of asked.prefix (tree_of_settled rules) given held.users → IsSolved held
-    → text ≡ text_of_verb asked (tree_in held) held.users held.values asked.verb → status ≡ 0
-    → Answer content_of asked texts paths text status
-answers_one content_of asked texts paths given held rules text status e accepted verb profile same assign holds is_text is_status =
-    one (tree_of_settled rules) held.users held.values accepted verb
-    (record { assign = rw (← e) assign; gives = rw (← profile) (gives_over held rules same holds) }) (rw (← same) is_text) is_status
+-- the solution that a configuration of a known tree has
+pub resolved : (content_of : List ℕ → FileContent) (settings : Settings) (config : Configured) (settled : Settled) (paths : List (List ℕ)) (taken taken_after : Option (List ℕ)) (failed failed_after : ℕ)
+    → config.system ≡ settled → profile_of settled ≡ settings.profile → IsSolved config
+    → (l : AreLoaded content_of settings.prefix (tree_of_settled settled) paths (empty_assignment (tree_of_settled settled)) config.users taken failed taken_after failed_after)
+    → Resolve content_of settings (tree_of_settled settled) paths l.meanings config.values
+resolved content_of settings config settled paths taken taken_after failed failed_after e p s l =
+    let gives = rw e at s.gives in
+    record { mean = l.mean; gives = rw (← p, ← l.users_are) gives }
 
--- the two paths of a comparison
-pub two_paths : (files : List (Bor (List ℕ))) → length files ≡ 2
-    → (left right : List ℕ) × (map (λ (path : Bor (List ℕ)). path.now) files ≡ left ∷ right ∷ [])
-    × (map (λ (path : Bor (List ℕ)). path.now) (take 1 files) ≡ left ∷ []) × (map (λ (path : Bor (List ℕ)). path.now) (drop 1 files) ≡ right ∷ [])
-two_paths [] e = absurd (omega arith)
-two_paths (a ∷ []) e = absurd (omega arith)
-two_paths (a ∷ b ∷ []) e = (a.now, b.now, refl, refl, refl)
-two_paths (a ∷ b ∷ c ∷ files) e = absurd (omega arith)
+pub answers_files : (content_of : List ℕ → FileContent) (settings : Settings) (verb : Verb) (config : Configured) (settled : Settled) (paths : List (List ℕ)) (text : List ℕ) (taken taken_after : Option (List ℕ)) (failed failed_after : ℕ)
+    → config.system ≡ settled → profile_of settled ≡ settings.profile → IsSolved config
+    → AreLoaded content_of settings.prefix (tree_of_settled settled) paths (empty_assignment (tree_of_settled settled)) config.users taken failed taken_after failed_after
+    → text ≡ text_of_verb settings (tree_in config) config.users config.values verb
+    → (notices : List (List ℕ)) × ((texts : Files) → AreAccepted texts settings.tree (tree_of_settled settled) → Answer content_of settings texts (over verb paths) text 0 notices)
+    × TakesLines taken failed notices taken_after failed_after
+answers_files content_of settings verb config settled paths text taken taken_after failed failed_after e p s l t =
+    let same : text ≡ text_of_verb settings (tree_of_settled settled) (files_assignment (tree_of_settled settled) l.meanings) config.values verb = rw (← l.users_are, ← e) t in (
+      notice_lines paths l.meanings,
+      (λ texts accepted. of_files (tree_of_settled settled) verb paths l.meanings config.values refl accepted (resolved content_of settings config settled paths taken taken_after failed failed_after e p s l) same refl refl),
+      l.reported,
+    )
 
 -- the status of a comparison is 0 or 1
 pub status_at_most_one : (ds : List Difference) → status_of_differences ds ≤ 1
 status_at_most_one [] = omega arith
 status_at_most_one (d ∷ ds) = omega arith
 
--- what a comparison answers
-pub answers_two : (content_of others : List ℕ → FileContent) (asked : Request) (texts : Files) (files front back : List (Bor (List ℕ))) (left right : Configured) (rules : Settled) (text : List ℕ) (status : ℕ)
-    → AreAccepted texts asked.tree (tree_of_settled rules) → asked.verb ≡ Compare → profile_of rules ≡ asked.profile → left.system ≡ rules → right.system ≡ rules
-    → length files ≡ 2 → front ≡ take 1 files → back ≡ drop 1 files → ((path : List ℕ) → others path ≡ content_of path)
-    → Assign content_of asked.prefix (tree_of_settled rules) (map (λ (path : Bor (List ℕ)). path.now) front) left.users → IsSolved left
-    → Assign others asked.prefix (tree_of_settled rules) (map (λ (path : Bor (List ℕ)). path.now) back) right.users → IsSolved right
+resolve_again : (content_of others : List ℕ → FileContent) (settings : Settings) (tree : Tree) (paths : List (List ℕ)) (meanings : List (List LineMeaning)) (values : List UnitValue)
+    → ((path : List ℕ) → others path ≡ content_of path) → Resolve others settings tree paths meanings values → Resolve content_of settings tree paths meanings values
+resolve_again content_of others settings tree paths meanings values same r =
+    record { mean = mean_again content_of others settings.prefix tree paths meanings same r.mean; gives = r.gives }
+
+pub answers_comparison : (content_of others : List ℕ → FileContent) (settings : Settings) (left right : Configured) (settled : Settled) (a b : List ℕ) (text : List ℕ) (status : ℕ) (taken middle taken_after : Option (List ℕ)) (failed failed_middle failed_after : ℕ)
+    → ((path : List ℕ) → others path ≡ content_of path)
+    → left.system ≡ settled → right.system ≡ settled → profile_of settled ≡ settings.profile → IsSolved left → IsSolved right
+    → AreLoaded content_of settings.prefix (tree_of_settled settled) (a ∷ []) (empty_assignment (tree_of_settled settled)) left.users taken failed middle failed_middle
+    → AreLoaded others settings.prefix (tree_of_settled settled) (b ∷ []) (empty_assignment (tree_of_settled settled)) right.users middle failed_middle taken_after failed_after
     → text ≡ flat_map (difference_line (tree_in left)) (differences (tree_in left) left.values right.values)
     → status ≡ status_of_differences (differences (tree_in left) left.values right.values)
-    → Answer content_of asked texts (map (λ (path : Bor (List ℕ)). path.now) files) text status
-answers_two content_of others asked texts files front back left right rules text status accepted verb profile l r n f b same assign holds assign2 holds2 is_text is_status =
-    let w = two_paths files n in
-    let left_paths : map (λ (path : Bor (List ℕ)). path.now) front ≡ w.0 ∷ [] = ap (map (λ (path : Bor (List ℕ)). path.now)) f ∙ w.3 in
-    let right_paths : map (λ (path : Bor (List ℕ)). path.now) back ≡ w.1 ∷ [] = ap (map (λ (path : Bor (List ℕ)). path.now)) b ∙ w.4 in
-    two (tree_of_settled rules) w.0 w.1 left.users right.users left.values right.values accepted verb w.2
-    (record { assign = rw (← left_paths) assign; gives = rw (← profile) (gives_over left rules l holds) })
-    (record { assign = rw (← right_paths) (assign_again content_of others asked.prefix (tree_of_settled rules) (map (λ (path : Bor (List ℕ)). path.now) back) right.users same assign2); gives = rw (← profile) (gives_over right rules r holds2) })
-    (rw (← l) is_text) (rw (← l) is_status)
+    → (notices : List (List ℕ)) × ((texts : Files) → AreAccepted texts settings.tree (tree_of_settled settled) → Answer content_of settings texts (compare a b) text status notices)
+    × TakesLines taken failed notices taken_after failed_after
+answers_comparison content_of others settings left right settled a b text status taken middle taken_after failed failed_middle failed_after same l r p sl sr hl hr t s = (
+  notice_lines (a ∷ []) hl.meanings ++ notice_lines (b ∷ []) hr.meanings,
+  (λ texts accepted. of_comparison (tree_of_settled settled) a b hl.meanings hr.meanings left.values right.values refl accepted
+      (resolved content_of settings left settled (a ∷ []) taken middle failed failed_middle l p sl hl)
+      (resolve_again content_of others settings (tree_of_settled settled) (b ∷ []) hr.meanings right.values same (resolved others settings right settled (b ∷ []) middle taken_after failed_middle failed_after r p sr hr))
+      (rw (← l) t) (rw (← l) s) refl),
+  lines_append taken middle failed failed_middle _ _ taken_after failed_after hl.reported hr.reported,
+)
 
-pub refuses_tree : (bundle tree configuration : List ℕ) (texts : Files) → IsBundle bundle tree configuration → texts ≡ bundle_files tree
-    → ((whole : Tree) → AreAccepted texts (codes "Kconfig") whole → ⊥) → RefusesTree bundle
-refuses_tree bundle tree configuration texts parts e h =
-    record { tree = tree; configuration = configuration; parts = parts; none = λ whole a. h whole (rw e a) }
+-- no texts
+pub below_none : (content_of : List ℕ → FileContent) (root : List ℕ) → AreTextsBelow content_of root []
+below_none content_of root path bytes e = cc
 
-pub refuses_configuration : (bundle tree configuration : List ℕ) (texts : Files) (whole : Tree) → IsBundle bundle tree configuration → texts ≡ bundle_files tree
-    → AreAccepted texts (codes "Kconfig") whole → (IsAccepted (codes "CONFIG_") whole configuration → ⊥) → RefusesConfiguration bundle
-refuses_configuration bundle tree configuration texts whole parts e a h =
-    record { tree = tree; configuration = configuration; parts = parts; whole = whole; accepted = rw (← e) a; none = h }
+-- a job ends where its tree does
+pub tree_stops_job : (content_of : List ℕ → FileContent) (settings : Settings) (task : Task) (texts : Files) (status : ℕ) (lines : List (List ℕ)) → AreTextsBelow content_of settings.root texts
+    → StopsAtTexts texts settings.tree status lines → Stops content_of settings task status lines
+tree_stops_job content_of settings task texts status lines below (tree_stops.at_texts line r s e) = at_tree texts line below r s e
+tree_stops_job content_of settings task texts status lines below (tree_stops.for_memory s e) = for_memory s e
 
-pub answers_bundle : (bundle tree configuration : List ℕ) (texts : Files) (rules : Settled) (r : Result (Vec ℕ Global) RunError)
-    → IsBundle bundle tree configuration → texts ≡ bundle_files tree → AreAccepted texts (codes "Kconfig") (tree_of_settled rules) → profile_of rules ≡ Present
-    → IfOk r (λ text. (users : List (Option UserValue)) × (values : List UnitValue) × Resolve (λ path. Some (Some configuration)) (record bundle_request { profile = profile_of rules }) (tree_of_settled rules) (codes "config" ∷ []) users values × (text.items ≡ full_file (codes "CONFIG_") (tree_of_settled rules) values))
-    → IfOk r (λ text. AnswersBundle bundle text.items)
-answers_bundle bundle tree configuration texts rules (Err stop) parts e a p h = tt
-answers_bundle bundle tree configuration texts rules (Ok text) parts e a p h =
-    let resolve : Resolve (λ path. Some (Some configuration)) bundle_request (tree_of_settled rules) (codes "config" ∷ []) h.0 h.1 = rw p at h.2 in
-    record {
-      tree = tree;
-      configuration = configuration;
-      parts = parts;
-      answers = one (tree_of_settled rules) h.0 h.1 (rw (← e) a) (λ bad. let f : Full ≡ Compare = bad in cc) resolve h.3 refl;
-    }
+-- what is known of files stays
+among_again : (content_of others : List ℕ → FileContent) (prefix : List ℕ) (tree : Tree) (paths : List (List ℕ)) (status : ℕ) (lines : List (List ℕ))
+    → ((path : List ℕ) → others path ≡ content_of path) → StopsAmongFiles others prefix tree paths status lines → StopsAmongFiles content_of prefix tree paths status lines
+among_again content_of others prefix tree paths status lines same (stops.at_file front back path line meanings p m s e) =
+    stops.at_file front back path line meanings p (mean_again content_of others prefix tree front meanings same m) (subst (λ content. stops.StopsAtFile content prefix tree path status line) (same path) s) e
+among_again content_of others prefix tree paths status lines same (stops.for_memory front back meanings p m s e) =
+    stops.for_memory front back meanings p (mean_again content_of others prefix tree front meanings same m) s e
 
-resolve_again : (content_of others : List ℕ → FileContent) (asked : Request) (tree : Tree) (paths : List (List ℕ)) (users : List (Option UserValue)) (values : List UnitValue)
-    → ((path : List ℕ) → others path ≡ content_of path) → Resolve others asked tree paths users values → Resolve content_of asked tree paths users values
-resolve_again content_of others asked tree paths users values same h =
-    record { assign = assign_again content_of others asked.prefix tree paths users same h.assign; gives = h.gives }
+answer_again : (content_of others : List ℕ → FileContent) (settings : Settings) (texts : Files) (task : Task) (text : List ℕ) (status : ℕ) (notices : List (List ℕ))
+    → ((path : List ℕ) → others path ≡ content_of path) → Answer others settings texts task text status notices → Answer content_of settings texts task text status notices
+answer_again content_of others settings texts task text status notices same (of_files tree verb paths meanings values k a r t s n) =
+    of_files tree verb paths meanings values k a (resolve_again content_of others settings tree paths meanings values same r) t s n
+answer_again content_of others settings texts task text status notices same (of_comparison tree left right lm rm v w k a r q t s n) =
+    of_comparison tree left right lm rm v w k a (resolve_again content_of others settings tree (left ∷ []) lm v same r) (resolve_again content_of others settings tree (right ∷ []) rm w same q) t s n
 
--- an answer of files that tell the same
-pub answer_again : (content_of others : List ℕ → FileContent) (asked : Request) (texts : Files) (paths : List (List ℕ)) (text : List ℕ) (status : ℕ)
-    → ((path : List ℕ) → others path ≡ content_of path) → Answer others asked texts paths text status → Answer content_of asked texts paths text status
-answer_again content_of others asked texts paths text status same (one tree users values a v r t s) =
-    one tree users values a v (resolve_again content_of others asked tree paths users values same r) t s
-answer_again content_of others asked texts paths text status same (two tree left right users more v w a e p r q t s) =
-    two tree left right users more v w a e p (resolve_again content_of others asked tree (left ∷ []) users v same r) (resolve_again content_of others asked tree (right ∷ []) more w same q) t s
+-- the answer of a job, or its end, over the texts that were gathered
+module _ (content_of others : List ℕ → FileContent) (settings : Settings) (task : Task) (tree : Tree) (texts : Files) (same : (path : List ℕ) → others path ≡ content_of path)
+    (below : AreTextsBelow content_of settings.root texts) (accepted : AreAccepted texts settings.tree tree)
+    (taken middle taken_after : Option (List ℕ)) (failed failed_middle failed_after : ℕ) (before : TakesLines taken failed [] middle failed_middle) where
+  pub job_answers : (r : Result AnswerText RunError)
+      → IfOk r (λ answer. (notices : List (List ℕ)) × ((texts : Files) → AreAccepted texts settings.tree tree → Answer others settings texts task answer.text.items answer.status notices) × TakesLines middle failed_middle notices taken_after failed_after)
+      → IfOk r (λ answer. (texts : Files) × (notices : List (List ℕ)) × AreTextsBelow content_of settings.root texts × Answer content_of settings texts task answer.text.items answer.status notices × TakesLines taken failed notices taken_after failed_after)
+  job_answers (Err stop) h = tt
+  job_answers (Ok answer) h = (
+    texts,
+    h.0,
+    below,
+    answer_again content_of others settings texts task answer.text.items answer.status h.0 same (h.1 texts accepted),
+    lines_append taken middle failed failed_middle [] h.0 taken_after failed_after before h.2,
+  )
 
--- what a job answers over the texts that were gathered
-pub answered_again : (content_of others : List ℕ → FileContent) (asked : Request) (root first : List ℕ) (tree : Tree) (texts : Files) (paths : List (List ℕ)) (r : Result AnswerText RunError)
-    → ((path : List ℕ) → others path ≡ content_of path) → AreTextsBelow content_of root texts → AreAccepted texts first tree
-    → IfOk r (λ answer. (x : Files) → AreAccepted x first tree → Answer others asked x paths answer.text.items answer.status)
-    → IfOk r (λ answer. (x : Files) × AreTextsBelow content_of root x × Answer content_of asked x paths answer.text.items answer.status)
-answered_again content_of others asked root first tree texts paths (Err stop) same below a h = tt
-answered_again content_of others asked root first tree texts paths (Ok answer) same below a h =
-    (texts, below, answer_again content_of others asked texts paths answer.text.items answer.status same (h texts a))
+  pub job_stops : (r : Result AnswerText RunError)
+      → IfErr r (λ stop. (lines : List (List ℕ)) × StopsAmongFiles others settings.prefix tree (paths_of task) (status_of stop) lines × TakesLines middle failed_middle lines taken_after failed_after)
+      → IfErr r (λ stop. (lines : List (List ℕ)) × Stops content_of settings task (status_of stop) lines × TakesLines taken failed lines taken_after failed_after)
+  job_stops (Ok answer) h = tt
+  job_stops (Err stop) h = (
+    h.0,
+    among_files texts tree below accepted (among_again content_of others settings.prefix tree (paths_of task) (status_of stop) h.0 same h.1),
+    lines_append taken middle failed failed_middle [] h.0 taken_after failed_after before h.2,
+  )
+
+-- nothing more was reported
+pub lines_kept : (before middle after : Option (List ℕ)) (failed failed_middle failed_after : ℕ) (lines : List (List ℕ))
+    → TakesLines before failed lines middle failed_middle → TakesLines middle failed_middle [] after failed_after → TakesLines before failed lines after failed_after
+lines_kept before middle after failed failed_middle failed_after lines h k =
+    subst (λ all. TakesLines before failed all after failed_after) (append-nil lines) (lines_append before middle failed failed_middle lines [] after failed_after h k)
+
+-- a status of an answer is 0 or 1
+small : (n : ℕ) → n ≤ 1 → (n ≡ 0) ⊎ (n ≡ 1)
+small zero h = inl refl
+small (suc zero) h = inr refl
+small (suc (suc n)) h = absurd (omega arith)
+
+pub no_other_status : (n : ℕ) → n ≤ 1 → (n ≢ 0) × (n ≢ 1) → ⊥
+no_other_status n h k = elim (small n h) [ inl e ↦ k.0 e | inr e ↦ k.1 e ]
+
+-- a write of an answer failed
+pub write_stops : (content_of : List ℕ → FileContent) (settings : Settings) (task : Task) (text : List ℕ) (made status : ℕ) (taken middle taken_after : Option (List ℕ)) (failed failed_middle failed_after : ℕ) → status ≡ 5
+    → (texts : Files) × (notices : List (List ℕ)) × AreTextsBelow content_of settings.root texts × Answer content_of settings texts task text made notices × TakesLines taken failed notices middle failed_middle
+    → TakesLines middle failed_middle (output_line ∷ []) taken_after failed_after
+    → (lines : List (List ℕ)) × Stops content_of settings task status lines × TakesLines taken failed (lines ++ last_lines status) taken_after failed_after
+write_stops content_of settings task text made status taken middle taken_after failed failed_middle failed_after e w h = (
+  w.1 ++ output_line ∷ [],
+  stops.at_write w.0 text made w.1 w.2 w.3 e refl,
+  rw e (subst (λ all. TakesLines taken failed all taken_after failed_after) (sym (append-nil (w.1 ++ output_line ∷ [])))
+      (lines_append taken middle failed failed_middle w.1 (output_line ∷ []) taken_after failed_after w.4 h)),
+)
+
+-- a job ended, and its last line is reported
+pub job_ends : (content_of : List ℕ → FileContent) (settings : Settings) (task : Task) (stop : RunError) (status : ℕ) (taken middle taken_after : Option (List ℕ)) (failed failed_middle failed_after : ℕ) → status ≡ status_of stop
+    → (lines : List (List ℕ)) × Stops content_of settings task (status_of stop) lines × TakesLines taken failed lines middle failed_middle
+    → TakesLines middle failed_middle (last_lines status) taken_after failed_after
+    → (lines : List (List ℕ)) × Stops content_of settings task status lines × TakesLines taken failed (lines ++ last_lines status) taken_after failed_after
+job_ends content_of settings task stop status taken middle taken_after failed failed_middle failed_after e w h =
+    (w.0, subst (λ n. Stops content_of settings task n w.0) (sym e) w.1, lines_append taken middle failed failed_middle w.0 (last_lines status) taken_after failed_after w.2 h)

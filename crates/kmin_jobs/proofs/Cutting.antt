@@ -5,7 +5,7 @@ use Rattle.std.proofs.Math.Seq.{take-append_seam}
 use Rattle.std.proofs.lemmas.Slice.Eq.{bytes_eq-Decides}
 use Rattle.kc_dotconfig_model.specs.ConfigFiles.{file_lines}
 use Rattle.kmin_jobs.specs.Bundles.{marker, BeginsWithLine, HasWholeLines, has_no_marker, IsBundle, parted}
-use Rattle.kmin_jobs.specs.checker.LineEnds.{is_inline}
+use Rattle.kmin_jobs.specs.between.LineEnds.{is_inline}
 use Rattle.kmin_jobs.proofs.LineLaws.{lines_of_run}
 
 -- lines after a newline are lines of their own

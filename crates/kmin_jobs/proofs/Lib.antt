@@ -2,8 +2,11 @@ pub mod Runs
 pub mod LineLaws
 pub mod Cutting
 pub mod Accepting
-pub mod Loads
 pub mod Gathering
-pub mod Assigning
 pub mod NamedLines
+pub mod Taking
+pub mod CycleLines
+pub mod Sequences
 pub mod Answering
+pub mod BundleAnswering
+pub mod EndingLines

@@ -2,7 +2,7 @@
 use Rattle.std.proofs.Common.{◌≡◌, ℕ, Bool, true, false, not, ◌&&◌, ◌==◌, ◌<◌, length, arith, append-nil, List, [], ◌∷◌, ◌++◌, refl, cond}
 use Rattle.std.specs.List.{list_all, onto_first}
 use Rattle.kc_dotconfig_model.specs.ConfigFiles.{file_lines}
-use Rattle.kmin_jobs.specs.checker.LineEnds.{is_inline}
+use Rattle.kmin_jobs.specs.between.LineEnds.{is_inline}
 
 -- a run without a newline, and then a newline
 inline_cases : (c : ℕ) (cs rest : List ℕ) (b : Bool) → (c == 10) ≡ b → (not b && list_all is_inline cs) ≡ true

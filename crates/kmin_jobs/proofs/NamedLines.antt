@@ -11,7 +11,7 @@ use Rattle.kc_minimal.specs.DifferenceViews.{difference_view}
 use Rattle.kc_minimal.specs.declared.differing.Difference.{Difference as ToldDifference}
 use Rattle.kc_minimal_model.specs.Differences.{Difference, is_same_value, difference_at, differences}
 use Rattle.kmin_jobs.specs.Answers.{difference_line}
-use Rattle.kmin_jobs.specs.checker.Lines.{line_between}
+use Rattle.kmin_jobs.specs.between.Lines.{line_between}
 
 flat_map_append : {A : Type 0} (f : A → List ℕ) (xs ys : List A) → flat_map f (xs ++ ys) ≡ flat_map f xs ++ flat_map f ys
 flat_map_append f [] ys = refl

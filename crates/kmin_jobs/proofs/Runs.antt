@@ -1,7 +1,7 @@
 -- Runs of bytes of a kind.
 use Rattle.std.proofs.Common.{◌≡◌, ℕ, suc, ◌+◌, Bool, true, false, cond, List, [], ◌∷◌, refl, take, drop, arith}
 use Rattle.std.specs.List.{list_all, prefix_len}
-use Rattle.kmin_jobs.specs.checker.LineEnds.{begins_after_line, is_inline}
+use Rattle.kmin_jobs.specs.between.LineEnds.{begins_after_line, is_inline}
 
 -- what passes stands in the run
 run_cases : (p : ℕ → Bool) (c : ℕ) (cs : List ℕ) (b : Bool) → p c ≡ b → list_all p (take (prefix_len p cs) cs) ≡ true → list_all p (take (cond b (1 + prefix_len p cs) 0) (c ∷ cs)) ≡ true

@@ -1,5 +1,5 @@
--- The answer to a request.
-use Rattle.std.specs.Prelude.{◌≡◌, ◌≢◌, ℕ, List, [], ◌∷◌, ◌++◌, Option, Some, None, length, slice_get, codes}
+-- The answer to a job.
+use Rattle.std.specs.Prelude.{◌≡◌, ℕ, List, [], ◌∷◌, ◌++◌, Option, None, length, codes}
 use Rattle.std.specs.List.{flat_map}
 use Rattle.kc_tree_model.specs.TreeFiles.{Files}
 use Rattle.kc_tree_model.specs.Trees.{Tree}
@@ -19,10 +19,11 @@ use Rattle.kc_minimal_model.specs.MinimalFile.{minimal_file}
 use Rattle.kc_minimal_model.specs.FullFile.{full_file}
 use Rattle.kc_minimal_model.specs.Differences.{Difference, differences}
 use Rattle.kc_minimal_model.specs.Spelling.{spelled}
+use Rattle.kmin_words.specs.Jobs.{Settings, Task, over, compare}
 use Rattle.kmin_words.specs.declared.job.Verb.{Verb}
-use Rattle.kmin_words.specs.declared.job.Verb.TheVariants.{Min, Full, Missed, Check, Compare}
+use Rattle.kmin_words.specs.declared.job.Verb.TheVariants.{Min, Full, Missed, Check}
 use Rattle.kmin_jobs.specs.FileContents.{FileContent, MatchContent}
-use Rattle.kmin_jobs.specs.Requests.{Request}
+use Rattle.kmin_jobs.specs.Reports.{name_at, notice_lines}
 
 -- Texts are accepted as this tree: reading them has no fault, and no unit depends on itself.
 pub record AreAccepted (texts : Files) (first : List ℕ) (tree : Tree) : Type 0 where
@@ -30,25 +31,28 @@ pub record AreAccepted (texts : Files) (first : List ℕ) (tree : Tree) : Type 0
   pub tree_is : tree ≡ tree_of_files texts first
   pub settled : IsSettledTree tree
 
--- The assignment of some files, each laid over those before it. Each is accepted, and its bytes match its known content.
-pub data Assign (content_of : List ℕ → FileContent) (prefix : List ℕ) (tree : Tree) : List (List ℕ) → List (Option UserValue) → Type 0 where
-  none : Assign content_of prefix tree [] (empty_assignment tree)
-  file : (paths all : List (List ℕ)) (users after : List (Option UserValue)) (path bytes : List ℕ) (sayings : List LineMeaning)
-      → Assign content_of prefix tree paths users → MatchContent (content_of path) bytes
-      → IsAccepted prefix tree bytes → FileMeans prefix tree bytes sayings
-      → all ≡ paths ++ path ∷ [] → after ≡ overlay (file_assignment tree sayings) users
-      → Assign content_of prefix tree all after
+-- Configuration files are accepted, and this is the meaning of each line of each. Their bytes match their known content.
+pub data FilesMean (content_of : List ℕ → FileContent) (prefix : List ℕ) (tree : Tree) : List (List ℕ) → List (List LineMeaning) → Type 0 where
+  none : FilesMean content_of prefix tree [] []
+  file : (path bytes : List ℕ) (paths : List (List ℕ)) (meanings : List LineMeaning) (others : List (List LineMeaning))
+      → MatchContent (content_of path) bytes → IsAccepted prefix tree bytes → FileMeans prefix tree bytes meanings
+      → FilesMean content_of prefix tree paths others → FilesMean content_of prefix tree (path ∷ paths) (meanings ∷ others)
 
--- The files' assignment, and its one solution.
-pub record Resolve (content_of : List ℕ → FileContent) (asked : Request) (tree : Tree) (paths : List (List ℕ)) (users : List (Option UserValue)) (values : List UnitValue) : Type 0 where
-  pub assign : Assign content_of asked.prefix tree paths users
-  pub gives : UniquelySolves (length tree.units) (rule asked.profile tree) users values
+-- an assignment with those of files laid over it, one after another
+abbrev pub overlaid_by : Tree → List (Option UserValue) → List (List LineMeaning) → List (Option UserValue)
+overlaid_by tree users [] = users
+overlaid_by tree users (meanings ∷ others) = overlaid_by tree (overlay (file_assignment tree meanings) users) others
 
--- the name of a symbol
-abbrev pub name_at : Tree → ℕ → List ℕ
-name_at tree s = elim (slice_get tree.symbols s) [ None ↦ [] | Some symbol ↦ symbol.name ]
+-- the assignment of some files, each laid over those before it
+abbrev pub files_assignment : Tree → List (List LineMeaning) → List (Option UserValue)
+files_assignment tree meanings = overlaid_by tree (empty_assignment tree) meanings
 
--- a line of some text and a name
+-- The files are accepted with these meanings, and their assignment has this one solution.
+pub record Resolve (content_of : List ℕ → FileContent) (settings : Settings) (tree : Tree) (paths : List (List ℕ)) (meanings : List (List LineMeaning)) (values : List UnitValue) : Type 0 where
+  pub mean : FilesMean content_of settings.prefix tree paths meanings
+  pub gives : UniquelySolves (length tree.units) (rule settings.profile tree) (files_assignment tree meanings) values
+
+-- a line of some text and the name of a symbol
 abbrev pub name_line : List ℕ → Tree → ℕ → List ℕ
 name_line front tree s = front ++ (name_at tree s ++ 10 ∷ [])
 
@@ -58,28 +62,28 @@ difference_line tree d = name_at tree d.symbol ++ (codes ": " ++ (spelled d.left
     ++ (codes " -> " ++ (spelled d.right.kind d.right.text ++ 10 ∷ []))))
 
 -- the text of each verb, over a tree, its assignment and its values
-abbrev pub text_of_verb : Request → Tree → List (Option UserValue) → List UnitValue → Verb → List ℕ
-text_of_verb asked tree users values Min = minimal_file asked.prefix asked.profile tree values
-text_of_verb asked tree users values Full = full_file asked.prefix tree values
-text_of_verb asked tree users values Missed = flat_map (name_line [] tree) (missed tree users values)
-text_of_verb asked tree users values Check = flat_map (name_line (codes "unmet ") tree) (unmet tree values)
-text_of_verb asked tree users values Compare = []
+abbrev pub text_of_verb : Settings → Tree → List (Option UserValue) → List UnitValue → Verb → List ℕ
+text_of_verb settings tree users values Min = minimal_file settings.prefix settings.profile tree values
+text_of_verb settings tree users values Full = full_file settings.prefix tree values
+text_of_verb settings tree users values Missed = flat_map (name_line [] tree) (missed tree users values)
+text_of_verb settings tree users values Check = flat_map (name_line (codes "unmet ") tree) (unmet tree values)
 
 -- 1 where there are differences
 abbrev pub status_of_differences : List Difference → ℕ
 status_of_differences [] = 0
 status_of_differences (d ∷ ds) = 1
 
--- The text and the status that answer what is asked of the texts of a tree and of some files: for a comparison of two
--- files, each alone, and else of all files, each over those before it.
-pub data Answer (content_of : List ℕ → FileContent) (asked : Request) (texts : Files) (paths : List (List ℕ)) (text : List ℕ) (status : ℕ) : Type 0 where
-  one : (tree : Tree) (users : List (Option UserValue)) (values : List UnitValue)
-      → AreAccepted texts asked.tree tree → asked.verb ≢ Compare → Resolve content_of asked tree paths users values
-      → text ≡ text_of_verb asked tree users values asked.verb → status ≡ 0
-      → Answer content_of asked texts paths text status
-  two : (tree : Tree) (left right : List ℕ) (users others : List (Option UserValue)) (v w : List UnitValue)
-      → AreAccepted texts asked.tree tree → asked.verb ≡ Compare → paths ≡ left ∷ right ∷ []
-      → Resolve content_of asked tree (left ∷ []) users v → Resolve content_of asked tree (right ∷ []) others w
+-- The text, the exit status and the lines of the notices that answer a command over the texts of a tree: of all files, each
+-- over those before it, or for a comparison of two files, each by itself.
+pub data Answer (content_of : List ℕ → FileContent) (settings : Settings) (texts : Files) (task : Task) (text : List ℕ) (status : ℕ) (notices : List (List ℕ)) : Type 0 where
+  of_files : (tree : Tree) (verb : Verb) (paths : List (List ℕ)) (meanings : List (List LineMeaning)) (values : List UnitValue)
+      → task ≡ over verb paths → AreAccepted texts settings.tree tree → Resolve content_of settings tree paths meanings values
+      → text ≡ text_of_verb settings tree (files_assignment tree meanings) values verb → status ≡ 0
+      → notices ≡ notice_lines paths meanings → Answer content_of settings texts task text status notices
+  of_comparison : (tree : Tree) (left right : List ℕ) (left_meanings right_meanings : List (List LineMeaning)) (v w : List UnitValue)
+      → task ≡ compare left right → AreAccepted texts settings.tree tree
+      → Resolve content_of settings tree (left ∷ []) left_meanings v → Resolve content_of settings tree (right ∷ []) right_meanings w
       → text ≡ flat_map (difference_line tree) (differences tree v w)
       → status ≡ status_of_differences (differences tree v w)
-      → Answer content_of asked texts paths text status
+      → notices ≡ notice_lines (left ∷ []) left_meanings ++ notice_lines (right ∷ []) right_meanings
+      → Answer content_of settings texts task text status notices

@@ -1,49 +1,82 @@
 -- The answer to a bundle, and when a bundle is refused.
-use Rattle.std.specs.Prelude.{ℕ, ◌<◌, ◌-◌, ◌^◌, List, [], ◌∷◌, Option, Some, take, codes}
-use Rattle.std.specs.Io.KnownBytes.{Appends}
+use Rattle.std.specs.Prelude.{◌≡◌, ℕ, ◌<◌, List, [], ◌∷◌, ◌++◌, Option, Some, take, length, codes}
+use Rattle.std.specs.Io.KnownBytes.{Appends, Consumes}
 use Rattle.kc_tree_model.specs.Trees.{Tree}
 use Rattle.kc_tree_model.specs.TreeFiles.{Files}
-use Rattle.kc_dotconfig_model.specs.LoadFaults.{IsAccepted}
+use Rattle.kc_rules_model.specs.declared.profile.Profile.TheVariants.{Present}
+use Rattle.kc_dotconfig_model.specs.declared.fault.LoadKind.{LoadKind}
+use Rattle.kc_dotconfig_model.specs.declared.fault.LoadKind.TheVariants.{Read, TooLarge}
+use Rattle.kmin_words.specs.Jobs.{Settings, Task, over}
+use Rattle.kmin_words.specs.declared.job.Verb.TheVariants.{Full}
+use Rattle.kmin_jobs.specs.FileContents.{FileContent}
+use Rattle.kmin_jobs.specs.Reports.{fault_line, output_line}
 use Rattle.kmin_jobs.specs.Bundles.{IsBundle, ReadsToEnd}
-use Rattle.kmin_jobs.specs.Requests.{bundle_request}
 use Rattle.kmin_jobs.specs.Answers.{Answer, AreAccepted}
+use Rattle.kmin_jobs.specs.Stops.{RefusesTexts, StopsAmongFiles}
+
+-- the options of a bundle
+abbrev pub bundle_settings : Settings
+bundle_settings = record { root = []; tree = codes "Kconfig"; prefix = codes "CONFIG_"; profile = Present }
+
+-- the command of a bundle: the full file of its configuration
+abbrev pub bundle_task : Task
+bundle_task = over Full (codes "config" ∷ [])
 
 -- the one file of a bundle's tree
 abbrev pub bundle_files : List ℕ → Files
 bundle_files tree = (codes "Kconfig", tree) ∷ []
 
--- The full file of the bundle's configuration over its tree.
-pub record AnswersBundle (bundle text : List ℕ) : Type 0 where
+-- the one configuration of a bundle
+abbrev pub bundle_content : List ℕ → List ℕ → FileContent
+bundle_content configuration path = Some (Some configuration)
+
+-- the line of a fault of a bundle as a whole
+abbrev pub bundle_line : LoadKind → List ℕ
+bundle_line kind = fault_line (codes "bundle") 0 kind
+
+-- the line of a bundle that has too many bytes, and of one that can't be read
+abbrev pub large_line : List ℕ
+large_line = bundle_line TooLarge
+
+abbrev pub unread_line : List ℕ
+unread_line = bundle_line Read
+
+-- The full file of the bundle's configuration over its tree, with the lines of its notices.
+pub record AnswersBundle (bundle text : List ℕ) (notices : List (List ℕ)) : Type 0 where
   pub tree : List ℕ
   pub configuration : List ℕ
   pub parts : IsBundle bundle tree configuration
-  pub answers : Answer (λ path. Some (Some configuration)) bundle_request (bundle_files tree) (codes "config" ∷ []) text 0
+  pub answers : Answer (bundle_content configuration) bundle_settings (bundle_files tree) bundle_task text 0 notices
 
--- the bundle's tree isn't accepted
-pub record RefusesTree (bundle : List ℕ) : Type 0 where
-  pub tree : List ℕ
-  pub configuration : List ℕ
-  pub parts : IsBundle bundle tree configuration
-  pub none : (whole : Tree) → AreAccepted (bundle_files tree) (codes "Kconfig") whole → ⊥
+-- A bundle ends without an answer, with this exit status and these lines before those of `last_lines`: its tree is refused,
+-- or its configuration, or memory runs out.
+pub data StopsInBundle (bundle : List ℕ) (status : ℕ) (lines : List (List ℕ)) : Type 0 where
+  at_tree : (tree configuration line : List ℕ) → IsBundle bundle tree configuration
+      → RefusesTexts (bundle_files tree) (codes "Kconfig") line → status ≡ 3 → lines ≡ line ∷ [] → StopsInBundle bundle status lines
+  in_configuration : (tree configuration : List ℕ) (whole : Tree) → IsBundle bundle tree configuration
+      → AreAccepted (bundle_files tree) (codes "Kconfig") whole
+      → StopsAmongFiles (bundle_content configuration) (codes "CONFIG_") whole (codes "config" ∷ []) status lines
+      → StopsInBundle bundle status lines
+  for_memory : status ≡ 6 → lines ≡ [] → StopsInBundle bundle status lines
 
--- the bundle's configuration isn't accepted over its tree
-pub record RefusesConfiguration (bundle : List ℕ) : Type 0 where
-  pub tree : List ℕ
-  pub configuration : List ℕ
-  pub parts : IsBundle bundle tree configuration
-  pub whole : Tree
-  pub accepted : AreAccepted (bundle_files tree) (codes "Kconfig") whole
-  pub none : IsAccepted (codes "CONFIG_") whole configuration → ⊥
+-- Reading a bundle and answering it ends so: it has too many bytes, a read fails, it has no answer, or a write fails.
+pub data StopsOnBundle (left left_after : Option (List ℕ)) (status : ℕ) (lines : List (List ℕ)) : Type 0 where
+  too_large : (bytes : List ℕ) → Consumes left left_after bytes → 67108864 < length bytes → status ≡ 4 → lines ≡ large_line ∷ []
+      → StopsOnBundle left left_after status lines
+  unread : status ≡ 5 → lines ≡ unread_line ∷ [] → StopsOnBundle left left_after status lines
+  in_bundle : (bundle : List ℕ) → ReadsToEnd left left_after bundle → StopsInBundle bundle status lines
+      → StopsOnBundle left left_after status lines
+  at_write : (bundle text : List ℕ) (notices : List (List ℕ)) → ReadsToEnd left left_after bundle
+      → AnswersBundle bundle text notices → status ≡ 5 → lines ≡ notices ++ output_line ∷ []
+      → StopsOnBundle left left_after status lines
+  for_memory : status ≡ 6 → lines ≡ [] → StopsOnBundle left left_after status lines
 
--- a bundle was read whole, and the writer took the first bytes of its full file
+-- a bundle was read to its end, and the writer took the first bytes of its full file
 pub record WritesPart (left_before left_after taken_before taken_after : Option (List ℕ)) : Type 0 where
   pub bundle : List ℕ
   pub whole : ReadsToEnd left_before left_after bundle
   pub text : List ℕ
-  pub answers : AnswersBundle bundle text
+  pub notices : List (List ℕ)
+  pub answers : AnswersBundle bundle text notices
   pub written : ℕ
   pub taken : Appends taken_before taken_after (take written text)
-
--- a count of failures rose, where it could
-abbrev pub Rises : (before after : ℕ) → Type 0
-Rises before after = before < 2 ^ 64 - 1 → before < after

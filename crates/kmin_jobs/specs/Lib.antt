@@ -1,7 +1,10 @@
+pub mod KindNames
+pub mod StandardError
+pub mod Reports
 pub mod Bundles
 pub mod FileContents
-pub mod Requests
 pub mod Answers
+pub mod Stops
 pub mod BundleAnswers
 pub mod PartialAnswers
-pub mod checker
+pub mod between

@@ -1,12 +1,14 @@
 //! Bundles: a tree, a line of just `%%` and a configuration.
-ghost use Rattle.std.specs.Prelude.{◌≡◌, ◌≢◌, ◌<◌, ◌≤◌, ◌⊎◌, IfOk, IfErr, OnOk, ℕ, List, length};
-ghost use Rattle.std.specs.Io.KnownBytes.{Consumes};
+ghost use Rattle.std.specs.Prelude.{◌≡◌, ◌≤◌, [], IfOk, IfErr, OnOk, ℕ, List, length};
 ghost use Rattle.kmin_jobs.specs.Bundles.{IsBundle, ReadsToEnd};
-ghost use Rattle.kmin_jobs.specs.BundleAnswers.{Rises};
+ghost use Rattle.kmin_jobs.specs.BundleAnswers.{StopsOnBundle, bundle_line};
+ghost use Rattle.kmin_jobs.specs.StandardError.{Rises, TakesLine, TakesLines};
+ghost use Rattle.kmin_jobs.specs.between.RunErrors.{status_of};
 
 use crate::lines::first_line;
-use crate::output::report;
+use crate::report::{Report, write_report};
 use crate::run_error::RunError;
+use kc_dotconfig::LoadKind;
 use kc_value::{Sink, Source};
 use std::alloc::Global;
 
@@ -19,7 +21,7 @@ const BLOCK: usize = 8192;
 /// The line that ends the tree.
 const MARKER: &[u8] = b"%%";
 
-/// Reads all that a reader has left. Where a read fails, and where that is more than `MAX_BYTES` bytes, this is told.
+/// Reads all that a reader has left. Where a read fails, and where that is more than `MAX_BYTES` bytes, this is reported.
 pub(crate) fn read_whole<S: Source, E: Sink>(
     alloc: Global,
     source: &mut S,
@@ -28,15 +30,15 @@ pub(crate) fn read_whole<S: Source, E: Sink>(
     ensures ok { IfOk result (λ text. ReadsToEnd (S.left source.old) (S.left source.new) text.items) }
     ensures within { IfOk result (λ text. length text.items ≤ MAX_BYTES) }
     ensures unfailed { OnOk result (S.failures source.new ≡ S.failures source.old) }
-    ensures tree { result ≢ Err RunError.Tree }
-    ensures large { result ≡ Err RunError.Configuration → (bytes : List ℕ) × Consumes (S.left source.old) (S.left source.new) bytes × (MAX_BYTES < length bytes) }
+    ensures unreported { OnOk result (TakesLines (E.taken err.old) (E.failures err.old) [] (E.taken err.new) (E.failures err.new)) }
     ensures failed { result ≡ Err RunError.Failed → Rises (S.failures source.old) (S.failures source.new) }
+    ensures stopped { IfErr result (λ stop. (lines : List (List ℕ)) × StopsOnBundle (S.left source.old) (S.left source.new) (status_of stop) lines × TakesLines (E.taken err.old) (E.failures err.old) lines (E.taken err.new) (E.failures err.new)) }
 {
     let mut text = Vec::new(alloc);
     let mut block = [0; BLOCK];
     while text.len() <= MAX_BYTES {
         let Ok(count) = source.read_some(&mut block) else {
-            report(err, b"bundle:0: Read\n");
+            report_bundle(LoadKind::Read, err);
             return Err(RunError::Failed);
         };
         if count == 0 {
@@ -44,8 +46,23 @@ pub(crate) fn read_whole<S: Source, E: Sink>(
         }
         text.extend_from_slice(&block[..count])?;
     }
-    report(err, b"bundle:0: TooLarge\n");
+    report_bundle(LoadKind::TooLarge, err);
     Err(RunError::Configuration)
+}
+
+/// Reports a fault of a bundle as a whole.
+fn report_bundle<E: Sink>(kind: LoadKind, err: &mut E)
+    ensures { TakesLine (E.taken err.old) (E.failures err.old) (bundle_line kind) (E.taken err.new) (E.failures err.new) }
+{
+    let path = "bundle";
+    write_report(
+        Report::FileFault {
+            path,
+            line: 0,
+            kind,
+        },
+        err,
+    );
 }
 
 /// The parts of a bundle: its tree, and its configuration.

@@ -1,17 +1,19 @@
 //! The answer to a bundle.
-ghost use Rattle.std.specs.Prelude.{◌≡◌, ◌≢◌, ◌<◌, ◌≤◌, ◌⊎◌, ◌∷◌, [], List, ℕ, Option, Some, codes, length, IfOk, IfErr, OnOk};
-ghost use Rattle.std.specs.Io.KnownBytes.{Appends, Consumes};
-ghost use Rattle.kc_tree_model.specs.Trees.{Tree as Whole};
+ghost use Rattle.std.specs.Prelude.{◌≡◌, ◌≢◌, ◌≤◌, ◌⊎◌, ◌∷◌, [], List, ℕ, codes, length, IfOk, IfErr, OnOk};
+ghost use Rattle.std.specs.Io.KnownBytes.{Appends};
 ghost use Rattle.kc_rules.specs.SettledViews.{tree_of_settled, profile_of};
 ghost use Rattle.kc_rules_model.specs.declared.profile.Profile.TheVariants.{Present};
 ghost use Rattle.kc_rules_model.specs.declared.values.UnitValue.{UnitValue};
-ghost use Rattle.kc_rules_model.specs.declared.values.UserValue.{UserValue};
-ghost use Rattle.kc_dotconfig_model.specs.LoadFaults.{IsAccepted};
+ghost use Rattle.kc_dotconfig_model.specs.ConfigLines.{LineMeaning};
 ghost use Rattle.kc_minimal_model.specs.FullFile.{full_file};
 ghost use Rattle.kmin_jobs.specs.Answers.{AreAccepted, Resolve};
-ghost use Rattle.kmin_jobs.specs.Requests.{bundle_request};
 ghost use Rattle.kmin_jobs.specs.Bundles.{ReadsToEnd};
-ghost use Rattle.kmin_jobs.specs.BundleAnswers.{AnswersBundle, RefusesConfiguration, RefusesTree, Rises, WritesPart, bundle_files};
+ghost use Rattle.kmin_jobs.specs.BundleAnswers.{AnswersBundle, StopsInBundle, StopsOnBundle, WritesPart, bundle_content, bundle_files, bundle_settings};
+ghost use Rattle.kmin_jobs.specs.Reports.{notice_lines};
+ghost use Rattle.kmin_jobs.specs.StandardError.{Rises, TakesLines};
+ghost use Rattle.kmin_jobs.specs.Stops.{StopsAmongFiles};
+ghost use Rattle.kmin_jobs.specs.between.RunErrors.{status_of};
+ghost use Rattle.kmin_jobs.specs.between.TreeStops.{StopsAtTexts};
 
 use crate::bundle::{cut, read_whole};
 use crate::loading::load;
@@ -34,13 +36,12 @@ pub(crate) fn run_bundle<I: Source, O: Sink, E: Sink>(
     out: &mut O,
     err: &mut E,
 ) -> Result<(), RunError>
-    ensures ok { OnOk result ((bundle text : List ℕ) × ReadsToEnd (I.left input.old) (I.left input.new) bundle × (length bundle ≤ 67108864) × AnswersBundle bundle text × Appends (O.taken out.old) (O.taken out.new) text) }
+    ensures ok { OnOk result ((bundle text : List ℕ) × (notices : List (List ℕ)) × ReadsToEnd (I.left input.old) (I.left input.new) bundle × (length bundle ≤ 67108864) × AnswersBundle bundle text notices × Appends (O.taken out.old) (O.taken out.new) text × TakesLines (E.taken err.old) (E.failures err.old) notices (E.taken err.new) (E.failures err.new)) }
     ensures unfailed { OnOk result ((I.failures input.new ≡ I.failures input.old) × (O.failures out.new ≡ O.failures out.old)) }
-    ensures tree { result ≡ Err RunError.Tree → (bundle : List ℕ) × ReadsToEnd (I.left input.old) (I.left input.new) bundle × RefusesTree bundle }
-    ensures configuration { result ≡ Err RunError.Configuration → (bundle : List ℕ) × ((Consumes (I.left input.old) (I.left input.new) bundle × (67108864 < length bundle)) ⊎ (ReadsToEnd (I.left input.old) (I.left input.new) bundle × RefusesConfiguration bundle)) }
     ensures failed { result ≡ Err RunError.Failed → Rises (I.failures input.old) (I.failures input.new) ⊎ Rises (O.failures out.old) (O.failures out.new) }
     ensures part { result ≡ Err RunError.Failed → (O.taken out.new ≡ O.taken out.old) ⊎ WritesPart (I.left input.old) (I.left input.new) (O.taken out.old) (O.taken out.new) }
     ensures unwritten { IfErr result (λ stop. (stop ≡ RunError.Failed) ⊎ (O.taken out.new ≡ O.taken out.old)) }
+    ensures stopped { IfErr result (λ stop. (lines : List (List ℕ)) × StopsOnBundle (I.left input.old) (I.left input.new) (status_of stop) lines × TakesLines (E.taken err.old) (E.failures err.old) lines (E.taken err.new) (E.failures err.new)) }
 {
     let bundle = read_whole(alloc, input, err)?;
     let text = bundle_text(alloc, seed, &bundle, err)?;
@@ -50,17 +51,16 @@ pub(crate) fn run_bundle<I: Source, O: Sink, E: Sink>(
     }
 }
 
-/// The full file that a bundle asks for; reports its faults.
+/// The full file that a bundle asks for; reports its notices and faults.
 fn bundle_text<E: Sink>(
     alloc: Global,
     seed: Seed,
     bundle: &[u8],
     err: &mut E,
 ) -> Result<Vec<u8>, RunError>
-    ensures ok { IfOk result (λ text. AnswersBundle bundle.now text.items) }
-    ensures tree { result ≡ Err RunError.Tree → RefusesTree bundle.now }
-    ensures configuration { result ≡ Err RunError.Configuration → RefusesConfiguration bundle.now }
+    ensures ok { IfOk result (λ text. (notices : List (List ℕ)) × AnswersBundle bundle.now text.items notices × TakesLines (E.taken err.old) (E.failures err.old) notices (E.taken err.new) (E.failures err.new)) }
     ensures failed { result ≢ Err RunError.Failed }
+    ensures stopped { IfErr result (λ stop. (lines : List (List ℕ)) × StopsInBundle bundle.now (status_of stop) lines × TakesLines (E.taken err.old) (E.failures err.old) lines (E.taken err.new) (E.failures err.new)) }
 {
     let (tree, configuration) = cut(bundle);
     let settled = bundle_tree(alloc, seed, tree, err)?;
@@ -69,7 +69,7 @@ fn bundle_text<E: Sink>(
     text
 }
 
-/// The settled tree of a bundle's one file; reports its fault.
+/// The settled tree of a bundle's one file; reports why it is refused.
 fn bundle_tree<E: Sink>(
     alloc: Global,
     seed: Seed,
@@ -78,8 +78,8 @@ fn bundle_tree<E: Sink>(
 ) -> Result<Settled, RunError>
     ensures accepted { IfOk result (λ settled. AreAccepted (bundle_files tree.now) (codes "Kconfig") (tree_of_settled settled)) }
     ensures profile { IfOk result (λ settled. profile_of settled ≡ Present) }
-    ensures refused { result ≡ Err RunError.Tree → (whole : Whole) → AreAccepted (bundle_files tree.now) (codes "Kconfig") whole → ⊥ }
-    ensures others { IfErr result (λ stop. (stop ≡ RunError.Tree) ⊎ (stop ≡ RunError.Memory)) }
+    ensures unreported { OnOk result (TakesLines (E.taken err.old) (E.failures err.old) [] (E.taken err.new) (E.failures err.new)) }
+    ensures stopped { IfErr result (λ stop. (lines : List (List ℕ)) × StopsAtTexts (bundle_files tree.now) (codes "Kconfig") (status_of stop) lines × TakesLines (E.taken err.old) (E.failures err.old) lines (E.taken err.new) (E.failures err.new)) }
 {
     let mut texts = Texts::with_seed(alloc, seed);
     texts.insert("Kconfig", tree)?;
@@ -87,17 +87,16 @@ fn bundle_tree<E: Sink>(
     settled_tree(alloc, &texts, "Kconfig", read, Profile::Present, err)
 }
 
-/// The full file of a configuration over a settled tree, in the plain form.
+/// The full file of a configuration over a settled tree, in the plain form; reports its notices and its fault.
 fn full_over<E: Sink>(
     alloc: Global,
     settled: &Settled,
     configuration: &[u8],
     err: &mut E,
 ) -> Result<Vec<u8>, RunError>
-    ensures ok { IfOk result (λ text. (users : List (Option UserValue)) × (values : List UnitValue) × Resolve (λ path. Some (Some configuration.now)) (record bundle_request { profile = profile_of settled.now }) (tree_of_settled settled.now) (codes "config" ∷ []) users values × (text.items ≡ full_file (codes "CONFIG_") (tree_of_settled settled.now) values)) }
-    ensures configuration { result ≡ Err RunError.Configuration → IsAccepted (codes "CONFIG_") (tree_of_settled settled.now) configuration.now → ⊥ }
-    ensures tree { result ≢ Err RunError.Tree }
+    ensures ok { IfOk result (λ text. (meanings : List (List LineMeaning)) × (values : List UnitValue) × Resolve (bundle_content configuration.now) (record bundle_settings { profile = profile_of settled.now }) (tree_of_settled settled.now) (codes "config" ∷ []) meanings values × (text.items ≡ full_file (codes "CONFIG_") (tree_of_settled settled.now) values) × TakesLines (E.taken err.old) (E.failures err.old) (notice_lines (codes "config" ∷ []) meanings) (E.taken err.new) (E.failures err.new)) }
     ensures failed { result ≢ Err RunError.Failed }
+    ensures stopped { IfErr result (λ stop. (lines : List (List ℕ)) × StopsAmongFiles (bundle_content configuration.now) (codes "CONFIG_") (tree_of_settled settled.now) (codes "config" ∷ []) (status_of stop) lines × TakesLines (E.taken err.old) (E.failures err.old) lines (E.taken err.new) (E.failures err.new)) }
 {
     let prefix = Prefix::plain();
     let mut reader = MemoryReader::new(configuration);

@@ -3,13 +3,14 @@
 
 mod bundle;
 mod bundle_answer;
-mod cycles;
 mod files;
+mod kind_names;
 mod lines;
 mod loading;
 mod memory_reader;
 mod output;
 mod prefetch;
+mod report;
 mod run_error;
 mod running;
 mod serving;

@@ -3,7 +3,7 @@ ghost use Rattle.std.specs.Prelude.{◌≡◌, ◌<◌, ◌≤◌, ◌++◌, ◌
 ghost use Rattle.std.specs.List.{list_all, prefix_len};
 ghost use Rattle.kc_dotconfig_model.specs.ConfigFiles.{file_lines};
 ghost use Rattle.kmin_jobs.specs.Bundles.{BeginsWithLine};
-ghost use Rattle.kmin_jobs.specs.checker.LineEnds.{begins_after_line, is_inline};
+ghost use Rattle.kmin_jobs.specs.between.LineEnds.{begins_after_line, is_inline};
 
 /// How many bytes there are before the first newline.
 fn line_length(text: &[u8]) -> usize

@@ -1,24 +1,26 @@
 //! Configuration files over a settled tree.
-ghost use Rattle.std.specs.Prelude.{◌≡◌, ◌⊎◌, ◌∷◌, ◌++◌, [], List, ℕ, map, IfOk, IfErr, OnOk};
+ghost use Rattle.std.specs.Prelude.{◌≡◌, ◌∷◌, [], List, ℕ, map, IfOk, IfErr};
 ghost use Rattle.std.specs.Borrow.{Bor};
 ghost use Rattle.kc_rules.specs.SettledViews.{tree_of_settled};
+ghost use Rattle.kc_dotconfig_model.specs.ConfigFiles.{empty_assignment};
 ghost use Rattle.kc_dotconfig_model.specs.Prefixes.{prefix_bytes};
 ghost use Rattle.kc_dotconfig.specs.Configured.{IsSolved};
-ghost use Rattle.kc_dotconfig.specs.Fragments.{FitsTree};
+ghost use Rattle.kc_dotconfig.specs.Fragments.{FitsTree, notice_pair};
 ghost use Rattle.kc_dotconfig.specs.ReadResults.{IsReadAs};
-ghost use Rattle.kmin_jobs.specs.Answers.{Assign};
-ghost use Rattle.kmin_jobs.specs.BundleAnswers.{Rises};
-ghost use Rattle.kmin_jobs.specs.checker.Refused.{IsNotAccepted};
-ghost use Rattle.kmin_jobs.specs.checker.Loaded.{IsAssignment};
+ghost use Rattle.kmin_jobs.specs.Reports.{notice_line};
+ghost use Rattle.kmin_jobs.specs.StandardError.{TakesLines};
+ghost use Rattle.kmin_jobs.specs.Stops.{StopsAmongFiles};
+ghost use Rattle.kmin_jobs.specs.between.Loaded.{IsLoaded, AreLoaded};
+ghost use Rattle.kmin_jobs.specs.between.LoadStops.{StopsLoad, StopsAtPath, fragment_notices, load_lines, load_status};
+ghost use Rattle.kmin_jobs.specs.between.RunErrors.{status_of};
 
 use crate::files::Files;
-use crate::output::Console;
+use crate::report::{Report, write_report};
 use crate::run_error::RunError;
 use kc_dotconfig::{Config, Fragment, LoadFault, LoadKind, Notice, Prefix, read_config};
 use kc_rules::Settled;
 use kc_value::{Sink, Source};
 use std::alloc::Global;
-use std::fmt::Write;
 
 /// Reads the assignments of a file. Reports its notices and its fault.
 pub(crate) fn load<S: Source, E: Sink>(
@@ -31,40 +33,44 @@ pub(crate) fn load<S: Source, E: Sink>(
 ) -> Result<Fragment, RunError>
     ensures ok { IfOk result (IsReadAs (prefix_bytes prefix.now) (tree_of_settled settled.now) (S.left source.old) (S.left source.new)) }
     ensures fits { IfOk result (λ f. FitsTree (tree_of_settled settled.now) f.assigns.items) }
-    ensures failed { result ≡ Err RunError.Failed → Rises (S.failures source.old) (S.failures source.new) }
-    ensures refused { result ≡ Err RunError.Configuration → IsNotAccepted (prefix_bytes prefix.now) (tree_of_settled settled.now) (S.left source.old) (S.left source.new) }
-    ensures others { IfErr result (λ stop. (stop ≡ RunError.Configuration) ⊎ (stop ≡ RunError.Failed) ⊎ (stop ≡ RunError.Memory)) }
+    ensures notices { IfOk result (λ f. TakesLines (E.taken err.old) (E.failures err.old) (fragment_notices path.now f) (E.taken err.new) (E.failures err.new)) }
+    ensures stopped { IfErr result (λ stop. StopsLoad (prefix_bytes prefix.now) (tree_of_settled settled.now) path.now (S.left source.old) (S.left source.new) (S.failures source.old) (S.failures source.new) (status_of stop) (E.taken err.old) (E.failures err.old) (E.taken err.new) (E.failures err.new)) }
 {
     match read_config(alloc, settled, prefix, source) {
         Ok(fragment) => {
             report_notices(path, &fragment.notices, err);
             Ok(fragment)
         }
-        Err(fault) => Err(report_fault(path, fault, err)),
+        Err(fault) => Err(report_load_fault(path, fault, err)),
     }
 }
 
-/// Reports a fault of a file, and returns the error of the run.
-fn report_fault<E: Sink>(path: &str, fault: LoadFault, err: &mut E) -> RunError
-    ensures memory { fault.kind ≡ LoadKind.OutOfMemory → result ≡ RunError.Memory }
-    ensures failed { fault.kind ≡ LoadKind.Read → result ≡ RunError.Failed }
-    ensures others { (result ≡ RunError.Memory × (fault.kind ≡ LoadKind.OutOfMemory)) ⊎ (result ≡ RunError.Failed × (fault.kind ≡ LoadKind.Read)) ⊎ (result ≡ RunError.Configuration) }
+/// Reports a fault of a file, and returns the error of the run; memory that was refused is reported later.
+fn report_load_fault<E: Sink>(path: &str, fault: LoadFault, err: &mut E) -> RunError
+    ensures status { status_of result ≡ load_status fault.kind }
+    ensures reported { TakesLines (E.taken err.old) (E.failures err.old) (load_lines path.now fault.line fault.kind) (E.taken err.new) (E.failures err.new) }
 {
     let LoadFault { line, kind } = fault;
-    let stop = match kind {
-        LoadKind::OutOfMemory => return RunError::Memory,
-        LoadKind::Read => RunError::Failed,
-        _ => RunError::Configuration,
-    };
-    let _ = writeln!(Console::new(err), "{path}:{line}: {kind}");
-    stop
+    match kind {
+        LoadKind::OutOfMemory => RunError::Memory,
+        LoadKind::Read => {
+            write_report(Report::FileFault { path, line, kind }, err);
+            RunError::Failed
+        }
+        _ => {
+            write_report(Report::FileFault { path, line, kind }, err);
+            RunError::Configuration
+        }
+    }
 }
 
 /// Reports the notices of a file.
-fn report_notices<E: Sink>(path: &str, notices: &[Notice], err: &mut E) {
+fn report_notices<E: Sink>(path: &str, notices: &[Notice], err: &mut E)
+    ensures { TakesLines (E.taken err.old) (E.failures err.old) (map (λ notice. notice_line path.now (notice_pair notice)) notices.now) (E.taken err.new) (E.failures err.new) }
+{
     for notice in notices {
         let Notice { line, kind } = *notice;
-        let _ = writeln!(Console::new(err), "{path}:{line}: {kind}");
+        write_report(Report::Notice { path, line, kind }, err);
     }
 }
 
@@ -78,20 +84,29 @@ fn load_path<F: Files, E: Sink>(
     err: &mut E,
 ) -> Result<Fragment, RunError>
     ensures same { (other : List ℕ) → F.content_of files.new other ≡ F.content_of files.old other }
-    ensures ok { IfOk result (IsAssignment (F.content_of files.old path.now) (prefix_bytes prefix.now) (tree_of_settled settled.now)) }
     ensures fits { IfOk result (λ f. FitsTree (tree_of_settled settled.now) f.assigns.items) }
+    ensures loaded { IfOk result (λ f. IsLoaded (F.content_of files.old path.now) (prefix_bytes prefix.now) (tree_of_settled settled.now) path.now f (E.taken err.old) (E.failures err.old) (E.taken err.new) (E.failures err.new)) }
+    ensures stopped { IfErr result (λ stop. (lines : List (List ℕ)) × StopsAtPath (F.content_of files.old path.now) (prefix_bytes prefix.now) (tree_of_settled settled.now) path.now (status_of stop) lines × TakesLines (E.taken err.old) (E.failures err.old) lines (E.taken err.new) (E.failures err.new)) }
 {
     match files.reader_for(path) {
         Some(mut reader) => load(alloc, settled, prefix, path, &mut reader, err),
         None => {
-            let _ = writeln!(Console::new(err), "{path}:0: {}", LoadKind::Read);
+            let kind = LoadKind::Read;
+            write_report(
+                Report::FileFault {
+                    path,
+                    line: 0,
+                    kind,
+                },
+                err,
+            );
             Err(RunError::Failed)
         }
     }
 }
 
 /// The configuration of one file.
-fn configured_by<'a, F: Files, E: Sink>(
+pub(crate) fn configured_by<'a, F: Files, E: Sink>(
     alloc: Global,
     settled: &'a Settled,
     prefix: &Prefix,
@@ -102,7 +117,8 @@ fn configured_by<'a, F: Files, E: Sink>(
     ensures same { (other : List ℕ) → F.content_of files.new other ≡ F.content_of files.old other }
     ensures settled { IfOk result (λ config. config.system ≡ settled.now) }
     ensures solved { IfOk result (λ config. IsSolved config) }
-    ensures assign { IfOk result (λ config. Assign (F.content_of files.old) (prefix_bytes prefix.now) (tree_of_settled settled.now) (path.now ∷ []) config.users) }
+    ensures loaded { IfOk result (λ config. AreLoaded (F.content_of files.old) (prefix_bytes prefix.now) (tree_of_settled settled.now) (path.now ∷ []) (empty_assignment (tree_of_settled settled.now)) config.users (E.taken err.old) (E.failures err.old) (E.taken err.new) (E.failures err.new)) }
+    ensures stopped { IfErr result (λ stop. (lines : List (List ℕ)) × StopsAmongFiles (F.content_of files.old) (prefix_bytes prefix.now) (tree_of_settled settled.now) (path.now ∷ []) (status_of stop) lines × TakesLines (E.taken err.old) (E.failures err.old) lines (E.taken err.new) (E.failures err.new)) }
 {
     let fragment = load_path(alloc, settled, prefix, path, files, err)?;
     let config = Config::of(alloc, settled, &fragment);
@@ -125,7 +141,8 @@ fn overlaid<'a, F: Files, E: Sink>(
     ensures same { (other : List ℕ) → F.content_of files.new other ≡ F.content_of files.old other }
     ensures settled { IfOk result (λ config. config.system ≡ settled.now) }
     ensures solved { IfOk result (λ config. IsSolved config) }
-    ensures assign { IfOk result (λ config. (before : List (List ℕ)) → Assign (F.content_of files.old) (prefix_bytes prefix.now) (tree_of_settled settled.now) before begun.entry.users → Assign (F.content_of files.old) (prefix_bytes prefix.now) (tree_of_settled settled.now) (before ++ map (λ (path : Bor (List ℕ)). path.now) paths.now) config.users) }
+    ensures loaded { IfOk result (λ config. AreLoaded (F.content_of files.old) (prefix_bytes prefix.now) (tree_of_settled settled.now) (map (λ (path : Bor (List ℕ)). path.now) paths.now) begun.entry.users config.users (E.taken err.old) (E.failures err.old) (E.taken err.new) (E.failures err.new)) }
+    ensures stopped { IfErr result (λ stop. (lines : List (List ℕ)) × StopsAmongFiles (F.content_of files.old) (prefix_bytes prefix.now) (tree_of_settled settled.now) (map (λ (path : Bor (List ℕ)). path.now) paths.now) (status_of stop) lines × TakesLines (E.taken err.old) (E.failures err.old) lines (E.taken err.new) (E.failures err.new)) }
 {
     let mut config = begun;
     for path in paths {
@@ -147,7 +164,8 @@ pub(crate) fn configured<'a, F: Files, E: Sink>(
     ensures same { (other : List ℕ) → F.content_of files.new other ≡ F.content_of files.old other }
     ensures settled { IfOk result (λ config. config.system ≡ settled.now) }
     ensures solved { IfOk result (λ config. IsSolved config) }
-    ensures assign { IfOk result (λ config. Assign (F.content_of files.old) (prefix_bytes prefix.now) (tree_of_settled settled.now) (map (λ (path : Bor (List ℕ)). path.now) paths.now) config.users) }
+    ensures loaded { IfOk result (λ config. AreLoaded (F.content_of files.old) (prefix_bytes prefix.now) (tree_of_settled settled.now) (map (λ (path : Bor (List ℕ)). path.now) paths.now) (empty_assignment (tree_of_settled settled.now)) config.users (E.taken err.old) (E.failures err.old) (E.taken err.new) (E.failures err.new)) }
+    ensures stopped { IfErr result (λ stop. (lines : List (List ℕ)) × StopsAmongFiles (F.content_of files.old) (prefix_bytes prefix.now) (tree_of_settled settled.now) (map (λ (path : Bor (List ℕ)). path.now) paths.now) (status_of stop) lines × TakesLines (E.taken err.old) (E.failures err.old) lines (E.taken err.new) (E.failures err.new)) }
 {
     let Some((first, others)) = paths.split_first() else {
         return Ok(Config::new(alloc, settled)?);

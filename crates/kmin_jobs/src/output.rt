@@ -1,18 +1,14 @@
-//! Writes the answer, and reports on standard error.
-ghost use Rattle.std.specs.Prelude.{◌≡◌, ◌<◌, length, take, IfErr, OnOk};
+//! Writes the answer, and the last line of a run that has none.
+ghost use Rattle.std.specs.Prelude.{◌≡◌, ◌∷◌, [], ◌<◌, length, take, IfErr, OnOk, OnErr};
 ghost use Rattle.std.specs.Io.KnownBytes.{Appends};
-ghost use Rattle.kmin_jobs.specs.BundleAnswers.{Rises};
-ghost use Rattle.kmin_jobs.specs.checker.RunErrors.{status_of};
+ghost use Rattle.kmin_jobs.specs.Reports.{output_line, last_lines};
+ghost use Rattle.kmin_jobs.specs.StandardError.{Rises, TakesLines};
+ghost use Rattle.kmin_jobs.specs.between.RunErrors.{status_of};
 
+use crate::report::{Report, write_report};
 use crate::run_error::RunError;
 use kc_minimal::{WriteFault, write_out};
 use kc_value::Sink;
-use std::fmt;
-
-/// Writes a text as far as it goes.
-pub(crate) fn report<W: Sink>(sink: &mut W, text: &[u8]) {
-    let _ = write_out(sink, text);
-}
 
 /// Writes a complete answer. A failed write is reported on standard error.
 pub(crate) fn write_answer<O: Sink, E: Sink>(
@@ -22,41 +18,30 @@ pub(crate) fn write_answer<O: Sink, E: Sink>(
 ) -> Result<(), WriteFault>
     ensures whole { OnOk result (Appends (O.taken out.old) (O.taken out.new) text.now) }
     ensures unfailed { OnOk result (O.failures out.new ≡ O.failures out.old) }
+    ensures unreported { OnOk result (TakesLines (E.taken err.old) (E.failures err.old) [] (E.taken err.new) (E.failures err.new)) }
     ensures part { IfErr result (λ fault. (fault.written < length text.now) × Appends (O.taken out.old) (O.taken out.new) (take fault.written text.now)) }
-    ensures failed { IfErr result (λ fault. Rises (O.failures out.old) (O.failures out.new)) }
+    ensures failed { OnErr result (Rises (O.failures out.old) (O.failures out.new)) }
+    ensures reported { OnErr result (TakesLines (E.taken err.old) (E.failures err.old) (output_line ∷ []) (E.taken err.new) (E.failures err.new)) }
 {
-    let written = write_out(out, text);
-    if written.is_err() {
-        report(err, b"output: Write\n");
+    match write_out(out, text) {
+        Ok(()) => Ok(()),
+        Err(fault) => {
+            write_report(Report::OutputFault, err);
+            Err(fault)
+        }
     }
-    written
 }
 
 /// The exit status of a run that ended early. Out of memory is reported here, the other errors were before.
 pub(crate) fn exit_status<E: Sink>(stop: RunError, err: &mut E) -> u8
-    ensures { result ≡ status_of stop }
+    ensures status { result ≡ status_of stop }
+    ensures reported { TakesLines (E.taken err.old) (E.failures err.old) (last_lines result) (E.taken err.new) (E.failures err.new) }
 {
-    if stop == RunError::Memory {
-        report(err, b"out of memory\n");
-    }
-    stop.status()
-}
-
-/// Formats text straight into a writer, without taking memory.
-#[derive(Drop)]
-pub(crate) struct Console<'a, W> {
-    sink: &'a mut W,
-}
-
-impl<'a, W: Sink> Console<'a, W> {
-    /// Over a writer.
-    pub(crate) fn new(sink: &'a mut W) -> Console<'a, W> {
-        Console { sink }
-    }
-}
-
-impl<W: Sink> fmt::Write for Console<'_, W> {
-    fn write_str(&mut self, text: &str) -> fmt::Result {
-        write_out(self.sink, text.as_bytes()).map_err(|_| fmt::Error)
+    match stop {
+        RunError::Memory => {
+            write_report(Report::OutOfMemory, err);
+            stop.status()
+        }
+        _ => stop.status(),
     }
 }

@@ -1,6 +1,6 @@
 //! Errors that end a run before its answer.
 ghost use Rattle.std.specs.Prelude.{◌≡◌};
-ghost use Rattle.kmin_jobs.specs.checker.RunErrors.{status_of};
+ghost use Rattle.kmin_jobs.specs.between.RunErrors.{status_of};
 ghost use Rattle.kmin_jobs.specs.declared.run_error.RunError.TheVariants.{Memory};
 
 use std::alloc::{AllocError, AllocFailed};

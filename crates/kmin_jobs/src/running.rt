@@ -1,12 +1,15 @@
 //! The program: words, a bundle or a job, an answer and a status.
-ghost use Rattle.std.specs.Prelude.{◌≡◌, ◌≢◌, ◌<◌, ◌≤◌, ◌⊎◌, [], List, ℕ, length};
-ghost use Rattle.std.specs.Io.KnownBytes.{Appends, Consumes};
+ghost use Rattle.std.specs.Prelude.{◌≡◌, ◌≢◌, ◌≤◌, ◌⊎◌, ◌++◌, [], List, ℕ, length};
+ghost use Rattle.std.specs.Io.KnownBytes.{Appends};
 ghost use Rattle.kmin_jobs.specs.Bundles.{ReadsToEnd};
-ghost use Rattle.kmin_jobs.specs.BundleAnswers.{AnswersBundle, RefusesConfiguration, RefusesTree, Rises, WritesPart};
+ghost use Rattle.kmin_jobs.specs.BundleAnswers.{AnswersBundle, StopsOnBundle, WritesPart};
+ghost use Rattle.kmin_jobs.specs.Reports.{last_lines};
+ghost use Rattle.kmin_jobs.specs.StandardError.{Rises, TakesLines};
 
 use crate::bundle_answer::run_bundle;
 use crate::files::Files;
-use crate::output::{exit_status, report, write_answer};
+use crate::output::{exit_status, write_answer};
+use crate::report::{Report, write_report};
 use crate::run_error::RunError;
 use crate::serving::serve;
 use kc_value::{Sink, Source};
@@ -27,14 +30,14 @@ pub fn run<F: Files, I: Source, O: Sink, E: Sink>(
     err: &mut E,
 ) -> u8
     ensures status { result ≤ 6 }
-    ensures others { words.now ≡ [] → (result ≢ 1) × (result ≢ 2) }
+    ensures accepted_words { words.now ≡ [] → (result ≢ 1) × (result ≢ 2) }
 
-    // Without words, status 0: it read a bundle of the size that is allowed to its end, wrote its full file and nothing else, and no read or write failed.
-    ensures done { words.now ≡ [] → result ≡ 0 → (bundle text : List ℕ) × ReadsToEnd (I.left input.old) (I.left input.new) bundle × (length bundle ≤ 67108864) × AnswersBundle bundle text × Appends (O.taken out.old) (O.taken out.new) text }
+    // Without words, status 0: it read a bundle of the size that is allowed to its end, wrote its full file and nothing else, no read or write failed, and the notices of the configuration are reported.
+    ensures done { words.now ≡ [] → result ≡ 0 → (bundle text : List ℕ) × (notices : List (List ℕ)) × ReadsToEnd (I.left input.old) (I.left input.new) bundle × (length bundle ≤ 67108864) × AnswersBundle bundle text notices × Appends (O.taken out.old) (O.taken out.new) text × TakesLines (E.taken err.old) (E.failures err.old) notices (E.taken err.new) (E.failures err.new) }
     ensures unfailed { words.now ≡ [] → result ≡ 0 → (I.failures input.new ≡ I.failures input.old) × (O.failures out.new ≡ O.failures out.old) }
 
-    ensures tree { words.now ≡ [] → result ≡ 3 → (bundle : List ℕ) × ReadsToEnd (I.left input.old) (I.left input.new) bundle × RefusesTree bundle }
-    ensures large_or_configuration { words.now ≡ [] → result ≡ 4 → (bundle : List ℕ) × ((Consumes (I.left input.old) (I.left input.new) bundle × (67108864 < length bundle)) ⊎ (ReadsToEnd (I.left input.old) (I.left input.new) bundle × RefusesConfiguration bundle)) }
+    // On every other status the lines of what ended the run are reported.
+    ensures stopped { words.now ≡ [] → result ≢ 0 → (lines : List (List ℕ)) × StopsOnBundle (I.left input.old) (I.left input.new) result lines × TakesLines (E.taken err.old) (E.failures err.old) (lines ++ last_lines result) (E.taken err.new) (E.failures err.new) }
     ensures failed { words.now ≡ [] → result ≡ 5 → Rises (I.failures input.old) (I.failures input.new) ⊎ Rises (O.failures out.old) (O.failures out.new) }
     // On status 5 the writer took the first bytes of the full file, or nothing.
     ensures part { words.now ≡ [] → result ≡ 5 → (O.taken out.new ≡ O.taken out.old) ⊎ WritesPart (I.left input.old) (I.left input.new) (O.taken out.old) (O.taken out.new) }
@@ -46,11 +49,25 @@ pub fn run<F: Files, I: Source, O: Sink, E: Sink>(
             Err(stop) => exit_status(stop, err),
         };
     }
+    run_words(alloc, words, files, out, err)
+}
+
+/// Runs the program on words.
+fn run_words<F: Files, O: Sink, E: Sink>(
+    alloc: Global,
+    words: &[&str],
+    files: &mut F,
+    out: &mut O,
+    err: &mut E,
+) -> u8
+    ensures status { result ≤ 6 }
+    ensures unwritten { result ≢ 0 → result ≢ 1 → result ≢ 5 → O.taken out.new ≡ O.taken out.old }
+{
     match read_words(alloc, words) {
         Ok(ParsedWords::Job(job)) => serve(alloc, &job, files, out, err),
         Ok(ParsedWords::Help(text)) => write_help(&text, out, err),
         Ok(ParsedWords::Refused(text)) => {
-            report(err, text.as_bytes());
+            write_report(Report::RefusedWords(text.as_str()), err);
             2
         }
         Err(_) => exit_status(RunError::Memory, err),

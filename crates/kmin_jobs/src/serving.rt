@@ -1,16 +1,21 @@
 //! A job's answer.
-ghost use Rattle.std.specs.Prelude.{◌≡◌, ◌≢◌, ◌≤◌, ◌⊎◌, List, ℕ, length, IfOk};
+ghost use Rattle.std.specs.Prelude.{◌≡◌, ◌≢◌, ◌≤◌, ◌⊎◌, ◌∷◌, ◌++◌, [], List, ℕ, length, map, IfOk, IfErr};
+ghost use Rattle.std.specs.Borrow.{Bor};
 ghost use Rattle.std.specs.Io.KnownBytes.{Appends};
 ghost use Rattle.kc_tree_model.specs.TreeFiles as trees;
 ghost use Rattle.kc_rules.specs.SettledViews.{tree_of_settled, profile_of};
+ghost use Rattle.kmin_words.specs.Jobs.{settings_view, task_view, over, compare, paths_of};
 ghost use Rattle.kmin_jobs.specs.Answers.{Answer, AreAccepted};
-ghost use Rattle.kmin_jobs.specs.Requests.{request_of, paths_of};
 ghost use Rattle.kmin_jobs.specs.FileContents.{AreTextsBelow};
 ghost use Rattle.kmin_jobs.specs.PartialAnswers.{AnswersInPart};
-ghost use Rattle.kmin_words.specs.declared.job.Verb.TheVariants.{Compare};
+ghost use Rattle.kmin_jobs.specs.Reports.{last_lines};
+ghost use Rattle.kmin_jobs.specs.StandardError.{TakesLines};
+ghost use Rattle.kmin_jobs.specs.Stops.{Stops, StopsAmongFiles};
+ghost use Rattle.kmin_jobs.specs.between.RunErrors.{status_of};
+ghost use Rattle.kmin_jobs.specs.between.TreeStops.{StopsAtTexts};
 
 use crate::files::Files;
-use crate::loading::configured;
+use crate::loading::{configured, configured_by};
 use crate::output::{exit_status, write_answer};
 use crate::run_error::RunError;
 use crate::tree_files::{TreeReading, gather};
@@ -18,14 +23,14 @@ use crate::trees::settled_tree;
 use crate::verb_texts::{AnswerText, compared, text_of};
 use kc_rules::Settled;
 use kc_value::Sink;
-use kmin_words::{Job, Verb};
+use kmin_words::{Job, Settings, Task, Verb};
 use std::alloc::Global;
 
-/// Does a job over the files, and answers the exit status: 0 done or equal, 1 where a comparison found differences, 3
+/// Does a job over the files, and returns the exit status: 0 done or equal, 1 where a comparison found differences, 3
 /// tree refused, 4 configuration file refused, 5 a read or write failed, 6 out of memory.
 ///
 /// The output is made whole before the first write. Standard error gets a line `FILE:LINE: KIND` for each notice and for
-/// the fault that ended the job; that it fails changes nothing. The caller owes two files for a comparison.
+/// the fault that ended the job, as soon as it is known; that it fails changes nothing.
 pub fn serve<F: Files, O: Sink, E: Sink>(
     alloc: Global,
     job: &Job<'_>,
@@ -33,23 +38,25 @@ pub fn serve<F: Files, O: Sink, E: Sink>(
     out: &mut O,
     err: &mut E,
 ) -> u8
-    requires two { job.now.verb ≡ Compare → length job.now.files.items ≡ 2 }
     ensures status { result ≤ 6 }
-    ensures words { result ≢ 2 }
+    ensures accepted_words { result ≢ 2 }
 
-    // The tree and the files are accepted, just the answer is written, and no write failed.
-    ensures done { (result ≡ 0) ⊎ (result ≡ 1) → (texts : trees.Files) × (text : List ℕ) × AreTextsBelow (F.content_of files.old) job.now.root.now texts × Answer (F.content_of files.old) (request_of job.now) texts (paths_of job.now) text result × Appends (O.taken out.old) (O.taken out.new) text }
+    // The tree and the files are accepted, just the answer is written, no write failed, and the notices of the files are reported.
+    ensures done { (result ≡ 0) ⊎ (result ≡ 1) → (texts : trees.Files) × (text : List ℕ) × (notices : List (List ℕ)) × AreTextsBelow (F.content_of files.old) (settings_view job.now.settings).root texts × Answer (F.content_of files.old) (settings_view job.now.settings) texts (task_view job.now.task) text result notices × Appends (O.taken out.old) (O.taken out.new) text × TakesLines (E.taken err.old) (E.failures err.old) notices (E.taken err.new) (E.failures err.new) }
     ensures unfailed { (result ≡ 0) ⊎ (result ≡ 1) → O.failures out.new ≡ O.failures out.old }
 
+    // On every other status the lines of what ended the job are reported, after the notices of the files accepted before.
+    ensures stopped { (result ≢ 0) × (result ≢ 1) → (lines : List (List ℕ)) × Stops (F.content_of files.old) (settings_view job.now.settings) (task_view job.now.task) result lines × TakesLines (E.taken err.old) (E.failures err.old) (lines ++ last_lines result) (E.taken err.new) (E.failures err.new) }
+
     // On status 5 the writer took the first bytes of the answer, or nothing.
-    ensures part { result ≡ 5 → (O.taken out.new ≡ O.taken out.old) ⊎ AnswersInPart (F.content_of files.old) job.now.root.now (request_of job.now) (paths_of job.now) (O.taken out.old) (O.taken out.new) }
+    ensures part { result ≡ 5 → (O.taken out.new ≡ O.taken out.old) ⊎ AnswersInPart (F.content_of files.old) (settings_view job.now.settings) (task_view job.now.task) (O.taken out.old) (O.taken out.new) }
 
     ensures unwritten { result ≢ 0 → result ≢ 1 → result ≢ 5 → O.taken out.new ≡ O.taken out.old }
 {
     match answer_job(alloc, job, files, err) {
         Ok(answer) => match write_answer(&answer.text, out, err) {
             Ok(()) => answer.status,
-            Err(fault) => RunError::Failed.status(),
+            Err(_) => RunError::Failed.status(),
         },
         Err(stop) => exit_status(stop, err),
     }
@@ -62,66 +69,74 @@ fn answer_job<F: Files, E: Sink>(
     files: &mut F,
     err: &mut E,
 ) -> Result<AnswerText, RunError>
-    requires two { job.now.verb ≡ Compare → length job.now.files.items ≡ 2 }
-    ensures answer { IfOk result (λ answer. (texts : trees.Files) × AreTextsBelow (F.content_of files.old) job.now.root.now texts × Answer (F.content_of files.old) (request_of job.now) texts (paths_of job.now) answer.text.items answer.status) }
     ensures status { IfOk result (λ answer. answer.status ≤ 1) }
+    ensures answer { IfOk result (λ answer. (texts : trees.Files) × (notices : List (List ℕ)) × AreTextsBelow (F.content_of files.old) (settings_view job.now.settings).root texts × Answer (F.content_of files.old) (settings_view job.now.settings) texts (task_view job.now.task) answer.text.items answer.status notices × TakesLines (E.taken err.old) (E.failures err.old) notices (E.taken err.new) (E.failures err.new)) }
+    ensures stopped { IfErr result (λ stop. (lines : List (List ℕ)) × Stops (F.content_of files.old) (settings_view job.now.settings) (task_view job.now.task) (status_of stop) lines × TakesLines (E.taken err.old) (E.failures err.old) lines (E.taken err.new) (E.failures err.new)) }
 {
-    let settled = job_tree(alloc, job, files, err)?;
-    let answer = answer_over(alloc, job, &settled, files, err);
+    let settled = job_tree(alloc, &job.settings, files, err)?;
+    let answer = answer_over(alloc, &job.settings, &job.task, &settled, files, err);
     drop(settled);
     answer
 }
 
-/// The settled tree of a job; reports its fault.
+/// The settled tree of a job; reports why it is refused.
 fn job_tree<F: Files, E: Sink>(
     alloc: Global,
-    job: &Job<'_>,
+    settings: &Settings<'_>,
     files: &mut F,
     err: &mut E,
 ) -> Result<Settled, RunError>
     ensures same { (path : List ℕ) → F.content_of files.new path ≡ F.content_of files.old path }
-    ensures accepted { IfOk result (λ settled. (texts : trees.Files) × AreTextsBelow (F.content_of files.old) job.now.root.now texts × AreAccepted texts job.now.tree.now (tree_of_settled settled)) }
-    ensures profile { IfOk result (λ settled. profile_of settled ≡ job.now.profile) }
+    ensures accepted { IfOk result (λ settled. (texts : trees.Files) × AreTextsBelow (F.content_of files.old) settings.now.root.now texts × AreAccepted texts settings.now.tree.now (tree_of_settled settled)) }
+    ensures profile { IfOk result (λ settled. profile_of settled ≡ settings.now.profile) }
+    ensures unreported { IfOk result (λ settled. TakesLines (E.taken err.old) (E.failures err.old) [] (E.taken err.new) (E.failures err.new)) }
+    ensures stopped { IfErr result (λ stop. (texts : trees.Files) × (lines : List (List ℕ)) × AreTextsBelow (F.content_of files.old) settings.now.root.now texts × StopsAtTexts texts settings.now.tree.now (status_of stop) lines × TakesLines (E.taken err.old) (E.failures err.old) lines (E.taken err.new) (E.failures err.new)) }
 {
-    let TreeReading { texts, read } = gather(alloc, job.root, job.tree, files)?;
-    settled_tree(alloc, &texts, job.tree, read, job.profile, err)
+    let TreeReading { texts, read } = gather(alloc, settings.root, settings.tree, files)?;
+    settled_tree(alloc, &texts, settings.tree, read, settings.profile, err)
 }
 
-/// The answer to a job over its tree.
+/// The answer of a command over its tree.
 fn answer_over<F: Files, E: Sink>(
     alloc: Global,
-    job: &Job<'_>,
+    settings: &Settings<'_>,
+    task: &Task<'_>,
     settled: &Settled,
     files: &mut F,
     err: &mut E,
 ) -> Result<AnswerText, RunError>
-    requires two { job.now.verb ≡ Compare → length job.now.files.items ≡ 2 }
-    requires profile { profile_of settled.now ≡ job.now.profile }
-    ensures answer { IfOk result (λ answer. (texts : trees.Files) → AreAccepted texts job.now.tree.now (tree_of_settled settled.now) → Answer (F.content_of files.old) (request_of job.now) texts (paths_of job.now) answer.text.items answer.status) }
+    requires profile { profile_of settled.now ≡ settings.now.profile }
     ensures status { IfOk result (λ answer. answer.status ≤ 1) }
+    ensures answer { IfOk result (λ answer. (notices : List (List ℕ)) × ((texts : trees.Files) → AreAccepted texts settings.now.tree.now (tree_of_settled settled.now) → Answer (F.content_of files.old) (settings_view settings.now) texts (task_view task.now) answer.text.items answer.status notices) × TakesLines (E.taken err.old) (E.failures err.old) notices (E.taken err.new) (E.failures err.new)) }
+    ensures stopped { IfErr result (λ stop. (lines : List (List ℕ)) × StopsAmongFiles (F.content_of files.old) (settings_view settings.now).prefix (tree_of_settled settled.now) (paths_of (task_view task.now)) (status_of stop) lines × TakesLines (E.taken err.old) (E.failures err.old) lines (E.taken err.new) (E.failures err.new)) }
 {
-    if job.verb == Verb::Compare {
-        answer_two(alloc, job, settled, files, err)
-    } else {
-        answer_one(alloc, job, settled, files, err)
+    match task {
+        Task::Over { verb, files: paths } => answer_files(
+            alloc, settings, *verb, paths, settled, files, err,
+        ),
+        Task::Compare { left, right } => {
+            answer_comparison(alloc, settings, left, right, settled, files, err)
+        }
     }
 }
 
 /// The answer from one configuration of all files.
-fn answer_one<F: Files, E: Sink>(
+fn answer_files<F: Files, E: Sink>(
     alloc: Global,
-    job: &Job<'_>,
+    settings: &Settings<'_>,
+    verb: Verb,
+    paths: &[&str],
     settled: &Settled,
     files: &mut F,
     err: &mut E,
 ) -> Result<AnswerText, RunError>
-    requires one { job.now.verb ≢ Compare }
-    requires profile { profile_of settled.now ≡ job.now.profile }
-    ensures answer { IfOk result (λ answer. (texts : trees.Files) → AreAccepted texts job.now.tree.now (tree_of_settled settled.now) → Answer (F.content_of files.old) (request_of job.now) texts (paths_of job.now) answer.text.items answer.status) }
+    requires profile { profile_of settled.now ≡ settings.now.profile }
     ensures status { IfOk result (λ answer. answer.status ≤ 1) }
+    ensures answer { IfOk result (λ answer. (notices : List (List ℕ)) × ((texts : trees.Files) → AreAccepted texts settings.now.tree.now (tree_of_settled settled.now) → Answer (F.content_of files.old) (settings_view settings.now) texts (over verb (map (λ (path : Bor (List ℕ)). path.now) paths.now)) answer.text.items answer.status notices) × TakesLines (E.taken err.old) (E.failures err.old) notices (E.taken err.new) (E.failures err.new)) }
+    ensures stopped { IfErr result (λ stop. (lines : List (List ℕ)) × StopsAmongFiles (F.content_of files.old) (settings_view settings.now).prefix (tree_of_settled settled.now) (map (λ (path : Bor (List ℕ)). path.now) paths.now) (status_of stop) lines × TakesLines (E.taken err.old) (E.failures err.old) lines (E.taken err.new) (E.failures err.new)) }
 {
-    let config = configured(alloc, settled, &job.prefix, &job.files, files, err)?;
-    let text = text_of(alloc, job.verb, &config, &job.prefix);
+    let config = configured(alloc, settled, &settings.prefix, paths, files, err)?;
+    let text = text_of(alloc, verb, &config, &settings.prefix);
     drop(config);
     Ok(AnswerText {
         text: text?,
@@ -130,22 +145,22 @@ fn answer_one<F: Files, E: Sink>(
 }
 
 /// The answer of a comparison of two files, each by itself.
-fn answer_two<F: Files, E: Sink>(
+fn answer_comparison<F: Files, E: Sink>(
     alloc: Global,
-    job: &Job<'_>,
+    settings: &Settings<'_>,
+    left: &str,
+    right: &str,
     settled: &Settled,
     files: &mut F,
     err: &mut E,
 ) -> Result<AnswerText, RunError>
-    requires two { job.now.verb ≡ Compare }
-    requires files { length job.now.files.items ≡ 2 }
-    requires profile { profile_of settled.now ≡ job.now.profile }
-    ensures answer { IfOk result (λ answer. (texts : trees.Files) → AreAccepted texts job.now.tree.now (tree_of_settled settled.now) → Answer (F.content_of files.old) (request_of job.now) texts (paths_of job.now) answer.text.items answer.status) }
+    requires profile { profile_of settled.now ≡ settings.now.profile }
     ensures status { IfOk result (λ answer. answer.status ≤ 1) }
+    ensures answer { IfOk result (λ answer. (notices : List (List ℕ)) × ((texts : trees.Files) → AreAccepted texts settings.now.tree.now (tree_of_settled settled.now) → Answer (F.content_of files.old) (settings_view settings.now) texts (compare left.now right.now) answer.text.items answer.status notices) × TakesLines (E.taken err.old) (E.failures err.old) notices (E.taken err.new) (E.failures err.new)) }
+    ensures stopped { IfErr result (λ stop. (lines : List (List ℕ)) × StopsAmongFiles (F.content_of files.old) (settings_view settings.now).prefix (tree_of_settled settled.now) (left.now ∷ right.now ∷ []) (status_of stop) lines × TakesLines (E.taken err.old) (E.failures err.old) lines (E.taken err.new) (E.failures err.new)) }
 {
-    let (left, right) = job.files.split_at(1);
-    let left = configured(alloc, settled, &job.prefix, left, files, err)?;
-    let right = configured(alloc, settled, &job.prefix, right, files, err)?;
+    let left = configured_by(alloc, settled, &settings.prefix, left, files, err)?;
+    let right = configured_by(alloc, settled, &settings.prefix, right, files, err)?;
     let answer = compared(alloc, &left, &right);
     drop(right);
     drop(left);

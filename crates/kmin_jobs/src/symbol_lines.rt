@@ -4,8 +4,9 @@ ghost use Rattle.std.specs.List.{flat_map};
 ghost use Rattle.kc_expr.specs.Lookup.{symbol_value_of};
 ghost use Rattle.kc_rules.specs.SettledViews.{tree_of_settled};
 ghost use Rattle.kc_minimal_model.specs.Spelling.{spelled};
-ghost use Rattle.kmin_jobs.specs.Answers.{name_at, name_line};
-ghost use Rattle.kmin_jobs.specs.checker.Lines.{line_between};
+ghost use Rattle.kmin_jobs.specs.Answers.{name_line};
+ghost use Rattle.kmin_jobs.specs.Reports.{name_at};
+ghost use Rattle.kmin_jobs.specs.between.Lines.{line_between};
 ghost use Rattle.kc_minimal.specs.declared.differing.Difference.{Difference as ToldDifference};
 
 use kc_expr::Looked;
@@ -16,7 +17,7 @@ use kc_value::{Kind, push_escaped};
 use std::alloc::{AllocError, Global};
 
 /// The name of a symbol, empty where there is none of that number.
-fn name_of(tree: &Tree, s: Sym) -> &str
+pub(crate) fn name_of(tree: &Tree, s: Sym) -> &str
     ensures { result.now ≡ name_at tree.now.tree s }
 {
     if s.number() < tree.symbol_count() {

@@ -2,7 +2,7 @@
 ghost use Rattle.std.specs.Prelude.{◌≡◌, ◌≤◌, ◌⊎◌, List, ℕ, length, IfOk, IfSome};
 ghost use Rattle.std.specs.Io.KnownBytes.{Consumes, IsAtEnd};
 ghost use Rattle.kmin_jobs.specs.FileContents.{AreTextsBelow, MatchContentStart, path_below};
-ghost use Rattle.kmin_jobs.specs.checker.Readings.{IsRead};
+ghost use Rattle.kmin_jobs.specs.between.Readings.{IsRead};
 
 use crate::files::Files;
 use crate::prefetch::absent_paths_of_file;

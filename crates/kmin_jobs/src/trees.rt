@@ -1,20 +1,20 @@
-//! Reads and settles a tree, and reports its fault.
-ghost use Rattle.std.specs.Prelude.{◌≡◌, ◌⊎◌, ℕ, List, IfOk, IfErr};
-ghost use Rattle.kc_system.specs.Dependencies.{IsCycle};
-ghost use Rattle.kc_rules.specs.SettleFaults.{ReportsTreeCycle};
-ghost use Rattle.kc_tree_model.specs.Trees.{Tree as Whole};
+//! Reads and settles a tree, and reports why it is refused.
+ghost use Rattle.std.specs.Prelude.{◌≡◌, ◌∷◌, [], ℕ, List, IfOk, IfErr, OnOk, unwrap_or, slice_get};
+ghost use Rattle.kc_tree_model.specs.TreeFiles.{path_at};
 ghost use Rattle.kc_rules.specs.SettledViews.{tree_of_settled, profile_of};
 ghost use Rattle.kmin_jobs.specs.Answers.{AreAccepted};
-ghost use Rattle.kmin_jobs.specs.checker.Readings.{IsRead};
+ghost use Rattle.kmin_jobs.specs.Reports.{path_or_first, tree_fault_line, cycle_line, cycle_place, unit_place};
+ghost use Rattle.kmin_jobs.specs.StandardError.{TakesLine, TakesLines};
+ghost use Rattle.kmin_jobs.specs.between.Readings.{IsRead};
+ghost use Rattle.kmin_jobs.specs.between.RunErrors.{status_of};
+ghost use Rattle.kmin_jobs.specs.between.TreeStops.{StopsAtTexts, settle_status, settle_lines};
 
-use crate::cycles::report_cycle;
-use crate::output::Console;
+use crate::report::{Report, write_report};
 use crate::run_error::RunError;
 use kc_rules::{Profile, SettleFault, Settled, settle};
-use kc_tree::{Texts, Tree, TreeFault, TreeKind, read_tree};
+use kc_tree::{Texts, Tree, TreeFault, TreeKind, Unit, read_tree};
 use kc_value::Sink;
 use std::alloc::Global;
-use std::fmt::Write;
 
 /// The result of reading some texts.
 pub(crate) fn read_texts(alloc: Global, texts: &Texts, first: &str) -> Result<Tree, TreeFault>
@@ -23,7 +23,7 @@ pub(crate) fn read_texts(alloc: Global, texts: &Texts, first: &str) -> Result<Tr
     read_tree(alloc, texts, first)
 }
 
-/// The settled tree of some texts, given the result of reading them. Reports a fault of the tree.
+/// The settled tree of some texts, given the result of reading them. Reports why they are refused.
 pub(crate) fn settled_tree<E: Sink>(
     alloc: Global,
     texts: &Texts,
@@ -35,14 +35,14 @@ pub(crate) fn settled_tree<E: Sink>(
     requires read { IsRead texts.now first.now read }
     ensures accepted { IfOk result (λ settled. AreAccepted texts.now first.now (tree_of_settled settled)) }
     ensures profile { IfOk result (λ settled. profile_of settled ≡ profile) }
-    ensures refused { result ≡ Err RunError.Tree → (tree : Whole) → AreAccepted texts.now first.now tree → ⊥ }
-    ensures others { IfErr result (λ stop. (stop ≡ RunError.Tree) ⊎ (stop ≡ RunError.Memory)) }
+    ensures unreported { OnOk result (TakesLines (E.taken err.old) (E.failures err.old) [] (E.taken err.new) (E.failures err.new)) }
+    ensures stopped { IfErr result (λ stop. (lines : List (List ℕ)) × StopsAtTexts texts.now first.now (status_of stop) lines × TakesLines (E.taken err.old) (E.failures err.old) lines (E.taken err.new) (E.failures err.new)) }
 {
     let tree = match read {
         Ok(tree) => tree,
         Err(fault) if fault.kind == TreeKind::OutOfMemory => return Err(RunError::Memory),
         Err(fault) => {
-            report_fault(texts, first, fault, err);
+            report_tree_fault(texts, first, fault, err);
             return Err(RunError::Tree);
         }
     };
@@ -56,7 +56,26 @@ pub(crate) fn settled_tree<E: Sink>(
     }
 }
 
-/// Reports why a tree isn't settled, and returns the error of the run.
+/// Reports a fault of a tree.
+fn report_tree_fault<E: Sink>(texts: &Texts, first: &str, fault: TreeFault, err: &mut E)
+    ensures { TakesLine (E.taken err.old) (E.failures err.old) (tree_fault_line texts.now first.now fault) (E.taken err.new) (E.failures err.new) }
+{
+    let path = match fault.file {
+        Some(number) => path_of_file(texts, first, number),
+        None => first,
+    };
+    let TreeFault { line, kind, .. } = fault;
+    write_report(Report::TreeFault { path, line, kind }, err);
+}
+
+/// The path of a file by its number; the first file's where there is no such number.
+fn path_of_file<'a>(texts: &'a Texts, first: &'a str, number: u32) -> &'a str
+    ensures { result.now ≡ unwrap_or (path_at texts.now number) first.now }
+{
+    texts.path_at(number).unwrap_or(first)
+}
+
+/// Reports why a tree isn't settled, and returns the error of the run; memory that was refused is reported later.
 fn report_settle_fault<E: Sink>(
     texts: &Texts,
     first: &str,
@@ -64,8 +83,8 @@ fn report_settle_fault<E: Sink>(
     fault: &SettleFault,
     err: &mut E,
 ) -> RunError
-    ensures cycle { result ≡ RunError.Tree → (size : ℕ) (links : ℕ → List ℕ) → ReportsTreeCycle size links fault.now → (units : List ℕ) × IsCycle size links units }
-    ensures others { (result ≡ RunError.Tree) ⊎ (result ≡ RunError.Memory) }
+    ensures status { status_of result ≡ settle_status fault.now }
+    ensures reported { TakesLines (E.taken err.old) (E.failures err.old) (settle_lines texts.now first.now tree.now.tree fault.now) (E.taken err.new) (E.failures err.new) }
 {
     match fault {
         SettleFault::OutOfMemory => RunError::Memory,
@@ -76,12 +95,48 @@ fn report_settle_fault<E: Sink>(
     }
 }
 
-/// Reports a fault of a tree: the path of its file, its line and its kind.
-fn report_fault<E: Sink>(texts: &Texts, first: &str, fault: TreeFault, err: &mut E) {
-    let path = match fault.file {
-        Some(number) => texts.path_at(number).unwrap_or(first),
-        None => first,
-    };
-    let TreeFault { line, kind, .. } = fault;
-    let _ = writeln!(Console::new(err), "{path}:{line}: {kind}");
+/// Reports a cycle, at the place of its first unit.
+fn report_cycle<E: Sink>(texts: &Texts, first: &str, tree: &Tree, units: &[u32], err: &mut E)
+    ensures { TakesLine (E.taken err.old) (E.failures err.old) (cycle_line texts.now first.now tree.now.tree units.now) (E.taken err.new) (E.failures err.new) }
+{
+    let (file, line) = place_of_cycle(tree, units);
+    let path = path_of_file(texts, first, file);
+    write_report(
+        Report::Cycle {
+            path,
+            line,
+            tree,
+            units,
+        },
+        err,
+    );
+}
+
+/// The file and the line of a cycle.
+fn place_of_cycle(tree: &Tree, units: &[u32]) -> (u32, u32)
+    ensures { result ≡ cycle_place tree.now.tree units.now }
+{
+    match units.first() {
+        Some(unit) => place_of_unit(tree, *unit),
+        None => (0, 0),
+    }
+}
+
+/// The file and the line at which a unit begins.
+fn place_of_unit(tree: &Tree, unit: u32) -> (u32, u32)
+    ensures { result ≡ unit_place tree.now.tree (slice_get tree.now.tree.units unit) }
+{
+    if unit >= tree.len() {
+        return (0, 0);
+    }
+    match tree.unit(unit) {
+        Unit::Symbol(s) => {
+            let symbol = tree.symbol(s);
+            (symbol.file, symbol.line)
+        }
+        Unit::Choice(c) => {
+            let choice = tree.choice(c);
+            (choice.file, choice.line)
+        }
+    }
 }

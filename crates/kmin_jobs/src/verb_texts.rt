@@ -1,5 +1,5 @@
 //! The texts of the verbs.
-ghost use Rattle.std.specs.Prelude.{◌≡◌, ◌≢◌, [], codes, IfOk};
+ghost use Rattle.std.specs.Prelude.{◌≡◌, [], codes, IfOk};
 ghost use Rattle.kc_rules_model.specs.Reports.{unmet};
 ghost use Rattle.kc_dotconfig_model.specs.Missed.{missed};
 ghost use Rattle.std.specs.List.{flat_map};
@@ -8,8 +8,7 @@ ghost use Rattle.kc_rules.specs.SettledViews.{profile_of};
 ghost use Rattle.kc_dotconfig.specs.Configured.{tree_in};
 ghost use Rattle.kc_dotconfig_model.specs.Prefixes as prefixes;
 ghost use Rattle.kmin_jobs.specs.Answers.{name_line, text_of_verb, difference_line, status_of_differences};
-ghost use Rattle.kmin_jobs.specs.Requests.{Request};
-ghost use Rattle.kmin_words.specs.declared.job.Verb.TheVariants.{Compare};
+ghost use Rattle.kmin_words.specs.Jobs.{Settings};
 
 use crate::symbol_lines::{difference_lines, name_lines};
 use kc_dotconfig::{Config, Prefix};
@@ -31,15 +30,13 @@ pub(crate) fn text_of(
     config: &Config<'_>,
     prefix: &Prefix,
 ) -> Result<Vec<u8>, AllocError>
-    requires one { verb ≢ Compare }
-    ensures { IfOk result (λ text. (asked : Request) → asked.prefix ≡ prefixes.prefix_bytes prefix.now → asked.profile ≡ profile_of config.now.system → text.items ≡ text_of_verb asked (tree_in config.now) config.now.users config.now.values verb) }
+    ensures { IfOk result (λ text. (settings : Settings) → settings.prefix ≡ prefixes.prefix_bytes prefix.now → settings.profile ≡ profile_of config.now.system → text.items ≡ text_of_verb settings (tree_in config.now) config.now.users config.now.values verb) }
 {
     match verb {
         Verb::Min => minimal_text(alloc, config, prefix),
         Verb::Full => full_text(alloc, config, prefix),
         Verb::Missed => missed_text(alloc, config),
         Verb::Check => unmet_text(alloc, config),
-        Verb::Compare => Ok(Vec::new(alloc)),
     }
 }
 

@@ -2,31 +2,42 @@
 use kc_dotconfig_model::Prefix;
 use kc_rules_model::Profile;
 
-/// What is done with a tree and its configuration files.
+/// The text that a command writes of one configuration.
 #[derive(Clone, Copy, Debug, PartialEq, Eq)]
 pub enum Verb {
-    /// Writes the minimal file.
+    /// The minimal file.
     Min,
-    /// Writes the full file.
+    /// The full file.
     Full,
-    /// Lists the symbols whose assignment isn't their value.
+    /// The symbols whose assignment isn't their value.
     Missed,
-    /// Lists the symbols that are selected above their dependencies.
+    /// The symbols that are selected above their dependencies.
     Check,
-    /// Lists the symbols whose values differ between two files.
-    Compare,
 }
 
-/// A command: what is done, over which tree and which files.
+/// The options, which all commands share.
 #[derive(Drop)]
-pub struct Job<'a> {
-    pub verb: Verb,
+pub struct Settings<'a> {
     /// The folder in which the paths of the tree lie.
     pub root: &'a str,
     /// The path of the tree's first file in that folder.
     pub tree: &'a str,
-    /// Configuration files, each over those before it; of `Compare` the left and the right one.
-    pub files: Vec<&'a str>,
     pub prefix: Prefix,
     pub profile: Profile,
+}
+
+/// A command with its configuration files.
+#[derive(Drop)]
+pub enum Task<'a> {
+    /// A text of the configuration of the files, each laid over those before it.
+    Over { verb: Verb, files: Vec<&'a str> },
+    /// The symbols whose values differ between two files, each by itself.
+    Compare { left: &'a str, right: &'a str },
+}
+
+/// What a command line asks for.
+#[derive(Drop)]
+pub struct Job<'a> {
+    pub settings: Settings<'a>,
+    pub task: Task<'a>,
 }

@@ -1,9 +1,13 @@
 //! From words to a job.
-ghost use Rattle.std.specs.Prelude.{◌≡◌, length, IfOk};
-ghost use Rattle.kmin_words.specs.FileCounts.{HasItsFiles};
+ghost use Rattle.std.specs.Prelude.{◌≡◌, ◌↔◌, IfOk, IfSome, IsSome, IsTrue, map, List, ℕ, codes};
+ghost use Rattle.std.specs.Borrow.{Bor};
+ghost use Rattle.clap.specs.Words.{found_of};
+ghost use Rattle.kc_dotconfig_model.specs.PrefixGrammar.{is_prefix};
+ghost use Rattle.kmin_words.specs.Jobs.{settings_view, task_view};
+ghost use Rattle.kmin_words.specs.between.WordValues as parsed;
 
 use crate::commands::program;
-use crate::job::{Job, Verb};
+use crate::job::{Job, Settings, Task, Verb};
 use clap::error::ErrorKind;
 use clap::{ArgMatches, Error};
 use kc_dotconfig_model::Prefix;
@@ -23,7 +27,7 @@ pub enum ParsedWords<'a> {
 
 /// Reads the words after the program's name.
 pub fn read_words<'a>(alloc: Global, words: &'a [&'a str]) -> Result<ParsedWords<'a>, AllocError>
-    ensures { IfOk result HasItsFiles }
+    ensures { IfOk result parsed.HasFoundValues }
 {
     match program(alloc)?.try_get_matches_from(words) {
         Ok(matches) => job_of(alloc, &matches),
@@ -33,7 +37,7 @@ pub fn read_words<'a>(alloc: Global, words: &'a [&'a str]) -> Result<ParsedWords
 
 /// The message of `clap` in place of a job, unless memory ran out.
 fn clap_message<'a>(alloc: Global, error: &Error) -> Result<ParsedWords<'a>, AllocError>
-    ensures { IfOk result HasItsFiles }
+    ensures { IfOk result parsed.HasFoundValues }
 {
     if error.kind() == ErrorKind::OutOfMemory {
         return Err(AllocError);
@@ -45,57 +49,83 @@ fn clap_message<'a>(alloc: Global, error: &Error) -> Result<ParsedWords<'a>, All
     Ok(ParsedWords::Help(text))
 }
 
-/// The job that accepted words ask for, unless its prefix is none.
+/// The job that accepted words ask for, or a message where the prefix isn't valid.
 fn job_of<'a>(alloc: Global, matches: &ArgMatches<'a>) -> Result<ParsedWords<'a>, AllocError>
-    ensures { IfOk result HasItsFiles }
+    ensures { IfOk result parsed.HasFoundValues }
 {
     let Some((name, matches)) = matches.subcommand() else {
         return Ok(ParsedWords::Refused(String::new(alloc)));
     };
-    let verb = verb_of(name);
-    let Some(prefix) = Prefix::of(matches.get_str("prefix").unwrap_or("").as_bytes()) else {
+    let Some(settings) = settings_of(matches) else {
         let text = String::from_str(alloc, "prefix: Malformed\n")?;
         return Ok(ParsedWords::Refused(text));
     };
-    Ok(ParsedWords::Job(Job {
-        verb,
-        root: matches.get_str("root").unwrap_or("."),
-        tree: matches.get_str("tree").unwrap_or("Kconfig"),
-        files: files_of(alloc, verb, matches)?,
+    let task = task_of(alloc, name, matches)?;
+    Ok(ParsedWords::Job(Job { settings, task }))
+}
+
+/// The options, unless the prefix isn't valid.
+fn settings_of<'a>(matches: &ArgMatches<'a>) -> Option<Settings<'a>>
+    ensures settings { IfSome result (λ settings. settings_view settings ≡ parsed.settings_of (found_of matches.now)) }
+    ensures prefix { IsSome result ↔ IsTrue (is_prefix (parsed.settings_of (found_of matches.now)).prefix) }
+{
+    let prefix = Prefix::of(value_of(matches, "prefix").as_bytes())?;
+    Some(Settings {
+        root: value_of(matches, "root"),
+        tree: value_of(matches, "tree"),
         prefix,
-        profile: profile_of(matches),
-    }))
+        profile: profile_of(value_of(matches, "imply")),
+    })
 }
 
-fn verb_of(name: &str) -> Verb {
-    match name {
-        "min" => Verb::Min,
-        "full" => Verb::Full,
-        "missed" => Verb::Missed,
-        "check" => Verb::Check,
-        _ => Verb::Compare,
-    }
+/// The value of an option, each of which has one by default, or of a word that has to be given.
+fn value_of<'a>(matches: &ArgMatches<'a>, id: &str) -> &'a str
+    ensures { result.now ≡ parsed.value_of (found_of matches.now) id.now }
+{
+    matches.get_str(id).unwrap_or("")
 }
 
-fn profile_of(matches: &ArgMatches<'_>) -> Profile {
-    match matches.get_str("imply") {
-        Some("classic") => Profile::Classic,
+fn profile_of(value: &str) -> Profile
+    ensures { result ≡ parsed.profile_of value.now }
+{
+    match value {
+        "classic" => Profile::Classic,
         _ => Profile::Present,
     }
 }
 
-/// The files in their order. The two of a comparison are required, so each is there.
-fn files_of<'a>(
-    alloc: Global,
-    verb: Verb,
-    matches: &ArgMatches<'a>,
-) -> Result<Vec<&'a str>, AllocError>
-    ensures { IfOk result (λ files. verb ≡ Verb.Compare → length files.items ≡ 2) }
+/// The command of a name, with its files in their order.
+fn task_of<'a>(alloc: Global, name: &str, matches: &ArgMatches<'a>) -> Result<Task<'a>, AllocError>
+    ensures { IfOk result (λ task. task_view task ≡ parsed.task_of name.now (found_of matches.now)) }
 {
-    if verb == Verb::Compare {
-        let left = matches.get_str("LEFT").unwrap_or("");
-        let right = matches.get_str("RIGHT").unwrap_or("");
-        return Ok(vec![in alloc; left, right]?);
+    match verb_of(name) {
+        Some(verb) => Ok(Task::Over {
+            verb,
+            files: files_of(alloc, matches)?,
+        }),
+        None => Ok(Task::Compare {
+            left: value_of(matches, "LEFT"),
+            right: value_of(matches, "RIGHT"),
+        }),
     }
+}
+
+/// The verb of a command over any number of files; there is one command more, `compare`.
+fn verb_of(name: &str) -> Option<Verb>
+    ensures { result ≡ parsed.verb_of name.now }
+{
+    match name {
+        "min" => Some(Verb::Min),
+        "full" => Some(Verb::Full),
+        "missed" => Some(Verb::Missed),
+        "check" => Some(Verb::Check),
+        _ => None,
+    }
+}
+
+/// The files in their order.
+fn files_of<'a>(alloc: Global, matches: &ArgMatches<'a>) -> Result<Vec<&'a str>, AllocError>
+    ensures { IfOk result (λ files. map (λ (path : Bor (List ℕ)). path.now) files.items ≡ parsed.values_of (found_of matches.now) (codes "FILE")) }
+{
     Vec::from_slice(alloc, matches.get_strs("FILE").unwrap_or(&[]))
 }

@@ -1,26 +1,19 @@
-use Rattle.std.proofs.Common.{refl, rules, arith}
-use Rattle.std.proofs.lemmas.Grind.{common_steps}
-use Rattle.kc_rules.specs.SettledViews.{tree_of_settled}
-use Rattle.kmin_jobs.specs.BundleAnswers.{bundle_files}
-use Rattle.kmin_jobs.proofs.Answering.{answers_bundle, refuses_configuration, refuses_tree}
+use Rattle.std.proofs.Common.{rules}
+use Rattle.kmin_jobs.proofs.Sequences.{if_err}
+use Rattle.kmin_jobs.proofs.BundleAnswering.{tree_stopped, bundle_answers, configuration_stopped}
 use Rattle.kmin_jobs.proofs.bundle_answer.bundle_text.Goals as goal
 
-pub returns-in_err-settled-clause-tree : goal.returns-in_err-settled-clause-tree
-returns-in_err-settled-clause-tree g c = λ e.
-    refuses_tree c.args.bundle.now c.cut.result.0.now c.cut.result.1.now (bundle_files c.cut.result.0.now) c.cut.ensures refl (c.in_err-settled.ensures.refused (search rules))
+pub returns-in_err-settled-clause-stopped : goal.returns-in_err-settled-clause-stopped
+returns-in_err-settled-clause-stopped g c =
+    if_err c.from_residual.result c.in_err-settled.field-0.0 _ (search rules)
+    (tree_stopped c.args.bundle.now c.cut.result.0.now c.cut.result.1.now c.cut.ensures _ _ _ _ _ c.in_err-settled.ensures.stopped)
 
 pub returns-clause-ok : goal.returns-clause-ok
 returns-clause-ok g c =
-    answers_bundle c.args.bundle.now c.cut.result.0.now c.cut.result.1.now (bundle_files c.cut.result.0.now) c.in_ok-settled.settled c.full_over-text.result c.cut.ensures refl
-    c.in_ok-settled.ensures.accepted c.in_ok-settled.ensures.profile c.full_over-text.ensures.ok
+    bundle_answers c.args.bundle.now c.cut.result.0.now c.cut.result.1.now c.cut.ensures c.in_ok-settled.settled c.in_ok-settled.ensures.accepted c.in_ok-settled.ensures.profile
+    _ _ _ _ _ _ c.in_ok-settled.ensures.unreported c.full_over-text.result c.full_over-text.ensures.ok
 
-pub returns-clause-configuration : goal.returns-clause-configuration
-returns-clause-configuration g c = λ e.
-    refuses_configuration c.args.bundle.now c.cut.result.0.now c.cut.result.1.now (bundle_files c.cut.result.0.now) (tree_of_settled c.in_ok-settled.settled) c.cut.ensures refl
-    c.in_ok-settled.ensures.accepted (c.full_over-text.ensures.configuration e)
-
-pub returns-clause-failed : goal.returns-clause-failed
-returns-clause-failed g c = grind (arith, common_steps)
-
-pub returns-clause-tree : goal.returns-clause-tree
-returns-clause-tree g c = grind (arith, common_steps)
+pub returns-clause-stopped : goal.returns-clause-stopped
+returns-clause-stopped g c =
+    configuration_stopped c.args.bundle.now c.cut.result.0.now c.cut.result.1.now c.cut.ensures c.in_ok-settled.settled c.in_ok-settled.ensures.accepted c.in_ok-settled.ensures.profile
+    _ _ _ _ _ _ c.in_ok-settled.ensures.unreported c.full_over-text.result c.full_over-text.ensures.stopped

@@ -1,9 +1,12 @@
-use Rattle.std.proofs.Common.{subst, ◌∙◌, ap, codes, IfOk, arith}
+use Rattle.std.proofs.Common.{subst, ◌∙◌, ap, codes, ℕ, List, [], refl, IfOk, IfErr, arith}
 use Rattle.std.proofs.lemmas.Grind.{common_steps}
 use Rattle.kc_tree_model.specs.TreeFiles.{Files, with_file}
-use Rattle.kc_tree_model.specs.Trees.{Tree}
 use Rattle.kc_rules.specs.SettledViews.{tree_of_settled}
 use Rattle.kmin_jobs.specs.Answers.{AreAccepted}
+use Rattle.kmin_jobs.specs.StandardError.{TakesLines, none}
+use Rattle.kmin_jobs.specs.between.RunErrors.{status_of}
+use Rattle.kmin_jobs.specs.between.TreeStops.{StopsAtTexts, for_memory}
+use Rattle.kmin_jobs.proofs.Sequences.{memory_err}
 use Rattle.kmin_jobs.proofs.bundle_answer.bundle_tree.Goals as goal
 
 pub returns-clause-accepted : goal.returns-clause-accepted
@@ -11,13 +14,13 @@ returns-clause-accepted g c =
     let texts = c.in_ok-insert.ensures.ok ∙ ap (λ (fs : Files). with_file fs (codes "Kconfig") c.args.tree.now) c.with_seed-texts.ensures in
     subst (λ (fs : Files). IfOk c.settled_tree.result (λ settled. AreAccepted fs (codes "Kconfig") (tree_of_settled settled))) texts c.settled_tree.ensures.accepted
 
-pub returns-clause-refused : goal.returns-clause-refused
-returns-clause-refused g c = λ e.
+pub returns-clause-stopped : goal.returns-clause-stopped
+returns-clause-stopped g c =
     let texts = c.in_ok-insert.ensures.ok ∙ ap (λ (fs : Files). with_file fs (codes "Kconfig") c.args.tree.now) c.with_seed-texts.ensures in
-    subst (λ (fs : Files). (whole : Tree) → AreAccepted fs (codes "Kconfig") whole → ⊥) texts (c.settled_tree.ensures.refused e)
+    subst (λ (fs : Files). IfErr c.settled_tree.result (λ stop. (lines : List (List ℕ)) × StopsAtTexts fs (codes "Kconfig") (status_of stop) lines × TakesLines (g.E.Sink.taken c.args.err.now) (g.E.Sink.failures c.args.err.now) lines (g.E.Sink.taken c.settled_tree.new.err) (g.E.Sink.failures c.settled_tree.new.err))) texts c.settled_tree.ensures.stopped
+
+pub returns-in_err-insert-clause-stopped : goal.returns-in_err-insert-clause-stopped
+returns-in_err-insert-clause-stopped g c = memory_err _ _ c.from_residual.ensures (λ stop status. ([], for_memory status refl, none))
 
 pub settled_tree-requires : goal.settled_tree-requires
 settled_tree-requires g c = grind (arith, common_steps)
-
-pub returns-in_err-insert-clause-refused : goal.returns-in_err-insert-clause-refused
-returns-in_err-insert-clause-refused g c = grind (arith, common_steps)

@@ -1,56 +1,38 @@
-use Rattle.std.proofs.Common.{rules, refl, ◌∙◌, Some, arith}
-use Rattle.std.proofs.lemmas.Grind.{common_steps}
+use Rattle.std.proofs.Common.{[], ◌∷◌, codes, refl, ◌∙◌, rules}
 use Rattle.kc_rules.specs.SettledViews.{tree_of_settled}
 use Rattle.kc_dotconfig_model.specs.ConfigFiles.{empty_assignment}
 use Rattle.kc_dotconfig.proofs.Holding.{lies_alone}
-use Rattle.kmin_jobs.proofs.Assigning.{one_told, gives_over, full_over}
+use Rattle.kmin_jobs.specs.BundleAnswers.{bundle_content}
+use Rattle.kmin_jobs.proofs.Sequences.{stopped_for_memory, if_err, memory_err}
+use Rattle.kmin_jobs.proofs.BundleAnswering.{memory_stops, memory_loaded, full_answers}
 use Rattle.kmin_jobs.proofs.bundle_answer.full_over.Goals as goal
+
+pub returns-in_err-fragment-clause-stopped : goal.returns-in_err-fragment-clause-stopped
+returns-in_err-fragment-clause-stopped g c =
+    if_err c.from_residual.result c.in_err-fragment.field-0.0 _ (search rules)
+    (memory_stops c.args.configuration.now _ _ _ _ (codes "config") _ _ _ _ _ _ _ _ c.plain-prefix.ensures c.new-reader.ensures c.in_err-fragment.ensures.stopped)
+
+pub returns-in_err-config-clause-stopped : goal.returns-in_err-config-clause-stopped
+returns-in_err-config-clause-stopped g c =
+    let tree = tree_of_settled c.args.settled.now in
+    let content = bundle_content c.args.configuration.now in
+    memory_err _ _ c.from_residual-in_err-config.ensures (λ stop status.
+    stopped_for_memory content content _ tree _ _ _ _ _ (codes "config" ∷ []) [] _ (empty_assignment tree) _ refl status
+    (memory_loaded c.args.configuration.now _ _ _ tree (codes "config") _ (empty_assignment tree) _ c.in_ok-fragment.fragment _ _ _ _ c.plain-prefix.ensures c.new-reader.ensures c.in_ok-fragment.ensures.ok c.in_ok-fragment.ensures.notices refl))
+
+pub returns-in_err-text-clause-stopped : goal.returns-in_err-text-clause-stopped
+returns-in_err-text-clause-stopped g c =
+    let tree = tree_of_settled c.args.settled.now in
+    let content = bundle_content c.args.configuration.now in
+    memory_err _ _ c.from_residual-in_err-text.ensures (λ stop status.
+    stopped_for_memory content content _ tree _ _ _ _ _ (codes "config" ∷ []) [] _ (empty_assignment tree) _ refl status
+    (memory_loaded c.args.configuration.now _ _ _ tree (codes "config") _ (empty_assignment tree) _ c.in_ok-fragment.fragment _ _ _ _ c.plain-prefix.ensures c.new-reader.ensures c.in_ok-fragment.ensures.ok c.in_ok-fragment.ensures.notices refl))
 
 pub returns-clause-ok : goal.returns-clause-ok
 returns-clause-ok g c =
     let tree = tree_of_settled c.args.settled.now in
     let config = c.in_ok-config.config in
-    let same = c.in_ok-config.ensures.settled in
-    let plain = c.plain-prefix.ensures in
-    let users = c.in_ok-config.ensures.users ∙ lies_alone tree c.in_ok-fragment.fragment.assigns.items in (
-      config.users,
-      config.values,
-      record {
-        assign = rw (← c.new-reader.ensures) (one_told c.new-reader.result.rest.now (Some c.load.new.source.rest.now) _ _ tree _ (empty_assignment tree) config.users _ plain c.in_ok-fragment.ensures.ok refl users);
-        gives = gives_over config c.args.settled.now same (search rules);
-      },
-      full_over config c.args.settled.now _ _ _ same plain c.in_ok-text.ensures.text,
-    )
-
-pub returns-in_err-text-clause-tree : goal.returns-in_err-text-clause-tree
-returns-in_err-text-clause-tree g c = grind (arith, common_steps)
-
-pub returns-in_err-fragment-clause-tree : goal.returns-in_err-fragment-clause-tree
-returns-in_err-fragment-clause-tree g c = grind (arith, common_steps)
-
-pub returns-in_err-config-clause-tree : goal.returns-in_err-config-clause-tree
-returns-in_err-config-clause-tree g c = grind (arith, common_steps)
-
-pub returns-in_err-fragment-clause-failed : goal.returns-in_err-fragment-clause-failed
-returns-in_err-fragment-clause-failed g c = grind (arith, common_steps)
-
-pub returns-in_err-config-clause-failed : goal.returns-in_err-config-clause-failed
-returns-in_err-config-clause-failed g c = grind (arith, common_steps)
-
-pub returns-in_err-text-clause-failed : goal.returns-in_err-text-clause-failed
-returns-in_err-text-clause-failed g c = grind (arith, common_steps)
-
-pub returns-in_err-text-clause-configuration : goal.returns-in_err-text-clause-configuration
-returns-in_err-text-clause-configuration g c = grind (arith, common_steps)
-
-pub returns-clause-failed : goal.returns-clause-failed
-returns-clause-failed g c = grind (arith, common_steps)
-
-pub returns-in_err-config-clause-configuration : goal.returns-in_err-config-clause-configuration
-returns-in_err-config-clause-configuration g c = grind (arith, common_steps)
-
-pub returns-clause-tree : goal.returns-clause-tree
-returns-clause-tree g c = grind (arith, common_steps)
-
-pub returns-clause-configuration : goal.returns-clause-configuration
-returns-clause-configuration g c = grind (arith, common_steps)
+    full_answers c.args.configuration.now _ _ config c.args.settled.now _ _ _ _ c.in_ok-config.ensures.settled c.plain-prefix.ensures c.in_ok-config.ensures.solved
+    (memory_loaded c.args.configuration.now _ _ _ tree (codes "config") _ (empty_assignment tree) config.users c.in_ok-fragment.fragment _ _ _ _ c.plain-prefix.ensures c.new-reader.ensures c.in_ok-fragment.ensures.ok c.in_ok-fragment.ensures.notices
+    (c.in_ok-config.ensures.users ∙ lies_alone tree c.in_ok-fragment.fragment.assigns.items))
+    c.in_ok-text.ensures.text

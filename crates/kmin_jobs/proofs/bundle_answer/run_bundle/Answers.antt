@@ -1,57 +1,34 @@
-use Rattle.std.proofs.Common.{rules, inr, arith}
-use Rattle.std.proofs.lemmas.Grind.{common_steps}
+use Rattle.std.proofs.Common.{[], ◌∷◌, ◌++◌, refl, rules}
+use Rattle.kmin_jobs.specs.Reports.{output_line}
+use Rattle.kmin_jobs.specs.BundleAnswers.{in_bundle, at_write}
+use Rattle.kmin_jobs.proofs.Taking.{lines_append}
+use Rattle.kmin_jobs.proofs.Sequences.{if_err}
+use Rattle.kmin_jobs.proofs.Answering.{lines_kept}
 use Rattle.kmin_jobs.proofs.bundle_answer.run_bundle.Goals as goal
 
-pub returns-in_err-text-clause-configuration : goal.returns-in_err-text-clause-configuration
-returns-in_err-text-clause-configuration g c = λ e. (c.in_ok-bundle.bundle.items, inr (c.in_ok-bundle.ensures.ok, search rules))
-
-pub returns-in_err-text-clause-part : goal.returns-in_err-text-clause-part
-returns-in_err-text-clause-part g c = grind (arith, common_steps)
-
-pub returns-in-Ok-clause-part : goal.returns-in-Ok-clause-part
-returns-in-Ok-clause-part g c = grind (arith, common_steps)
-
-pub returns-in_err-bundle-clause-part : goal.returns-in_err-bundle-clause-part
-returns-in_err-bundle-clause-part g c = grind (arith, common_steps)
-
-pub returns-clause-ok : goal.returns-clause-ok
-returns-clause-ok g c = grind (arith, common_steps)
-
-pub returns-clause-unfailed : goal.returns-clause-unfailed
-returns-clause-unfailed g c = grind (arith, common_steps)
-
-pub returns-clause-configuration : goal.returns-clause-configuration
-returns-clause-configuration g c = grind (arith, common_steps)
-
-pub returns-in-Ok-clause-failed : goal.returns-in-Ok-clause-failed
-returns-in-Ok-clause-failed g c = grind (arith, common_steps)
-
-pub returns-in-Ok-clause-tree : goal.returns-in-Ok-clause-tree
-returns-in-Ok-clause-tree g c = grind (arith, common_steps)
-
-pub returns-in-Ok-clause-configuration : goal.returns-in-Ok-clause-configuration
-returns-in-Ok-clause-configuration g c = grind (arith, common_steps)
-
-pub returns-in-Ok-clause-unfailed : goal.returns-in-Ok-clause-unfailed
-returns-in-Ok-clause-unfailed g c = grind (arith, common_steps)
-
-pub returns-in_err-text-clause-failed : goal.returns-in_err-text-clause-failed
-returns-in_err-text-clause-failed g c = grind (arith, common_steps)
-
-pub returns-in_err-bundle-clause-tree : goal.returns-in_err-bundle-clause-tree
-returns-in_err-bundle-clause-tree g c = grind (arith, common_steps)
-
-pub returns-clause-tree : goal.returns-clause-tree
-returns-clause-tree g c = grind (arith, common_steps)
+pub returns-in_err-text-clause-stopped : goal.returns-in_err-text-clause-stopped
+returns-in_err-text-clause-stopped g c =
+    let stopped = c.in_err-text.ensures.stopped in
+    if_err c.from_residual-in_err-text.result c.in_err-text.field-0.0 _ (search rules)
+    (stopped.0, in_bundle c.in_ok-bundle.bundle.items c.in_ok-bundle.ensures.ok (rw c.deref.ensures.value at stopped.1), lines_append _ _ _ _ [] stopped.0 _ _ c.in_ok-bundle.ensures.unreported stopped.2)
 
 pub returns-in-Ok-clause-ok : goal.returns-in-Ok-clause-ok
-returns-in-Ok-clause-ok g c = grind (arith, common_steps)
+returns-in-Ok-clause-ok g c =
+    let answer = c.in_ok-text.ensures.ok in (
+      c.in_ok-bundle.bundle.items,
+      c.in_ok-text.text.items,
+      answer.0,
+      c.in_ok-bundle.ensures.ok,
+      search rules,
+      search rules,
+      search rules,
+      lines_kept _ _ _ _ _ _ answer.0 (lines_append _ _ _ _ [] answer.0 _ _ c.in_ok-bundle.ensures.unreported answer.2) c.in-Ok.ensures.unreported,
+    )
 
-pub returns-clause-unwritten : goal.returns-clause-unwritten
-returns-clause-unwritten g c = grind (arith, common_steps)
-
-pub returns-clause-part : goal.returns-clause-part
-returns-clause-part g c = grind (arith, common_steps)
-
-pub returns-in-Ok-clause-unwritten : goal.returns-in-Ok-clause-unwritten
-returns-in-Ok-clause-unwritten g c = grind (arith, common_steps)
+pub returns-clause-stopped : goal.returns-clause-stopped
+returns-clause-stopped g c =
+    let answer = c.in_ok-text.ensures.ok in (
+      answer.0 ++ output_line ∷ [],
+      at_write c.in_ok-bundle.bundle.items c.in_ok-text.text.items answer.0 c.in_ok-bundle.ensures.ok (search rules) refl refl,
+      lines_append _ _ _ _ answer.0 (output_line ∷ []) _ _ (lines_append _ _ _ _ [] answer.0 _ _ c.in_ok-bundle.ensures.unreported answer.2) (search rules),
+    )

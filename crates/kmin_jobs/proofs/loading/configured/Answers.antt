@@ -1,42 +1,34 @@
-use Rattle.std.proofs.Common.{arith}
-use Rattle.std.proofs.lemmas.Grind.{common_steps, elements}
+use Rattle.std.proofs.Common.{◌∷◌, [], List, ℕ, map, refl, arith, rules}
+use Rattle.std.proofs.lemmas.Grind.{common_steps}
+use Rattle.std.specs.Borrow.{Bor}
 use Rattle.kc_rules.specs.SettledViews.{tree_of_settled}
-use Rattle.kc_dotconfig_model.specs.Prefixes.{prefix_bytes}
-use Rattle.kmin_jobs.proofs.Assigning.{assign_none, assign_rest}
+use Rattle.kc_dotconfig_model.specs.ConfigFiles.{empty_assignment}
+use Rattle.kmin_jobs.specs.StandardError as taking
+use Rattle.kmin_jobs.specs.Stops as stops
+use Rattle.kmin_jobs.specs.Answers as answers
+use Rattle.kmin_jobs.proofs.Sequences.{loaded_none, loaded_rest, stopped_more, stopped_later, if_err, if_err_map, memory_err, mapped}
 use Rattle.kmin_jobs.proofs.loading.configured.Goals as goal
 
-pub returns-in_default-clause-assign : goal.returns-in_default-clause-assign
-returns-in_default-clause-assign g c =
-    assign_none (g.F.Files.content_of c.args.files.now) (prefix_bytes c.args.prefix.now) (tree_of_settled c.args.settled.now) c.args.paths.now c.in_ok-new.field-0.users c.in_default.ensures.cases c.in_ok-new.ensures.users
+pub returns-in_default-clause-loaded : goal.returns-in_default-clause-loaded
+returns-in_default-clause-loaded g c = loaded_none _ _ _ c.args.paths.now _ _ _ _ c.in_default.ensures.cases c.in_ok-new.ensures.users
 
-pub returns-clause-assign : goal.returns-clause-assign
-returns-clause-assign g c =
-    assign_rest (g.F.Files.content_of c.args.files.now) (g.F.Files.content_of c.configured_by.new.files) (prefix_bytes c.args.prefix.now) (tree_of_settled c.args.settled.now) c.args.paths.now c.in-Some.others.now c.in-Some.first.now c.in_ok-config.config.users c.overlaid.result
-    c.configured_by.ensures.same c.in-Some.ensures.cases.0 c.in_ok-config.ensures.assign c.overlaid.ensures.assign
+pub returns-in_err-new-clause-stopped : goal.returns-in_err-new-clause-stopped
+returns-in_err-new-clause-stopped g c =
+    memory_err _ _ c.from_residual.ensures (λ stop status. ([], stops.for_memory [] _ [] refl answers.none status refl, taking.none))
 
-pub returns-in_default-clause-same : goal.returns-in_default-clause-same
-returns-in_default-clause-same g c = grind (arith, common_steps)
+pub returns-in_err-config-clause-stopped : goal.returns-in_err-config-clause-stopped
+returns-in_err-config-clause-stopped g c =
+    let content_of = g.F.Files.content_of c.args.files.now in
+    if_err c.from_residual-in_err-config.result c.in_err-config.field-0.0 _ (search rules)
+    (stopped_more content_of content_of _ _ _ _ _ _ _ (c.in-Some.first.now.now ∷ []) (map (λ (p : Bor (List ℕ)). p.now) c.in-Some.others.now) _ (mapped c.args.paths.now c.in-Some.first.now c.in-Some.others.now c.in-Some.ensures.cases.0) c.in_err-config.ensures.stopped)
 
-pub returns-in_err-config-clause-same : goal.returns-in_err-config-clause-same
-returns-in_err-config-clause-same g c = grind (arith, common_steps)
+pub returns-clause-loaded : goal.returns-clause-loaded
+returns-clause-loaded g c =
+    loaded_rest (g.F.Files.content_of c.args.files.now) (g.F.Files.content_of c.configured_by.new.files) _ _ (c.in-Some.first.now.now ∷ []) (map (λ (p : Bor (List ℕ)). p.now) c.in-Some.others.now) _ _ c.in_ok-config.config.users _ _ _ _ _ _ c.overlaid.result
+    c.configured_by.ensures.same (mapped c.args.paths.now c.in-Some.first.now c.in-Some.others.now c.in-Some.ensures.cases.0) c.in_ok-config.ensures.loaded c.overlaid.ensures.loaded
 
-pub overlaid-requires-clause-solved : goal.overlaid-requires-clause-solved
-overlaid-requires-clause-solved g c = grind (arith, common_steps)
-
-pub overlaid-requires-clause-settled : goal.overlaid-requires-clause-settled
-overlaid-requires-clause-settled g c = grind (arith, common_steps)
-
-pub returns-clause-settled : goal.returns-clause-settled
-returns-clause-settled g c = grind (arith, common_steps)
-
-pub returns-in_default-clause-settled : goal.returns-in_default-clause-settled
-returns-in_default-clause-settled g c = grind (arith, common_steps)
-
-pub returns-in_default-clause-solved : goal.returns-in_default-clause-solved
-returns-in_default-clause-solved g c = grind (arith, elements)
-
-pub returns-clause-solved : goal.returns-clause-solved
-returns-clause-solved g c = grind (arith, common_steps)
-
-pub returns-in_err-new-clause-same : goal.returns-in_err-new-clause-same
-returns-in_err-new-clause-same g c = grind (arith, common_steps)
+pub returns-clause-stopped : goal.returns-clause-stopped
+returns-clause-stopped g c =
+    if_err_map c.overlaid.result _ _ (λ stop stopped.
+    stopped_later (g.F.Files.content_of c.args.files.now) (g.F.Files.content_of c.configured_by.new.files) _ _ _ _ _ _ _ (c.in-Some.first.now.now ∷ []) (map (λ (p : Bor (List ℕ)). p.now) c.in-Some.others.now) _ _ c.in_ok-config.config.users _ _
+    (mapped c.args.paths.now c.in-Some.first.now c.in-Some.others.now c.in-Some.ensures.cases.0) c.configured_by.ensures.same c.in_ok-config.ensures.loaded stopped) c.overlaid.ensures.stopped

@@ -1,40 +1,25 @@
-use Rattle.std.proofs.Common.{[], ◌∷◌, refl, ◌∙◌, arith}
-use Rattle.std.proofs.lemmas.Grind.{common_steps, elements}
+use Rattle.std.proofs.Common.{[], ◌∷◌, refl, ◌∙◌, rules}
 use Rattle.kc_rules.specs.SettledViews.{tree_of_settled}
 use Rattle.kc_dotconfig_model.specs.ConfigFiles.{empty_assignment}
 use Rattle.kc_dotconfig.proofs.Holding.{lies_alone}
-use Rattle.kmin_jobs.specs.Answers.{none}
-use Rattle.kmin_jobs.proofs.Assigning.{assign_next}
+use Rattle.kmin_jobs.proofs.Sequences.{loaded_one, stopped_path, stopped_for_memory, if_err, memory_err}
 use Rattle.kmin_jobs.proofs.loading.configured_by.Goals as goal
 
-pub returns-clause-assign : goal.returns-clause-assign
-returns-clause-assign g c =
+pub returns-in_err-fragment-clause-stopped : goal.returns-in_err-fragment-clause-stopped
+returns-in_err-fragment-clause-stopped g c =
+    if_err c.from_residual.result c.in_err-fragment.field-0.0 _ (search rules) (stopped_path _ (g.F.Files.content_of c.args.files.now) _ _ _ _ _ _ _ c.args.path.now refl c.in_err-fragment.ensures.stopped)
+
+pub returns-in_err-config-clause-stopped : goal.returns-in_err-config-clause-stopped
+returns-in_err-config-clause-stopped g c =
     let content_of = g.F.Files.content_of c.args.files.now in
     let tree = tree_of_settled c.args.settled.now in
+    memory_err _ _ c.from_residual-in_err-config.ensures (λ stop status.
+    stopped_for_memory content_of content_of _ tree _ _ _ _ _ (c.args.path.now ∷ []) [] _ (empty_assignment tree) _ refl status
+    (loaded_one _ content_of _ tree c.args.path.now (empty_assignment tree) _ c.in_ok-fragment.fragment _ _ _ _ refl c.in_ok-fragment.ensures.loaded refl))
+
+pub returns-clause-loaded : goal.returns-clause-loaded
+returns-clause-loaded g c =
+    let tree = tree_of_settled c.args.settled.now in
     let fragment = c.in_ok-fragment.fragment in
-    assign_next content_of content_of _ tree [] (c.args.path.now ∷ []) c.args.path.now (empty_assignment tree) c.in_ok-config.field-0.users fragment none (λ p. refl) c.in_ok-fragment.ensures.ok refl
+    loaded_one _ (g.F.Files.content_of c.args.files.now) _ tree c.args.path.now (empty_assignment tree) c.in_ok-config.field-0.users fragment _ _ _ _ refl c.in_ok-fragment.ensures.loaded
     (c.in_ok-config.ensures.users ∙ lies_alone tree fragment.assigns.items)
-
-pub returns-in_err-fragment-clause-same : goal.returns-in_err-fragment-clause-same
-returns-in_err-fragment-clause-same g c = grind (arith, common_steps)
-
-pub returns-clause-settled : goal.returns-clause-settled
-returns-clause-settled g c = grind (arith, common_steps)
-
-pub returns-clause-same : goal.returns-clause-same
-returns-clause-same g c = grind (arith, common_steps)
-
-pub returns-clause-solved : goal.returns-clause-solved
-returns-clause-solved g c = grind (arith, common_steps)
-
-pub returns-in_err-fragment-clause-solved : goal.returns-in_err-fragment-clause-solved
-returns-in_err-fragment-clause-solved g c = grind (arith, elements)
-
-pub returns-in_err-config-clause-same : goal.returns-in_err-config-clause-same
-returns-in_err-config-clause-same g c = grind (arith, common_steps)
-
-pub returns-in_err-fragment-clause-settled : goal.returns-in_err-fragment-clause-settled
-returns-in_err-fragment-clause-settled g c = grind (arith, elements)
-
-pub returns-in_err-fragment-clause-assign : goal.returns-in_err-fragment-clause-assign
-returns-in_err-fragment-clause-assign g c = grind (arith, elements)

@@ -1,18 +1,18 @@
-use Rattle.std.proofs.Common.{arith}
-use Rattle.std.proofs.lemmas.Grind.{common_steps}
+use Rattle.std.proofs.Common.{refl, ap}
+use Rattle.kmin_jobs.specs.Stops.{unopened}
+use Rattle.kmin_jobs.specs.between.LoadStops.{at_file}
+use Rattle.kmin_jobs.proofs.Taking.{lines_one}
+use Rattle.kmin_jobs.proofs.Sequences.{loaded_from, stopped_at, if_ok_map, if_err_map, both_ok}
 use Rattle.kmin_jobs.proofs.loading.load_path.Goals as goal
 
-pub returns-in-Some-clause-fits : goal.returns-in-Some-clause-fits
-returns-in-Some-clause-fits c = grind (arith, common_steps)
+pub returns-in-Some-clause-loaded : goal.returns-in-Some-clause-loaded
+returns-in-Some-clause-loaded g c =
+    both_ok c.load.result _ _ _ (λ fragment read reported. loaded_from _ _ _ _ _ _ (rw c.in-Some.is at c.reader_for.ensures.opens) _ _ _ _ fragment read reported) c.load.ensures.ok c.load.ensures.notices
 
-pub returns-in-None-clause-same : goal.returns-in-None-clause-same
-returns-in-None-clause-same c = grind (arith, common_steps)
+pub returns-in-Some-clause-stopped : goal.returns-in-Some-clause-stopped
+returns-in-Some-clause-stopped g c =
+    if_err_map c.load.result _ _ (λ stop stopped. stopped_at _ _ _ _ _ _ (rw c.in-Some.is at c.reader_for.ensures.opens) _ _ _ _ _ _ _ stopped) c.load.ensures.stopped
 
-pub returns-in-None-clause-fits : goal.returns-in-None-clause-fits
-returns-in-None-clause-fits c = grind (arith, common_steps)
-
-pub returns-in-Some-clause-same : goal.returns-in-Some-clause-same
-returns-in-Some-clause-same c = grind (arith, common_steps)
-
-pub returns-in-None-clause-ok : goal.returns-in-None-clause-ok
-returns-in-None-clause-ok c = grind (arith, common_steps)
+pub returns-in-None-clause-stopped : goal.returns-in-None-clause-stopped
+returns-in-None-clause-stopped g c =
+    (_, at_file _ (unopened (rw c.in-None.is at c.reader_for.ensures.opens) refl refl) refl, lines_one _ _ _ _ _ c.write_report.ensures)

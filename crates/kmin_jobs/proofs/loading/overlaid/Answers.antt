@@ -1,11 +1,11 @@
-use Rattle.std.proofs.Common.{rules, arith, ◌≡◌, ◌++◌, [], ℕ, List, refl, sym, ap, subst, ◌∙◌, map, take}
-use Rattle.std.proofs.lemmas.Grind.{common_steps}
+use Rattle.std.proofs.Common.{◌≡◌, ◌++◌, ◌∷◌, [], ℕ, suc, List, get_or, refl, sym, ap, subst, append_assoc, ◌∙◌, map, take, drop, arith, rules}
 use Rattle.std.specs.Borrow.{Bor}
-use Rattle.std.proofs.lemmas.List.{append-nil, append_assoc, take_all}
+use Rattle.std.proofs.lemmas.List.{take_all}
 use Rattle.kc_rules.specs.SettledViews.{tree_of_settled}
 use Rattle.kc_dotconfig_model.specs.Prefixes.{prefix_bytes}
-use Rattle.kmin_jobs.specs.Answers.{Assign}
-use Rattle.kmin_jobs.proofs.Assigning.{assign_next, taken_next}
+use Rattle.kmin_jobs.specs.between.Loaded.{AreLoaded}
+use Rattle.kmin_jobs.specs.StandardError as taking
+use Rattle.kmin_jobs.proofs.Sequences.{loaded_one, loaded_none, loaded_append, stopped_path, stopped_more, stopped_later, stopped_for_memory, if_err, memory_err, paths_next, paths_at}
 use Rattle.kmin_jobs.proofs.loading.overlaid.Goals as goal
 
 pub loop-path-init : goal.loop-path-init
@@ -13,22 +13,23 @@ loop-path-init g c = record {
   same = λ other. refl;
   settled = c.requires.settled;
   solved = c.requires.solved;
-  assign = λ before a. subst (λ (ps : List (List ℕ)). Assign (g.F.Files.content_of c.args.files.now) (prefix_bytes c.args.prefix.now) (tree_of_settled c.args.settled.now) ps c.args.begun.users) (sym (append-nil before)) a;
+  loaded = loaded_none _ _ _ [] c.args.begun.users c.args.begun.users _ _ refl refl;
 }
 
 pub loop-path-preserved : goal.loop-path-preserved
 loop-path-preserved g c =
-    let ok = c.in_ok-fragment.ensures.ok in
-    let paths = c.args.paths.now in
-    let i = c.loop-path.path-index in
-    let told : List (Bor (List ℕ)) → List (List ℕ) = map (λ (path : Bor (List ℕ)). path.now) in
+    let content_of = g.F.Files.content_of c.args.files.now in
+    let others = g.F.Files.content_of c.loop-path.files in
+    let tree = tree_of_settled c.args.settled.now in
+    let absent : Bor (List ℕ) = record { ref_ptr = (0, 0); now = [] } in
+    let path = get_or c.args.paths.now c.loop-path.path-index absent in
     record {
       same = λ other. c.load_path.ensures.same other ∙ c.loop-path.invariant.same other;
       settled = search rules;
       solved = search rules;
-      assign = λ before a.
-          assign_next _ (g.F.Files.content_of c.loop-path.files) _ _ _ _ _ _ _ _ (c.loop-path.invariant.assign before a) (λ path. sym (c.loop-path.invariant.same path)) ok
-          (ap (λ (ps : List (List ℕ)). before ++ ps) (taken_next paths i (record { ref_ptr = (0, 0); now = [] }) (search rules)) ∙ sym (append_assoc before (told (take i paths)) _)) (search rules);
+      loaded = rw (paths_next c.args.paths.now c.loop-path.path-index absent (search rules))
+          (loaded_append content_of others _ tree _ (path.now ∷ []) c.args.begun.users c.loop-path.config.users _ _ _ _ _ _ _ c.loop-path.invariant.same c.loop-path.invariant.loaded
+          (loaded_one others others _ tree path.now _ _ c.in_ok-fragment.fragment _ _ _ _ refl c.in_ok-fragment.ensures.loaded (search rules)));
     }
 
 pub returns-in_err-fragment-clause-same : goal.returns-in_err-fragment-clause-same
@@ -37,16 +38,35 @@ returns-in_err-fragment-clause-same g c = λ other. c.load_path.ensures.same oth
 pub returns-in_err-merge-clause-same : goal.returns-in_err-merge-clause-same
 returns-in_err-merge-clause-same g c = λ other. c.load_path.ensures.same other ∙ c.loop-path.invariant.same other
 
-pub returns-clause-assign : goal.returns-clause-assign
-returns-clause-assign g c = λ before a.
+pub returns-in_err-fragment-clause-stopped : goal.returns-in_err-fragment-clause-stopped
+returns-in_err-fragment-clause-stopped g c =
+    let content_of = g.F.Files.content_of c.args.files.now in
+    let others = g.F.Files.content_of c.loop-path.files in
+    let absent : Bor (List ℕ) = record { ref_ptr = (0, 0); now = [] } in
+    let k = c.loop-path.path-index in
+    let path = get_or c.args.paths.now k absent in
+    if_err c.from_residual.result c.in_err-fragment.field-0.0 _ (search rules)
+    (stopped_later content_of others _ _ _ _ _ _ _ (map (λ (p : Bor (List ℕ)). p.now) (take k c.args.paths.now)) (path.now ∷ map (λ (p : Bor (List ℕ)). p.now) (drop (suc k) c.args.paths.now)) _ c.args.begun.users c.loop-path.config.users _ _
+    (paths_at c.args.paths.now k absent (search rules)) c.loop-path.invariant.same c.loop-path.invariant.loaded
+    (stopped_more others others _ _ _ _ _ _ _ (path.now ∷ []) (map (λ (p : Bor (List ℕ)). p.now) (drop (suc k) c.args.paths.now)) _ refl
+    (stopped_path others others _ _ _ _ _ _ _ path.now refl c.in_err-fragment.ensures.stopped)))
+
+pub returns-in_err-merge-clause-stopped : goal.returns-in_err-merge-clause-stopped
+returns-in_err-merge-clause-stopped g c =
+    let content_of = g.F.Files.content_of c.args.files.now in
+    let others = g.F.Files.content_of c.loop-path.files in
+    let tree = tree_of_settled c.args.settled.now in
+    let absent : Bor (List ℕ) = record { ref_ptr = (0, 0); now = [] } in
+    let k = c.loop-path.path-index in
+    let path = get_or c.args.paths.now k absent in
+    let front = map (λ (p : Bor (List ℕ)). p.now) (take k c.args.paths.now) in
+    memory_err _ _ c.from_residual-in_err-merge.ensures (λ stop status.
+    stopped_for_memory content_of content_of _ tree _ _ _ _ _ (front ++ path.now ∷ []) (map (λ (p : Bor (List ℕ)). p.now) (drop (suc k) c.args.paths.now)) _ c.args.begun.users _
+    (paths_at c.args.paths.now k absent (search rules) ∙ sym (append_assoc front (path.now ∷ []) _)) status
+    (loaded_append content_of others _ tree front (path.now ∷ []) c.args.begun.users c.loop-path.config.users _ _ _ _ _ _ _ c.loop-path.invariant.same c.loop-path.invariant.loaded
+    (loaded_one others others _ tree path.now _ _ c.in_ok-fragment.fragment _ _ _ _ refl c.in_ok-fragment.ensures.loaded refl)))
+
+pub returns-clause-loaded : goal.returns-clause-loaded
+returns-clause-loaded g c =
     let all : take c.loop-path.path-index c.args.paths.now ≡ c.args.paths.now = take_all c.loop-path.path-index c.args.paths.now (omega arith) in
-    rw all at (c.loop-path.invariant.assign before a)
-
-pub returns-clause-same : goal.returns-clause-same
-returns-clause-same g c = grind (arith, common_steps)
-
-pub returns-clause-solved : goal.returns-clause-solved
-returns-clause-solved g c = grind (arith, common_steps)
-
-pub returns-clause-settled : goal.returns-clause-settled
-returns-clause-settled g c = grind (arith, common_steps)
+    rw all at c.loop-path.invariant.loaded

@@ -1,9 +1,9 @@
-use Rattle.std.proofs.Common.{◌≡◌, ◌++◌, ℕ, List, map, take}
+use Rattle.std.proofs.Common.{◌≡◌, ℕ, List, map, take}
 use Rattle.std.specs.Borrow.{Bor}
 use Rattle.kc_rules.specs.SettledViews.{tree_of_settled}
 use Rattle.kc_dotconfig.specs.Configured.{IsSolved}
 use Rattle.kc_dotconfig_model.specs.Prefixes.{prefix_bytes}
-use Rattle.kmin_jobs.specs.Answers.{Assign}
+use Rattle.kmin_jobs.specs.between.Loaded.{AreLoaded}
 use Rattle.kmin_jobs.proofs.loading.overlaid.Given as goal
 
 abbrev pub invariant-loop-path : goal.invariant-loop-path
@@ -11,6 +11,5 @@ invariant-loop-path g l = record {
   same : (other : List ℕ) → g.F.Files.content_of l.files other ≡ g.F.Files.content_of l.fn.files other;
   settled : l.config.system ≡ l.settled;
   solved : IsSolved l.config;
-  assign : (before : List (List ℕ)) → Assign (g.F.Files.content_of l.fn.files) (prefix_bytes l.prefix) (tree_of_settled l.settled) before l.fn.begun.users
-      → Assign (g.F.Files.content_of l.fn.files) (prefix_bytes l.prefix) (tree_of_settled l.settled) (before ++ map (λ (path : Bor (List ℕ)). path.now) (take l.path-index l.paths)) l.config.users;
+  loaded : AreLoaded (g.F.Files.content_of l.fn.files) (prefix_bytes l.prefix) (tree_of_settled l.settled) (map (λ (path : Bor (List ℕ)). path.now) (take l.path-index l.paths)) l.fn.begun.users l.config.users (g.E.Sink.taken l.fn.err) (g.E.Sink.failures l.fn.err) (g.E.Sink.taken l.err) (g.E.Sink.failures l.err);
 }

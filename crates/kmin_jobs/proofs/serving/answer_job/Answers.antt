@@ -1,17 +1,24 @@
-use Rattle.std.proofs.Common.{arith}
-use Rattle.std.proofs.lemmas.Grind.{common_steps}
+use Rattle.std.proofs.Common.{rules}
 use Rattle.kc_rules.specs.SettledViews.{tree_of_settled}
-use Rattle.kmin_jobs.specs.Requests.{request_of, paths_of}
-use Rattle.kmin_jobs.proofs.Answering.{answered_again}
+use Rattle.kmin_words.specs.Jobs.{settings_view, task_view}
+use Rattle.kmin_jobs.proofs.Sequences.{if_err}
+use Rattle.kmin_jobs.proofs.Answering.{job_answers, job_stops, tree_stops_job}
 use Rattle.kmin_jobs.proofs.serving.answer_job.Goals as goal
+
+pub returns-in_err-settled-clause-stopped : goal.returns-in_err-settled-clause-stopped
+returns-in_err-settled-clause-stopped g c =
+    let stopped = c.in_err-settled.ensures.stopped in
+    if_err c.from_residual.result c.in_err-settled.field-0.0 _ (search rules)
+    (stopped.1, tree_stops_job (g.F.Files.content_of c.args.files.now) (settings_view c.args.job.now.settings) (task_view c.args.job.now.task) stopped.0 _ stopped.1 stopped.2 stopped.3, stopped.4)
 
 pub returns-clause-answer : goal.returns-clause-answer
 returns-clause-answer g c =
-    answered_again (g.F.Files.content_of c.args.files.now) (g.F.Files.content_of c.job_tree.new.files) (request_of c.args.job.now) c.args.job.now.root.now c.args.job.now.tree.now (tree_of_settled c.in_ok-settled.settled) c.in_ok-settled.ensures.accepted.0 (paths_of c.args.job.now)
-    c.answer_over-answer.result c.job_tree.ensures.same c.in_ok-settled.ensures.accepted.1 c.in_ok-settled.ensures.accepted.2 c.answer_over-answer.ensures.answer
+    let accepted = c.in_ok-settled.ensures.accepted in
+    job_answers (g.F.Files.content_of c.args.files.now) (g.F.Files.content_of c.job_tree.new.files) (settings_view c.args.job.now.settings) (task_view c.args.job.now.task) (tree_of_settled c.in_ok-settled.settled) accepted.0
+    c.job_tree.ensures.same accepted.1 accepted.2 _ _ _ _ _ _ c.in_ok-settled.ensures.unreported c.answer_over-answer.result c.answer_over-answer.ensures.answer
 
-pub returns-clause-status : goal.returns-clause-status
-returns-clause-status g c = grind (arith, common_steps)
-
-pub answer_over-answer-requires-clause-profile : goal.answer_over-answer-requires-clause-profile
-answer_over-answer-requires-clause-profile g c = grind (arith, common_steps)
+pub returns-clause-stopped : goal.returns-clause-stopped
+returns-clause-stopped g c =
+    let accepted = c.in_ok-settled.ensures.accepted in
+    job_stops (g.F.Files.content_of c.args.files.now) (g.F.Files.content_of c.job_tree.new.files) (settings_view c.args.job.now.settings) (task_view c.args.job.now.task) (tree_of_settled c.in_ok-settled.settled) accepted.0
+    c.job_tree.ensures.same accepted.1 accepted.2 _ _ _ _ _ _ c.in_ok-settled.ensures.unreported c.answer_over-answer.result c.answer_over-answer.ensures.stopped

@@ -1,24 +1,13 @@
-use Rattle.std.proofs.Common.{arith}
-use Rattle.std.proofs.lemmas.Grind.{common_steps}
 use Rattle.kmin_jobs.proofs.serving.answer_over.Goals as goal
 
-pub returns-else-eq-clause-status : goal.returns-else-eq-clause-status
-returns-else-eq-clause-status c = grind (arith, common_steps)
+pub returns-in-Over-clause-answer : goal.returns-in-Over-clause-answer
+returns-in-Over-clause-answer g c = rw c.in-Over.is (rw c.deref.ensures.value at c.answer_files.ensures.answer)
 
-pub answer_two-requires-clause-profile : goal.answer_two-requires-clause-profile
-answer_two-requires-clause-profile c = grind (arith, common_steps)
+pub returns-in-Over-clause-stopped : goal.returns-in-Over-clause-stopped
+returns-in-Over-clause-stopped g c = rw c.in-Over.is (rw c.deref.ensures.value at c.answer_files.ensures.stopped)
 
-pub returns-then-eq-clause-answer : goal.returns-then-eq-clause-answer
-returns-then-eq-clause-answer c = grind (arith, common_steps)
+pub returns-in-Compare-clause-answer : goal.returns-in-Compare-clause-answer
+returns-in-Compare-clause-answer g c = rw c.in-Compare.is c.answer_comparison.ensures.answer
 
-pub returns-else-eq-clause-answer : goal.returns-else-eq-clause-answer
-returns-else-eq-clause-answer c = grind (arith, common_steps)
-
-pub returns-then-eq-clause-status : goal.returns-then-eq-clause-status
-returns-then-eq-clause-status c = grind (arith, common_steps)
-
-pub answer_one-requires-clause-one : goal.answer_one-requires-clause-one
-answer_one-requires-clause-one c = grind (arith, common_steps)
-
-pub answer_one-requires-clause-profile : goal.answer_one-requires-clause-profile
-answer_one-requires-clause-profile c = grind (arith, common_steps)
+pub returns-in-Compare-clause-stopped : goal.returns-in-Compare-clause-stopped
+returns-in-Compare-clause-stopped g c = rw c.in-Compare.is c.answer_comparison.ensures.stopped

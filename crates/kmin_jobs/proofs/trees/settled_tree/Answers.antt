@@ -1,55 +1,23 @@
-use Rattle.std.proofs.Common.{◌≡◌, Err, arith}
-use Rattle.std.proofs.lemmas.Grind.{common_steps, elements}
-use Rattle.kmin_jobs.specs.declared.run_error.RunError.TheVariants.{Tree}
-use Rattle.kmin_jobs.proofs.Accepting.{cycle_refuses}
+use Rattle.std.proofs.Common.{◌≡◌, ◌∷◌, [], refl, sym, ◌∙◌, rules}
+use Rattle.kmin_jobs.specs.StandardError.{none}
+use Rattle.kmin_jobs.specs.Stops.{faulty}
+use Rattle.kmin_jobs.specs.between.TreeStops.{at_texts, for_memory}
+use Rattle.kmin_jobs.proofs.Taking.{lines_one}
+use Rattle.kmin_jobs.proofs.Accepting.{settle_stops}
 use Rattle.kmin_jobs.proofs.trees.settled_tree.Goals as goal
 
-pub returns-in-Err-settle-clause-refused : goal.returns-in-Err-settle-clause-refused
-returns-in-Err-settle-clause-refused g c = λ e.
-    let t : Err c.report_settle_fault-stop.result ≡ Err Tree = e in
-    let s : c.report_settle_fault-stop.result ≡ Tree = cc in
+pub returns-in-Err-clause-stopped : goal.returns-in-Err-clause-stopped
+returns-in-Err-clause-stopped g c = ([], for_memory refl refl, none)
+
+pub returns-in-Err-2-clause-stopped : goal.returns-in-Err-2-clause-stopped
+returns-in-Err-2-clause-stopped g c =
+    let read = rw c.in-Err-2.is at c.requires.read in
+    (_, at_texts _ (faulty c.in-Err-2.fault (read (search rules)) refl) refl refl, lines_one _ _ _ _ _ c.report_tree_fault.ensures)
+
+pub returns-in-Ok-settle-clause-unreported : goal.returns-in-Ok-settle-clause-unreported
+returns-in-Ok-settle-clause-unreported g c = none
+
+pub returns-in-Err-settle-clause-stopped : goal.returns-in-Err-settle-clause-stopped
+returns-in-Err-settle-clause-stopped g c =
     let read = rw c.in-Ok.is at c.requires.read in
-    let k = c.report_settle_fault-stop.ensures.cycle s _ _ c.in-Err-settle.ensures.cycle in
-    cycle_refuses c.args.texts.now c.args.first.now c.in-Ok.tree.tree k.0 read.1 k.1
-
-pub returns-in-Err-settle-clause-others : goal.returns-in-Err-settle-clause-others
-returns-in-Err-settle-clause-others g c = grind (arith, elements)
-
-pub returns-in-Ok-settle-clause-profile : goal.returns-in-Ok-settle-clause-profile
-returns-in-Ok-settle-clause-profile g c = grind (arith, common_steps)
-
-pub returns-in-Err-2-clause-profile : goal.returns-in-Err-2-clause-profile
-returns-in-Err-2-clause-profile g c = grind (arith, common_steps)
-
-pub returns-in-Ok-settle-clause-others : goal.returns-in-Ok-settle-clause-others
-returns-in-Ok-settle-clause-others g c = grind (arith, common_steps)
-
-pub returns-in-Ok-settle-clause-refused : goal.returns-in-Ok-settle-clause-refused
-returns-in-Ok-settle-clause-refused g c = grind (arith, common_steps)
-
-pub returns-in-Err-2-clause-accepted : goal.returns-in-Err-2-clause-accepted
-returns-in-Err-2-clause-accepted g c = grind (arith, common_steps)
-
-pub returns-in-Err-clause-refused : goal.returns-in-Err-clause-refused
-returns-in-Err-clause-refused g c = grind (arith, common_steps)
-
-pub returns-in-Err-settle-clause-accepted : goal.returns-in-Err-settle-clause-accepted
-returns-in-Err-settle-clause-accepted g c = grind (arith, common_steps)
-
-pub returns-in-Err-clause-accepted : goal.returns-in-Err-clause-accepted
-returns-in-Err-clause-accepted g c = grind (arith, elements)
-
-pub returns-in-Err-settle-clause-profile : goal.returns-in-Err-settle-clause-profile
-returns-in-Err-settle-clause-profile g c = grind (arith, common_steps)
-
-pub returns-in-Err-clause-profile : goal.returns-in-Err-clause-profile
-returns-in-Err-clause-profile g c = grind (arith, common_steps)
-
-pub returns-in-Err-2-clause-refused : goal.returns-in-Err-2-clause-refused
-returns-in-Err-2-clause-refused g c = grind (arith, elements)
-
-pub returns-in-Err-2-clause-others : goal.returns-in-Err-2-clause-others
-returns-in-Err-2-clause-others g c = grind (arith, common_steps)
-
-pub returns-in-Err-clause-others : goal.returns-in-Err-clause-others
-returns-in-Err-clause-others g c = grind (arith, common_steps)
+    (_, settle_stops c.args.texts.now c.args.first.now c.in-Ok.tree.tree c.in-Err-settle.fault c.report_settle_fault-stop.result read.0 read.1 c.in-Err-settle.ensures.cycle c.report_settle_fault-stop.ensures.status, rw c.in-Err-settle.ensures.back at c.report_settle_fault-stop.ensures.reported)

@@ -1,0 +1,13 @@
+use Rattle.std.proofs.Common.{rules, sym, ◌∙◌, ap, subst, List, ℕ}
+use Rattle.kmin_jobs.specs.Reports.{last_lines}
+use Rattle.kmin_jobs.specs.StandardError.{none, TakesLines}
+use Rattle.kmin_jobs.specs.between.RunErrors.{status_of}
+use Rattle.kmin_jobs.proofs.Taking.{lines_one}
+use Rattle.kmin_jobs.proofs.EndingLines.{last_lines_none}
+use Rattle.kmin_jobs.proofs.output.exit_status.Goals as goal
+
+pub returns-in-Memory-clause-reported : goal.returns-in-Memory-clause-reported
+returns-in-Memory-clause-reported g c = rw (c.status.ensures, c.in-Memory.is) (lines_one _ _ _ _ _ c.write_report.ensures)
+
+pub returns-in_default-clause-reported : goal.returns-in_default-clause-reported
+returns-in_default-clause-reported g c = rw (c.status-in_default.ensures, last_lines_none c.args.stop c.in_default.not-Memory) none

@@ -1,0 +1,101 @@
+-- The lines of standard error.
+use Rattle.std.specs.Prelude.{ℕ, List, [], ◌∷◌, ◌++◌, Option, Some, None, codes, map, slice_get, unwrap_or, option_and_then, ◌==◌, if◌then◌else◌}
+use Rattle.std.specs.List.{flat_map}
+use Rattle.std.specs.Fmt.{decimal}
+use Rattle.kc_tree_model.specs.TreeFiles.{Files, path_at}
+use Rattle.kc_tree_model.specs.Trees.{Tree, Symbol, Choice}
+use Rattle.kc_tree_model.specs.declared.ids.Unit.TheVariants.{Symbol as of_symbol, Choice as of_choice}
+use Rattle.kc_tree_model.specs.declared.ids.Unit.{Unit as TreeUnit}
+use Rattle.kc_tree_model.specs.declared.fault.TreeFault.{TreeFault}
+use Rattle.kc_dotconfig_model.specs.declared.fault.LoadKind.{LoadKind}
+use Rattle.kc_dotconfig_model.specs.declared.notice.NoticeKind.{NoticeKind}
+use Rattle.kc_dotconfig_model.specs.ConfigLines.{LineMeaning}
+use Rattle.kc_dotconfig_model.specs.ConfigFiles.{notices_from}
+use Rattle.kmin_jobs.specs.KindNames.{tree_kind_name, load_kind_name, notice_kind_name}
+
+-- `FILE:LINE: KIND`
+abbrev pub place_line : (file : List ℕ) (line : ℕ) (kind : List ℕ) → List ℕ
+place_line file line kind = file ++ (codes ":" ++ (decimal line ++ (codes ": " ++ (kind ++ codes "\n"))))
+
+-- the path of a tree's file by its number; the first file's where there is no such number
+abbrev pub path_or_first : Files → (first : List ℕ) → Option ℕ → List ℕ
+path_or_first texts first None = first
+path_or_first texts first (Some number) = unwrap_or (path_at texts number) first
+
+-- the line of a fault of a tree
+abbrev pub tree_fault_line : Files → (first : List ℕ) → TreeFault → List ℕ
+tree_fault_line texts first fault = place_line (path_or_first texts first fault.file) fault.line (tree_kind_name fault.kind)
+
+-- the name of a symbol
+abbrev pub name_at : Tree → ℕ → List ℕ
+name_at tree s = elim (slice_get tree.symbols s) [ None ↦ [] | Some symbol ↦ symbol.name ]
+
+-- the name of the first member of a choice
+abbrev pub first_member_name : Tree → Option Choice → List ℕ
+first_member_name tree None = []
+first_member_name tree (Some choice) = elim (slice_get choice.members 0) [ None ↦ [] | Some s ↦ name_at tree s ]
+
+-- a unit in the line of a cycle: ` NAME`, or of a choice ` choice:MEMBER`
+abbrev pub unit_text : Tree → Option TreeUnit → List ℕ
+unit_text tree None = []
+unit_text tree (Some (of_symbol s)) = codes " " ++ name_at tree s
+unit_text tree (Some (of_choice c)) = codes " choice:" ++ first_member_name tree (slice_get tree.choices c)
+
+-- the file and the line of a symbol's first definition
+abbrev pub symbol_place : Option Symbol → ℕ × ℕ
+symbol_place None = (0, 0)
+symbol_place (Some symbol) = (symbol.file, symbol.line)
+
+-- the file and the line of a choice
+abbrev pub choice_place : Option Choice → ℕ × ℕ
+choice_place None = (0, 0)
+choice_place (Some choice) = (choice.file, choice.line)
+
+-- the file and the line of a unit
+abbrev pub unit_place : Tree → Option TreeUnit → ℕ × ℕ
+unit_place tree None = (0, 0)
+unit_place tree (Some (of_symbol s)) = symbol_place (slice_get tree.symbols s)
+unit_place tree (Some (of_choice c)) = choice_place (slice_get tree.choices c)
+
+-- the units of a cycle, each after a space
+abbrev pub units_text : Tree → List ℕ → List ℕ
+units_text tree units = flat_map (λ u. unit_text tree (slice_get tree.units u)) units
+
+-- the place of a cycle: its first unit's
+abbrev pub cycle_place : Tree → List ℕ → ℕ × ℕ
+cycle_place tree units = unit_place tree (option_and_then (slice_get tree.units) (slice_get units 0))
+
+-- the line of a cycle: `FILE:LINE: Cycle A B`
+abbrev pub cycle_line : Files → (first : List ℕ) → Tree → List ℕ → List ℕ
+cycle_line texts first tree units =
+    place_line (path_or_first texts first (Some (cycle_place tree units).0)) (cycle_place tree units).1 (codes "Cycle" ++ units_text tree units)
+
+-- the line of a fault of a configuration file
+abbrev pub fault_line : (path : List ℕ) (number : ℕ) → LoadKind → List ℕ
+fault_line path number kind = place_line path number (load_kind_name kind)
+
+-- the line of a notice, which has the number of a line and a kind
+abbrev pub notice_line : (path : List ℕ) → ℕ × NoticeKind → List ℕ
+notice_line path notice = place_line path notice.0 (notice_kind_name notice.1)
+
+-- the lines of a file's notices
+abbrev pub file_notices : (path : List ℕ) → List LineMeaning → List (List ℕ)
+file_notices path meanings = map (notice_line path) (notices_from 1 meanings)
+
+-- the lines of the notices of several files, in order
+abbrev pub notice_lines : (paths : List (List ℕ)) → List (List LineMeaning) → List (List ℕ)
+notice_lines [] meanings = []
+notice_lines (path ∷ paths) [] = []
+notice_lines (path ∷ paths) (meanings ∷ others) = file_notices path meanings ++ notice_lines paths others
+
+-- the line of a failed write of the answer
+abbrev pub output_line : List ℕ
+output_line = codes "output: Write\n"
+
+-- the line where memory ran out
+abbrev pub memory_line : List ℕ
+memory_line = codes "out of memory\n"
+
+-- what follows all other lines by the exit status: status 6 has the line where memory ran out
+abbrev pub last_lines : (status : ℕ) → List (List ℕ)
+last_lines status = if status == 6 then memory_line ∷ [] else []

@@ -1,0 +1,58 @@
+-- Jobs that end without an answer: the exit status, and the lines of standard error before those of `last_lines`.
+use Rattle.std.specs.Prelude.{◌≡◌, ℕ, List, [], ◌∷◌, ◌++◌, Some, None, length}
+use Rattle.kc_tree_model.specs.TreeFiles.{Files}
+use Rattle.kc_tree_model.specs.Trees.{Tree}
+use Rattle.kc_tree_model.specs.TreeFaults.{first_tree_fault}
+use Rattle.kc_tree_model.specs.Contents.{tree_of_files}
+use Rattle.kc_tree_model.specs.declared.fault.TreeFault.{TreeFault}
+use Rattle.kc_system.specs.Dependencies.{IsCycle, IsNamedCycle}
+use Rattle.kc_rules_model.specs.Dependencies.{dependencies}
+use Rattle.kc_dotconfig_model.specs.declared.fault.LoadKind.{LoadKind}
+use Rattle.kc_dotconfig_model.specs.declared.fault.LoadKind.TheVariants.{Read}
+use Rattle.kc_dotconfig_model.specs.ConfigLines.{LineMeaning}
+use Rattle.kc_dotconfig_model.specs.LoadFaults.{IsFirstFault, complete, cut_short}
+use Rattle.kmin_words.specs.Jobs.{Settings, Task, paths_of}
+use Rattle.kmin_jobs.specs.FileContents.{FileContent, MatchContent, OpensAs, AreTextsBelow}
+use Rattle.kmin_jobs.specs.Reports.{tree_fault_line, cycle_line, fault_line, notice_lines, output_line}
+use Rattle.kmin_jobs.specs.Answers.{AreAccepted, FilesMean, Answer}
+
+-- Texts are refused as a tree, with this line: by their first fault, or by the cycle that their units have.
+pub data RefusesTexts (texts : Files) (first line : List ℕ) : Type 0 where
+  faulty : (fault : TreeFault) → first_tree_fault texts first ≡ Some fault → line ≡ tree_fault_line texts first fault
+      → RefusesTexts texts first line
+  cyclic : (tree : Tree) (units : List ℕ) → first_tree_fault texts first ≡ None → tree ≡ tree_of_files texts first
+      → IsNamedCycle (length tree.units) (dependencies tree) units → IsCycle (length tree.units) (dependencies tree) units
+      → line ≡ cycle_line texts first tree units → RefusesTexts texts first line
+
+-- A configuration file ends a job with this status and this line: by its first fault, by a read that fails before one, or
+-- since it can't be opened.
+pub data StopsAtFile (content : FileContent) (prefix : List ℕ) (tree : Tree) (path : List ℕ) (status : ℕ) (line : List ℕ) : Type 0 where
+  refused : (bytes : List ℕ) (kind : LoadKind) (number : ℕ) → MatchContent content bytes
+      → IsFirstFault prefix tree complete bytes kind number → status ≡ 4 → line ≡ fault_line path number kind
+      → StopsAtFile content prefix tree path status line
+  unread : (front rest : List ℕ) (number : ℕ) → MatchContent content (front ++ rest)
+      → IsFirstFault prefix tree cut_short front Read number → status ≡ 5 → line ≡ fault_line path number Read
+      → StopsAtFile content prefix tree path status line
+  unopened : OpensAs content None → status ≡ 5 → line ≡ fault_line path 0 Read
+      → StopsAtFile content prefix tree path status line
+
+-- A job ends among its configuration files: at one of them or for lack of memory, after the notices of those before.
+pub data StopsAmongFiles (content_of : List ℕ → FileContent) (prefix : List ℕ) (tree : Tree) (paths : List (List ℕ)) (status : ℕ) (lines : List (List ℕ)) : Type 0 where
+  at_file : (front back : List (List ℕ)) (path line : List ℕ) (meanings : List (List LineMeaning)) → paths ≡ front ++ path ∷ back
+      → FilesMean content_of prefix tree front meanings → StopsAtFile (content_of path) prefix tree path status line
+      → lines ≡ notice_lines front meanings ++ line ∷ []
+      → StopsAmongFiles content_of prefix tree paths status lines
+  for_memory : (front back : List (List ℕ)) (meanings : List (List LineMeaning)) → paths ≡ front ++ back
+      → FilesMean content_of prefix tree front meanings → status ≡ 6 → lines ≡ notice_lines front meanings
+      → StopsAmongFiles content_of prefix tree paths status lines
+
+-- A job ends at its tree, among its configuration files, at a write of its answer, or for lack of memory before.
+pub data Stops (content_of : List ℕ → FileContent) (settings : Settings) (task : Task) (status : ℕ) (lines : List (List ℕ)) : Type 0 where
+  at_tree : (texts : Files) (line : List ℕ) → AreTextsBelow content_of settings.root texts
+      → RefusesTexts texts settings.tree line → status ≡ 3 → lines ≡ line ∷ [] → Stops content_of settings task status lines
+  among_files : (texts : Files) (tree : Tree) → AreTextsBelow content_of settings.root texts → AreAccepted texts settings.tree tree
+      → StopsAmongFiles content_of settings.prefix tree (paths_of task) status lines → Stops content_of settings task status lines
+  at_write : (texts : Files) (text : List ℕ) (made : ℕ) (notices : List (List ℕ)) → AreTextsBelow content_of settings.root texts
+      → Answer content_of settings texts task text made notices → status ≡ 5 → lines ≡ notices ++ output_line ∷ []
+      → Stops content_of settings task status lines
+  for_memory : status ≡ 6 → lines ≡ [] → Stops content_of settings task status lines

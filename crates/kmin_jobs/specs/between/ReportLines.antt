@@ -1,0 +1,16 @@
+-- The line of each report.
+use Rattle.std.specs.Prelude.{ℕ, List, ◌++◌, codes}
+use Rattle.kmin_jobs.specs.declared.report.Report.{Report}
+use Rattle.kmin_jobs.specs.declared.report.Report.TheVariants.{TreeFault, Cycle, FileFault, Notice, OutputFault, OutOfMemory, RefusedWords}
+use Rattle.kmin_jobs.specs.KindNames.{tree_kind_name}
+use Rattle.kmin_jobs.specs.Reports.{place_line, fault_line, notice_line, units_text, output_line, memory_line}
+
+-- the line of a report; the message for refused words has its own lines
+abbrev pub report_line : Report → List ℕ
+report_line (TreeFault path line kind) = place_line path.now line (tree_kind_name kind)
+report_line (Cycle path line tree units) = place_line path.now line (codes "Cycle" ++ units_text tree.now.tree units.now)
+report_line (FileFault path line kind) = fault_line path.now line kind
+report_line (Notice path line kind) = notice_line path.now (line, kind)
+report_line OutputFault = output_line
+report_line OutOfMemory = memory_line
+report_line (RefusedWords message) = message.now
