@@ -1,4 +1,4 @@
--- The meaning of a configuration file: its assignment and its notices.
+-- The meaning of a configuration file: its assignment and its notices (Kconfiglib's `load_config`).
 use Rattle.std.specs.Prelude.{ℕ, Bool, ◌+◌, List, [], ◌∷◌, Option, Some, None, length, ◌==◌, slice_set, replicate, if◌then◌else◌}
 use Rattle.std.specs.List.{AllZip, list_all, onto_first}
 use Rattle.std.specs.Str.{is_utf8}

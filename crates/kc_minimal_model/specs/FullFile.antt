@@ -13,10 +13,11 @@ use Rattle.kc_minimal_model.specs.Spelling.{ended_line}
 abbrev pub heading_title : List ℕ → List ℕ → List ℕ
 heading_title prefix title = if starts_with nat_eq title prefix then 32 ∷ title else title
 
--- the heading of a menu or a comment, and the line after a menu (Kconfiglib's `write_config`)
+-- the heading of a menu or a comment (Kconfiglib's `write_config`)
 abbrev pub heading : List ℕ → List ℕ → List ℕ
 heading prefix title = codes "\n#\n# " ++ (heading_title prefix title ++ codes "\n#\n")
 
+-- the line at a menu's end
 abbrev pub end_line : List ℕ → List ℕ
 end_line title = codes "# end of " ++ (title ++ 10 ∷ [])
 

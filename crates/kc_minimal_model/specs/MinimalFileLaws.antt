@@ -38,6 +38,7 @@ ForSolutions P =
     → FitsUsers (length tree.units) (λ u x. IsTrue (user_fits tree u x)) users
     → Solves (length tree.units) (rule profile tree) users values → P profile tree values
 
+-- each line of a minimal file is read as the assignment that it spells
 abbrev pub MinimalLinesAreRead : Type 0
 MinimalLinesAreRead = (prefix : List ℕ) → is_prefix prefix ≡ true
     → ForSolutions (λ profile tree values. (s : ℕ) → has_line profile tree values s ≡ true
@@ -49,6 +50,7 @@ MinimalLinesDiffer =
     ForSolutions (λ profile tree values. (s t : ℕ) → has_line profile tree values s ≡ true
     → has_line profile tree values t ≡ true → unit_of tree s ≡ unit_of tree t → s ≡ t)
 
+-- a minimal file is read as the least assignment of its values
 abbrev pub MinimalFilesAssignLeast : Type 0
 MinimalFilesAssignLeast = (prefix : List ℕ) → is_prefix prefix ≡ true
     → ForSolutions (λ profile tree values. IsReadAsLeast prefix profile tree values)

@@ -15,10 +15,11 @@ abbrev pub spelled : Kind → List ℕ → List ℕ
 spelled Text text = quoted text
 spelled _ text = text
 
--- `CONFIG_NAME=value` and `# CONFIG_NAME is not set`, with the prefix of the file (Kconfiglib's `config_string`)
+-- the line `CONFIG_NAME=value`, with the prefix of the file (Kconfiglib's `config_string`)
 abbrev pub value_line : List ℕ → List ℕ → List ℕ → List ℕ
 value_line prefix name text = prefix ++ (name ++ (61 ∷ text))
 
+-- the line `# CONFIG_NAME is not set`, with the prefix of the file
 abbrev pub unset_line : List ℕ → List ℕ → List ℕ
 unset_line prefix name = codes "# " ++ (prefix ++ (name ++ codes " is not set"))
 

@@ -51,15 +51,17 @@ abbrev pub needed_by_choice : Tree → Choice → List ℕ
 needed_by_choice tree choice =
     units_named tree (names_in_prompt choice.prompt ++ flat_map (λ (d : MemberDefault). names_in d.condition ++ names_in_member_prompts tree d.member) choice.defaults ++ flat_map (names_in_member_prompts tree) choice.members)
 
--- a unit that isn't there needs nothing
+-- a symbol that isn't there needs nothing
 abbrev pub needed_by_symbol_at : Tree → Option Symbol → List ℕ
 needed_by_symbol_at tree None = []
 needed_by_symbol_at tree (Some symbol) = needed_by_symbol tree symbol
 
+-- a choice that isn't there needs nothing
 abbrev pub needed_by_choice_at : Tree → Option Choice → List ℕ
 needed_by_choice_at tree None = []
 needed_by_choice_at tree (Some choice) = needed_by_choice tree choice
 
+-- the units that a unit needs, in any order
 abbrev pub needed_by : Tree → Option TreeUnit → List ℕ
 needed_by tree None = []
 needed_by tree (Some (of_symbol s)) = needed_by_symbol_at tree (slice_get tree.symbols s)

@@ -7,9 +7,11 @@ use Rattle.kc_rules_model.specs.declared.values.UnitValue.TheVariants.{Tri as Tr
 use Rattle.kc_rules_model.specs.declared.values.UserValue.{UserValue}
 use Rattle.kc_rules_model.specs.declared.values.UserValue.TheVariants.{Tri as TriUser, Text as TextUser, Member as MemberUser}
 
+-- two tristates are the same
 abbrev pub same_tri : Tri → Tri → Bool
 same_tri a b = rank a == rank b
 
+-- two values are the same
 abbrev pub same_value : UnitValue → UnitValue → Bool
 same_value (TriValue a) (TriValue b) = same_tri a b
 same_value (TextValue a) (TextValue b) = bytes_eq a b
@@ -22,6 +24,7 @@ abbrev pub value_is : Option UnitValue → UnitValue → Bool
 value_is None value = false
 value_is (Some held) value = same_value held value
 
+-- two user values are the same
 abbrev pub same_user : UserValue → UserValue → Bool
 same_user (TriUser a) (TriUser b) = same_tri a b
 same_user (TextUser a) (TextUser b) = bytes_eq a b

@@ -22,7 +22,7 @@ has_default tree values symbol =
     then not (is_n (default_tri tree values (active_default tree values symbol)))
     else is_some (active_default tree values symbol)
 
--- a full file has each visible symbol, and outside choices each that has a default, is selected, or is implied where
+-- a full file (Kconfiglib's `write_config`) has each visible symbol, and outside choices each that has a default, is selected, or is implied where
 -- its direct dependency isn't `n`
 abbrev pub is_written_symbol : Tree → List UnitValue → Symbol → Bool
 is_written_symbol tree values symbol =
@@ -36,7 +36,7 @@ is_written_symbol tree values symbol =
 abbrev pub is_written : Tree → List UnitValue → ℕ → Bool
 is_written tree values s = unwrap_or (option_map (is_written_symbol tree values) (slice_get tree.symbols s)) false
 
--- a symbol outside choices that is selected above its direct dependency
+-- a symbol outside choices that is selected above its direct dependency ("Menu attributes", reverse dependencies)
 abbrev pub is_unmet_symbol : Tree → List UnitValue → Symbol → Bool
 is_unmet_symbol tree values symbol = is_none symbol.choice
     && nat_lt (rank (direct_dependency tree values symbol)) (rank (selected tree values symbol))

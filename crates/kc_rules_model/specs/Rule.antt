@@ -1,4 +1,5 @@
--- The value of a unit, from its user value or none and the values of all units. Nothing here goes from unit to unit.
+-- The value of a unit, from its user value or none and the values of all units. What is quoted in comments is a topic of
+-- kconfig-language.rst, "Menu attributes" and "Menu entries".
 use Rattle.std.specs.Prelude.{ℕ, Bool, true, false, not, ◌&&◌, ◌||◌, List, [], ◌∷◌, Option, Some, None, is_some, ℤ, pos, int_lt, slice_get, unwrap_or, find, if◌then◌else◌}
 use Rattle.std.specs.Option.{option_map, option_and_then}
 use Rattle.kc_value.specs.declared.tri.Tri.{Tri}
@@ -22,7 +23,7 @@ use Rattle.kc_value.specs.Kinds.{is_bool, is_tristate}
 use Rattle.kc_value.specs.Number.{number_of_text, number_spelling}
 use Rattle.kc_rules_model.specs.SymbolValues.{environment, value_of_symbol, condition}
 
--- the value of the symbol `MODULES`, `n` undefined ("modules" of kconfig-language.rst, "Menu attributes")
+-- the value of the symbol `MODULES`, `n` undefined ("modules")
 abbrev pub modules_value : Tree → List UnitValue → Tri
 modules_value tree values = symbol_tri (environment tree values modules)
 
@@ -49,11 +50,11 @@ is_visible tree values symbol = not (is_n (visibility tree values symbol))
 abbrev pub direct_dependency : Tree → List UnitValue → Symbol → Tri
 direct_dependency tree values symbol = largest (conditions tree values symbol.direct)
 
--- what one select or imply forces: the other symbol's value, up to the condition
+-- the limit of one select or imply: the other symbol's value, up to the condition
 abbrev pub reverse_dependency_value : Tree → List UnitValue → ReverseDependency → Tri
 reverse_dependency_value tree values f = tri_and (symbol_tri (value_of_symbol tree values f.by)) (condition tree values f.condition)
 
--- what some selects or implies force
+-- the limits of some selects or implies
 abbrev pub reverse_dependency_limit : Tree → List UnitValue → List ReverseDependency → List Tri
 reverse_dependency_limit tree values [] = []
 reverse_dependency_limit tree values (f ∷ fs) = reverse_dependency_value tree values f ∷ reverse_dependency_limit tree values fs
@@ -86,15 +87,17 @@ abbrev pub default_text : Tree → List UnitValue → Symbol → List ℕ
 default_text tree values symbol =
     unwrap_or (option_map (λ (d : Default). expression_text tree values d.value) (active_default tree values symbol)) []
 
--- the user value as a tristate, a text, a member
+-- the user value as a tristate
 abbrev pub assigned_tri : Option UserValue → Option Tri
 assigned_tri (Some (TriUser t)) = Some t
 assigned_tri _ = None
 
+-- the user value as a text
 abbrev pub assigned_text : Option UserValue → Option (List ℕ)
 assigned_text (Some (TextUser text)) = Some text
 assigned_text _ = None
 
+-- the user value as a member
 abbrev pub assigned_member : Option UserValue → Option ℕ
 assigned_member (Some (MemberUser member)) = Some member
 assigned_member _ = None
@@ -211,15 +214,17 @@ choice_rule tree choice user values =
     let by_default = option_map (λ (d : MemberDefault). d.member) (find counts choice.defaults) in
     if is_shown tree values choice then or_else by_user (or_else by_default (find seen choice.members)) else None
 
--- a symbol, a choice or a unit that isn't there has the value `n`
+-- the value of a symbol, and `n` if it isn't there
 abbrev pub rule_of_symbol : Profile → Tree → Option Symbol → Option UserValue → List UnitValue → UnitValue
 rule_of_symbol profile tree None user values = TriValue N
 rule_of_symbol profile tree (Some symbol) user values = symbol_rule symbol.kind profile tree symbol user values
 
+-- the value of a choice, and `n` if it isn't there
 abbrev pub rule_of_choice : Tree → Option Choice → Option UserValue → List UnitValue → UnitValue
 rule_of_choice tree None user values = TriValue N
 rule_of_choice tree (Some choice) user values = MemberValue (choice_rule tree choice user values)
 
+-- the value of a unit, and `n` if it isn't there
 abbrev pub rule_of_unit : Profile → Tree → Option TreeUnit → Option UserValue → List UnitValue → UnitValue
 rule_of_unit profile tree (Some (of_symbol s)) user values =
     rule_of_symbol profile tree (slice_get tree.symbols s) user values

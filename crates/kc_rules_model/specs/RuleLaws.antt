@@ -27,6 +27,7 @@ abbrev pub RulesRestore : Type 0
 RulesRestore = (profile : Profile) (tree : Tree)
     → Restores (length tree.units) (rule profile tree) as_user (λ u x. IsTrue (user_fits tree u x))
 
+-- the value is a tristate
 abbrev pub is_tri_value : UnitValue → Bool
 is_tri_value (TriValue t) = true
 is_tri_value (TextValue text) = false

@@ -1,4 +1,4 @@
--- The trees whose values are computed.
+-- The trees whose values are computed ("Kconfig recursive dependency limitations").
 use Rattle.std.specs.Prelude.{length}
 use Rattle.kc_system.specs.Dependencies.{HasNoCycle}
 use Rattle.kc_tree_model.specs.Trees.{Tree}

@@ -1,4 +1,4 @@
--- The values of symbols and expressions, given the values of the units.
+-- The values of symbols and expressions, given the values of the units ("Menu dependencies").
 use Rattle.std.specs.Prelude.{ℕ, List, [], Option, Some, None, ◌==◌, slice_get, if◌then◌else◌}
 use Rattle.std.specs.Option.{option_map, option_and_then}
 use Rattle.kc_value.specs.declared.tri.Tri.{Tri}
@@ -12,15 +12,17 @@ use Rattle.kc_rules_model.specs.declared.values.UnitValue.{UnitValue}
 use Rattle.kc_rules_model.specs.declared.values.UnitValue.TheVariants.{Tri as TriValue, Text as TextValue, Member as MemberValue}
 use Rattle.kc_value.specs.Kinds.{is_tri_kind}
 
--- a unit's value as a tristate, a text or a member; `n`, the empty text or none if it is of another sort
+-- a unit's value as a tristate; `n` if it is of another sort
 abbrev pub tri_of : Option UnitValue → Tri
 tri_of (Some (TriValue t)) = t
 tri_of _ = N
 
+-- a unit's value as a text; empty if it is of another sort
 abbrev pub text_of : Option UnitValue → List ℕ
 text_of (Some (TextValue text)) = text
 text_of _ = []
 
+-- a unit's value as a member; none if it is of another sort
 abbrev pub member_of : Option UnitValue → Option ℕ
 member_of (Some (MemberValue member)) = member
 member_of _ = None

@@ -34,10 +34,11 @@ bundle_content configuration path = Some (Some configuration)
 abbrev pub bundle_line : LoadKind → List ℕ
 bundle_line kind = fault_line (codes "bundle") 0 kind
 
--- the line of a bundle that has too many bytes, and of one that can't be read
+-- the line of a bundle that has too many bytes
 abbrev pub large_line : List ℕ
 large_line = bundle_line TooLarge
 
+-- the line of a bundle that can't be read
 abbrev pub unread_line : List ℕ
 unread_line = bundle_line Read
 

@@ -6,10 +6,12 @@ use Rattle.kc_dotconfig_model.specs.ConfigLines.{LineMeaning, Means}
 use Rattle.kc_dotconfig_model.specs.ConfigFiles.{FileMeans}
 use Rattle.kc_dotconfig_model.specs.between.LineMeanings.{line_meaning, file_meanings}
 
+-- the function gives the meaning of each line, and of no other
 abbrev pub LinesAreRead : Type 0
 LinesAreRead = (prefix : List ℕ) (tree : Tree) (line : List ℕ) (saying : LineMeaning) → is_prefix prefix ≡ true
     → (line_meaning prefix tree line ≡ Some saying) ↔ Means prefix tree line saying
 
+-- the function gives the meanings of the lines of each file, and of no other
 abbrev pub FilesAreRead : Type 0
 FilesAreRead = (prefix : List ℕ) (tree : Tree) (bytes : List ℕ) (sayings : List LineMeaning) → is_prefix prefix ≡ true
     → (file_meanings prefix tree bytes ≡ Some sayings) ↔ FileMeans prefix tree bytes sayings

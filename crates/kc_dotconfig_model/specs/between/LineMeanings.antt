@@ -15,6 +15,7 @@ use Rattle.kc_dotconfig_model.specs.declared.notice.NoticeKind.TheVariants.{Unkn
 use Rattle.kc_dotconfig_model.specs.ConfigLines.{LineMeaning, assigns, notice, silent, tri_of_text, unset_meaning, without_white_end}
 use Rattle.kc_dotconfig_model.specs.ConfigFiles.{file_lines}
 
+-- the empty text, if nothing follows
 abbrev pub ended : List ℕ → Option (List ℕ)
 ended [] = Some []
 ended (c ∷ rest) = None
@@ -27,28 +28,34 @@ unquoted_rest false (c ∷ rest) = if c == 34
     then ended rest
     else (if c == 92 then unquoted_rest true rest else option_map (λ text. c ∷ text) (unquoted_rest false rest))
 
+-- the text between quotes
 abbrev pub unquoted : List ℕ → Option (List ℕ)
 unquoted [] = None
 unquoted (c ∷ rest) = if c == 34 then unquoted_rest false rest else None
 
+-- the meaning of a tristate's text, for a symbol or a choice's member
 abbrev pub tri_meaning : ℕ → ℕ → Option ℕ → Option Tri → LineMeaning
 tri_meaning u s choice None = notice NotOfType
 tri_meaning u s None (Some t) = assigns u (TriUser t)
 tri_meaning u s (Some c) (Some t) = if is_y t then assigns u (MemberUser s) else silent
 
+-- the meaning of a string's text between quotes
 abbrev pub string_meaning : ℕ → Option (List ℕ) → LineMeaning
 string_meaning u None = notice NotOfType
 string_meaning u (Some text) = assigns u (TextUser text)
 
+-- the meaning of a text that is no number: nothing if it is empty
 abbrev pub without_number : List ℕ → LineMeaning
 without_number [] = silent
 without_number (b ∷ text) = notice NotOfType
 
+-- the meaning of an int's or hex's text
 abbrev pub number_meaning : ℕ → Kind → List ℕ → LineMeaning
 number_meaning u kind text = if is_some (number_of_text kind text)
     then assigns u (TextUser text)
     else without_number text
 
+-- the meaning of the text after `=`, by the type of its symbol
 abbrev pub meaning_of_kind : Kind → ℕ → ℕ → Option ℕ → List ℕ → LineMeaning
 meaning_of_kind Boolean u s choice text = tri_meaning u s choice (tri_of_text Boolean text)
 meaning_of_kind Tristate u s choice text = tri_meaning u s choice (tri_of_text Tristate text)
@@ -71,9 +78,11 @@ abbrev pub split_at_byte : ℕ → List ℕ → Option (List ℕ × List ℕ)
 split_at_byte b [] = None
 split_at_byte b (c ∷ text) = if c == b then Some ([], text) else option_map (λ parts. (c ∷ parts.0, parts.1)) (split_at_byte b text)
 
+-- two parts of which the first is a name
 abbrev pub if_named : List ℕ × List ℕ → Option (List ℕ × List ℕ)
 if_named parts = if nat_lt 0 (length parts.0) then Some parts else None
 
+-- the name before the first such byte, and the text after it
 abbrev pub named_before : ℕ → List ℕ → Option (List ℕ × List ℕ)
 named_before b text = option_and_then if_named (split_at_byte b text)
 
@@ -81,6 +90,7 @@ named_before b text = option_and_then if_named (split_at_byte b text)
 abbrev pub value_parts : List ℕ → List ℕ → Option (List ℕ × List ℕ)
 value_parts prefix line = option_and_then (named_before 61) (after_front prefix line)
 
+-- the name before ` is not set`
 abbrev pub if_not_set : List ℕ × List ℕ → Option (List ℕ)
 if_not_set parts = if bytes_eq parts.1 (codes "is not set") then Some parts.0 else None
 
@@ -89,27 +99,33 @@ abbrev pub unset_name : List ℕ → List ℕ → Option (List ℕ)
 unset_name prefix line =
     option_and_then if_not_set (option_and_then (named_before 32) (after_front (codes "# " ++ prefix) line))
 
+-- the meaning by a symbol, if it is there
 abbrev pub of_symbol_at : (ℕ → Symbol → LineMeaning) → ℕ → Option Symbol → LineMeaning
 of_symbol_at say s None = notice UnknownSymbol
 of_symbol_at say s (Some symbol) = say s symbol
 
+-- the meaning by the number of a symbol, if it has one
 abbrev pub of_named : Tree → (ℕ → Symbol → LineMeaning) → Option ℕ → LineMeaning
 of_named tree say None = notice UnknownSymbol
 of_named tree say (Some s) = of_symbol_at say s (slice_get tree.symbols s)
 
+-- whether a byte is there, and is `#`
 abbrev pub is_hash : Option ℕ → Bool
 is_hash None = false
 is_hash (Some b) = b == 35
 
+-- an empty line or a comment means nothing; any other line is malformed
 abbrev pub of_other : List ℕ → Option LineMeaning
 of_other [] = Some silent
 of_other (b ∷ line) = if is_hash (find (λ c. not (is_white_byte c)) (b ∷ line)) then Some silent else None
 
+-- the meaning of an unset line, or of any other line without `=`
 abbrev pub of_unset : Tree → List ℕ → Option (List ℕ) → Option LineMeaning
 of_unset tree line None = of_other line
 of_unset tree line (Some name) =
     Some (of_named tree (λ s symbol. unset_meaning tree s symbol symbol.choice) (symbol_named tree name))
 
+-- the meaning of a line with `=`, or of any other line
 abbrev pub of_value : List ℕ → Tree → List ℕ → Option (List ℕ × List ℕ) → Option LineMeaning
 of_value prefix tree line None = of_unset tree line (unset_name prefix line)
 of_value prefix tree line (Some parts) =
@@ -119,10 +135,12 @@ of_value prefix tree line (Some parts) =
 unfoldable pub line_meaning : List ℕ → Tree → List ℕ → Option LineMeaning
 line_meaning prefix tree line = of_value prefix tree line (value_parts prefix line)
 
+-- a line's meaning before those of the other lines, unless one is malformed
 abbrev pub with_rest : Option LineMeaning → Option (List LineMeaning) → Option (List LineMeaning)
 with_rest (Some saying) (Some sayings) = Some (saying ∷ sayings)
 with_rest _ _ = None
 
+-- the meanings of lines, unless one is malformed
 abbrev pub meanings_of_lines : List ℕ → Tree → List (List ℕ) → Option (List LineMeaning)
 meanings_of_lines prefix tree [] = Some []
 meanings_of_lines prefix tree (line ∷ lines) =

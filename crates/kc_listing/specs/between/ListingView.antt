@@ -28,6 +28,7 @@ RepresentsHead exprs names texts codes.FileEnd w = w ≡ file_end
 abbrev pub line_in : Exprs → CodeLine → Line
 line_in exprs l = record { number = l.number; attribute = attribute_in exprs l.attribute }
 
+-- the numbers of an attribute's nodes are those of nodes of the arena
 abbrev pub LineNodesExist : Exprs → CodeLine → Type 0
 LineNodesExist exprs l = AttributeNodesExist exprs l.attribute
 

@@ -30,16 +30,19 @@ if_in e c = option_map (node_expr e) c
 abbrev pub operand_of_expr : Expr → Operand
 operand_of_expr e = unwrap_or (operand_alone e) (constant N)
 
+-- the operand that a node is; `n` if it is none
 abbrev pub operand_or_n : Exprs → ℕ → Operand
 operand_or_n e id = operand_of_expr (node_expr e id)
 
--- a default, a `select` or `imply`, and a range
+-- a default
 abbrev pub default_in : Exprs → CodeValued → DefaultAttribute
 default_in e d = record { value = node_expr e d.value; single = d.single; condition = if_in e d.condition }
 
+-- a `select` or an `imply`
 abbrev pub target_in : Exprs → CodeAimed → TargetAttribute
 target_in e s = record { name = slice_index_or e.names s.name []; condition = if_in e s.condition }
 
+-- a range
 abbrev pub range_in : Exprs → CodeBounded → RangeAttribute
 range_in e r = record { low = operand_or_n e r.low; high = operand_or_n e r.high; condition = if_in e r.condition }
 
@@ -74,10 +77,11 @@ abbrev pub statement_in : Exprs → CodeStatement → Statement
 statement_in e (statements.Head h) = head (head_in e h)
 statement_in e (statements.Attribute a) = attribute (attribute_in e a)
 
--- the numbers of nodes are those of nodes of the arena
+-- a number is that of a node of the arena
 abbrev pub NodeExists : Exprs → ℕ → Type 0
 NodeExists e id = id < length e.nodes
 
+-- a condition is a node of the arena, if it is there
 abbrev pub IfNodeExists : Exprs → Option ℕ → Type 0
 IfNodeExists e None = Unit {0}
 IfNodeExists e (Some id) = NodeExists e id
@@ -86,16 +90,19 @@ IfNodeExists e (Some id) = NodeExists e id
 abbrev pub OperandNodeExists : Exprs → ℕ → Type 0
 OperandNodeExists e id = Represents e id (alone (operand_or_n e id))
 
+-- a default's value and condition are nodes of the arena
 abbrev pub DefaultNodesExist : Exprs → CodeValued → Type 0
 DefaultNodesExist e d = NodeExists e d.value × IfNodeExists e d.condition
 
+-- a target is a name, and its condition a node, of the arena
 abbrev pub TargetNodesExist : Exprs → CodeAimed → Type 0
 TargetNodesExist e s = (s.name < length e.names) × IfNodeExists e s.condition
 
+-- a range's bounds are operands, and its condition a node, of the arena
 abbrev pub RangeNodesExist : Exprs → CodeBounded → Type 0
 RangeNodesExist e r = OperandNodeExists e r.low × OperandNodeExists e r.high × IfNodeExists e r.condition
 
--- all numbers of an attribute are held
+-- all numbers of an attribute are those of nodes and names of the arena
 abbrev pub AttributeNodesExist : Exprs → CodeAttribute → Type 0
 AttributeNodesExist e (attributes.Typed k) = Unit {0}
 AttributeNodesExist e (attributes.TypedPrompt k c) = IfNodeExists e c
@@ -110,7 +117,7 @@ AttributeNodesExist e (attributes.Visible id) = NodeExists e id
 AttributeNodesExist e attributes.Help = Unit {0}
 AttributeNodesExist e attributes.Modules = Unit {0}
 
--- all numbers of a statement are held
+-- all numbers of a statement that opens or ends an entry are those of nodes of the arena
 abbrev pub HeadNodesExist : Exprs → CodeHead → Type 0
 HeadNodesExist e (heads.Config name) = Unit {0}
 HeadNodesExist e heads.Choice = Unit {0}
@@ -121,6 +128,7 @@ HeadNodesExist e (heads.Source path) = Unit {0}
 HeadNodesExist e heads.Mainmenu = Unit {0}
 HeadNodesExist e (heads.Ends b) = Unit {0}
 
+-- all numbers of a statement are those of nodes and names of the arena
 abbrev pub StatementNodesExist : Exprs → CodeStatement → Type 0
 StatementNodesExist e (statements.Head h) = HeadNodesExist e h
 StatementNodesExist e (statements.Attribute a) = AttributeNodesExist e a
