@@ -1,4 +1,3 @@
-pub mod KindNames
 pub mod StandardError
 pub mod Reports
 pub mod Bundles

@@ -11,7 +11,8 @@ use Rattle.kc_dotconfig_model.specs.declared.fault.LoadKind.{LoadKind}
 use Rattle.kc_dotconfig_model.specs.declared.notice.NoticeKind.{NoticeKind}
 use Rattle.kc_dotconfig_model.specs.ConfigLines.{LineMeaning}
 use Rattle.kc_dotconfig_model.specs.ConfigFiles.{notices_from}
-use Rattle.kmin_jobs.specs.KindNames.{tree_kind_name, load_kind_name, notice_kind_name}
+use Rattle.kc_tree_model.specs.FaultNames.{tree_kind_name}
+use Rattle.kc_dotconfig_model.specs.KindNames.{load_kind_name, notice_kind_name}
 
 -- `FILE:LINE: KIND`
 abbrev pub place_line : (file : List ℕ) (line : ℕ) (kind : List ℕ) → List ℕ

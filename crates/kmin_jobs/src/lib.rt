@@ -4,7 +4,6 @@
 mod bundle;
 mod bundle_answer;
 mod files;
-mod kind_names;
 mod lines;
 mod loading;
 mod memory_reader;

@@ -7,7 +7,6 @@ ghost use Rattle.kmin_jobs.specs.Reports.{place_line, first_member_name, unit_te
 ghost use Rattle.kmin_jobs.specs.StandardError.{TakesWhole, TakesPart, TakesLine, TakesLines};
 ghost use Rattle.kmin_jobs.specs.between.ReportLines.{report_line};
 
-use crate::kind_names::{load_kind_name, notice_kind_name, tree_kind_name};
 use crate::symbol_lines::name_of;
 use itoa::Buffer;
 use kc_dotconfig::{LoadKind, NoticeKind};
@@ -64,30 +63,15 @@ fn write_line<W: Sink>(report: &Report<'_>, sink: &mut W) -> Result<(), WriteFau
     ensures part { OnErr result (TakesPart (W.taken sink.old) (W.failures sink.old) (report_line report.now) (W.taken sink.new) (W.failures sink.new)) }
 {
     match report {
-        Report::TreeFault { path, line, kind } => write_place(
-            path,
-            *line,
-            tree_kind_name(*kind),
-            sink,
-        ),
+        Report::TreeFault { path, line, kind } => write_place(path, *line, kind.name(), sink),
         Report::Cycle {
             path,
             line,
             tree,
             units,
         } => write_cycle(path, *line, tree, units, sink),
-        Report::FileFault { path, line, kind } => write_place(
-            path,
-            *line,
-            load_kind_name(*kind),
-            sink,
-        ),
-        Report::Notice { path, line, kind } => write_place(
-            path,
-            *line,
-            notice_kind_name(*kind),
-            sink,
-        ),
+        Report::FileFault { path, line, kind } => write_place(path, *line, kind.name(), sink),
+        Report::Notice { path, line, kind } => write_place(path, *line, kind.name(), sink),
         Report::OutputFault => write_pieces(&["output: Write\n"], sink),
         Report::OutOfMemory => write_pieces(&["out of memory\n"], sink),
         Report::RefusedWords(message) => write_pieces(&[*message], sink),

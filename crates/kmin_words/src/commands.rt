@@ -91,8 +91,8 @@ static PROFILES: [&str; 2] = ["present", "classic"];
 /// The program with all its commands.
 pub(crate) fn program<'a>(alloc: Global) -> Result<Command<'a>, AllocError> {
     let mut program = named(alloc)?;
-    for told in &OVER_FILES {
-        program = with_command(program, over_files(alloc, told))?;
+    for help in &OVER_FILES {
+        program = with_command(program, over_files(alloc, help))?;
     }
     with_command(program, over_two_files(alloc, &COMPARE))
 }
@@ -125,8 +125,8 @@ fn helped(program: Command<'_>) -> Command<'_> {
 }
 
 /// A command over any number of files.
-fn over_files<'a>(alloc: Global, told: &CommandHelp) -> Result<Command<'a>, AllocError> {
-    with_options(alloc, told)?.arg(any_number(alloc, "FILE", help_texts::FILES))
+fn over_files<'a>(alloc: Global, help: &CommandHelp) -> Result<Command<'a>, AllocError> {
+    with_options(alloc, help)?.arg(any_number(alloc, "FILE", help_texts::FILES))
 }
 
 /// A word that may be given any number of times.
@@ -138,8 +138,8 @@ fn any_number<'a>(alloc: Global, name: &'a str, help: &'a str) -> Arg<'a> {
 }
 
 /// A command over two files, each of which has to be given.
-fn over_two_files<'a>(alloc: Global, told: &CommandHelp) -> Result<Command<'a>, AllocError> {
-    let command = with_options(alloc, told)?;
+fn over_two_files<'a>(alloc: Global, help: &CommandHelp) -> Result<Command<'a>, AllocError> {
+    let command = with_options(alloc, help)?;
     let command = command.arg(required(alloc, "LEFT", help_texts::LEFT))?;
     command.arg(required(alloc, "RIGHT", help_texts::RIGHT))
 }
@@ -150,8 +150,8 @@ fn required<'a>(alloc: Global, name: &'a str, help: &'a str) -> Arg<'a> {
 }
 
 /// A command with the options that all have.
-fn with_options<'a>(alloc: Global, told: &CommandHelp) -> Result<Command<'a>, AllocError> {
-    let mut command = described(alloc, told);
+fn with_options<'a>(alloc: Global, help: &CommandHelp) -> Result<Command<'a>, AllocError> {
+    let mut command = described(alloc, help);
     for valued in &FREE {
         command = command.arg(option(alloc, valued))?;
     }
@@ -166,11 +166,11 @@ fn imply<'a>(alloc: Global) -> Arg<'a> {
 }
 
 /// A command with its own help.
-fn described<'a>(alloc: Global, told: &CommandHelp) -> Command<'a> {
-    Command::new(alloc, told.name)
-        .about(told.about)
-        .long_about(told.long)
-        .after_help(told.after)
+fn described<'a>(alloc: Global, help: &CommandHelp) -> Command<'a> {
+    Command::new(alloc, help.name)
+        .about(help.about)
+        .long_about(help.long)
+        .after_help(help.after)
 }
 
 /// An option with a value.

@@ -30,7 +30,7 @@ Exit status:
   6  out of memory
 
 Without a word, kmin reads a bundle on standard input, a tree, a line `%%` and a configuration
-file, and writes its full file. Options stand behind the command: `kmin help COMMAND` tells them.
+file, and writes its full file. Options come after the command: `kmin help COMMAND` lists them.
 
 ",
             $text
@@ -39,25 +39,25 @@ file, and writes its full file. Options stand behind the command: `kmin help COM
 }
 
 pub(crate) const AFTER: &str = with_examples!(
-    "`kmin --help` tells what each message means, and what to do about it."
+    "`kmin --help` explains each message, and what to do about it."
 );
 
 pub(crate) const AFTER_LONG: &str = with_examples!(
     "\
 Messages are `FILE:LINE: KIND`, on standard error. Of a bundle FILE is `Kconfig` in the tree and
-`config` in the configuration. Line 0 is told of a configuration file that can't be opened, and of
+`config` in the configuration. Line 0 is that of a configuration file that can't be opened, and of
 a tree's first file where it can't be opened or read or has too many bytes.
 
 Kinds of a tree:
   NotUtf8           the line isn't UTF-8: save the file as UTF-8
-  LineTooLong       more than 65,536 bytes in a line: part it
+  LineTooLong       more than 65,536 bytes in a line: split it
   BadToken          a byte that begins no word, text or operator: quote it, or take it out
   UnclosedQuote     a quote without its end in the line: close it
   UnknownStatement  the first word is no keyword: correct it
   Malformed         the line hasn't the form of its keyword: see kconfig-language.rst
   Unclosed          a block has no end in its file: add endif, endmenu or endchoice
   StrayEnd          an end of no open block: take it out, or open the block
-  Misplaced         a statement or an attribute that may not stand there: move it
+  Misplaced         a statement or an attribute that isn't allowed there: move it
   NoType            a symbol without a type: add bool, tristate, string, hex or int
   TypeConflict      another type than the symbol's first: let both be one
   SecondPrompt      a second prompt of one entry: keep one
@@ -70,18 +70,18 @@ Kinds of a tree:
   MissingFile       the file can't be opened or read: see --root and --tree, and the path
   SourceLoop        a file is sourced while it is open: take out one of the lines
   TooDeep           more than 32 files, 64 blocks or 64 signs and parentheses open: nest less
-  TooMany           too many symbols, choices, files or bytes: part the tree; a name of more than
+  TooMany           too many symbols, choices, files or bytes: split it; a name of more than
                     256 bytes: shorten it
-  Cycle             the symbols told depend on one another: take out a dependency
+  Cycle             the named symbols depend on one another: take out a dependency
   LeftOut           a form that kmin leaves out: expand a macro first, write another form anew
 
 Kinds of a configuration file:
   Malformed         neither CONFIG_NAME=value, an unset line, a comment nor empty: correct it, or
-                    tell another prefix than CONFIG_ by --prefix
+                    give another prefix than CONFIG_ by --prefix
   NotUtf8           the line isn't UTF-8: save the file as UTF-8
   LineTooLong       more than 65,536 bytes in a line: shorten it
-  TooManyLines      more than 1,048,576 lines: part the file
-  TooLarge          more than 67,108,864 bytes: part the file
+  TooManyLines      more than 1,048,576 lines: split the file
+  TooLarge          more than 67,108,864 bytes: split the file
   Read              the file can't be opened or read: check the path and the permissions
   UnknownSymbol     a notice, the tree has no such symbol, nothing is assigned: take the line out
   NotOfType         a notice, the value isn't of the symbol's type and isn't assigned: correct it
@@ -92,7 +92,7 @@ Without a file:
   output: Write             standard output can't be written: make room, keep the pipe open
   prefix: Malformed         --prefix isn't 1 to 32 letters, digits and `_`: correct it
   kmin: a word isn't UTF-8  a word of the command line isn't: give the file another name
-  error: ..                 the command line is refused: correct the word that is told
+  error: ..                 the command line is refused: correct the named word
   out of memory             memory was refused: free some, or raise a limit that was set"
 );
 
@@ -132,13 +132,13 @@ pub(crate) const FULL: &str =
 pub(crate) const FULL_LONG: &str = "\
 Writes the full file of the configuration, a .config in the way of `make olddefconfig`, without a
 header: headings of menus and comments, and each symbol that is visible. Of the others, members of
-choices aside, it has those with a default in force, the first whose condition isn't n (of a bool
-or tristate it isn't n itself), those that are selected, and those that are implied while what they
-depend on isn't n. A line is `CONFIG_NAME=value`, of a bool or tristate that is n
-`# CONFIG_NAME is not set`. No other symbol has a line, also where it has a value, as a number that
-stands at a bound of its range.
+choices aside, it has those with an active default, the first whose condition isn't n (of a bool
+or tristate it isn't n itself), those that are selected, and those that are implied while their
+dependency isn't n. A line is `CONFIG_NAME=value`, of a bool or tristate that is n
+`# CONFIG_NAME is not set`. No other symbol has a line, also where it has a value, as a number at a
+bound of its range.
 
-Several FILEs are merged: each is laid over those before it. `kmin missed` tells afterwards which
+Several FILEs are merged: each overrides those before it. `kmin missed` lists afterwards which
 assignments had no effect.";
 
 pub(crate) const FULL_AFTER: &str = with_statuses!(
@@ -150,8 +150,8 @@ Example:
 pub(crate) const MISSED: &str = "Lists the symbols that don't have the value that a FILE assigns";
 
 pub(crate) const MISSED_LONG: &str = "\
-Lists, one name a line, the symbols whose assigned value isn't their value: for want of a
-dependency, out of a range, or since another symbol selects them. A member of a choice is listed if
+Lists, one name a line, the symbols whose assigned value isn't their value: since a dependency
+isn't met, a number is out of its range, or another symbol selects them. A member of a choice is listed if
 it was chosen and isn't selected. The status is 0 with and without such lines.";
 
 pub(crate) const MISSED_AFTER: &str = with_statuses!(
@@ -168,8 +168,8 @@ aren't met. The status is 0 with and without such lines.";
 
 pub(crate) const CHECK_AFTER: &str = with_statuses!(
     "\
-Example, of a check that fails where there is any such line:
-  test -z \"$(kmin check board.config)\""
+Example, of a check that fails where there is any such line, and where kmin fails:
+  found=$(kmin check board.config) && test -z \"$found\""
 );
 
 pub(crate) const COMPARE: &str = "Lists the symbols whose values differ between two files";
@@ -177,7 +177,7 @@ pub(crate) const COMPARE: &str = "Lists the symbols whose values differ between 
 pub(crate) const COMPARE_LONG: &str = "\
 Resolves LEFT and RIGHT, each alone, and writes a line `NAME: LEFT -> RIGHT` for each symbol whose
 values differ, also where neither file has a line of it. It compares values, not lines: a file and
-its minimal file don't differ, nor do a file and its full file where no tristate stands above its
+its minimal file don't differ, nor do a file and its full file where no tristate is above its
 visibility, as a default or an imply may set it.";
 
 pub(crate) const COMPARE_AFTER: &str = "\
@@ -187,22 +187,22 @@ Example:
 Exit status: 0 no difference, 1 differences, 2 command line refused, 3 tree refused,
 4 configuration file refused, 5 a read or a write failed, 6 out of memory.";
 
-pub(crate) const ROOT: &str = "Folder in which the paths of the tree lie";
+pub(crate) const ROOT: &str = "Folder of the tree";
 
 pub(crate) const TREE: &str = "First file of the tree, below DIR";
 
-pub(crate) const PREFIX: &str = "What stands before each name in a file";
+pub(crate) const PREFIX: &str = "Text before each name in a file";
 
 pub(crate) const IMPLY: &str = "How `imply` counts";
 
 pub(crate) const IMPLY_LONG: &str = "\
 How `imply` counts:
 present  where no assignment counts, as a default, up to the symbol's dependency
-classic  there whole, unless that dependency is n; and under an implied y
+classic  there in full, unless that dependency is n; and under an implied y
          an m, an assigned one too, becomes y";
 
 pub(crate) const FILES: &str =
-    "Configuration files, each laid over those before it; without one\nnothing is assigned; /dev/stdin is standard input";
+    "Configuration files, each overriding those before it; without one\nnothing is assigned; /dev/stdin is standard input";
 
 pub(crate) const LEFT: &str = "Configuration file";
 

@@ -2,7 +2,7 @@
 use Rattle.std.specs.Prelude.{ℕ, List, ◌++◌, codes}
 use Rattle.kmin_jobs.specs.declared.report.Report.{Report}
 use Rattle.kmin_jobs.specs.declared.report.Report.TheVariants.{TreeFault, Cycle, FileFault, Notice, OutputFault, OutOfMemory, RefusedWords}
-use Rattle.kmin_jobs.specs.KindNames.{tree_kind_name}
+use Rattle.kc_tree_model.specs.FaultNames.{tree_kind_name}
 use Rattle.kmin_jobs.specs.Reports.{place_line, fault_line, notice_line, units_text, output_line, memory_line}
 
 -- the line of a report; the message for refused words has its own lines
