@@ -12,8 +12,8 @@ pub struct WriteFault {
     pub written: usize,
 }
 
-/// Writes a text whole. An `Err` is the first write that fails or takes nothing; it ends the writing, and none is made
-/// again. Takes no memory.
+/// Writes a text. At most one write fails or takes nothing; on an `Err` one did, and the writer took the first `written`
+/// bytes and no others. Takes no memory.
 pub fn write_out<W: Sink>(sink: &mut W, text: &[u8]) -> Result<(), WriteFault>
     ensures whole { OnOk result (Appends (W.taken sink.old) (W.taken sink.new) text.now) }
     ensures unfailed { OnOk result (W.failures sink.new ≡ W.failures sink.old) }

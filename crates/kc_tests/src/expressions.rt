@@ -50,7 +50,7 @@ fn read(alloc: Global, arena: &mut Arena, text: &str) -> Result<(ExprId, usize, 
     Ok((id, end, list.len()))
 }
 
-/// Whether the calls of an arena tell of an expression what they should.
+/// Whether the calls of an arena return the parts of an expression.
 fn is_told(alloc: Global) -> Result<bool, ExprFault> {
     let mut arena = Arena::new(alloc);
     let is_told = is_told_in(alloc, &mut arena);
@@ -76,7 +76,7 @@ fn count_of_names(arena: &mut Arena, id: ExprId) -> Result<usize, ExprFault>
     Ok(twice!(arena.names(shown)).len())
 }
 
-/// Whether a new name is put after the three of an arena once, and then a constant after the expressions.
+/// Whether a new name is appended to the three of an arena once, and then a constant to the expressions.
 fn are_put_behind(arena: &mut Arena) -> Result<bool, ExprFault> {
     let nodes = arena.node_count();
     let new = interned(arena, "NEW")?;
@@ -167,7 +167,7 @@ fn push_all(arena: &Arena, id: ExprId, found: &mut Vec<NameId>) -> Result<(), Al
     Ok(())
 }
 
-/// Whether the names of an expression are put after those of a list, each as often as it stands there.
+/// Whether the names of an expression are appended to those of a list, each as often as it occurs.
 fn are_put(alloc: Global) -> Result<bool, ExprFault> {
     let mut arena = Arena::new(alloc);
     let are_put = are_put_from(alloc, &mut arena);

@@ -1,6 +1,6 @@
-//! Tests of the libraries' public calls: what no contract and no run of the program says.
+//! Tests of the libraries' public calls, of what no contract has and no run of the program shows.
 //!
-//! They stand in a crate of their own, so that no library is proved a second time for its tests.
+//! They are in a crate of their own, so that no library is proved a second time for its tests.
 #![tactic(auto)]
 
 /// Makes a call again where it was refused at its first try.

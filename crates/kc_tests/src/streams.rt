@@ -18,7 +18,7 @@ fn a_script_does_as_it_says(rt: HostRuntime) -> Result<(), std::test::Fail> {
     Ok(())
 }
 
-/// Whether a writer answers so to three bytes each time.
+/// Whether a writer has this result for three bytes each time.
 fn answers(mut writer: Bounded, answers: [Result<usize, Failed>; 3]) -> bool {
     let mut is_answered = true;
     for answer in answers {

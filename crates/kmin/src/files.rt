@@ -6,7 +6,7 @@ use kmin_jobs::Files;
 use std::fs::File;
 use std::random::RandomSource;
 
-/// The files of the system, of which nothing is told. Paths and names are hashed by a seed of this run's own.
+/// The files of the system, of which nothing is known. Paths and names are hashed by a seed of this run's own.
 #[derive(Drop)]
 pub(crate) struct Disk<'a> {
     runtime: &'a HostRuntime,
@@ -50,7 +50,7 @@ impl Source for OpenFile {
     }
 }
 
-/// How many bytes a file has, and 0 where the system doesn't tell.
+/// The number of bytes of a file, and 0 where it can't be had.
 fn size_now(file: &File) -> usize {
     match file.metadata() {
         Ok(metadata) => usize::try_from(metadata.len()).unwrap_or(usize::MAX),

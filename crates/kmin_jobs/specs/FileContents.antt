@@ -1,4 +1,4 @@
--- What is known about the content of files.
+-- The known content of files.
 use Rattle.std.specs.Prelude.{◌≡◌, ℕ, List, ◌∷◌, ◌++◌, Option, Some, None, take}
 use Rattle.kc_tree_model.specs.TreeFiles.{Files, file_at}
 

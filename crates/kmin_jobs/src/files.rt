@@ -9,7 +9,7 @@ pub trait Files {
     /// The reader of an open file.
     type File: Source + Drop;
 
-    /// What is known about the content of each path.
+    /// The known content of each path.
     ghost content_of: { Self → List ℕ → FileContent };
 
     /// The seed by which the paths and names of a tree are hashed; it changes no answer.

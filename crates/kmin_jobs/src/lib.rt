@@ -1,4 +1,4 @@
-//! What the program does: jobs over files, bundles, answers and statuses.
+//! Jobs over files, bundles, their answers and exit statuses.
 #![tactic(auto)]
 
 mod bundle;

@@ -14,7 +14,7 @@ use kc_minimal::{WriteFault, write_out};
 use kc_tree::{Tree, TreeKind, Unit};
 use kc_value::Sink;
 
-/// What standard error has a line for; it borrows what it names.
+/// An event with a line on standard error; it borrows what it names.
 #[derive(Drop)]
 pub(crate) enum Report<'a> {
     /// A fault of a tree.

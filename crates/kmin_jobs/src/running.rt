@@ -16,7 +16,7 @@ use kc_value::{Sink, Source};
 use kmin_words::{ParsedWords, read_words};
 use std::alloc::Global;
 
-/// Runs the program on its words, the files, a reader and two writers, and answers the exit status.
+/// Runs the program on its words, the files, a reader and two writers, and returns the exit status.
 ///
 /// Without words it reads a bundle, a Kconfig tree, a line `%%` and a configuration file, and writes the full file. Else
 /// the words are a command. Statuses: 0 done, 1 a comparison found differences, 2 words refused, 3 tree refused, 4

@@ -53,7 +53,7 @@ pub(crate) fn name_lines(
     Ok(text)
 }
 
-/// Appends a value as it stands after `=` in a file: that of a string in quotes.
+/// Appends a value as a file has it after `=`: that of a string in quotes.
 fn push_spelled(out: &mut Vec<u8>, seen: &Looked<'_>) -> Result<(), AllocError>
     ensures { OnOk result (out.new.items ≡ out.old.items ++ spelled (symbol_value_of seen.now).kind (symbol_value_of seen.now).text) }
 {

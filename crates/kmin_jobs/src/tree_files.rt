@@ -47,7 +47,7 @@ impl Room {
         }
     }
 
-    /// Takes the room of a file that was opened, of which so many bytes were read.
+    /// Takes the room of an opened file of which this number of bytes was read.
     fn take(&mut self, bytes: usize) {
         self.files = self.files.saturating_sub(1);
         self.bytes = self.bytes.saturating_sub(bytes);
@@ -174,7 +174,7 @@ fn open_wanted<F: Files>(
     Ok(())
 }
 
-/// Inserts the files of some paths, as long as there is room, and tells whether any was inserted.
+/// Inserts the files of some paths, as long as there is room, and returns whether any was inserted.
 fn insert_all<F: Files>(
     alloc: Global,
     root: &str,
@@ -197,7 +197,7 @@ fn insert_all<F: Files>(
     Ok(any)
 }
 
-/// Inserts the file of a path that isn't there yet, if it can be opened and read, and tells whether it did.
+/// Inserts the file of a path that isn't there yet, if it can be opened and read, and returns whether it did.
 fn insert_one<F: Files>(
     alloc: Global,
     root: &str,

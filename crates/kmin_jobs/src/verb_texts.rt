@@ -56,7 +56,7 @@ fn unmet_text(alloc: Global, config: &Config<'_>) -> Result<Vec<u8>, AllocError>
     name_lines(alloc, "unmet ", config.settled().tree(), &symbols)
 }
 
-/// What two configurations of one tree, in one profile, differ in, and whether they do.
+/// The differences of two configurations of one tree, in one profile, and the status.
 pub(crate) fn compared(
     alloc: Global,
     left: &Config<'_>,

@@ -35,7 +35,7 @@ pub enum Task<'a> {
     Compare { left: &'a str, right: &'a str },
 }
 
-/// What a command line asks for.
+/// The job of a command line: its options and its command.
 #[derive(Drop)]
 pub struct Job<'a> {
     pub settings: Settings<'a>,

@@ -1,4 +1,4 @@
--- What was read of configuration files.
+-- The fragments that were read of configuration files.
 use Rattle.std.specs.Prelude.{◌≡◌, ℕ, List, Option}
 use Rattle.kc_tree_model.specs.Trees.{Tree}
 use Rattle.kc_rules_model.specs.declared.values.UserValue.{UserValue}
