@@ -20,8 +20,8 @@ const BLOCK: usize = 8192;
 /// The most files that are opened ahead, and at once: as many as a tree may have.
 const MAX_FILES: u32 = 4096;
 
-/// How often the files of a tree are asked what they want. A path that wasn't asked for before stands one file
-/// deeper each time, and no more than 32 files are open within each other.
+/// The most readings of a tree's files before one without a new file. Each finds paths that are one file deeper, and no
+/// more than 32 files are open at a time.
 const MAX_ROUNDS: u32 = 64;
 
 /// The files of a tree, and the result of reading them.
