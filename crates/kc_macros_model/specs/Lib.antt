@@ -1,0 +1,15 @@
+pub mod Limits
+pub mod Programs
+pub mod References
+pub mod Variables
+pub mod Expansion
+pub mod LineTokens
+pub mod Rewriting
+pub mod Assignments
+pub mod LineForms
+pub mod PathPatterns
+pub mod ReadingStates
+pub mod TreeExpansion
+pub mod Worlds
+pub mod ExpansionRules
+pub mod AnswerFiles
