@@ -13,3 +13,6 @@ pub mod TreeExpansion
 pub mod Worlds
 pub mod ExpansionRules
 pub mod AnswerFiles
+pub mod ProgramLaws
+pub mod ExpansionLaws
+pub mod TreeLaws

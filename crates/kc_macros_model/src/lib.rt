@@ -2,5 +2,10 @@
 #![tactic(auto)]
 
 mod fault;
+mod laws;
 
 pub use fault::{AnswersFault, AnswersKind, MacroKind, MacroNoticeKind};
+pub use laws::{
+    answers_not_asked_change_nothing, expansion_follows_rules, nothing_wanted_is_expanded,
+    plain_texts_stay,
+};

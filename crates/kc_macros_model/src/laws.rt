@@ -1,0 +1,25 @@
+//! Laws of the definitions.
+ghost use Rattle.kc_macros_model.specs.ExpansionLaws.{ExpansionKeepsTheRules, RulesAreExpanded, PlainTextsStay};
+ghost use Rattle.kc_macros_model.specs.TreeLaws.{AnswersNotAskedChangeNothing, NothingWantedIsExpanded};
+
+/// The function that expands a text and the rules of expansion agree: it returns only values that the rules give, and
+/// each of them, unless a limit or a variable that needs itself is met.
+pub fn expansion_follows_rules()
+    ensures only { ExpansionKeepsTheRules }
+    ensures each { RulesAreExpanded }
+{}
+
+/// A text without references is its own value: no question is asked, and work is done only for its bytes.
+pub fn plain_texts_stay()
+    ensures { PlainTextsStay }
+{}
+
+/// The expansion of a tree depends on its files and on the answers that it asks for, and on nothing else.
+pub fn answers_not_asked_change_nothing()
+    ensures { AnswersNotAskedChangeNothing }
+{}
+
+/// Where no question is wanted and no fault was met, the tree is expanded.
+pub fn nothing_wanted_is_expanded()
+    ensures { NothingWantedIsExpanded }
+{}
