@@ -4,3 +4,10 @@ pub mod TreeAnswers
 pub mod TextItems
 pub mod ExpansionByRules
 pub mod RulesExpanded
+pub mod Along
+pub mod Matching
+pub mod MatchingTexts
+pub mod MatchingLines
+pub mod MatchingForms
+pub mod MatchingTrees
+pub mod WantedQuestions

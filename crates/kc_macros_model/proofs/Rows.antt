@@ -123,6 +123,11 @@ questions : wanted (one_file (codes "if \"$(A) $(shell,f $(B)) $(shell,g ) $(A)\
 unfolding tree_read text_value wanted next_token is_utf8 chars digits lib.Utf8.encode
 questions = refl
 
+-- the search ends where it isn't known what a line is: without `$(A)` the first is an assignment of `X`
+undecided_line : wanted (one_file (codes "$(A) X := $(B)\nif $(X)\n") []) (codes "Kconfig") ≡ Ok (codes "A" ∷ [])
+unfolding tree_read text_value wanted next_token is_utf8 chars digits lib.Utf8.encode
+undecided_line = refl
+
 messages : (expansion (one_file (codes "$(warning-if,y,at $(lineno))\n$(warning-if,n,none)\n") []) (codes "Kconfig")).notices ≡ record { at = place (codes "Kconfig") 1; kind = Warning; text = codes "at 1" } ∷ []
 unfolding tree_read text_value expansion next_token is_utf8 chars digits lib.Utf8.encode
 messages = refl

@@ -1,12 +1,12 @@
 -- Assignments of variables, and a line as an assignment or as written tokens.
-use Rattle.std.specs.Prelude.{ℕ, Bool, true, false, ◌&&◌, ◌||◌, ◌==◌, List, [], ◌∷◌, ◌++◌, drop, Option, Some, None, option_map, if◌then◌else◌}
-use Rattle.std.specs.List.{prefix_len}
+use Rattle.std.specs.Prelude.{ℕ, Bool, true, false, not, ◌&&◌, ◌||◌, ◌==◌, List, [], ◌∷◌, ◌++◌, drop, Option, Some, None, option_map, if◌then◌else◌}
+use Rattle.std.specs.List.{list_any, prefix_len}
 use Rattle.kc_expr.specs.Token.{is_white_byte}
 use Rattle.kc_macros_model.specs.Programs.{Place, Program, returns, stops, ◌>>=◌}
 use Rattle.kc_macros_model.specs.Variables.{Value, value_length, joined_values, Variable, simple, recursive, Bindings}
 use Rattle.kc_macros_model.specs.Expansion.{spends, unless_too_long, text_value}
-use Rattle.kc_macros_model.specs.LineTokens.{LineToken, run, token_bytes, bytes_of_tokens}
-use Rattle.kc_macros_model.specs.Rewriting.{is_keyword, WrittenToken, a_gap, token_of_text, run_value, written_token}
+use Rattle.kc_macros_model.specs.LineTokens.{LineToken, gap, run, token_bytes, bytes_of_tokens}
+use Rattle.kc_macros_model.specs.Rewriting.{is_keyword, WrittenToken, a_gap, an_unknown, token_of_text, run_value, written_token}
 
 -- `:=`, `+=` and `=`
 pub data Operator : Type 0 where
@@ -62,19 +62,31 @@ with_token t (assigns name a) = assigns name a
 abbrev pub is_gap : WrittenToken → Bool
 is_gap t = elim t.sort [ a_gap ↦ true | _ ↦ false ]
 
+abbrev pub is_unknown : WrittenToken → Bool
+is_unknown t = elim t.sort [ an_unknown ↦ true | _ ↦ false ]
+
+abbrev pub is_gap_token : LineToken → Bool
+is_gap_token (gap s) = true
+is_gap_token t = false
+
+-- whether tokens come after one that may be gone, so that they may be a line of their own
+abbrev pub is_open_front : (may_assign : Bool) → WrittenToken → List LineToken → Bool
+is_open_front may_assign w ts = may_assign && is_unknown w && list_any (λ t. not (is_gap_token t)) ts
+
 -- a name with its value: an empty one is a token that is gone, and without a value the reading ends
 abbrev pub assignment_or : Program LineContent → Assigned → Value → Program LineContent
 assignment_or rest a None = stops
 assignment_or rest a (Some []) = rest
 assignment_or rest a (Some (c ∷ name)) = returns (assigns (c ∷ name) a)
 
--- the content of a line from a token on
+-- the content of a line from a token on; the reading ends where it isn't known what the line is
 abbrev pub line_content : Place → Bindings → (may_assign : Bool) → List LineToken → Program LineContent
 line_content at b may_assign [] = returns (tokens [])
 line_content at b may_assign (t ∷ ts) =
     elim (assignment_at may_assign t ts) [
       | Some a ↦ run_value at b (token_bytes t) >>= assignment_or (line_content at b true ts >>= λ rest. returns (with_token (token_of_text []) rest)) a
-      | None ↦ written_token at b t >>= λ w. line_content at b (may_assign && is_gap w) ts >>= λ rest. returns (with_token w rest)
+      | None ↦ written_token at b t >>= λ w.
+          elim (is_open_front may_assign w ts) [ true ↦ stops | false ↦ line_content at b (may_assign && is_gap w) ts >>= λ rest. returns (with_token w rest) ]
     ]
 
 -- a new variable, which is stored with its value or text

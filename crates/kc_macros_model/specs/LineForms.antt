@@ -1,9 +1,10 @@
 -- Forms of lines that plain Kconfig lacks, by the line's tokens.
-use Rattle.std.specs.Prelude.{ℕ, zero, suc, Bool, true, false, not, ◌&&◌, List, [], ◌∷◌, ◌++◌, filter, flat_map, codes, bytes_eq, if◌then◌else◌}
+use Rattle.std.specs.Prelude.{ℕ, zero, suc, Bool, true, false, not, ◌&&◌, ◌||◌, List, [], ◌∷◌, ◌++◌, filter, flat_map, codes, bytes_eq, if◌then◌else◌}
+use Rattle.std.specs.List.{list_any}
 use Rattle.kc_tree_model.specs.Limits.{is_in_list}
 use Rattle.kc_macros_model.specs.Variables.{Value}
 use Rattle.kc_macros_model.specs.Rewriting.{WrittenToken, a_word, a_quoted, an_unknown, written_as, in_quotes_of}
-use Rattle.kc_macros_model.specs.Assignments.{is_gap}
+use Rattle.kc_macros_model.specs.Assignments.{is_gap, is_unknown}
 
 -- which `source` a line has: one whose paths begin at the folder of the file, one whose files may be missing
 pub record SourceSort : Type 0 where
@@ -24,6 +25,10 @@ prompt_words = codes "bool" ∷ codes "tristate" ∷ codes "string" ∷ codes "h
 
 abbrev pub source_words : List (List ℕ)
 source_words = codes "source" ∷ codes "rsource" ∷ codes "osource" ∷ codes "orsource" ∷ []
+
+-- words after which a help text begins
+abbrev pub help_words : List (List ℕ)
+help_words = codes "help" ∷ codes "---help---" ∷ []
 
 abbrev pub sort_of_source : List ℕ → SourceSort
 sort_of_source word = record { relative = is_in_list word (codes "rsource" ∷ codes "orsource" ∷ []); optional = is_in_list word (codes "osource" ∷ codes "orsource" ∷ []) }
@@ -62,6 +67,17 @@ form_of (t ∷ u ∷ rest) = if is_word t then form_by_word t.bytes u rest else 
 
 abbrev pub without_gaps : List WrittenToken → List WrittenToken
 without_gaps ts = filter (λ t. not (is_gap t)) ts
+
+-- whether a help text follows a line: its one token is such a word
+abbrev pub is_help_line : List WrittenToken → Bool
+is_help_line [] = false
+is_help_line (t ∷ []) = is_word t && is_in_list t.bytes help_words
+is_help_line (t ∷ u ∷ rest) = false
+
+-- whether it isn't known what a line is: a `source` or the beginning of a help text with a token that may be gone
+abbrev pub is_undecided : List WrittenToken → Bool
+is_undecided [] = false
+is_undecided (t ∷ rest) = is_word t && (is_in_list t.bytes source_words || is_in_list t.bytes help_words) && list_any is_unknown rest
 
 -- a line with another token in place of its n-th, gaps aside
 abbrev pub with_nth_token : ℕ → WrittenToken → List WrittenToken → List WrittenToken

@@ -29,6 +29,15 @@ pub record Progress : Type 0 where
 abbrev pub progress : List ℕ → ReadingState → Progress
 progress text s = record { text = text; state = s }
 
+-- a written line, whether a help text follows it, and the state after it
+pub record WrittenLine : Type 0 where
+  pub text : List ℕ
+  pub begins_help : Bool
+  pub state : ReadingState
+
+abbrev pub written_line : List ℕ → Bool → ReadingState → WrittenLine
+written_line text begins_help s = record { text = text; begins_help = begins_help; state = s }
+
 abbrev pub bound : List ℕ → Variable → ReadingState → ReadingState
 bound name v s = record s { bindings = with_variable name v s.bindings }
 

@@ -13,9 +13,9 @@ use Rattle.kc_macros_model.specs.Expansion.{fault}
 use Rattle.kc_macros_model.specs.LineTokens.{line_tokens}
 use Rattle.kc_macros_model.specs.Rewriting.{WrittenToken, a_word, written_as, in_quotes_of}
 use Rattle.kc_macros_model.specs.Assignments.{without_front, LineContent, assigns, tokens, line_content, variable_assigned}
-use Rattle.kc_macros_model.specs.LineForms.{SourceSort, LineForm, plain, bare_prompt, replaced_by, named_choice, sources, form_of, without_gaps, with_nth_token, with_replacement, line_bytes, quoted_text_token}
+use Rattle.kc_macros_model.specs.LineForms.{SourceSort, LineForm, plain, bare_prompt, replaced_by, named_choice, sources, form_of, without_gaps, with_nth_token, with_replacement, line_bytes, quoted_text_token, is_help_line, is_undecided}
 use Rattle.kc_macros_model.specs.PathPatterns.{is_pattern, FoundPaths, files_of_pattern, readable_paths}
-use Rattle.kc_macros_model.specs.ReadingStates.{ExpandedFile, ReadingState, initial_state, Progress, progress, bound, with_choice, with_listed, counted, kept}
+use Rattle.kc_macros_model.specs.ReadingStates.{ExpandedFile, ReadingState, initial_state, Progress, progress, WrittenLine, written_line, bound, with_choice, with_listed, counted, kept}
 
 abbrev pub place : List ℕ → ℕ → Place
 place file line = record { file = file; line = line }
@@ -90,19 +90,24 @@ form_written sub at ts (named_choice name) s = returns (choice_written ts name s
 form_written sub at ts (sources sort path) s = source_followed sub at ts sort path s
 
 -- a written line that isn't too long
-abbrev pub short_line : Place → Progress → Program Progress
-short_line at p = elim (nat_lt max_text_bytes (length p.text)) [ true ↦ fault at LineTooLong [] | false ↦ returns p ]
+abbrev pub short_line : Place → (begins_help : Bool) → Progress → Program WrittenLine
+short_line at begins_help p = elim (nat_lt max_text_bytes (length p.text)) [ true ↦ fault at LineTooLong [] | false ↦ returns (written_line p.text begins_help p.state) ]
+
+-- a line by its tokens without gaps; the reading ends where it isn't known what the line is
+abbrev pub tokens_written : SourceReader → Place → ReadingState → List WrittenToken → List WrittenToken → Program WrittenLine
+tokens_written sub at s ts real =
+    elim (is_undecided real) [ true ↦ stops | false ↦ form_written sub at ts (form_of real) s >>= short_line at (is_help_line real) ]
 
 -- a line by its content; an assignment leaves nothing of it, and none may be on a continued line
-abbrev pub content_written : SourceReader → Place → (continued : Bool) → ReadingState → LineContent → Program Progress
-content_written sub at continued s (tokens ts) = form_written sub at ts (form_of (without_gaps ts)) s >>= short_line at
+abbrev pub content_written : SourceReader → Place → (continued : Bool) → ReadingState → LineContent → Program WrittenLine
+content_written sub at continued s (tokens ts) = tokens_written sub at s ts (without_gaps ts)
 content_written sub at true s (assigns name a) = fault at JoinedAssignment []
-content_written sub at false s (assigns name a) = variable_assigned at s.bindings a.operator a.text (s.bindings name) >>= λ v. returns (progress [] (bound name v s))
+content_written sub at false s (assigns name a) = variable_assigned at s.bindings a.operator a.text (s.bindings name) >>= λ v. returns (written_line [] false (bound name v s))
 
 -- a logical line as it is written; one that is too long or isn't UTF-8 stays, for the reader to refuse
-abbrev pub line_written : SourceReader → Place → (continued : Bool) → List ℕ → ReadingState → Program Progress
+abbrev pub line_written : SourceReader → Place → (continued : Bool) → List ℕ → ReadingState → Program WrittenLine
 line_written sub at continued text s =
-    elim (nat_lt max_text_bytes (length text) || not (is_utf8 text)) [ true ↦ returns (progress text s) | false ↦ line_content at s.bindings true (line_tokens 0 text) >>= content_written sub at continued s ]
+    elim (nat_lt max_text_bytes (length text) || not (is_utf8 text)) [ true ↦ returns (written_line text (begins_help text) s) | false ↦ line_content at s.bindings true (line_tokens 0 text) >>= content_written sub at continued s ]
 
 -- the bytes of physical lines
 abbrev pub bytes_of_lines : List PhysicalLine → List ℕ
@@ -116,9 +121,9 @@ newlines_of ls = flat_map (λ (l : PhysicalLine). if l.ended then 10 ∷ [] else
 abbrev pub lines_written : List PhysicalLine → (text new : List ℕ) → List ℕ
 lines_written ls text new = if bytes_eq new text then bytes_of_lines ls else new ++ newlines_of ls
 
--- how many lines of a help text follow a written line
-abbrev pub help_after : List ℕ → List PhysicalLine → ℕ
-help_after written ls = if begins_help written then help_line_count (map without_return ls) else 0
+-- how many lines of a help text follow a line
+abbrev pub help_after : (begins_help : Bool) → List PhysicalLine → ℕ
+help_after begins_help ls = if begins_help then help_line_count (map without_return ls) else 0
 
 -- reads the lines of a file from line `n` on; `skip` counts the physical lines that belong to the line before
 abbrev pub lines_read : SourceReader → (file : List ℕ) (skip n : ℕ) → List PhysicalLine → ReadingState → Program Progress
@@ -128,7 +133,7 @@ lines_read sub file zero n (l ∷ ls) s =
     let more = continuation_count (map without_return (l ∷ ls)) in
     let text = joined_bytes (map without_return (l ∷ ls)) in
     line_written sub (place file n) (is_continued (without_return l)) text s >>= λ line.
-    let help = help_after line.text (drop more ls) in
+    let help = help_after line.begins_help (drop more ls) in
     lines_read sub file (more + help) (n + 1) ls line.state >>= λ rest.
     returns (progress (lines_written (l ∷ take more ls) text line.text ++ (bytes_of_lines (take help (drop more ls)) ++ rest.text)) rest.state)
 

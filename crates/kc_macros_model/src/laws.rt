@@ -1,6 +1,6 @@
 //! Laws of the definitions.
 ghost use Rattle.kc_macros_model.specs.ExpansionLaws.{ExpansionKeepsTheRules, RulesAreExpanded, PlainTextsStay};
-ghost use Rattle.kc_macros_model.specs.TreeLaws.{AnswersNotAskedChangeNothing, NothingWantedIsExpanded};
+ghost use Rattle.kc_macros_model.specs.TreeLaws.{AnswersNotAskedChangeNothing, NothingWantedIsExpanded, WantedIsNeeded};
 
 /// The function that expands a text and the rules of expansion agree: it returns only values that the rules give, and
 /// each of them, unless a limit or a variable that needs itself is met.
@@ -22,4 +22,9 @@ pub fn answers_not_asked_change_nothing()
 /// Where no question is wanted and no fault was met, the tree is expanded.
 pub fn nothing_wanted_is_expanded()
     ensures { NothingWantedIsExpanded }
+{}
+
+/// Each question that is wanted is needed: no expansion succeeds without its answer, whatever else is answered.
+pub fn wanted_is_needed()
+    ensures { WantedIsNeeded }
 {}
