@@ -1,5 +1,5 @@
 -- What holds along the run of a program in a world.
-use Rattle.std.proofs.Common.{◌≡◌, [], refl}
+use Rattle.std.proofs.Common.{◌≡◌, [], refl, subst}
 use Rattle.kc_macros_model.specs.Programs.{Event, Program, returns, fails, stops, does, ◌>>=◌}
 use Rattle.kc_macros_model.specs.Worlds.{World, reply, open_question}
 
@@ -39,3 +39,10 @@ success_of_both w z (returns x) f h = (x, refl, h)
 success_of_both w z (fails g) f h = absurd h
 success_of_both w z stops f h = absurd h
 success_of_both w z (does e k) f h = let (y, s, t) = success_of_both w z (k (reply w e)) f h.1 in (y, (h.0, s), t)
+
+-- what holds along a program holds of the value with which it succeeds
+pub fact_of_success : {A : Type 0} (w : World) (E : Event → Type 0) (P : A → Type 0) (y : A) (p : Program A) → Succeeds w y p → Along w E P p → P y
+fact_of_success w E P y (returns x) s h = subst P s h
+fact_of_success w E P y (fails f) s h = absurd s
+fact_of_success w E P y stops s h = absurd s
+fact_of_success w E P y (does e k) s h = fact_of_success w E P y (k (reply w e)) s.1 h.1

@@ -11,3 +11,8 @@ pub mod MatchingLines
 pub mod MatchingForms
 pub mod MatchingTrees
 pub mod WantedQuestions
+pub mod CleanTexts
+pub mod CleanLines
+pub mod LineCounts
+pub mod KeptLines
+pub mod TreeLines

@@ -5,7 +5,7 @@ use Rattle.std.specs.List.{list_any, list_all}
 use Rattle.std.proofs.lemmas.Slice.Eq.{bytes_eq-Decides}
 use Rattle.kc_tree_model.specs.Limits.{is_in_list}
 use Rattle.kc_macros_model.specs.Variables.{Value}
-use Rattle.kc_macros_model.specs.Rewriting.{is_bare_byte, is_keyword, a_gap, a_word, a_quoted, WrittenToken, written_as, in_quotes_of, token_of_text, token_of_value, token_of_body}
+use Rattle.kc_macros_model.specs.Rewriting.{is_bare_byte, is_keyword, a_word, a_quoted, WrittenToken, written_as, in_quotes_of, token_of_value, token_of_body, WrittenBody}
 use Rattle.kc_macros_model.specs.Assignments.{is_gap, is_unknown}
 use Rattle.kc_macros_model.specs.LineForms.{SourceSort, LineForm, plain, bare_prompt, replaced_by, named_choice, sources, prompt_words, source_words, help_words, sort_of_source, is_word, is_path, is_bare_prompt, form_of_pair, form_by_word, form_of, without_gaps, is_help_line, is_undecided}
 use Rattle.kc_macros_model.proofs.MatchingTexts.{NoLess, unknown, same}
@@ -78,7 +78,7 @@ no_effect t u ts us e f g h = record { form = no_source e f; help = h ∙ sym g 
 data KnownRest : List WrittenToken → List WrittenToken → Type 0 where
   none_known : KnownRest [] []
   next_same : {t : WrittenToken} {ts us : List WrittenToken} → KnownRest ts us → KnownRest (t ∷ ts) (t ∷ us)
-  next_quoted : (quote : ℕ) (x y : Rattle.kc_macros_model.specs.Rewriting.WrittenBody) {ts us : List WrittenToken} → NoLess x.meaning y.meaning → KnownRest ts us → KnownRest (token_of_body quote x ∷ ts) (token_of_body quote y ∷ us)
+  next_quoted : (quote : ℕ) (x y : WrittenBody) {ts us : List WrittenToken} → NoLess x.meaning y.meaning → KnownRest ts us → KnownRest (token_of_body quote x ∷ ts) (token_of_body quote y ∷ us)
 
 either_false : (x y : Bool) → (x || y) ≡ false → y ≡ false
 either_false true y e = absurd (let z : ⊥ = cc in z)
@@ -119,14 +119,14 @@ any_form (named_choice s) = no_source refl refl
 any_form (sources sort v) = same_source sort (value_no_less v)
 
 -- quoted second tokens
-quoted_pair : (word : List ℕ) (quote : ℕ) (x y : Rattle.kc_macros_model.specs.Rewriting.WrittenBody) → NoLess x.meaning y.meaning → FormNoLess (form_of_pair word (token_of_body quote x)) (form_of_pair word (token_of_body quote y))
+quoted_pair : (word : List ℕ) (quote : ℕ) (x y : WrittenBody) → NoLess x.meaning y.meaning → FormNoLess (form_of_pair word (token_of_body quote x)) (form_of_pair word (token_of_body quote y))
 quoted_pair word quote x y n = by_test (is_in_list word source_words) refl
   where
     by_test : (c : Bool) → is_in_list word source_words ≡ c → FormNoLess (form_of_pair word (token_of_body quote x)) (form_of_pair word (token_of_body quote y))
     by_test false e = no_source (pair_is_no_source word (token_of_body quote x) e) (pair_is_no_source word (token_of_body quote y) e)
     by_test true e = subst (λ f. FormNoLess f (form_of_pair word (token_of_body quote y))) (sym (sourced x)) (subst (λ f. FormNoLess (sources (sort_of_source word) x.meaning) f) (sym (sourced y)) (same_source (sort_of_source word) n))
       where
-        sourced : (z : Rattle.kc_macros_model.specs.Rewriting.WrittenBody) → form_of_pair word (token_of_body quote z) ≡ sources (sort_of_source word) z.meaning
+        sourced : (z : WrittenBody) → form_of_pair word (token_of_body quote z) ≡ sources (sort_of_source word) z.meaning
         sourced z = ap (λ c. cond (c && true) (sources (sort_of_source word) z.meaning) (cond (bytes_eq word (codes "choice") && false) (named_choice (token_of_body quote z).bytes) (cond (bytes_eq word (codes "option") && bytes_eq (token_of_body quote z).bytes (codes "defconfig_list")) (replaced_by (codes "depends on n")) (cond (bytes_eq word (codes "option") && bytes_eq (token_of_body quote z).bytes (codes "allnoconfig_y")) (replaced_by []) plain)))) e
 
 -- the form by a word and known tokens after it

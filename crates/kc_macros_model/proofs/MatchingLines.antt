@@ -1,14 +1,14 @@
 -- A line where a question is open, beside one where more is answered.
 use Rattle.std.proofs.Common.{◌≡◌, ℕ, Bool, true, false, ◌&&◌, cond, List, [], ◌∷◌, ◌++◌, Option, Some, None, refl, sym, ap, ◌∙◌, subst}
-use Rattle.std.specs.Prelude.{not, bytes_eq}
-use Rattle.std.specs.List.{list_any}
+use Rattle.std.specs.Prelude.{not, bytes_eq, ◌==◌}
+use Rattle.std.specs.List.{list_any, list_all}
 use Rattle.kc_macros_model.specs.declared.fault.MacroKind.TheVariants.{Unterminated}
 use Rattle.kc_macros_model.specs.Programs.{Place, Program, returns, stops, ◌>>=◌}
 use Rattle.kc_macros_model.specs.References.{Item, byte, escaped, reference, unterminated, item_bytes, items, is_reference, is_plain_dollar}
 use Rattle.kc_macros_model.specs.Variables.{Value, value_length, joined_values, Variable, simple, recursive, Bindings, with_variable}
 use Rattle.kc_macros_model.specs.Expansion.{fault, spends, text_value}
 use Rattle.kc_macros_model.specs.LineTokens.{LineToken, gap, run, quoted, other, broken, token_bytes}
-use Rattle.kc_macros_model.specs.Rewriting.{WrittenToken, a_gap, a_word, an_other, written_as, token_of_text, token_of_value, WrittenBody, body_of, body_of_value, joined_bodies, written_item, written_items, token_of_body, run_value, written_run, written_token}
+use Rattle.kc_macros_model.specs.Rewriting.{WrittenToken, a_gap, a_word, an_other, written_as, token_of_text, token_of_value, WrittenBody, body_of, body_of_value, joined_bodies, written_item, written_items, token_of_body, run_value, written_run, written_token, is_bare_byte, a_quoted, in_quotes_of, is_keyword}
 use Rattle.kc_macros_model.specs.Assignments.{Operator, sets_now, appends, sets, Assigned, assignment_at, LineContent, assigns, tokens, with_token, is_gap, is_unknown, is_gap_token, is_open_front, assignment_or, line_content, stored, stored_simple, stored_recursive, variable_assigned}
 use Rattle.kc_macros_model.specs.LineForms.{without_gaps}
 use Rattle.kc_macros_model.specs.Worlds.{World}
@@ -44,9 +44,9 @@ pub data ContentNoLess : LineContent → LineContent → Type 0 where
 -- the value of a text is never an unknown token
 known_text : (s : List ℕ) → is_unknown (token_of_text s) ≡ false
 known_text [] = refl
-known_text (c ∷ s) = by_test (Rattle.std.specs.List.list_all Rattle.kc_macros_model.specs.Rewriting.is_bare_byte (c ∷ s) && not (Rattle.kc_macros_model.specs.Rewriting.is_keyword (c ∷ s)))
+known_text (c ∷ s) = by_test (list_all is_bare_byte (c ∷ s) && not (is_keyword (c ∷ s)))
   where
-    by_test : (b : Bool) → is_unknown (cond b (written_as a_word (c ∷ s) (c ∷ s)) (written_as Rattle.kc_macros_model.specs.Rewriting.a_quoted (Rattle.kc_macros_model.specs.Rewriting.in_quotes_of 34 (c ∷ s)) (c ∷ s))) ≡ false
+    by_test : (b : Bool) → is_unknown (cond b (written_as a_word (c ∷ s) (c ∷ s)) (written_as a_quoted (in_quotes_of 34 (c ∷ s)) (c ∷ s))) ≡ false
     by_test true = refl
     by_test false = refl
 
@@ -95,7 +95,7 @@ module _ (w more : World) (ext : Extends w more) (question : List ℕ) (unanswer
   value_body quote (same {s = s}) = same
 
   item_matches : (quote : ℕ) (i : Item) → M BodyNoLess (written_item at b quote i) (written_item at c quote i)
-  item_matches quote (byte x) = same_body (body_of (cond (Rattle.std.specs.Prelude.nat_eq x 36) (92 ∷ x ∷ []) (x ∷ [])) (x ∷ [])) (x ∷ []) refl
+  item_matches quote (byte x) = same_body (body_of (cond (x == 36) (92 ∷ x ∷ []) (x ∷ [])) (x ∷ [])) (x ∷ []) refl
   item_matches quote (escaped x) = same_body (body_of (92 ∷ x ∷ []) (x ∷ [])) (x ∷ []) refl
   item_matches quote (reference inside) =
       match_then w more ext question unanswered NoLess BodyNoLess (text_value at b (item_bytes (reference inside))) (text_value at c (item_bytes (reference inside))) (λ v. returns (body_of_value quote v)) (λ v. returns (body_of_value quote v)) (value_matches (item_bytes (reference inside)))
@@ -150,7 +150,7 @@ module _ (w more : World) (ext : Extends w more) (question : List ℕ) (unanswer
       (λ l m s. match_return w more ext question unanswered RestContent (with_token x l) (with_token y m) (with_rest r s)))
 
   run_value_matches : (s : List ℕ) → M NoLess (run_value at b s) (run_value at c s)
-  run_value_matches s = by_test (list_any (λ x. Rattle.std.specs.Prelude.nat_eq x 36) s)
+  run_value_matches s = by_test (list_any (λ x. x == 36) s)
     where
       value : Bindings → Bool → Program Value
       value d x = elim x [ true ↦ text_value at d s | false ↦ returns (Some s) ]

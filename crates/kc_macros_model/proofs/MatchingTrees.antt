@@ -1,6 +1,6 @@
 -- The reading of a tree where a question is open, beside one where more is answered.
 use Rattle.std.proofs.Common.{◌≡◌, ℕ, zero, suc, ◌+◌, Bool, true, false, ◌||◌, cond, List, [], ◌∷◌, ◌++◌, length, take, drop, map, Option, Some, None, refl, sym, ap, ◌∙◌, subst}
-use Rattle.std.specs.Prelude.{not, nat_lt, filter, is_some, codes}
+use Rattle.std.specs.Prelude.{not, nat_lt, filter, is_some, codes, ◌==◌}
 use Rattle.std.specs.List.{list_any}
 use Rattle.std.specs.Str.{is_utf8}
 use Rattle.kc_tree_model.specs.Limits.{is_in_list}
@@ -14,7 +14,7 @@ use Rattle.kc_macros_model.specs.Expansion.{fault}
 use Rattle.kc_macros_model.specs.LineTokens.{line_tokens}
 use Rattle.kc_macros_model.specs.Rewriting.{WrittenToken, in_quotes_of, written_as, a_word}
 use Rattle.kc_macros_model.specs.Assignments.{Assigned, LineContent, assigns, line_content, variable_assigned}
-use Rattle.kc_macros_model.specs.LineForms.{SourceSort, LineForm, plain, bare_prompt, replaced_by, named_choice, sources, form_of, without_gaps, with_nth_token, line_bytes, is_help_line, is_undecided}
+use Rattle.kc_macros_model.specs.LineForms.{SourceSort, LineForm, plain, bare_prompt, replaced_by, named_choice, sources, form_of, without_gaps, with_nth_token, line_bytes, is_help_line, is_undecided, with_replacement}
 use Rattle.kc_macros_model.specs.PathPatterns.{is_pattern, matches_name, path_pieces, sorted, FoundPaths, found, matching_names, paths_in_folder, paths_in_folders, paths_below, readable_paths, files_of_pattern}
 use Rattle.kc_macros_model.specs.ReadingStates.{ExpandedFile, ReadingState, initial_state, Progress, progress, WrittenLine, written_line, bound, with_choice, with_listed, counted, kept}
 use Rattle.kc_macros_model.specs.TreeExpansion.{place, Sourced, one_file, file_list, sourced_path, SourceReader, path_meant, list_name, source_line, pattern_read, path_read, source_followed, choice_written, form_written, short_line, tokens_written, content_written, line_written, bytes_of_lines, lines_written, help_after, lines_read, list_read, source_fault, contents_read, sourced_read, source_read, root_read, tree_read}
@@ -125,7 +125,7 @@ module _ (w more : World) (ext : Extends w more) (question : List ℕ) (unanswer
 
     followed_matches : (at : Place) (ts us : List WrittenToken) (sort : SourceSort) {v u : Value} → NoLess v u → (s t : ReadingState) → StateNoLess s t → M ProgressNoLess (source_followed sub at ts sort v s) (source_followed sup at us sort u t)
     followed_matches at ts us sort (unknown {v = u}) s t r = match_stop w more ext question unanswered ProgressNoLess (source_followed sup at us sort u t)
-    followed_matches at ts us sort (same {s = given}) s t r = by_test (list_any (λ c. Rattle.std.specs.Prelude.nat_eq c 91) (path_meant sort at.file given))
+    followed_matches at ts us sort (same {s = given}) s t r = by_test (list_any (λ c. c == 91) (path_meant sort at.file given))
       where
         way : SourceReader → List WrittenToken → ReadingState → Bool → Program Progress
         way reader xs u c = elim c [ true ↦ returns (progress (line_bytes xs) u) | false ↦ path_read reader at sort (path_meant sort at.file given) u >>= λ p. returns (progress (source_line xs given p.text) p.state) ]
@@ -145,7 +145,7 @@ module _ (w more : World) (ext : Extends w more) (question : List ℕ) (unanswer
     leaves : (reader : SourceReader) (at : Place) (ts : List WrittenToken) (f : LineForm) (s : ReadingState) → is_source f ≡ false → LeavesVariables (form_written reader at ts f s) s
     leaves reader at ts plain s e = record { result = progress (line_bytes ts) s; returned = refl; same_variables = refl }
     leaves reader at ts (bare_prompt text) s e = record { result = progress (line_bytes (with_nth_token 1 (written_as a_word (34 ∷ (text ++ 34 ∷ [])) []) ts)) s; returned = refl; same_variables = refl }
-    leaves reader at ts (replaced_by text) s e = record { result = progress (Rattle.kc_macros_model.specs.LineForms.with_replacement text ts) s; returned = refl; same_variables = refl }
+    leaves reader at ts (replaced_by text) s e = record { result = progress (with_replacement text ts) s; returned = refl; same_variables = refl }
     leaves reader at ts (named_choice name) s e = record { result = choice_written ts name s; returned = refl; same_variables = by_test (is_in_list name s.choices) }
       where
         by_test : (c : Bool) → (cond c (progress (line_bytes ts) s) (progress (line_bytes (with_nth_token 1 (written_as a_word [] []) ts)) (with_choice name s))).state.bindings ≡ s.bindings

@@ -9,6 +9,7 @@ use Rattle.kc_macros_model.specs.TreeExpansion.{tree_read}
 use Rattle.kc_macros_model.specs.Worlds.{Ending, failed, Outcome, outcome, expansion, questions_or_fault, wanted}
 use Rattle.kc_macros_model.specs.TreeLaws.{AnswersNotAskedChangeNothing, NothingWantedIsExpanded}
 use Rattle.kc_macros_model.proofs.Outcomes.{same_if_answered, same_if_none_open}
+use Rattle.std.proofs.lemmas.List.{reverse-reverse}
 
 pub answers_not_asked : AnswersNotAskedChangeNothing
 unfolding expansion
@@ -43,6 +44,6 @@ unfolding wanted expansion
 nothing_wanted w root f e h =
     let o : Outcome (List ExpandedFile) = outcome false w max_work (tree_read root) in
     let n = nothing_open (without_repeats (reverse o.questions)) o.ending e in
-    let none : o.questions ≡ [] = sym (Rattle.std.proofs.lemmas.List.reverse-reverse o.questions) ∙ ap reverse (none_of_none (reverse o.questions) n) in
+    let none : o.questions ≡ [] = sym (reverse-reverse o.questions) ∙ ap reverse (none_of_none (reverse o.questions) n) in
     let same = same_if_none_open w max_work (tree_read root) none in
     not_failed o.ending f (ap (λ qs. questions_or_fault qs o.ending) (sym n) ∙ e) (ap (λ (x : Outcome (List ExpandedFile)). x.ending) (sym same) ∙ h)

@@ -1,6 +1,6 @@
 //! Laws of the definitions.
 ghost use Rattle.kc_macros_model.specs.ExpansionLaws.{ExpansionKeepsTheRules, RulesAreExpanded, PlainTextsStay};
-ghost use Rattle.kc_macros_model.specs.TreeLaws.{AnswersNotAskedChangeNothing, NothingWantedIsExpanded, WantedIsNeeded};
+ghost use Rattle.kc_macros_model.specs.TreeLaws.{AnswersNotAskedChangeNothing, NothingWantedIsExpanded, WantedIsNeeded, LinesAreKept};
 
 /// The function that expands a text and the rules of expansion agree: it returns only values that the rules give, and
 /// each of them, unless a limit or a variable that needs itself is met.
@@ -27,4 +27,10 @@ pub fn nothing_wanted_is_expanded()
 /// Each question that is wanted is needed: no expansion succeeds without its answer, whatever else is answered.
 pub fn wanted_is_needed()
     ensures { WantedIsNeeded }
+{}
+
+/// An expanded file has as many newlines as the file that was read for it, so that each line keeps its number. Any other
+/// file of an expanded tree is the list of the files of one line.
+pub fn lines_are_kept()
+    ensures { LinesAreKept }
 {}

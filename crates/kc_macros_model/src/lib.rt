@@ -6,6 +6,6 @@ mod laws;
 
 pub use fault::{AnswersFault, AnswersKind, MacroKind, MacroNoticeKind};
 pub use laws::{
-    answers_not_asked_change_nothing, expansion_follows_rules, nothing_wanted_is_expanded,
-    plain_texts_stay, wanted_is_needed,
+    answers_not_asked_change_nothing, expansion_follows_rules, lines_are_kept,
+    nothing_wanted_is_expanded, plain_texts_stay, wanted_is_needed,
 };
