@@ -1,6 +1,5 @@
 -- Files of answers: the meaning of their lines, and the first fault of a file.
-use Rattle.std.specs.Prelude.{ℕ, ◌+◌, Bool, true, false, not, ◌&&◌, ◌==◌, nat_lt, List, [], ◌∷◌, ◌++◌, length, take, drop, Option, Some, None, Result, Ok, Err, bytes_eq, if◌then◌else◌}
-use Rattle.std.specs.List.{prefix_len}
+use Rattle.std.specs.Prelude.{ℕ, ◌+◌, Bool, true, false, ◌&&◌, ◌||◌, ◌==◌, nat_lt, List, [], ◌∷◌, ◌++◌, length, take, drop, slice_index, position, Option, Some, None, Result, Ok, Err, bytes_eq, if◌then◌else◌}
 use Rattle.std.specs.Str.{is_utf8}
 use Rattle.kc_tree_model.specs.Keywords.{keyword_in_table}
 use Rattle.kc_tree_model.specs.LogicalLines.{PhysicalLine, split_at_newlines}
@@ -24,22 +23,27 @@ pub data AnswerLine : Type 0 where
 
 -- a line after a command: `>` alone, or `> ` and a text
 abbrev pub line_after_command : (question : List ℕ) → List ℕ → AnswerLine
-line_after_command question [] = malformed
-line_after_command question (c ∷ []) = if c == 62 then answer question (Some []) else malformed
-line_after_command question (c ∷ d ∷ text) = if c == 62 && (d == 32) then answer question (Some text) else malformed
+line_after_command question line =
+    if slice_index line 0 == 62 && (length line == 1) then answer question (Some [])
+    else if slice_index line 0 == 62 && (slice_index line 1 == 32) then answer question (Some (drop 2 line))
+    else malformed
 
--- a name, `=` and a text; where the name ends is given
-abbrev pub name_with_text : ℕ → List ℕ → AnswerLine
-name_with_text n line = if is_environment_name (take n line) && nat_lt n (length line) then answer (take n line) (Some (drop (n + 1) line)) else malformed
+-- a name that isn't set
+abbrev pub name_not_set : List ℕ → AnswerLine
+name_not_set name = if is_environment_name name then answer name None else malformed
 
--- a line that follows no command
+-- a name, `=` and a text, by the place of the first `=`
+abbrev pub name_with_text : List ℕ → Option ℕ → AnswerLine
+name_with_text line None = malformed
+name_with_text line (Some n) = if is_environment_name (take n line) then answer (take n line) (Some (drop (n + 1) line)) else malformed
+
+-- a line that follows no command: empty or a comment, `!` and a name, `$ ` and a command, or a name with its text
 abbrev pub line_alone : List ℕ → AnswerLine
-line_alone [] = comment
-line_alone (c ∷ s) =
-    if c == 35 then comment
-    else if c == 33 then (if is_environment_name s then answer s None else malformed)
-    else if c == 36 then (if bytes_eq (take 1 s) (32 ∷ []) then command (c ∷ s) else malformed)
-    else name_with_text (prefix_len (λ d. not (d == 61)) (c ∷ s)) (c ∷ s)
+line_alone line =
+    if length line == 0 || (slice_index line 0 == 35) then comment
+    else if slice_index line 0 == 33 then name_not_set (drop 1 line)
+    else if slice_index line 0 == 36 then (if slice_index line 1 == 32 then command line else malformed)
+    else name_with_text line (position (λ c. c == 61) line)
 
 -- the meaning of a line, which may follow a command
 abbrev pub meaning_of_line : (after : Option (List ℕ)) → List ℕ → AnswerLine
@@ -84,12 +88,13 @@ with_meaning lines malformed = Err (malformed_line lines.count lines.waiting)
 abbrev pub fault_of_size : ℕ → List ℕ → Option AnswersKind
 fault_of_size count line = if nat_lt count max_answer_lines then (if nat_lt max_text_bytes (length line) then Some LineTooLong else None) else Some TooManyLines
 
+-- the fault of a line
+abbrev pub fault_of_line : ℕ → List ℕ → Option AnswersKind
+fault_of_line count line = elim (fault_of_size count line) [ Some kind ↦ Some kind | None ↦ if is_utf8 line then None else Some NotUtf8 ]
+
 -- the lines so far and one more, without its newline
 abbrev pub with_line : LinesSoFar → List ℕ → Result LinesSoFar AnswersFault
-with_line lines line = elim (fault_of_size lines.count line) [
-  | Some kind ↦ Err (fault_at (lines.count + 1) kind)
-  | None ↦ if is_utf8 line then with_meaning lines (meaning_of_line lines.waiting (without_white_end line)) else Err (fault_at (lines.count + 1) NotUtf8)
-]
+with_line lines line = elim (fault_of_line lines.count line) [ Some kind ↦ Err (fault_at (lines.count + 1) kind) | None ↦ with_meaning lines (meaning_of_line lines.waiting (without_white_end line)) ]
 
 -- whether a file ends after its bytes, or a fault cuts it there
 pub data FileEnd : Type 0 where
