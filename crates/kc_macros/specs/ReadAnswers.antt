@@ -1,4 +1,4 @@
--- What is read of a file of answers, given the bytes that the reader supplied.
+-- The result of reading a file of answers, given the bytes that the reader supplied.
 use Rattle.std.specs.Prelude.{◌≡◌, ℕ, ◌-◌, ◌^◌, ◌<◌, ◌≤◌, List, Option, Some, None, Ok, Err, length}
 use Rattle.std.specs.Io.KnownBytes.{Consumes, IsAtEnd}
 use Rattle.kc_macros_model.specs.declared.fault.AnswersKind.{AnswersKind}

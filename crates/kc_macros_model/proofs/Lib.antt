@@ -4,6 +4,7 @@ pub mod TreeAnswers
 pub mod TextItems
 pub mod ExpansionByRules
 pub mod RulesExpanded
+pub mod Bounds
 pub mod Along
 pub mod Matching
 pub mod MatchingTexts

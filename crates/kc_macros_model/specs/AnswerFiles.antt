@@ -14,7 +14,7 @@ use Rattle.kc_macros_model.specs.Variables.{is_environment_name, without_white_e
 abbrev pub Recorded : Type 0
 Recorded = List (List ℕ × Answer)
 
--- a line without white at its end has no meaning, answers a question, or is a command whose answer comes on the next line
+-- the meaning of a line without white at its end: none, an answer to a question, or a command whose answer comes on the next line
 pub data AnswerLine : Type 0 where
   comment : AnswerLine
   answer : (question : List ℕ) → Answer → AnswerLine
@@ -118,7 +118,7 @@ abbrev pub and_then : {A B : Type 0} → Result A AnswersFault → (A → Result
 and_then (Ok x) f = f x
 and_then (Err e) f = Err e
 
--- what the lines of a file record after others, or the first fault
+-- the answers that the lines of a file record after others, or the first fault
 abbrev pub recorded_from : FileEnd → LinesSoFar → List PhysicalLine → Result Recorded AnswersFault
 recorded_from end lines [] = recorded_at_end end lines
 recorded_from complete lines (l ∷ ls) = and_then (with_line lines l.text) (λ more. recorded_from complete more ls)
@@ -127,7 +127,7 @@ recorded_from (cut_by kind) lines (l ∷ ls) = elim l.ended [ true ↦ and_then 
 abbrev pub first_line : Recorded → LinesSoFar
 first_line recorded = record { count = 0; waiting = None; recorded = recorded }
 
--- what a file of these bytes records after other files, or its first fault; a byte too many cuts it
+-- the answers that a file of these bytes records after other files, or its first fault; a byte too many cuts it
 unfoldable pub answers_read : FileEnd → List ℕ → Recorded → Result Recorded AnswersFault
 answers_read end bytes recorded =
     if nat_lt max_answer_bytes (length bytes) then recorded_from (cut_by TooLarge) (first_line recorded) (split_at_newlines (take max_answer_bytes bytes))

@@ -8,7 +8,7 @@ use Rattle.kc_macros_model.specs.Variables.{Value, joined_values, simple, recurs
 use Rattle.kc_macros_model.specs.Expansion.{unbound_value}
 use Rattle.kc_macros_model.specs.Worlds.{World, reply, Ending, returned, failed, stopped}
 
--- what a program comes to in a world where work has no limit and questions may be open
+-- the end of a program in a world where work has no limit and questions may be open
 abbrev pub ending_in : {A : Type 0} → World → Program A → Ending A
 ending_in w (returns x) = returned x
 ending_in w (fails f) = failed f

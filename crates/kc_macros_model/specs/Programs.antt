@@ -1,4 +1,4 @@
--- A reading of a tree as a program: what it needs from outside, and what it comes to.
+-- A reading of a tree as a program: the things that it needs from outside, and its result.
 use Rattle.std.specs.Prelude.{ℕ, List, Option}
 use Rattle.kc_macros_model.specs.declared.fault.MacroKind.{MacroKind}
 use Rattle.kc_macros_model.specs.declared.fault.MacroNoticeKind.{MacroNoticeKind}
@@ -22,7 +22,7 @@ pub record Notice : Type 0 where
 abbrev pub Answer : Type 0
 Answer = Option (List ℕ)
 
--- what a program does beside computing: work, a notice, a question, the bytes of a path, the names in a folder
+-- an event of a program: work, a notice, a question, the bytes of a path, the names in a folder
 pub data Event : Type 0 where
   spend : Place → ℕ → Event
   report : Notice → Event
@@ -30,7 +30,7 @@ pub data Event : Type 0 where
   read_file : List ℕ → Event
   list_folder : List ℕ → Event
 
--- what comes back: an answer if there is one, the bytes if the path can be read, the names
+-- the reply to an event: an answer if there is one, the bytes if the path can be read, the names
 abbrev pub Reply : Event → Type 0
 Reply (spend at work) = Unit {0}
 Reply (report notice) = Unit {0}

@@ -1,4 +1,4 @@
--- What a reading of a tree knows after some lines, and the keys of expanded files.
+-- The state of a reading of a tree after some lines, and the keys of expanded files.
 use Rattle.std.specs.Prelude.{ℕ, zero, suc, ◌+◌, Bool, true, false, not, ◌&&◌, ◌||◌, List, [], ◌∷◌, ◌++◌, length, bytes_eq, decimal, if◌then◌else◌}
 use Rattle.std.specs.List.{list_any}
 use Rattle.kc_macros_model.specs.Variables.{Variable, Bindings, with_variable, no_bindings}

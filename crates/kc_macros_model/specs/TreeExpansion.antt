@@ -20,7 +20,7 @@ use Rattle.kc_macros_model.specs.ReadingStates.{ExpandedFile, ReadingState, init
 abbrev pub place : List ℕ → ℕ → Place
 place file line = record { file = file; line = line }
 
--- what a `source` line reads: a file, or a list of files under a name
+-- the things that a `source` line reads: a file, or a list of files under a name
 pub data Sourced : Type 0 where
   one_file : List ℕ → Sourced
   file_list : (name : List ℕ) → List (List ℕ) → Sourced

@@ -1,4 +1,4 @@
--- What is promised of the expansion of a tree.
+-- Laws of the expansion of a tree.
 use Rattle.std.specs.Prelude.{◌≡◌, ℕ, true, false, ◌==◌, List, [], Some, None, Ok}
 use Rattle.std.specs.List.{All, count_by}
 use Rattle.kc_tree_model.specs.Limits.{is_in_list}

@@ -1,4 +1,4 @@
--- A program in a world: the events that it meets, and what it comes to.
+-- A program in a world that replies: its notices, its open questions, and its end.
 use Rattle.std.specs.Prelude.{ℕ, ◌-◌, Bool, true, false, nat_lt, List, [], ◌∷◌, ◌++◌, reverse, Option, Some, None, Result, Ok, Err, if◌then◌else◌}
 use Rattle.kc_tree_model.specs.Limits.{without_repeats}
 use Rattle.kc_macros_model.specs.declared.fault.MacroKind.TheVariants.{Unanswered, TooMany}
@@ -46,7 +46,7 @@ left_after true w left (ask at question) = unless_unanswered at question left (w
 left_after false w left (ask at question) = Ok left
 left_after all w left e = Ok left
 
--- what a program comes to
+-- the end of a program
 pub data Ending (A : Type 0) : Type 0 where
   returned : A → Ending A
   failed : Fault → Ending A

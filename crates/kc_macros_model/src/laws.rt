@@ -1,5 +1,5 @@
 //! Laws of the definitions.
-ghost use Rattle.kc_macros_model.specs.ExpansionLaws.{ExpansionKeepsTheRules, RulesAreExpanded, PlainTextsStay};
+ghost use Rattle.kc_macros_model.specs.ExpansionLaws.{ExpansionKeepsTheRules, RulesAreExpanded, PlainTextsStay, ValuesAreBounded, VariablesAreBounded};
 ghost use Rattle.kc_macros_model.specs.TreeLaws.{AnswersNotAskedChangeNothing, NothingWantedIsExpanded, WantedIsNeeded, LinesAreKept};
 
 /// The function that expands a text and the rules of expansion agree: it returns only values that the rules give, and
@@ -12,6 +12,12 @@ pub fn expansion_follows_rules()
 /// A text without references is its own value: no question is asked, and work is done only for its bytes.
 pub fn plain_texts_stay()
     ensures { PlainTextsStay }
+{}
+
+/// No value of a text and no variable has more than 65,536 bytes.
+pub fn values_are_bounded()
+    ensures texts { ValuesAreBounded }
+    ensures variables { VariablesAreBounded }
 {}
 
 /// The expansion of a tree depends on its files and on the answers that it asks for, and on nothing else.

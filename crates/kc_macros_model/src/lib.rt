@@ -7,5 +7,5 @@ mod laws;
 pub use fault::{AnswersFault, AnswersKind, MacroKind, MacroNoticeKind};
 pub use laws::{
     answers_not_asked_change_nothing, expansion_follows_rules, lines_are_kept,
-    nothing_wanted_is_expanded, plain_texts_stay, wanted_is_needed,
+    nothing_wanted_is_expanded, plain_texts_stay, values_are_bounded, wanted_is_needed,
 };
