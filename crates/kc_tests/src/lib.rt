@@ -38,6 +38,8 @@ mod expressions;
 #[cfg(test)]
 mod loads;
 #[cfg(test)]
+mod macro_answers;
+#[cfg(test)]
 mod minimal;
 #[cfg(test)]
 mod printing;
