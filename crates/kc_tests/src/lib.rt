@@ -40,6 +40,8 @@ mod fault_names;
 #[cfg(test)]
 mod loads;
 #[cfg(test)]
+mod macro_answers;
+#[cfg(test)]
 mod minimal;
 #[cfg(test)]
 mod pieces;

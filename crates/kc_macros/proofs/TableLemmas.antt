@@ -1,0 +1,60 @@
+-- Questions and answers, through the map that holds them.
+use Rattle.std.proofs.Common.{◌≡◌, ℕ, zero, suc, Bool, true, false, cond, List, [], ◌∷◌, ◌++◌, length, take, map, Option, Some, None, refl, sym, ap, ◌∙◌}
+use Rattle.std.specs.Prelude.{Vec, bytes_eq, option_map}
+use Rattle.std.specs.declared.alloc.Global.{Global}
+use Rattle.std.proofs.lemmas.Slice.Eq.{bytes_eq-Decides}
+use Rattle.indexmap.specs.IndexMap.{insert_entry}
+use Rattle.std.specs.Map.{lookup}
+use Rattle.kc_tree_model.specs.Keywords.{keyword_in_table}
+use Rattle.kc_macros_model.specs.Programs.{Answer}
+use Rattle.kc_macros.specs.checker.TableView.{answer_of_entry}
+
+pub bytes_eq_turned : (x y : List ℕ) → bytes_eq x y ≡ bytes_eq y x
+bytes_eq_turned x y = by_tests (bytes_eq x y) (bytes_eq y x) refl refl
+  where
+    by_tests : (b c : Bool) → bytes_eq x y ≡ b → bytes_eq y x ≡ c → b ≡ c
+    by_tests true true e f = refl
+    by_tests false false e f = refl
+    by_tests true false e f = let z : true ≡ false = sym ((bytes_eq-Decides y x).1 (sym ((bytes_eq-Decides x y).0 e))) ∙ f in cc
+    by_tests false true e f = let z : true ≡ false = sym ((bytes_eq-Decides x y).1 (sym ((bytes_eq-Decides y x).0 f))) ∙ e in cc
+
+-- an entry of the map
+abbrev pub Entry : Type 0
+Entry = Vec ℕ Global × Option (Vec ℕ Global)
+
+abbrev pub answer_items : Option (Vec ℕ Global) → Answer
+answer_items a = option_map (λ (t : Vec ℕ Global). t.items) a
+
+found_by : (b : Bool) (e : Entry) (o : Option (Option (Vec ℕ Global))) → cond b (Some (answer_items e.1)) (option_map answer_items o) ≡ option_map answer_items (cond b (Some e.1) o)
+found_by true e o = refl
+found_by false e o = refl
+
+-- a look-up by the bytes of a question
+pub find_answer : (question : List ℕ) (es : List Entry) → keyword_in_table (map answer_of_entry es) question ≡ option_map answer_items (lookup (λ (k : Vec ℕ Global). bytes_eq question k.items) es)
+find_answer question [] = refl
+find_answer question (e ∷ es) =
+    ap (λ b. cond b (Some (answer_items e.1)) (keyword_in_table (map answer_of_entry es) question)) (bytes_eq_turned e.0.items question)
+    ∙ ap (λ o. cond (bytes_eq question e.0.items) (Some (answer_items e.1)) o) (find_answer question es)
+    ∙ found_by (bytes_eq question e.0.items) e (lookup (λ (k : Vec ℕ Global). bytes_eq question k.items) es)
+
+-- a question that isn't there goes last
+pub insert_absent : (es : List Entry) (k : Vec ℕ Global) (v : Option (Vec ℕ Global)) → keyword_in_table (map answer_of_entry es) k.items ≡ None
+    → map answer_of_entry (insert_entry (λ (a b : Vec ℕ Global). bytes_eq a.items b.items) es k v) ≡ map answer_of_entry es ++ (k.items, answer_items v) ∷ []
+insert_absent [] k v h = refl
+insert_absent (e ∷ es) k v h = by_test (bytes_eq e.0.items k.items) (bytes_eq_turned k.items e.0.items) h (insert_absent es k v)
+  where
+    by_test : (b : Bool) → bytes_eq k.items e.0.items ≡ b → cond b (Some (answer_items e.1)) (keyword_in_table (map answer_of_entry es) k.items) ≡ None
+        → (keyword_in_table (map answer_of_entry es) k.items ≡ None → map answer_of_entry (insert_entry (λ (a b : Vec ℕ Global). bytes_eq a.items b.items) es k v) ≡ map answer_of_entry es ++ (k.items, answer_items v) ∷ [])
+        → map answer_of_entry (cond (bytes_eq k.items e.0.items) ((e.0, v) ∷ es) (e ∷ insert_entry (λ (a b : Vec ℕ Global). bytes_eq a.items b.items) es k v)) ≡ answer_of_entry e ∷ (map answer_of_entry es ++ (k.items, answer_items v) ∷ [])
+    by_test true e2 h ih = absurd (let z : ⊥ = cc in z)
+    by_test false e2 h ih =
+        ap (λ b. map answer_of_entry (cond b ((e.0, v) ∷ es) (e ∷ insert_entry (λ (a b : Vec ℕ Global). bytes_eq a.items b.items) es k v))) e2 ∙ ap (λ xs. answer_of_entry e ∷ xs) (ih h)
+
+pub take_entries : (n : ℕ) (es : List Entry) → map answer_of_entry (take n es) ≡ take n (map answer_of_entry es)
+take_entries zero es = refl
+take_entries (suc n) [] = refl
+take_entries (suc n) (e ∷ es) = ap (λ xs. answer_of_entry e ∷ xs) (take_entries n es)
+
+pub length_entries : (es : List Entry) → length (map answer_of_entry es) ≡ length es
+length_entries [] = refl
+length_entries (e ∷ es) = ap suc (length_entries es)

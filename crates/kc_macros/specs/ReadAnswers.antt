@@ -1,0 +1,35 @@
+-- The result of reading a file of answers, given the bytes that the reader supplied.
+use Rattle.std.specs.Prelude.{◌≡◌, ℕ, ◌-◌, ◌^◌, ◌<◌, ◌≤◌, List, Option, Some, None, Ok, Err, length}
+use Rattle.std.specs.Io.KnownBytes.{Consumes, IsAtEnd}
+use Rattle.kc_macros_model.specs.declared.fault.AnswersKind.{AnswersKind}
+use Rattle.kc_macros_model.specs.declared.fault.AnswersKind.TheVariants.{TooLarge, Read}
+use Rattle.kc_macros_model.specs.declared.fault.AnswersFault.{AnswersFault}
+use Rattle.kc_macros_model.specs.Limits.{max_answer_bytes}
+use Rattle.kc_macros_model.specs.AnswerFiles.{Recorded, FileEnd, complete, cut_by, answers_read}
+
+-- how the reading of bytes ended: at the end of the file, by a failed read, or at a byte too many
+abbrev pub ReadsToEnd : (after : Option (List ℕ)) (failed failed_after : ℕ) (bytes : List ℕ) → Option AnswersKind → Type 0
+ReadsToEnd after failed failed_after bytes None = IsAtEnd after × (length bytes ≤ max_answer_bytes) × (failed_after ≡ failed)
+ReadsToEnd after failed failed_after bytes (Some Read) = (length bytes ≤ max_answer_bytes) × (failed < 2 ^ 64 - 1 → failed < failed_after)
+ReadsToEnd after failed failed_after bytes (Some TooLarge) = (max_answer_bytes < length bytes) × (failed_after ≡ failed)
+ReadsToEnd after failed failed_after bytes (Some kind) = ⊥
+
+-- the end of a file that a fault cuts or not
+abbrev pub end_of_file : Option AnswersKind → FileEnd
+end_of_file None = complete
+end_of_file (Some kind) = cut_by kind
+
+-- a file was read to its end, and this is recorded of it after other files
+pub record AreRecorded (before after : Option (List ℕ)) (earlier recorded : Recorded) : Type 0 where
+  pub bytes : List ℕ
+  pub consumed : Consumes before after bytes
+  pub ended : IsAtEnd after
+  pub read : answers_read complete bytes earlier ≡ Ok recorded
+
+-- the first fault of a file after other files, whose bytes were read as far as the reader gave them or a byte too many
+pub record IsRefused (before after : Option (List ℕ)) (failed failed_after : ℕ) (earlier : Recorded) (fault : AnswersFault) : Type 0 where
+  pub bytes : List ℕ
+  pub consumed : Consumes before after bytes
+  pub cut : Option AnswersKind
+  pub ended : ReadsToEnd after failed failed_after bytes cut
+  pub read : answers_read (end_of_file cut) bytes earlier ≡ Err fault

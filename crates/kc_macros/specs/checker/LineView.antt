@@ -1,0 +1,12 @@
+-- The meaning of a line of a file of answers, as the code has it.
+use Rattle.std.specs.Prelude.{ℕ, List, option_map}
+use Rattle.std.specs.Borrow.{Bor}
+use Rattle.kc_macros.specs.declared.answer_lines.AnswerLine.{AnswerLine}
+use Rattle.kc_macros.specs.declared.answer_lines.AnswerLine.TheVariants.{Comment, Answer, Command, Malformed}
+use Rattle.kc_macros_model.specs.AnswerFiles.{AnswerLine as LineMeaning, comment, answer, command, malformed}
+
+abbrev pub line_view : AnswerLine → LineMeaning
+line_view Comment = comment
+line_view (Answer question text) = answer question.now (option_map (λ (t : Bor (List ℕ)). t.now) text)
+line_view (Command question) = command question.now
+line_view Malformed = malformed

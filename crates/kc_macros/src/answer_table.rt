@@ -1,0 +1,93 @@
+//! Questions with their answers.
+ghost use Rattle.std.specs.Prelude.{◌≡◌, ℕ, [], ◌∷◌, ◌++◌, length, take, None, OnOk, OnErr, IfOk, Vec, option_map};
+ghost use Rattle.std.specs.declared.alloc.Global.{Global};
+ghost use Rattle.kc_tree_model.specs.Keywords.{keyword_in_table};
+
+use indexmap::IndexMap;
+use kc_value::Seed;
+use std::alloc::{AllocError, Global};
+use std::marker::Model;
+
+/// Questions with their answers, in order of insertion; a name that isn't set has none.
+#[derive(Drop)]
+pub(crate) struct AnswerTable {
+    alloc: Global,
+    entries: IndexMap<Vec<u8>, Option<Vec<u8>>, Seed>,
+}
+
+impl Model for AnswerTable {
+    ghost use Rattle.std.specs.Prelude.{map};
+    ghost use Rattle.kc_macros_model.specs.AnswerFiles.{Recorded};
+
+    ghost Value = { Recorded };
+
+    ghost use Rattle.kc_macros.specs.checker.TableView.{answer_of_entry};
+
+    ghost view = { λ a. map answer_of_entry a.entries.entries };
+}
+
+/// A copy of an answer.
+fn copied(alloc: Global, answer: Option<&[u8]>) -> Result<Option<Vec<u8>>, AllocError>
+    ensures { IfOk result (λ copy. option_map (λ (t : Vec ℕ Global). t.items) copy ≡ option_map (λ t. t.now) answer.entry) }
+{
+    match answer {
+        Some(text) => Ok(Some(Vec::from_slice(alloc, text)?)),
+        None => Ok(None),
+    }
+}
+
+impl AnswerTable {
+    /// No answers; questions are hashed by this seed.
+    pub(crate) fn new(alloc: Global, seed: Seed) -> AnswerTable
+        ensures { result ≡ [] }
+    {
+        AnswerTable {
+            alloc,
+            entries: IndexMap::with_hasher(alloc, seed),
+        }
+    }
+
+    /// The answer to a question, if it is there.
+    pub(crate) fn get(&self, question: &[u8]) -> Option<Option<&[u8]>>
+        ensures { option_map (λ a. option_map (λ t. t.now) a) result ≡ keyword_in_table self.now question.now }
+    {
+        match self.entries.get(question)? {
+            Some(text) => Some(Some(text.as_slice())),
+            None => Some(None),
+        }
+    }
+
+    /// Puts a question that isn't there last, with its answer; both are copied.
+    ///
+    /// # Errors
+    ///
+    /// Where memory runs out, nothing is changed.
+    pub(crate) fn insert(
+        &mut self,
+        question: &[u8],
+        answer: Option<&[u8]>,
+    ) -> Result<(), AllocError>
+        requires { keyword_in_table self.old question.now ≡ None }
+        ensures ok { OnOk result (self.new ≡ self.old ++ (question.now, option_map (λ t. t.now) answer.entry) ∷ []) }
+        ensures err { OnErr result (self.new ≡ self.old) }
+    {
+        let question = Vec::from_slice(self.alloc, question)?;
+        let answer = copied(self.alloc, answer)?;
+        self.entries.insert(question, answer)?;
+        Ok(())
+    }
+
+    /// The number of questions.
+    pub(crate) fn len(&self) -> usize
+        ensures { result ≡ length self.now }
+    {
+        self.entries.len()
+    }
+
+    /// Keeps the first questions, as many as this.
+    pub(crate) fn truncate(&mut self, len: usize)
+        ensures { self.new ≡ take len self.old }
+    {
+        self.entries.truncate(len);
+    }
+}

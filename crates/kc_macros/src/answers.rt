@@ -1,0 +1,120 @@
+//! Answers to questions.
+ghost use Rattle.std.specs.Prelude.{◌≡◌, ◌⊎◌, ◌+◌, ◌<◌, ◌≤◌, [], length, take, None, Ok, OnOk, OnErr, IfOk, IfErr, option_map};
+ghost use Rattle.std.specs.Io.KnownBytes.{Consumes, IsAtEnd};
+ghost use Rattle.kc_tree_model.specs.Keywords.{keyword_in_table};
+ghost use Rattle.kc_macros.specs.ReadAnswers.{ReadsToEnd, AreRecorded, IsRefused};
+
+use super::answer_table::AnswerTable;
+use super::recording_lines::record_lines;
+use kc_macros_model::{AnswersFault, AnswersKind};
+use kc_value::{Seed, Source};
+use std::alloc::{AllocError, Global};
+use std::marker::Model;
+
+/// The most bytes of a file of answers.
+const MAX_BYTES: usize = 67_108_864;
+
+/// How many bytes are read at once.
+const BLOCK: usize = 4096;
+
+/// Reads what a reader has left, up to the first byte too many. Returns the fault that cuts it there, if one does.
+fn read_whole<R: Source>(
+    source: &mut R,
+    bytes: &mut Vec<u8>,
+) -> Result<Option<AnswersKind>, AllocError>
+    requires { bytes.old.items ≡ [] }
+    ensures read { OnOk result (Consumes (R.left source.old) (R.left source.new) bytes.new.items) }
+    ensures end { IfOk result (ReadsToEnd (R.left source.new) (R.failures source.old) (R.failures source.new) bytes.new.items) }
+    ensures unfailed { OnErr result (R.failures source.new ≡ R.failures source.old) }
+{
+    let mut block = [0; BLOCK];
+    while bytes.len() <= MAX_BYTES {
+        let Ok(count) = source.read_some(&mut block) else {
+            return Ok(Some(AnswersKind::Read));
+        };
+        if count == 0 {
+            return Ok(None);
+        }
+        bytes.extend_from_slice(&block[..count])?;
+    }
+    Ok(Some(AnswersKind::TooLarge))
+}
+
+/// The bytes before the first byte too many.
+fn within_size(bytes: &[u8]) -> &[u8]
+    ensures { result.now ≡ take MAX_BYTES bytes.now }
+{
+    if bytes.len() > MAX_BYTES {
+        &bytes[..MAX_BYTES]
+    } else {
+        bytes
+    }
+}
+
+/// Answers to the questions of macros, as files of answers have them: the values of names, or that a name isn't set, and
+/// the answers to commands.
+#[derive(Drop)]
+pub struct Answers {
+    alloc: Global,
+    table: AnswerTable,
+}
+
+impl Model for Answers {
+    ghost use Rattle.kc_macros_model.specs.AnswerFiles.{Recorded};
+
+    ghost Value = { Recorded };
+
+    ghost view = { λ a. a.table };
+}
+
+impl Answers {
+    /// No answers; questions are hashed by this seed.
+    pub fn new(alloc: Global, seed: Seed) -> Answers
+        ensures { result ≡ [] }
+    {
+        Answers {
+            alloc,
+            table: AnswerTable::new(alloc, seed),
+        }
+    }
+
+    /// The answer to a question: a name, or `$ ` and a command without white at its end. `Some(None)` is a name that isn't
+    /// set, `None` a question without an answer.
+    pub fn answer(&self, question: &[u8]) -> Option<Option<&[u8]>>
+        ensures { option_map (λ a. option_map (λ t. t.now) a) result ≡ keyword_in_table self.now question.now }
+    {
+        self.table.get(question)
+    }
+
+    /// Reads a file of answers to its end, at most 4,096 bytes at once, and records what it has after the files before it.
+    ///
+    /// # Errors
+    ///
+    /// The first fault with its line, after which nothing is changed: `TooManyLines` at the first byte of line 1,048,577,
+    /// `LineTooLong` at the first byte of a line past 65,536, `NotUtf8`, `Malformed` and `TwoAnswers` at a line's end (a
+    /// command without its answer on the next line is malformed at its own), `Read` where the reader failed after lines
+    /// without a fault, `TooLarge` at the first byte past 67,108,864. `OutOfMemory` means that memory ran out, and nothing
+    /// of the file. A refused reader is left at an unstated place.
+    pub fn read<R: Source>(&mut self, source: &mut R) -> Result<(), AnswersFault>
+        ensures ok { OnOk result (AreRecorded (R.left source.old) (R.left source.new) self.old self.new) }
+        ensures unfailed { OnOk result (R.failures source.new ≡ R.failures source.old) }
+        ensures fault { IfErr result (λ f. (f.kind ≡ AnswersKind.OutOfMemory) ⊎ IsRefused (R.left source.old) (R.left source.new) (R.failures source.old) (R.failures source.new) self.old f) }
+        ensures err { OnErr result (self.new ≡ self.old) }
+    {
+        let mut bytes = Vec::new(self.alloc);
+        let Ok(cut) = read_whole(source, &mut bytes) else {
+            return Err(AnswersFault {
+                line: 0,
+                kind: AnswersKind::OutOfMemory,
+            });
+        };
+        let before = self.table.len();
+        match record_lines(&mut self.table, within_size(bytes.as_slice()), cut) {
+            Ok(()) => Ok(()),
+            Err(fault) => {
+                self.table.truncate(before);
+                Err(fault)
+            }
+        }
+    }
+}

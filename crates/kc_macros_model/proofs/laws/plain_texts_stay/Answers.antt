@@ -1,0 +1,5 @@
+use Rattle.kc_macros_model.proofs.RulesExpanded.{plain_texts_stay}
+use Rattle.kc_macros_model.proofs.laws.plain_texts_stay.Goals as goal
+
+pub returns : goal.returns
+returns c = plain_texts_stay

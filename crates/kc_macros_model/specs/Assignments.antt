@@ -1,0 +1,108 @@
+-- Assignments of variables, and a line as an assignment or as written tokens.
+use Rattle.std.specs.Prelude.{ℕ, Bool, true, false, not, ◌&&◌, ◌||◌, ◌==◌, List, [], ◌∷◌, ◌++◌, drop, Option, Some, None, option_map, if◌then◌else◌}
+use Rattle.std.specs.List.{list_any, prefix_len}
+use Rattle.kc_expr.specs.Token.{is_white_byte}
+use Rattle.kc_macros_model.specs.Programs.{Place, Program, returns, stops, ◌>>=◌}
+use Rattle.kc_macros_model.specs.Variables.{Value, value_length, joined_values, Variable, simple, recursive, Bindings}
+use Rattle.kc_macros_model.specs.Expansion.{spends, unless_too_long, text_value}
+use Rattle.kc_macros_model.specs.LineTokens.{LineToken, gap, run, token_bytes, bytes_of_tokens}
+use Rattle.kc_macros_model.specs.Rewriting.{is_keyword, WrittenToken, a_gap, an_unknown, token_of_text, run_value, written_token}
+
+-- `:=`, `+=` and `=`
+pub data Operator : Type 0 where
+  sets_now : Operator
+  appends : Operator
+  sets : Operator
+
+-- the operator of an assignment and the text after it
+pub record Assigned : Type 0 where
+  pub operator : Operator
+  pub text : List ℕ
+
+abbrev pub assigned : Operator → List ℕ → Assigned
+assigned operator text = record { operator = operator; text = text }
+
+-- a text without the bytes of this test at its front
+abbrev pub without_front : (ℕ → Bool) → List ℕ → List ℕ
+without_front p s = drop (prefix_len p s) s
+
+-- a space or a tab
+abbrev pub is_blank_byte : ℕ → Bool
+is_blank_byte c = c == 32 || (c == 9)
+
+-- the operator at the front, and the bytes after it
+abbrev pub operator_at : List ℕ → Option Assigned
+operator_at [] = None
+operator_at (c ∷ []) = if c == 61 then Some (assigned sets []) else None
+operator_at (c ∷ d ∷ s) =
+    if c == 61 then Some (assigned sets (d ∷ s))
+    else if c == 58 && (d == 61) then Some (assigned sets_now s)
+    else if c == 43 && (d == 61) then Some (assigned appends s)
+    else None
+
+-- the assignment to this token as its name, if it is one: a run that is no keyword, then an operator; blanks before the value are dropped
+abbrev pub assignment_to : LineToken → List LineToken → Option Assigned
+assignment_to (run s) ts = if is_keyword s then None else option_map (λ (a : Assigned). assigned a.operator (without_front is_blank_byte a.text)) (operator_at (without_front is_white_byte (bytes_of_tokens ts)))
+assignment_to t ts = None
+
+-- the same where a name may come, which is before the first token that isn't empty
+abbrev pub assignment_at : (may_assign : Bool) → LineToken → List LineToken → Option Assigned
+assignment_at true t ts = assignment_to t ts
+assignment_at false t ts = None
+
+-- a line assigns a text to a name, or has these tokens
+pub data LineContent : Type 0 where
+  assigns : (name : List ℕ) → Assigned → LineContent
+  tokens : List WrittenToken → LineContent
+
+abbrev pub with_token : WrittenToken → LineContent → LineContent
+with_token t (tokens ts) = tokens (t ∷ ts)
+with_token t (assigns name a) = assigns name a
+
+abbrev pub is_gap : WrittenToken → Bool
+is_gap t = elim t.sort [ a_gap ↦ true | _ ↦ false ]
+
+abbrev pub is_unknown : WrittenToken → Bool
+is_unknown t = elim t.sort [ an_unknown ↦ true | _ ↦ false ]
+
+abbrev pub is_gap_token : LineToken → Bool
+is_gap_token (gap s) = true
+is_gap_token t = false
+
+-- whether tokens come after one that may be gone, so that they may be a line of their own
+abbrev pub is_open_front : (may_assign : Bool) → WrittenToken → List LineToken → Bool
+is_open_front may_assign w ts = may_assign && is_unknown w && list_any (λ t. not (is_gap_token t)) ts
+
+-- a name with its value: an empty one is a token that is gone, and without a value the reading ends
+abbrev pub assignment_or : Program LineContent → Assigned → Value → Program LineContent
+assignment_or rest a None = stops
+assignment_or rest a (Some []) = rest
+assignment_or rest a (Some (c ∷ name)) = returns (assigns (c ∷ name) a)
+
+-- the content of a line from a token on; the reading ends where it isn't known what the line is
+abbrev pub line_content : Place → Bindings → (may_assign : Bool) → List LineToken → Program LineContent
+line_content at b may_assign [] = returns (tokens [])
+line_content at b may_assign (t ∷ ts) =
+    elim (assignment_at may_assign t ts) [
+      | Some a ↦ run_value at b (token_bytes t) >>= assignment_or (line_content at b true ts >>= λ rest. returns (with_token (token_of_text []) rest)) a
+      | None ↦ written_token at b t >>= λ w.
+          elim (is_open_front may_assign w ts) [ true ↦ stops | false ↦ line_content at b (may_assign && is_gap w) ts >>= λ rest. returns (with_token w rest) ]
+    ]
+
+-- a new variable, which is stored with its value or text
+abbrev pub stored : Place → Value → Variable → Program Variable
+stored at value v = unless_too_long at (value_length value) (spends at (value_length value) (returns v))
+
+abbrev pub stored_simple : Place → Value → Program Variable
+stored_simple at value = stored at value (simple value)
+
+abbrev pub stored_recursive : Place → List ℕ → Program Variable
+stored_recursive at text = stored at (Some text) (recursive text)
+
+-- the variable that an assignment makes of the one before, if there is one; `+=` keeps its flavour
+abbrev pub variable_assigned : Place → Bindings → Operator → List ℕ → Option Variable → Program Variable
+variable_assigned at b sets_now text before = text_value at b text >>= stored_simple at
+variable_assigned at b appends text (Some (simple value)) = text_value at b text >>= λ more. stored_simple at (joined_values value (joined_values (Some (32 ∷ [])) more))
+variable_assigned at b appends text (Some (recursive before)) = stored_recursive at (before ++ 32 ∷ text)
+variable_assigned at b appends text None = stored_recursive at text
+variable_assigned at b sets text before = stored_recursive at text

@@ -1,0 +1,56 @@
+-- Laws of the expansion of a text: it agrees with the rules, a text without references is its own value, and values are bounded.
+use Rattle.std.specs.Prelude.{◌≡◌, ℕ, suc, ◌+◌, ◌≤◌, Bool, true, false, ◌||◌, List, [], ◌∷◌, length, Option, Some}
+use Rattle.kc_macros_model.specs.declared.fault.MacroKind.{MacroKind}
+use Rattle.kc_macros_model.specs.declared.fault.MacroKind.TheVariants.{Recursion, TooDeep, LineTooLong}
+use Rattle.kc_macros_model.specs.Limits.{max_text_bytes}
+use Rattle.kc_macros_model.specs.Programs.{Place, Fault, returns}
+use Rattle.kc_macros_model.specs.Variables.{Value, value_length, Variable, simple, recursive, Bindings}
+use Rattle.kc_macros_model.specs.Expansion.{spends, expanded}
+use Rattle.kc_macros_model.specs.Assignments.{Operator, variable_assigned}
+use Rattle.kc_macros_model.specs.Worlds.{World, Ending, returned, failed}
+use Rattle.kc_macros_model.specs.ExpansionRules.{ending_in, begins_reference, Expands}
+
+-- a text expands only to the value that the rules give
+abbrev pub ExpansionKeepsTheRules : Type 0
+ExpansionKeepsTheRules = (w : World) (at : Place) (b : Bindings) (more : ℕ) (open_names : List (List ℕ)) (args : List Value) (text : List ℕ) (v : Value)
+    → ending_in w (expanded more at b open_names args text) ≡ returned v → Expands w at b args text v
+
+-- faults that the rules don't know: the limits, and a variable that needs itself
+abbrev pub is_bound : MacroKind → Bool
+is_bound k = elim k [ TooDeep ↦ true | LineTooLong ↦ true | Recursion ↦ true | _ ↦ false ]
+
+-- a value is returned, or a bound is met
+pub data IsValueOrBound {A : Type 0} (v : A) : Ending A → Type 0 where
+  value : IsValueOrBound v (returned v)
+  bound : {f : Fault} → is_bound f.kind ≡ true → IsValueOrBound v (failed f)
+
+-- a text expands to each value that the rules give, unless a bound is met
+abbrev pub RulesAreExpanded : Type 0
+RulesAreExpanded = (w : World) (at : Place) (b : Bindings) (args : List Value) (text : List ℕ) (v : Value) → Expands w at b args text v
+    → (more : ℕ) (open_names : List (List ℕ)) → IsValueOrBound v (ending_in w (expanded more at b open_names args text))
+
+-- whether a text has a `$(`
+abbrev pub has_reference : List ℕ → Bool
+has_reference [] = false
+has_reference (c ∷ s) = begins_reference (c ∷ s) || has_reference s
+
+-- a text without references expands to itself, with work for its bytes and one, and for its bytes
+abbrev pub PlainTextsStay : Type 0
+PlainTextsStay = (at : Place) (b : Bindings) (more : ℕ) (open_names : List (List ℕ)) (args : List Value) (text : List ℕ)
+    → has_reference text ≡ false → length text ≤ max_text_bytes
+    → expanded (suc more) at b open_names args text ≡ spends at (length text + 1) (spends at (length text) (returns (Some text)))
+
+-- no value of a text has more bytes than a text may have
+abbrev pub ValuesAreBounded : Type 0
+ValuesAreBounded = (w : World) (at : Place) (b : Bindings) (more : ℕ) (open_names : List (List ℕ)) (args : List Value) (text : List ℕ) (v : Value)
+    → ending_in w (expanded more at b open_names args text) ≡ returned v → value_length v ≤ max_text_bytes
+
+-- the bytes that are stored for a variable
+abbrev pub stored_length : Variable → ℕ
+stored_length (simple v) = value_length v
+stored_length (recursive text) = length text
+
+-- no variable stores more, however it is appended to
+abbrev pub VariablesAreBounded : Type 0
+VariablesAreBounded = (w : World) (at : Place) (b : Bindings) (operator : Operator) (text : List ℕ) (before : Option Variable) (x : Variable)
+    → ending_in w (variable_assigned at b operator text before) ≡ returned x → stored_length x ≤ max_text_bytes

@@ -1,0 +1,97 @@
+-- Forms of lines that plain Kconfig lacks, by the line's tokens.
+use Rattle.std.specs.Prelude.{ℕ, zero, suc, Bool, true, false, not, ◌&&◌, ◌||◌, List, [], ◌∷◌, ◌++◌, filter, flat_map, codes, bytes_eq, if◌then◌else◌}
+use Rattle.std.specs.List.{list_any}
+use Rattle.kc_tree_model.specs.Limits.{is_in_list}
+use Rattle.kc_macros_model.specs.Variables.{Value}
+use Rattle.kc_macros_model.specs.Rewriting.{WrittenToken, a_word, a_quoted, an_unknown, written_as, in_quotes_of}
+use Rattle.kc_macros_model.specs.Assignments.{is_gap, is_unknown}
+
+-- which `source` a line has: one whose paths begin at the folder of the file, one whose files may be missing
+pub record SourceSort : Type 0 where
+  pub relative : Bool
+  pub optional : Bool
+
+-- a line stays; its second token is a prompt without quotes; it is replaced; it names a choice; it sources files
+pub data LineForm : Type 0 where
+  plain : LineForm
+  bare_prompt : List ℕ → LineForm
+  replaced_by : List ℕ → LineForm
+  named_choice : List ℕ → LineForm
+  sources : SourceSort → Value → LineForm
+
+-- words that a prompt or a title follows
+abbrev pub prompt_words : List (List ℕ)
+prompt_words = codes "bool" ∷ codes "tristate" ∷ codes "string" ∷ codes "hex" ∷ codes "int" ∷ codes "prompt" ∷ codes "menu" ∷ codes "comment" ∷ codes "mainmenu" ∷ []
+
+abbrev pub source_words : List (List ℕ)
+source_words = codes "source" ∷ codes "rsource" ∷ codes "osource" ∷ codes "orsource" ∷ []
+
+-- words after which a help text begins
+abbrev pub help_words : List (List ℕ)
+help_words = codes "help" ∷ codes "---help---" ∷ []
+
+abbrev pub sort_of_source : List ℕ → SourceSort
+sort_of_source word = record { relative = is_in_list word (codes "rsource" ∷ codes "orsource" ∷ []); optional = is_in_list word (codes "osource" ∷ codes "orsource" ∷ []) }
+
+abbrev pub is_word : WrittenToken → Bool
+is_word t = elim t.sort [ a_word ↦ true | _ ↦ false ]
+
+-- a word, a quoted token, or one that may become either
+abbrev pub is_path : WrittenToken → Bool
+is_path t = elim t.sort [ a_word ↦ true | a_quoted ↦ true | an_unknown ↦ true | _ ↦ false ]
+
+-- a word that may be a prompt
+abbrev pub is_bare_prompt : WrittenToken → Bool
+is_bare_prompt t = is_word t && not (is_in_list t.bytes (codes "if" ∷ codes "on" ∷ []))
+
+-- the form of a line of two tokens, of which the first is this word
+abbrev pub form_of_pair : List ℕ → WrittenToken → LineForm
+form_of_pair word t =
+    if is_in_list word source_words && is_path t then sources (sort_of_source word) t.meaning
+    else if bytes_eq word (codes "choice") && is_word t then named_choice t.bytes
+    else if bytes_eq word (codes "option") && bytes_eq t.bytes (codes "defconfig_list") then replaced_by (codes "depends on n")
+    else if bytes_eq word (codes "option") && bytes_eq t.bytes (codes "allnoconfig_y") then replaced_by []
+    else plain
+
+-- the form of a line by its first word, its second token and those after it
+abbrev pub form_by_word : List ℕ → WrittenToken → List WrittenToken → LineForm
+form_by_word word t rest =
+    if is_in_list word prompt_words && is_bare_prompt t then bare_prompt t.bytes
+    else elim rest [ [] ↦ form_of_pair word t | u ∷ us ↦ plain ]
+
+-- the form of a line by its tokens without gaps
+abbrev pub form_of : List WrittenToken → LineForm
+form_of [] = plain
+form_of (t ∷ []) = plain
+form_of (t ∷ u ∷ rest) = if is_word t then form_by_word t.bytes u rest else plain
+
+abbrev pub without_gaps : List WrittenToken → List WrittenToken
+without_gaps ts = filter (λ t. not (is_gap t)) ts
+
+-- whether a help text follows a line: its one token is such a word
+abbrev pub is_help_line : List WrittenToken → Bool
+is_help_line [] = false
+is_help_line (t ∷ []) = is_word t && is_in_list t.bytes help_words
+is_help_line (t ∷ u ∷ rest) = false
+
+-- whether it isn't known what a line is: a `source` or the beginning of a help text with a token that may be gone
+abbrev pub is_undecided : List WrittenToken → Bool
+is_undecided [] = false
+is_undecided (t ∷ rest) = is_word t && (is_in_list t.bytes source_words || is_in_list t.bytes help_words) && list_any is_unknown rest
+
+-- a line with another token in place of its n-th, gaps aside
+abbrev pub with_nth_token : ℕ → WrittenToken → List WrittenToken → List WrittenToken
+with_nth_token n new [] = []
+with_nth_token n new (t ∷ ts) = if is_gap t then t ∷ with_nth_token n new ts else elim n [ zero ↦ new ∷ ts | suc m ↦ t ∷ with_nth_token m new ts ]
+
+abbrev pub line_bytes : List WrittenToken → List ℕ
+line_bytes ts = flat_map (λ (t : WrittenToken). t.bytes) ts
+
+-- a line with these bytes in place of all from its first token on
+abbrev pub with_replacement : List ℕ → List WrittenToken → List ℕ
+with_replacement new [] = new
+with_replacement new (t ∷ ts) = if is_gap t then t.bytes ++ with_replacement new ts else new
+
+-- a text as a quoted token
+abbrev pub quoted_text_token : List ℕ → WrittenToken
+quoted_text_token s = written_as a_quoted (in_quotes_of 34 s) s

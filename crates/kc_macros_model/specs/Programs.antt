@@ -1,0 +1,54 @@
+-- A reading of a tree as a program: the things that it needs from outside, and its result.
+use Rattle.std.specs.Prelude.{ℕ, List, Option}
+use Rattle.kc_macros_model.specs.declared.fault.MacroKind.{MacroKind}
+use Rattle.kc_macros_model.specs.declared.fault.MacroNoticeKind.{MacroNoticeKind}
+
+-- a line of a file, by the file's path
+pub record Place : Type 0 where
+  pub file : List ℕ
+  pub line : ℕ
+
+pub record Fault : Type 0 where
+  pub at : Place
+  pub kind : MacroKind
+  pub text : List ℕ
+
+pub record Notice : Type 0 where
+  pub at : Place
+  pub kind : MacroNoticeKind
+  pub text : List ℕ
+
+-- an answer to a question: a text, or none where a name isn't set
+abbrev pub Answer : Type 0
+Answer = Option (List ℕ)
+
+-- an event of a program: work, a notice, a question, the bytes of a path, the names in a folder
+pub data Event : Type 0 where
+  spend : Place → ℕ → Event
+  report : Notice → Event
+  ask : Place → List ℕ → Event
+  read_file : List ℕ → Event
+  list_folder : List ℕ → Event
+
+-- the reply to an event: an answer if there is one, the bytes if the path can be read, the names
+abbrev pub Reply : Event → Type 0
+Reply (spend at work) = Unit {0}
+Reply (report notice) = Unit {0}
+Reply (ask at question) = Option Answer
+Reply (read_file path) = Option (List ℕ)
+Reply (list_folder folder) = List (List ℕ)
+
+-- a program returns a value, fails, stops since all the rest depends on a question, or does something and goes on by the reply
+pub data Program (A : Type 0) : Type 0 where
+  returns : A → Program A
+  fails : Fault → Program A
+  stops : Program A
+  does : (event : Event) → (Reply event → Program A) → Program A
+
+infixl 10 ◌>>=◌
+-- one program after another
+abbrev pub ◌>>=◌ : {A B : Type 0} → Program A → (A → Program B) → Program B
+returns x >>= f = f x
+fails fault >>= f = fails fault
+stops >>= f = stops
+does event k >>= f = does event (λ r. k r >>= f)

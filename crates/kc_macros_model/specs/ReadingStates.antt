@@ -1,0 +1,76 @@
+-- The state of a reading of a tree after some lines, and the keys of expanded files.
+use Rattle.std.specs.Prelude.{ℕ, zero, suc, ◌+◌, Bool, true, false, not, ◌&&◌, ◌||◌, List, [], ◌∷◌, ◌++◌, length, bytes_eq, decimal, if◌then◌else◌}
+use Rattle.std.specs.List.{list_any}
+use Rattle.kc_macros_model.specs.Variables.{Variable, Bindings, with_variable, no_bindings}
+
+-- an expanded file: its key, the path that was read for it, its bytes
+pub record ExpandedFile : Type 0 where
+  pub key : List ℕ
+  pub path : List ℕ
+  pub text : List ℕ
+
+-- variables, names of choices, expanded files; counts of files and bytes read and of names listed
+pub record ReadingState : Type 0 where
+  pub bindings : Bindings
+  pub choices : List (List ℕ)
+  pub expanded : List ExpandedFile
+  pub files : ℕ
+  pub bytes : ℕ
+  pub listed : ℕ
+
+abbrev pub initial_state : ReadingState
+initial_state = record { bindings = no_bindings; choices = []; expanded = []; files = 0; bytes = 0; listed = 0 }
+
+-- a text, and the state after it
+pub record Progress : Type 0 where
+  pub text : List ℕ
+  pub state : ReadingState
+
+abbrev pub progress : List ℕ → ReadingState → Progress
+progress text s = record { text = text; state = s }
+
+-- a written line, whether a help text follows it, and the state after it
+pub record WrittenLine : Type 0 where
+  pub text : List ℕ
+  pub begins_help : Bool
+  pub state : ReadingState
+
+abbrev pub written_line : List ℕ → Bool → ReadingState → WrittenLine
+written_line text begins_help s = record { text = text; begins_help = begins_help; state = s }
+
+abbrev pub bound : List ℕ → Variable → ReadingState → ReadingState
+bound name v s = record s { bindings = with_variable name v s.bindings }
+
+abbrev pub with_choice : List ℕ → ReadingState → ReadingState
+with_choice name s = record s { choices = name ∷ s.choices }
+
+abbrev pub with_listed : ℕ → ReadingState → ReadingState
+with_listed listed s = record s { listed = listed }
+
+-- a file or a list of this many bytes is read
+abbrev pub counted : ℕ → ReadingState → ReadingState
+counted n s = record s { files = s.files + 1; bytes = s.bytes + n }
+
+abbrev pub has_key : List (ExpandedFile) → List ℕ → Bool
+has_key files key = list_any (λ (f : ExpandedFile). bytes_eq f.key key) files
+
+-- whether a key is the root's, or that of a file with other bytes
+abbrev pub is_taken : (root : List ℕ) → List ExpandedFile → (text key : List ℕ) → Bool
+is_taken root files text key = bytes_eq key root || list_any (λ (f : ExpandedFile). bytes_eq f.key key && not (bytes_eq f.text text)) files
+
+-- the first key from this one on that isn't taken: a path, then the path with `#2`, `#3` and so on
+abbrev pub free_key : (more : ℕ) (root : List ℕ) → List ExpandedFile → (path text key : List ℕ) → ℕ → List ℕ
+free_key zero root files path text key n = key
+free_key (suc more) root files path text key n = elim (is_taken root files text key) [ true ↦ free_key more root files path text (path ++ 35 ∷ decimal n) (n + 1) | false ↦ key ]
+
+-- the key of an expanded text; one of as many keys as there are files and one more is free
+abbrev pub key_of : (root : List ℕ) → List ExpandedFile → (path text : List ℕ) → List ℕ
+key_of root files path text = free_key (suc (length files)) root files path text path 2
+
+-- an expanded file more; one with the key of another has its bytes
+abbrev pub with_expanded : (key path text : List ℕ) → ReadingState → ReadingState
+with_expanded key path text s = record s { expanded = if has_key s.expanded key then s.expanded else s.expanded ++ record { key = key; path = path; text = text } ∷ [] }
+
+-- the text of a file that was read to its end is kept, and the key takes its place
+abbrev pub kept : (root path : List ℕ) → Progress → Progress
+kept root path p = let key = key_of root p.state.expanded path p.text in progress key (with_expanded key path p.text p.state)

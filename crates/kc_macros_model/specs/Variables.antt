@@ -1,0 +1,78 @@
+-- Variables, built-in functions, and the names that questions may have.
+use Rattle.std.specs.Prelude.{ℕ, ◌-◌, Bool, false, not, ◌&&◌, nat_lt, List, [], ◌∷◌, ◌++◌, length, take, slice_get, Option, Some, None, bytes_eq, codes, if◌then◌else◌}
+use Rattle.std.specs.List.{list_all, suffix_len}
+use Rattle.std.specs.Char.{is_digit}
+use Rattle.std.specs.Str.Parse.{digits_value}
+use Rattle.kc_expr.specs.Token.{is_white_byte}
+use Rattle.kc_tree_model.specs.TreeLookup.{is_name_byte}
+use Rattle.kc_macros_model.specs.Programs.{Answer}
+
+-- the value of a text: a text, or none where it depends on a question without an answer
+abbrev pub Value : Type 0
+Value = Option (List ℕ)
+
+-- the length of a value, as far as it is known
+abbrev pub value_length : Value → ℕ
+value_length None = 0
+value_length (Some text) = length text
+
+-- values one after the other; unknown where one is
+abbrev pub joined_values : Value → Value → Value
+joined_values (Some s) (Some t) = Some (s ++ t)
+joined_values (Some s) None = None
+joined_values None t = None
+
+-- a simple variable has a value, a recursive one a text that is expanded at each use
+pub data Variable : Type 0 where
+  simple : Value → Variable
+  recursive : List ℕ → Variable
+
+-- the variables by their names
+abbrev pub Bindings : Type 0
+Bindings = List ℕ → Option Variable
+
+abbrev pub no_bindings : Bindings
+no_bindings name = None
+
+-- a variable more, in place of one of that name
+abbrev pub with_variable : List ℕ → Variable → Bindings → Bindings
+with_variable name v b other = if bytes_eq other name then Some v else b other
+
+-- decimal digits alone
+abbrev pub is_number : List ℕ → Bool
+is_number s = nat_lt 0 (length s) && list_all (λ c. is_digit c 10) s
+
+-- a name that an environment may have: a letter or `_`, then letters, digits and `_`
+abbrev pub is_environment_name : List ℕ → Bool
+is_environment_name [] = false
+is_environment_name (c ∷ s) = not (is_digit c 10) && list_all is_name_byte (c ∷ s)
+
+-- a text without the white bytes at its end
+abbrev pub without_white_end : List ℕ → List ℕ
+without_white_end s = take (length s - suffix_len is_white_byte s) s
+
+-- the question for a command
+abbrev pub command_question : List ℕ → List ℕ
+command_question command = 36 ∷ 32 ∷ without_white_end command
+
+-- the argument that an inside means: digits alone, from 1 to the count of arguments
+abbrev pub argument_of : List Value → List ℕ → Option Value
+argument_of args inside = if is_number inside && nat_lt 0 (digits_value 10 inside) then slice_get args (digits_value 10 inside - 1) else None
+
+-- functions that every tree has
+pub data BuiltIn : Type 0 where
+  filename : BuiltIn
+  lineno : BuiltIn
+  shell : BuiltIn
+  info : BuiltIn
+  warning_if : BuiltIn
+  error_if : BuiltIn
+
+abbrev pub built_ins : List (List ℕ × BuiltIn)
+built_ins = (codes "filename", filename) ∷ (codes "lineno", lineno) ∷ (codes "shell", shell) ∷ (codes "info", info) ∷ (codes "warning-if", warning_if) ∷ (codes "error-if", error_if) ∷ []
+
+-- the value that an answer gives: that of a name that isn't set is empty
+abbrev pub value_of_answer : Option Answer → Value
+value_of_answer None = None
+value_of_answer (Some None) = Some []
+value_of_answer (Some (Some text)) = Some text

@@ -1,0 +1,93 @@
+-- A program in a world that replies: its notices, its open questions, and its end.
+use Rattle.std.specs.Prelude.{ℕ, ◌-◌, Bool, true, false, nat_lt, List, [], ◌∷◌, ◌++◌, reverse, Option, Some, None, Result, Ok, Err, if◌then◌else◌}
+use Rattle.kc_tree_model.specs.Limits.{without_repeats}
+use Rattle.kc_macros_model.specs.declared.fault.MacroKind.TheVariants.{Unanswered, TooMany}
+use Rattle.kc_macros_model.specs.Limits.{max_work}
+use Rattle.kc_macros_model.specs.Programs.{Place, Fault, Notice, Answer, Event, spend, report, ask, read_file, list_folder, Reply, Program, returns, fails, stops, does}
+use Rattle.kc_macros_model.specs.ReadingStates.{ExpandedFile}
+use Rattle.kc_macros_model.specs.TreeExpansion.{tree_read}
+
+-- answers to questions, bytes of paths, names in folders; a folder is empty or ends in a slash
+pub record World : Type 0 where
+  pub answer : List ℕ → Option Answer
+  pub bytes : List ℕ → Option (List ℕ)
+  pub names : List ℕ → List (List ℕ)
+
+abbrev pub reply : World → (event : Event) → Reply event
+reply w (spend at work) = tt {0}
+reply w (report notice) = tt {0}
+reply w (ask at question) = w.answer question
+reply w (read_file path) = w.bytes path
+reply w (list_folder folder) = w.names folder
+
+-- the notice of an event
+abbrev pub notices_of : Event → List Notice
+notices_of (report notice) = notice ∷ []
+notices_of e = []
+
+-- the question of an event that this answer, or none, leaves open
+abbrev pub if_unanswered : List ℕ → Option Answer → List (List ℕ)
+if_unanswered question None = question ∷ []
+if_unanswered question (Some a) = []
+
+abbrev pub open_question : World → Event → List (List ℕ)
+open_question w (ask at question) = if_unanswered question (w.answer question)
+open_question w e = []
+
+-- a question that must be answered
+abbrev pub unless_unanswered : Place → List ℕ → ℕ → Option Answer → Result ℕ Fault
+unless_unanswered at question left None = Err (record { at = at; kind = Unanswered; text = question })
+unless_unanswered at question left (Some a) = Ok left
+
+-- the work that is left after an event, or its fault: more work than is left, and where all must be answered an open question
+abbrev pub left_after : (all_answered : Bool) → World → ℕ → Event → Result ℕ Fault
+left_after all w left (spend at work) = if nat_lt left work then Err (record { at = at; kind = TooMany; text = [] }) else Ok (left - work)
+left_after true w left (ask at question) = unless_unanswered at question left (w.answer question)
+left_after false w left (ask at question) = Ok left
+left_after all w left e = Ok left
+
+-- the end of a program
+pub data Ending (A : Type 0) : Type 0 where
+  returned : A → Ending A
+  failed : Fault → Ending A
+  stopped : Ending A
+
+-- its notices and open questions in order, the work that is left, and its end
+pub record Outcome (A : Type 0) : Type 0 where
+  pub notices : List Notice
+  pub questions : List (List ℕ)
+  pub left : ℕ
+  pub ending : Ending A
+
+abbrev pub ended : {A : Type 0} → ℕ → Ending A → Outcome A
+ended left e = record { notices = []; questions = []; left = left; ending = e }
+
+-- an outcome after an event
+abbrev pub after_event : {A : Type 0} → World → Event → Outcome A → Outcome A
+after_event w e o = record { notices = notices_of e ++ o.notices; questions = open_question w e ++ o.questions; left = o.left; ending = o.ending }
+
+abbrev pub unless_fault : {A : Type 0} → ℕ → Result ℕ Fault → (ℕ → Outcome A) → Outcome A
+unless_fault left (Err f) rest = ended left (failed f)
+unless_fault left (Ok more) rest = rest more
+
+-- the outcome of a program with this much work to spend
+abbrev pub outcome : {A : Type 0} → (all_answered : Bool) → World → ℕ → Program A → Outcome A
+outcome all w left (returns x) = ended left (returned x)
+outcome all w left (fails f) = ended left (failed f)
+outcome all w left stops = ended left stopped
+outcome all w left (does e k) = unless_fault left (left_after all w left e) (λ more. after_event w e (outcome all w more (k (reply w e))))
+
+-- the expansion of a tree, all of whose questions must be answered
+unfoldable pub expansion : World → List ℕ → Outcome (List ExpandedFile)
+expansion w root = outcome true w max_work (tree_read root)
+
+-- questions, or if there are none the fault of the reading
+abbrev pub questions_or_fault : {A : Type 0} → List (List ℕ) → Ending A → Result (List (List ℕ)) Fault
+questions_or_fault [] (failed f) = Err f
+questions_or_fault [] (returned x) = Ok []
+questions_or_fault [] stopped = Ok []
+questions_or_fault (q ∷ qs) e = Ok (q ∷ qs)
+
+-- the questions without an answer that the reading meets, each once, in order of first sight
+unfoldable pub wanted : World → List ℕ → Result (List (List ℕ)) Fault
+wanted w root = let o = outcome false w max_work (tree_read root) in questions_or_fault (without_repeats (reverse o.questions)) o.ending
