@@ -1,0 +1,5 @@
+pub mod Contents
+pub mod Disks
+pub mod NewFiles
+pub mod Failures
+pub mod Replacements

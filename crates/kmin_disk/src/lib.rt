@@ -1,0 +1,15 @@
+//! Files that are replaced whole or not at all, over a disk whose reading and whose writing are traits.
+#![tactic(auto)]
+
+mod disk;
+mod fault;
+mod kind;
+mod new_path;
+mod read_only;
+mod replacement;
+
+pub use disk::{ReadDisk, WriteDisk};
+pub use fault::{CreateFault, ReplaceFault};
+pub use kind::FileKind;
+pub use read_only::ReadOnly;
+pub use replacement::replace;
