@@ -3,3 +3,4 @@ pub mod Disks
 pub mod NewFiles
 pub mod Failures
 pub mod Replacements
+pub mod MemoryDisks

@@ -4,6 +4,7 @@
 mod disk;
 mod fault;
 mod kind;
+mod memory_disk;
 mod new_path;
 mod read_only;
 mod replacement;
@@ -11,5 +12,6 @@ mod replacement;
 pub use disk::{ReadDisk, WriteDisk};
 pub use fault::{CreateFault, ReplaceFault};
 pub use kind::FileKind;
+pub use memory_disk::{MemoryDisk, MemoryFile, MemoryNewFile, MemoryRename};
 pub use read_only::ReadOnly;
 pub use replacement::replace;
