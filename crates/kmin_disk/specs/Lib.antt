@@ -4,3 +4,4 @@ pub mod NewFiles
 pub mod Failures
 pub mod Replacements
 pub mod MemoryDisks
+pub mod SystemDisks

@@ -54,8 +54,8 @@ pub trait WriteDisk: ReadDisk {
     /// What is known of a new file.
     ghost draft: { Self.NewFile → Draft };
 
-    /// Makes an empty new file at `new_path`, where nothing is, that is to replace the file at `path`. It has the owner
-    /// and the mode of that file; where none is, those of a file that a program makes.
+    /// Makes an empty new file at `new_path`, where nothing is, that is to replace the file at `path`. Only its owner
+    /// can read it yet; where no file is at `path`, it has the mode of any file that a program makes.
     fn create(&mut self, path: &str, new_path: &str) -> Result<Self::NewFile, CreateFault>
         ensures made { IfOk result (λ new. Creates (Self.state self.old) (Self.state self.new) path.now new_path.now (draft new)) }
         ensures err { OnErr result (Self.state self.new ≡ Self.state self.old) }
@@ -70,7 +70,8 @@ pub trait WriteDisk: ReadDisk {
         ensures same { Self.state self.new ≡ Self.state self.old }
         ensures failures { failures self.new ≡ failures_after_write (failures self.old) result bytes.now };
 
-    /// Waits until all that a new file took lasts.
+    /// Gives a new file the owner and the mode of the file that it is to replace, if there is one, and waits until all
+    /// that it took lasts.
     fn sync(&mut self, new: &mut Self::NewFile) -> Result<(), Failed>
         ensures synced { OnOk result (IsSynced (draft new.old) (draft new.new)) }
         ensures err { OnErr result (IsSameDraft (draft new.old) (draft new.new)) }

@@ -8,6 +8,7 @@ mod memory_disk;
 mod new_path;
 mod read_only;
 mod replacement;
+mod system_disk;
 
 pub use disk::{ReadDisk, WriteDisk};
 pub use fault::{CreateFault, ReplaceFault};
@@ -15,3 +16,4 @@ pub use kind::FileKind;
 pub use memory_disk::{MemoryDisk, MemoryFile, MemoryNewFile, MemoryRename};
 pub use read_only::ReadOnly;
 pub use replacement::replace;
+pub use system_disk::{SystemDisk, SystemFile, SystemNewFile, SystemRename};
