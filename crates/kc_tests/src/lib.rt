@@ -34,6 +34,8 @@ macro_rules! twice_on {
 #[cfg(test)]
 mod configurations;
 #[cfg(test)]
+mod disks;
+#[cfg(test)]
 mod expressions;
 #[cfg(test)]
 mod fault_names;

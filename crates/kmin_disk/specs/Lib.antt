@@ -1,0 +1,7 @@
+pub mod Contents
+pub mod Disks
+pub mod NewFiles
+pub mod Failures
+pub mod Replacements
+pub mod MemoryDisks
+pub mod SystemDisks

@@ -1,0 +1,12 @@
+-- The disk of the system, of which nothing is known.
+use Rattle.std.specs.Prelude.{ℕ, List, [], None, true}
+use Rattle.kmin_disk.specs.Disks.{DiskState}
+use Rattle.kmin_disk.specs.NewFiles.{Draft}
+
+-- nothing is known of any place
+abbrev pub unknown_state : DiskState
+unknown_state = record { place = λ path. path; history = λ place. [] }
+
+-- a new file of which only the paths are known
+abbrev pub unknown_draft : List ℕ → List ℕ → Draft
+unknown_draft path target = record { own = path; target = target; bytes = None; synced = true }

@@ -1,0 +1,375 @@
+//! A disk in memory, for tests: all that has happened on it is known, and chosen calls fail.
+ghost use Rattle.std.specs.Prelude.{◌≡◌, ◌∷◌, ◌++◌, [], List, ℕ, Some, ◌≢◌, OnOk, OnErr, IfOk, IfSome, OnSome, string_bytes};
+ghost use Rattle.kc_value.specs.Streams.{one_failure_more};
+ghost use Rattle.kmin_disk.specs.Disks.{History, newest};
+ghost use Rattle.kmin_disk.specs.MemoryDisks.{memory_state, memory_draft, content_view, history_after, AppendsHolds, AppendsRename};
+
+use crate::disk::{ReadDisk, WriteDisk};
+use crate::fault::CreateFault;
+use crate::kind::FileKind;
+use kc_value::{Failed, Seed, Source};
+use std::alloc::{AllocError, Global};
+
+/// What a path of a disk in memory holds.
+#[derive(Clone, Copy)]
+pub(crate) enum MemoryContent<'a> {
+    Nothing,
+    File(&'a [u8]),
+    Unfinished,
+    Special,
+}
+
+/// One change of a disk in memory.
+#[derive(Drop)]
+pub(crate) enum Event<'a> {
+    Holds {
+        path: String,
+        content: MemoryContent<'a>,
+    },
+    Renamed {
+        from: String,
+        to: String,
+        bytes: &'a [u8],
+    },
+}
+
+impl<'a> Event<'a> {
+    /// What a path holds after this, by what it held before.
+    fn content_after(&self, path: &str, before: MemoryContent<'a>) -> MemoryContent<'a>
+        ensures { (history : History) → newest history ≡ Some (content_view before.entry) → newest (history_after self.now path.now history) ≡ Some (content_view result) }
+    {
+        match self {
+            Event::Holds { path: at, content } => {
+                if at.as_str() == path {
+                    *content
+                } else {
+                    before
+                }
+            }
+            Event::Renamed { from, to, bytes } => {
+                if to.as_str() == path {
+                    MemoryContent::File(bytes)
+                } else if from.as_str() == path {
+                    MemoryContent::Nothing
+                } else {
+                    before
+                }
+            }
+        }
+    }
+}
+
+/// A disk that begins empty. Each path is a place of its own. A rename fails where the new file's bytes are none of
+/// the disk's `texts`.
+#[derive(Drop)]
+pub struct MemoryDisk<'a> {
+    alloc: Global,
+    texts: &'a [&'a [u8]],
+    most: usize,
+    log: Vec<Event<'a>>,
+    calls_before_failing: u64,
+    failing_calls: u64,
+    failed: u64,
+}
+
+/// A new file of a disk in memory.
+#[derive(Drop)]
+pub struct MemoryNewFile {
+    path: String,
+    target: String,
+    bytes: Vec<u8>,
+    synced: bool,
+}
+
+/// A rename whose folder isn't synced yet.
+pub struct MemoryRename {}
+
+/// A reader of a file of a disk in memory.
+#[derive(Drop)]
+pub struct MemoryFile<'a> {
+    left: &'a [u8],
+}
+
+impl Source for MemoryFile<'_> {
+    ghost left = { λ file. Some file.left.now };
+
+    ghost failures = { λ _. 0 };
+
+    fn read_some(&mut self, buf: &mut [u8]) -> Result<usize, Failed> {
+        let count = self.left.len().min(buf.len());
+        let (front, rest) = self.left.split_at(count);
+        buf[..count].copy_from_slice(front);
+        self.left = rest;
+        Ok(count)
+    }
+}
+
+impl<'a> MemoryDisk<'a> {
+    /// An empty disk. A write takes at most `most` bytes.
+    pub fn new(alloc: Global, texts: &'a [&'a [u8]], most: usize) -> MemoryDisk<'a>
+        ensures state { ⟦<MemoryDisk<'a> as ReadDisk>⟧.state result ≡ memory_state [] }
+        ensures failures { ⟦<MemoryDisk<'a> as WriteDisk>⟧.failures result ≡ 0 }
+    {
+        MemoryDisk {
+            alloc,
+            texts,
+            most,
+            log: Vec::new(alloc),
+            calls_before_failing: 0,
+            failing_calls: 0,
+            failed: 0,
+        }
+    }
+
+    /// Adds a regular file.
+    pub fn add_file(&mut self, path: &str, bytes: &'a [u8]) -> Result<(), AllocError> {
+        self.add(path, MemoryContent::File(bytes))
+    }
+
+    /// Adds a link, folder, pipe or device.
+    pub fn add_special(&mut self, path: &str) -> Result<(), AllocError> {
+        self.add(path, MemoryContent::Special)
+    }
+
+    fn add(&mut self, path: &str, content: MemoryContent<'a>) -> Result<(), AllocError>
+        ensures added { OnOk result (AppendsHolds self.old.log.items self.new.log.items path.now content.entry) }
+        ensures err { OnErr result (self.new.log.items ≡ self.old.log.items) }
+        ensures failed { self.new.failed ≡ self.old.failed }
+    {
+        let path = String::from_str(self.alloc, path)?;
+        self.log.push(Event::Holds { path, content })?;
+        Ok(())
+    }
+
+    /// After `calls` more calls that change files, the next `failing` ones fail.
+    pub fn fail_after(&mut self, calls: u64, failing: u64) {
+        self.calls_before_failing = calls;
+        self.failing_calls = failing;
+    }
+
+    /// The bytes of the regular file at a path.
+    pub fn bytes_at(&self, path: &str) -> Option<&'a [u8]> {
+        match self.content(path) {
+            MemoryContent::File(bytes) => Some(bytes),
+            _ => None,
+        }
+    }
+
+    /// How many changes there were.
+    pub fn changes(&self) -> usize {
+        self.log.len()
+    }
+
+    /// How many calls failed.
+    pub fn failures(&self) -> u64 {
+        self.failed
+    }
+
+    /// What a path holds.
+    fn content(&self, path: &str) -> MemoryContent<'a>
+        ensures { newest ((memory_state self.now.log.items).history path.now) ≡ Some (content_view result) }
+    {
+        let mut content = MemoryContent::Nothing;
+        for event in &self.log {
+            content = event.content_after(path, content);
+        }
+        content
+    }
+
+    /// Whether this call is one that fails.
+    fn fails(&mut self) -> bool
+        ensures log { self.new.log ≡ self.old.log }
+        ensures failed { self.new.failed ≡ self.old.failed }
+    {
+        if self.calls_before_failing > 0 {
+            self.calls_before_failing -= 1;
+            return false;
+        }
+        if self.failing_calls == 0 {
+            return false;
+        }
+        self.failing_calls -= 1;
+        true
+    }
+
+    /// Counts a failed call.
+    fn count_failure(&mut self) -> Failed
+        ensures log { self.new.log ≡ self.old.log }
+        ensures failed { self.new.failed ≡ one_failure_more self.old.failed }
+    {
+        self.failed = self.failed.saturating_add(1);
+        Failed
+    }
+
+    /// Makes an empty new file at a path that holds nothing.
+    fn begin(&mut self, path: &str, new_path: &str) -> Result<MemoryNewFile, AllocError>
+        ensures began { OnOk result (AppendsHolds self.old.log.items self.new.log.items new_path.now MemoryContent.Unfinished) }
+        ensures draft { IfOk result (λ new. (string_bytes new.path ≡ new_path.now) × (string_bytes new.target ≡ path.now) × (new.bytes.items ≡ [])) }
+        ensures err { OnErr result (self.new.log.items ≡ self.old.log.items) }
+        ensures failed { self.new.failed ≡ self.old.failed }
+    {
+        let new = MemoryNewFile {
+            path: String::from_str(self.alloc, new_path)?,
+            target: String::from_str(self.alloc, path)?,
+            bytes: Vec::new(self.alloc),
+            synced: false,
+        };
+        self.add(new_path, MemoryContent::Unfinished)?;
+        Ok(new)
+    }
+
+    /// Renames a new file over its target, which holds these bytes then.
+    fn move_to_target(&mut self, new: &MemoryNewFile, bytes: &'a [u8]) -> Result<(), AllocError>
+        requires { bytes.now ≡ new.now.bytes.items }
+        ensures moved { OnOk result (AppendsRename self.old.log.items self.new.log.items new.now) }
+        ensures err { OnErr result (self.new.log.items ≡ self.old.log.items) }
+        ensures failed { self.new.failed ≡ self.old.failed }
+    {
+        let from = String::from_str(self.alloc, &new.path)?;
+        let to = String::from_str(self.alloc, &new.target)?;
+        self.log.push(Event::Renamed { from, to, bytes })?;
+        Ok(())
+    }
+
+    /// The text of which a new file has the bytes, unless it is at its own target.
+    fn text_for(&self, new: &MemoryNewFile) -> Option<&'a [u8]>
+        ensures text { IfSome result (λ text. text.now ≡ new.now.bytes.items) }
+        ensures apart { OnSome result (string_bytes new.now.path ≢ string_bytes new.now.target) }
+    {
+        if new.path.as_str() == new.target.as_str() {
+            return None;
+        }
+        self.text_of(&new.bytes)
+    }
+
+    /// One of the texts that equals the bytes.
+    fn text_of(&self, bytes: &[u8]) -> Option<&'a [u8]>
+        ensures { IfSome result (λ text. text.now ≡ bytes.now) }
+    {
+        for text in self.texts {
+            if *text == bytes {
+                return Some(*text);
+            }
+        }
+        None
+    }
+}
+
+impl<'a> ReadDisk for MemoryDisk<'a> {
+    type File = MemoryFile<'a>;
+
+    ghost state = { λ disk. memory_state disk.log.items };
+
+    fn seed(&self) -> Seed {
+        Seed::fixed()
+    }
+
+    fn kind(&self, path: &str) -> FileKind {
+        match self.content(path) {
+            MemoryContent::Nothing => FileKind::Missing,
+            MemoryContent::File(_) => FileKind::Regular,
+            MemoryContent::Unfinished => FileKind::Regular,
+            MemoryContent::Special => FileKind::NotRegular,
+        }
+    }
+
+    fn open(&self, path: &str) -> Option<MemoryFile<'a>> {
+        match self.content(path) {
+            MemoryContent::File(left) => Some(MemoryFile { left }),
+            _ => None,
+        }
+    }
+}
+
+impl<'a> WriteDisk for MemoryDisk<'a> {
+    type NewFile = MemoryNewFile;
+
+    type Renamed = MemoryRename;
+
+    ghost failures = { λ disk. disk.failed };
+
+    ghost draft = { λ new. memory_draft new };
+
+    fn create(&mut self, path: &str, new_path: &str) -> Result<MemoryNewFile, CreateFault> {
+        if self.fails() {
+            let _ = self.count_failure();
+            return Err(CreateFault::Failed);
+        }
+        if new_path == path {
+            return Err(CreateFault::Taken);
+        }
+        match self.content(new_path) {
+            MemoryContent::Nothing => {}
+            _ => return Err(CreateFault::Taken),
+        }
+        match self.begin(path, new_path) {
+            Ok(new) => Ok(new),
+            Err(AllocError) => {
+                let _ = self.count_failure();
+                Err(CreateFault::Failed)
+            }
+        }
+    }
+
+    fn write_some(&mut self, new: &mut MemoryNewFile, bytes: &[u8]) -> Result<usize, Failed> {
+        new.synced = false;
+        if self.fails() {
+            return Err(self.count_failure());
+        }
+        let count = bytes.len().min(self.most);
+        if count == 0 && !bytes.is_empty() {
+            let _ = self.count_failure();
+            return Ok(0);
+        }
+        match new.bytes.extend_from_slice(&bytes[..count]) {
+            Ok(()) => Ok(count),
+            Err(AllocError) => Err(self.count_failure()),
+        }
+    }
+
+    fn sync(&mut self, new: &mut MemoryNewFile) -> Result<(), Failed> {
+        if self.fails() {
+            return Err(self.count_failure());
+        }
+        new.synced = true;
+        Ok(())
+    }
+
+    fn rename(&mut self, new: MemoryNewFile) -> Result<MemoryRename, MemoryNewFile> {
+        if self.fails() {
+            let _ = self.count_failure();
+            return Err(new);
+        }
+        let Some(text) = self.text_for(&new) else {
+            let _ = self.count_failure();
+            return Err(new);
+        };
+        match self.move_to_target(&new, text) {
+            Ok(()) => Ok(MemoryRename {}),
+            Err(AllocError) => {
+                let _ = self.count_failure();
+                Err(new)
+            }
+        }
+    }
+
+    fn sync_folder(&mut self, renamed: MemoryRename) -> Result<(), Failed> {
+        let MemoryRename {} = renamed;
+        if self.fails() {
+            return Err(self.count_failure());
+        }
+        Ok(())
+    }
+
+    fn remove(&mut self, new: MemoryNewFile) -> Result<(), Failed> {
+        if self.fails() {
+            return Err(self.count_failure());
+        }
+        let path = new.path;
+        let content = MemoryContent::Nothing;
+        match self.log.push(Event::Holds { path, content }) {
+            Ok(()) => Ok(()),
+            Err(_) => Err(self.count_failure()),
+        }
+    }
+}

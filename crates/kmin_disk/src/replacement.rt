@@ -1,0 +1,144 @@
+//! Replacing a file, whole or not at all.
+ghost use Rattle.std.specs.Prelude.{◌≡◌, ◌≢◌, true, string_bytes, IfOk, OnOk, IfErr, OnErr, IsErrOf, Some, Err};
+ghost use Rattle.kc_value.specs.Streams.{failures_after_read};
+ghost use Rattle.kmin_disk.specs.Contents.{IsOfKind, special};
+ghost use Rattle.kmin_disk.specs.Disks.{Replaces, content_at};
+ghost use Rattle.kmin_disk.specs.NewFiles.{Creates, IsNewPath, IsSameDraft, Takes};
+ghost use Rattle.kmin_disk.specs.Failures.{failures_after_replace};
+ghost use Rattle.kmin_disk.specs.Replacements.{FaultLeaves, FillsAndRenames, HasTakenName, IsBeforeNewFile};
+
+use crate::disk::WriteDisk;
+use crate::fault::{CreateFault, ReplaceFault};
+use crate::kind::FileKind;
+use crate::new_path::new_path;
+use kc_value::Failed;
+use std::alloc::Global;
+
+/// Replaces the file at a path by a new file of these bytes, whole or not at all. Where no file is, one is made.
+///
+/// The new file is written and synced in the same folder, then renamed over the old one, and the folder is synced. It
+/// replaces a file of equal bytes too. A link, a folder, a pipe or a device at the end of the path is refused.
+pub fn replace<D: WriteDisk>(
+    alloc: Global,
+    disk: &mut D,
+    path: &str,
+    bytes: &[u8],
+) -> Result<(), ReplaceFault>
+    // Up to a moment the old bytes were at the path, and from then on these.
+    ensures ok { OnOk result (Replaces (D.state disk.old) (D.state disk.new) path.now bytes.now) }
+    ensures err { IfErr result (FaultLeaves (D.state disk.old) (D.state disk.new) path.now bytes.now) }
+
+    // An `Ok` has no failed call, and each fault of the disk has one.
+    ensures failures { D.failures disk.new ≡ failures_after_replace (D.failures disk.old) result }
+
+    ensures not_regular { IsErrOf result ReplaceFault.NotRegular → IsOfKind (content_at (D.state disk.old) path.now) FileKind.NotRegular }
+    ensures refused { content_at (D.state disk.old) path.now ≡ Some special → IsErrOf result ReplaceFault.NotRegular }
+    ensures names_taken { IsErrOf result ReplaceFault.NamesTaken → HasTakenName (D.state disk.old) path.now }
+{
+    match disk.kind(path) {
+        FileKind::NotRegular => Err(ReplaceFault::NotRegular),
+        FileKind::Missing | FileKind::Regular => replace_regular(alloc, disk, path, bytes),
+    }
+}
+
+/// Replaces what is no link, folder, pipe or device.
+fn replace_regular<D: WriteDisk>(
+    alloc: Global,
+    disk: &mut D,
+    path: &str,
+    bytes: &[u8],
+) -> Result<(), ReplaceFault>
+    ensures ok { OnOk result (Replaces (D.state disk.old) (D.state disk.new) path.now bytes.now) }
+    ensures err { IfErr result (FaultLeaves (D.state disk.old) (D.state disk.new) path.now bytes.now) }
+    ensures failures { D.failures disk.new ≡ failures_after_replace (D.failures disk.old) result }
+    ensures tried { result ≢ Err ReplaceFault.NotRegular }
+    ensures names_taken { IsErrOf result ReplaceFault.NamesTaken → HasTakenName (D.state disk.old) path.now }
+{
+    let (new, new_path) = create_beside(alloc, disk, path)?;
+    match fill_and_rename(disk, new, bytes) {
+        Ok(renamed) => match disk.sync_folder(renamed) {
+            Ok(()) => Ok(()),
+            Err(Failed) => Err(ReplaceFault::FolderNotSynced),
+        },
+        Err(new) => match disk.remove(new) {
+            Ok(()) => Err(ReplaceFault::Unchanged),
+            Err(Failed) => Err(ReplaceFault::Left(new_path)),
+        },
+    }
+}
+
+/// How many names are tried for a new file.
+const ATTEMPTS: u8 = 8;
+
+/// Makes a new file in the folder of a path, and gives its path too.
+fn create_beside<D: WriteDisk>(
+    alloc: Global,
+    disk: &mut D,
+    path: &str,
+) -> Result<(D::NewFile, String), ReplaceFault>
+    ensures made { IfOk result (λ new. Creates (D.state disk.old) (D.state disk.new) path.now (string_bytes new.1) (D.draft new.0)) }
+    ensures path { IfOk result (λ new. IsNewPath path.now (string_bytes new.1)) }
+    ensures err { OnErr result (D.state disk.new ≡ D.state disk.old) }
+    ensures fault { IfErr result IsBeforeNewFile }
+    ensures failures { D.failures disk.new ≡ failures_after_replace (D.failures disk.old) result }
+    ensures names_taken { IsErrOf result ReplaceFault.NamesTaken → HasTakenName (D.state disk.old) path.now }
+{
+    for attempt in 0..ATTEMPTS {
+        let Ok(new_path) = new_path(alloc, disk.seed(), path, attempt) else {
+            return Err(ReplaceFault::OutOfMemory);
+        };
+        match disk.create(path, &new_path) {
+            Ok(new) => return Ok((new, new_path)),
+            Err(CreateFault::Taken) => {}
+            Err(CreateFault::Failed) => return Err(ReplaceFault::Unchanged),
+        }
+    }
+    Err(ReplaceFault::NamesTaken)
+}
+
+/// Writes all bytes to a new file, and syncs it.
+fn fill<D: WriteDisk>(disk: &mut D, new: &mut D::NewFile, bytes: &[u8]) -> Result<(), Failed>
+    ensures taken { OnOk result (Takes (D.draft new.old) (D.draft new.new) bytes.now) }
+    ensures synced { OnOk result ((D.draft new.new).synced ≡ true) }
+    ensures err { OnErr result (IsSameDraft (D.draft new.old) (D.draft new.new)) }
+    ensures same { D.state disk.new ≡ D.state disk.old }
+    ensures failures { D.failures disk.new ≡ failures_after_read (D.failures disk.old) result }
+{
+    write_all(disk, new, bytes)?;
+    disk.sync(new)
+}
+
+/// Writes all bytes to a new file. A write that takes none is a failure.
+fn write_all<D: WriteDisk>(disk: &mut D, new: &mut D::NewFile, bytes: &[u8]) -> Result<(), Failed>
+    ensures taken { OnOk result (Takes (D.draft new.old) (D.draft new.new) bytes.now) }
+    ensures err { OnErr result (IsSameDraft (D.draft new.old) (D.draft new.new)) }
+    ensures same { D.state disk.new ≡ D.state disk.old }
+    ensures failures { D.failures disk.new ≡ failures_after_read (D.failures disk.old) result }
+{
+    let mut written = 0;
+    while written < bytes.len() {
+        match disk.write_some(new, &bytes[written..]) {
+            Ok(0) => return Err(Failed),
+            Ok(count) => written += count,
+            Err(fault) => return Err(fault),
+        }
+    }
+    Ok(())
+}
+
+/// Writes all bytes to a new file, syncs it and renames it. Where a call fails the new file is returned.
+fn fill_and_rename<D: WriteDisk>(
+    disk: &mut D,
+    mut new: D::NewFile,
+    bytes: &[u8],
+) -> Result<D::Renamed, D::NewFile>
+    ensures renamed { OnOk result (FillsAndRenames (D.state disk.old) (D.state disk.new) (D.draft new) bytes.now) }
+    ensures returned { IfErr result (λ back. IsSameDraft (D.draft new) (D.draft back)) }
+    ensures err { OnErr result (D.state disk.new ≡ D.state disk.old) }
+    ensures failures { D.failures disk.new ≡ failures_after_read (D.failures disk.old) result }
+{
+    match fill(disk, &mut new, bytes) {
+        Ok(()) => disk.rename(new),
+        Err(Failed) => Err(new),
+    }
+}
