@@ -151,8 +151,8 @@ pub(crate) const MISSED: &str = "Lists the symbols that don't have the value tha
 
 pub(crate) const MISSED_LONG: &str = "\
 Lists, one name a line, the symbols whose assigned value isn't their value: since a dependency
-isn't met, a number is out of its range, or another symbol selects them. A member of a choice is listed if
-it was chosen and isn't selected. The status is 0 with and without such lines.";
+isn't met, a number is out of its range, or another symbol selects them. A member of a choice is
+listed if it was chosen and isn't selected. The status is 0 with and without such lines.";
 
 pub(crate) const MISSED_AFTER: &str = with_statuses!(
     "\
