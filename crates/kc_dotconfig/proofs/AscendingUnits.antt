@@ -29,7 +29,8 @@ above_last (e ∷ es) p v r at h =
     let n : length (e ∷ es) - 1 ≡ length es = omega arith in
     last_below (e ∷ es) (length es) p v r (at ∙ ap (slice_get (e ∷ es)) n) refl (ltb-true p.0 v h)
 
-insert_behind : (e : ℕ × UserValue) (es : List (ℕ × UserValue)) (u : ℕ) (x : UserValue) → e.0 < u → insert_entry nat_cmp (e ∷ es) u x ≡ e ∷ insert_entry nat_cmp es u x
+insert_behind : (e : ℕ × UserValue) (es : List (ℕ × UserValue)) (u : ℕ) (x : UserValue) → e.0 < u
+    → insert_entry nat_cmp (e ∷ es) u x ≡ e ∷ insert_entry nat_cmp es u x
 insert_behind e es u x h = ap (λ o. match_ordering o ((u, x) ∷ e ∷ es) ((e.0, x) ∷ es) (e ∷ insert_entry nat_cmp es u x)) (sym (nat_cmp_is u e.0 Greater h))
 
 -- a unit above all comes last
@@ -58,7 +59,8 @@ pushed es ms u x none b =
     ap (λ m. (es ++ (u, x) ∷ []) ++ m) none ∙ nothing_behind (es ++ (u, x) ∷ []) ∙ sym (insert_last es u x b)
     ∙ sym (ap (λ l. insert_entry nat_cmp l u x) (ap (λ m. es ++ m) none ∙ nothing_behind es))
 
-pub put_mapped : (es ms : List (ℕ × UserValue)) (u : ℕ) (x : UserValue) → (es ≡ []) ⊎ (ms ≡ []) → (ms ≡ [] → ⊥) → es ++ insert_entry nat_cmp ms u x ≡ insert_entry nat_cmp (es ++ ms) u x
+pub put_mapped : (es ms : List (ℕ × UserValue)) (u : ℕ) (x : UserValue) → (es ≡ []) ⊎ (ms ≡ []) → (ms ≡ [] → ⊥)
+    → es ++ insert_entry nat_cmp ms u x ≡ insert_entry nat_cmp (es ++ ms) u x
 put_mapped es ms u x one some = elim one [
   | inl none ↦ ap (λ l. l ++ insert_entry nat_cmp ms u x) none ∙ sym (ap (λ l. insert_entry nat_cmp (l ++ ms) u x) none)
   | inr none ↦ absurd (some none)
@@ -70,16 +72,20 @@ above_at k [] i p a h is = absurd (omega (arith, h))
 above_at k (e ∷ es) zero p a h is = (let same = ap (λ (r : ℕ × UserValue). r.0) is in let b = a.0 in omega (arith, same, b))
 above_at k (e ∷ es) (suc i) p a h is = above_at k es i p a.1 (omega (arith, h)) is
 
-pub insert_next : (es : List (ℕ × UserValue)) (i : ℕ) (p : ℕ × UserValue) → Rises es → i < length es → p ≡ get_or es i p → insert_entry nat_cmp (take i es) p.0 p.1 ≡ take (suc i) es
+pub insert_next : (es : List (ℕ × UserValue)) (i : ℕ) (p : ℕ × UserValue) → Rises es → i < length es → p ≡ get_or es i p
+    → insert_entry nat_cmp (take i es) p.0 p.1 ≡ take (suc i) es
 insert_next [] i p r h is = absurd (omega (arith, h))
 insert_next (e ∷ es) zero p r h is = ap (λ q. q ∷ []) is
-insert_next (e ∷ es) (suc i) p r h is = insert_behind e (take i es) p.0 p.1 (above_at e.0 es i p r.0 (omega (arith, h)) is) ∙ ap (λ l. e ∷ l) (insert_next es i p r.1 (omega (arith, h)) is)
+insert_next (e ∷ es) (suc i) p r h is =
+    insert_behind e (take i es) p.0 p.1 (above_at e.0 es i p r.0 (omega (arith, h)) is) ∙ ap (λ l. e ∷ l) (insert_next es i p r.1 (omega (arith, h)) is)
 
-pub mapped_next : (es ys : List (ℕ × UserValue)) (p : ℕ × UserValue) (ms ns : List (ℕ × UserValue)) → Rises es → ms ≡ take (length ys) es → ns ≡ insert_entry nat_cmp ms p.0 p.1
+pub mapped_next : (es ys : List (ℕ × UserValue)) (p : ℕ × UserValue) (ms ns : List (ℕ × UserValue)) → Rises es → ms ≡ take (length ys) es
+    → ns ≡ insert_entry nat_cmp ms p.0 p.1
     → length ys < length es → p ≡ get_or es (length ys) p → ns ≡ take (length (ys ++ p ∷ [])) es
 mapped_next es ys p ms ns r before is h at =
     let n : suc (length ys) ≡ length (ys ++ p ∷ []) = (let l = length_push ys p in omega (arith, l)) in
     is ∙ ap (λ l. insert_entry nat_cmp l p.0 p.1) before ∙ insert_next es (length ys) p r h at ∙ ap (λ k. take k es) n
 
-pub pushed_is : (es fs ms now : List (ℕ × UserValue)) (u : ℕ) (x : UserValue) → fs ≡ es ++ (u, x) ∷ [] → ms ≡ [] → Below u es → es ++ ms ≡ now → fs ++ ms ≡ insert_entry nat_cmp now u x
+pub pushed_is : (es fs ms now : List (ℕ × UserValue)) (u : ℕ) (x : UserValue) → fs ≡ es ++ (u, x) ∷ [] → ms ≡ [] → Below u es → es ++ ms ≡ now
+    → fs ++ ms ≡ insert_entry nat_cmp now u x
 pushed_is es fs ms now u x is none b view = ap (λ l. l ++ ms) is ∙ pushed es ms u x none b ∙ ap (λ l. insert_entry nat_cmp l u x) view

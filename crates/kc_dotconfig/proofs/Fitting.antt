@@ -63,15 +63,18 @@ no_length : (n : ℕ) → length {A = Option UserValue} (replicate n None) ≡ n
 no_length zero = refl
 no_length (suc n) = let rest = no_length n in omega (arith, rest)
 
-pub fragment_fits : (prefix : List ℕ) (tree : Tree) (told : List ℕ) (sayings : List LineMeaning) (es : List (ℕ × UserValue)) → is_prefix prefix ≡ true → IsConsistent tree
-    → IsAccepted prefix tree told → FileMeans prefix tree told sayings → users_of tree es ≡ file_assignment tree sayings → Rises es → Below (length tree.units) es → FitsTree tree es
-fragment_fits prefix tree told sayings es valid sound accepted says users r b =
-    let fits = file_fits prefix tree told sayings sound (accepted_utf8 prefix tree told valid accepted) says in
+pub fragment_fits : (prefix : List ℕ) (tree : Tree) (known : List ℕ) (meanings : List LineMeaning) (es : List (ℕ × UserValue)) → is_prefix prefix ≡ true
+    → IsConsistent tree
+    → IsAccepted prefix tree known → FileMeans prefix tree known meanings → users_of tree es ≡ file_assignment tree meanings → Rises es
+    → Below (length tree.units) es → FitsTree tree es
+fragment_fits prefix tree known meanings es valid sound accepted says users r b =
+    let fits = file_fits prefix tree known meanings sound (accepted_utf8 prefix tree known valid accepted) says in
     record {
       ascending = rises_all es r;
       each = λ k u x at.
           let within = below_at (length tree.units) es k u x b at in
           let n = no_length (length tree.units) in
-          let is : user_of (file_assignment tree sayings) u ≡ Some x = ap (λ l. user_of l u) (sym users) ∙ held_at es (empty_assignment tree) k u x r (omega (arith, within, n)) at in
+          let is : user_of (file_assignment tree meanings) u ≡ Some x = ap (λ l. user_of l u) (sym users)
+          ∙ held_at es (empty_assignment tree) k u x r (omega (arith, within, n)) at in
           (within, subst (λ o. IfSome o (λ y. IsTrue (user_fits tree u y))) is (fits.1 u within));
     }

@@ -27,7 +27,8 @@ within [] i u x at = cc
 within (e ∷ es) zero u x at = omega arith
 within (e ∷ es) (suc i) u x at = let h = within es i u x at in omega (arith, h)
 
-not_below : (es : List (ℕ × UserValue)) (i u : ℕ) (x : UserValue) → slice_get es i ≡ Some (u, x) → IsStrictlyIncreasing (units_of es) → u < next_at (units_of es) i → ⊥
+not_below : (es : List (ℕ × UserValue)) (i u : ℕ) (x : UserValue) → slice_get es i ≡ Some (u, x) → IsStrictlyIncreasing (units_of es)
+    → u < next_at (units_of es) i → ⊥
 not_below es zero u x at rises low = omega (arith, low)
 not_below es (suc k) u x at rises low =
     let n : k + 1 ≡ suc k = omega arith in
@@ -47,7 +48,8 @@ unfit tree es i u x at why fits = elim why [
 ]
 
 pub next_rises : (es : List (ℕ × UserValue)) (i k u : ℕ) (x : UserValue) → slice_get es i ≡ Some (u, x) → next_at (units_of es) i ≤ u
-    → ((j : ℕ) → j + 1 < i → slice_index (units_of es) j < slice_index (units_of es) (j + 1)) → k + 1 < i + 1 → slice_index (units_of es) k < slice_index (units_of es) (k + 1)
+    → ((j : ℕ) → j + 1 < i → slice_index (units_of es) j < slice_index (units_of es) (j + 1)) → k + 1 < i + 1
+    → slice_index (units_of es) k < slice_index (units_of es) (k + 1)
 next_rises es i k u x at low before h = elim (cases_lt (k + 1) i) [
   | inl less ↦ before k less
   | inr last ↦
@@ -58,7 +60,8 @@ next_rises es i k u x at low before h = elim (cases_lt (k + 1) i) [
       omega (arith, is, bound)
 ]
 
-pub next_each : (tree : Tree) (es : List (ℕ × UserValue)) (i : ℕ) (v : ℕ) (y : UserValue) → slice_get es i ≡ Some (v, y) → v < length tree.units → user_fits tree v y ≡ true
+pub next_each : (tree : Tree) (es : List (ℕ × UserValue)) (i : ℕ) (v : ℕ) (y : UserValue) → slice_get es i ≡ Some (v, y) → v < length tree.units
+    → user_fits tree v y ≡ true
     → ((k u : ℕ) (x : UserValue) → k < i → slice_get es k ≡ Some (u, x) → (u < length tree.units) × IsTrue (user_fits tree u x))
     → (k u : ℕ) (x : UserValue) → k < i + 1 → slice_get es k ≡ Some (u, x) → (u < length tree.units) × IsTrue (user_fits tree u x)
 next_each tree es i v y here low fits before k u x h at = elim (cases_lt k i) [
@@ -77,7 +80,8 @@ next_is es i u x at =
     let n : i + 1 ≡ suc i = omega arith in
     ap (λ v. v + 1) (sym (unit_is es i u x at)) ∙ sym (ap (next_at (units_of es)) n)
 
-pub all_fit : (tree : Tree) (es : List (ℕ × UserValue)) (i : ℕ) → length es ≤ i → ((k : ℕ) → k + 1 < i → slice_index (units_of es) k < slice_index (units_of es) (k + 1))
+pub all_fit : (tree : Tree) (es : List (ℕ × UserValue)) (i : ℕ) → length es ≤ i
+    → ((k : ℕ) → k + 1 < i → slice_index (units_of es) k < slice_index (units_of es) (k + 1))
     → ((k u : ℕ) (x : UserValue) → k < i → slice_get es k ≡ Some (u, x) → (u < length tree.units) × IsTrue (user_fits tree u x)) → FitsTree tree es
 all_fit tree es i end rises each = record {
   ascending = λ k h. rises k (let n = same es in omega (arith, h, n, end));

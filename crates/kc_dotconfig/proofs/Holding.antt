@@ -19,7 +19,8 @@ changed_both [] b users = refl
 changed_both (c ∷ a) b users = changed_both a b (slice_set users c.0 c.1)
 
 -- one more user value
-pub assigned_push : (es : List (ℕ × UserValue)) (a : ℕ × UserValue) (users : List (Option UserValue)) → changed_users (changes_of (es ++ a ∷ [])) users ≡ slice_set (changed_users (changes_of es) users) a.0 (Some a.1)
+pub assigned_push : (es : List (ℕ × UserValue)) (a : ℕ × UserValue) (users : List (Option UserValue))
+    → changed_users (changes_of (es ++ a ∷ [])) users ≡ slice_set (changed_users (changes_of es) users) a.0 (Some a.1)
 assigned_push [] a users = refl
 assigned_push (e ∷ es) a users = assigned_push es a (slice_set users e.0 (Some e.1))
 
@@ -31,7 +32,8 @@ pub later_in : (x y : ℕ) (xs : List ℕ) → Contains xs y → Contains (x ∷
 later_in x y xs (k, h, is) = (suc k, omega (arith, h), is)
 
 -- a unit with a user value was given one, or had one
-pub given_or_had : (es : List (ℕ × UserValue)) (users : List (Option UserValue)) (u : ℕ) (x : UserValue) → user_of (changed_users (changes_of es) users) u ≡ Some x
+pub given_or_had : (es : List (ℕ × UserValue)) (users : List (Option UserValue)) (u : ℕ) (x : UserValue)
+    → user_of (changed_users (changes_of es) users) u ≡ Some x
     → Contains (units_of es) u ⊎ ((y : UserValue) × (user_of users u ≡ Some y))
 given_or_had [] users u x e = inr (x, e)
 given_or_had (a ∷ es) users u x e = elim (given_or_had es (slice_set users a.0 (Some a.1)) u x e) [
@@ -56,7 +58,8 @@ all_none [] h = refl
 all_none (None ∷ users) h = ap (λ l. None ∷ l) (all_none users (λ u x e. h (suc u) x e))
 all_none (Some y ∷ users) h = absurd (h 0 y refl)
 
-pub cleared : (units : List ℕ) (users : List (Option UserValue)) → ((u : ℕ) (x : UserValue) → user_of users u ≡ Some x → Contains units u) → changed_users (clears_of units) users ≡ replicate (length users) None
+pub cleared : (units : List ℕ) (users : List (Option UserValue)) → ((u : ℕ) (x : UserValue) → user_of users u ≡ Some x → Contains units u)
+    → changed_users (clears_of units) users ≡ replicate (length users) None
 cleared [] users covers = all_none users (λ u x e. none_in u (covers u x e)) where
   none_in : (u : ℕ) → Contains {X = ℕ} [] u → ⊥
   none_in u (k, h, is) = omega (arith, h)
@@ -74,7 +77,8 @@ cleared (w ∷ units) users covers = cleared units (slice_set users w None) rest
 
   rest : (u : ℕ) (x : UserValue) → user_of (slice_set users w None) u ≡ Some x → Contains units u
   rest u x e = elim (cases_eq u w) [
-    | inl same ↦ (let none = set_none users in let here : user_of (slice_set users w None) w ≡ Some x = subst (λ k. user_of (slice_set users w None) k ≡ Some x) same e in cc)
+    | inl same ↦ (let none = set_none users in let here : user_of (slice_set users w None) w ≡ Some x = subst (λ k. user_of (slice_set users w None) k ≡ Some x)
+        same e in cc)
     | inr other ↦ behind_first u other (covers u x (sym (get_or-set_other users w u None None other) ∙ e))
   ]
 
@@ -83,7 +87,8 @@ none_over : (users : List (Option UserValue)) → overlay (replicate (length use
 none_over [] = refl
 none_over (x ∷ users) = ap (λ l. x ∷ l) (none_over users)
 
-set_over : (over users : List (Option UserValue)) (u : ℕ) (x : UserValue) → length over ≡ length users → slice_set (overlay over users) u (Some x) ≡ overlay (slice_set over u (Some x)) users
+set_over : (over users : List (Option UserValue)) (u : ℕ) (x : UserValue) → length over ≡ length users
+    → slice_set (overlay over users) u (Some x) ≡ overlay (slice_set over u (Some x)) users
 set_over [] [] u x e = refl
 set_over [] (y ∷ users) u x e = absurd (omega (arith, e))
 set_over (o ∷ over) [] u x e = absurd (omega (arith, e))
@@ -92,16 +97,19 @@ set_over (None ∷ over) (y ∷ users) (suc u) x e = ap (λ l. y ∷ l) (set_ove
 set_over (Some o ∷ over) (y ∷ users) zero x e = refl
 set_over (Some o ∷ over) (y ∷ users) (suc u) x e = ap (λ l. Some o ∷ l) (set_over over users u x (omega (arith, e)))
 
-changes_over : (es : List (ℕ × UserValue)) (over users : List (Option UserValue)) → length over ≡ length users → changed_users (changes_of es) (overlay over users) ≡ overlay (changed_users (changes_of es) over) users
+changes_over : (es : List (ℕ × UserValue)) (over users : List (Option UserValue)) → length over ≡ length users
+    → changed_users (changes_of es) (overlay over users) ≡ overlay (changed_users (changes_of es) over) users
 changes_over [] over users e = refl
 changes_over (a ∷ es) over users e =
-    ap (changed_users (changes_of es)) (set_over over users a.0 a.1 e) ∙ changes_over es (slice_set over a.0 (Some a.1)) users (length-set over a.0 (Some a.1) ∙ e)
+    ap (changed_users (changes_of es)) (set_over over users a.0 a.1 e)
+    ∙ changes_over es (slice_set over a.0 (Some a.1)) users (length-set over a.0 (Some a.1) ∙ e)
 
 none_length : (n : ℕ) → length {A = Option UserValue} (replicate n None) ≡ n
 none_length zero = refl
 none_length (suc n) = let rest = none_length n in omega (arith, rest)
 
-pub lies_over : (tree : Tree) (es : List (ℕ × UserValue)) (users : List (Option UserValue)) → length users ≡ length tree.units → changed_users (changes_of es) users ≡ overlay (users_of tree es) users
+pub lies_over : (tree : Tree) (es : List (ℕ × UserValue)) (users : List (Option UserValue)) → length users ≡ length tree.units
+    → changed_users (changes_of es) users ≡ overlay (users_of tree es) users
 lies_over tree es users same =
     ap (changed_users (changes_of es)) (sym (none_over users) ∙ ap (λ n. overlay (replicate n None) users) same)
     ∙ changes_over es (empty_assignment tree) users (none_length (length tree.units) ∙ sym same)
@@ -114,7 +122,8 @@ lies_alone tree es = lies_over tree es (empty_assignment tree) (none_length (len
 same_pair : (p q : ℕ × Option UserValue) → Some p ≡ Some q → p ≡ q
 same_pair p q e = cc
 
-at_of : (assigns : List (ℕ × UserValue)) (k u : ℕ) (x : Option UserValue) → slice_get (changes_of assigns) k ≡ Some (u, x) → (y : UserValue) × (slice_get assigns k ≡ Some (u, y)) × (x ≡ Some y)
+at_of : (assigns : List (ℕ × UserValue)) (k u : ℕ) (x : Option UserValue) → slice_get (changes_of assigns) k ≡ Some (u, x)
+    → (y : UserValue) × (slice_get assigns k ≡ Some (u, y)) × (x ≡ Some y)
 at_of [] k u x e = cc
 at_of (a ∷ assigns) zero u x e =
     let both = same_pair (a.0, Some a.1) (u, x) e in
@@ -123,20 +132,23 @@ at_of (a ∷ assigns) zero u x e =
     (a.1, ap (λ (v : ℕ). Some (v, a.1)) first, sym second)
 at_of (a ∷ assigns) (suc k) u x e = at_of assigns k u x e
 
-pub fits_changes : (tree : Tree) (es : List (ℕ × UserValue)) → FitsTree tree es → FitsChanges (length tree.units) (λ u x. IsTrue (user_fits tree u x)) (changes_of es)
+pub fits_changes : (tree : Tree) (es : List (ℕ × UserValue)) → FitsTree tree es
+    → FitsChanges (length tree.units) (λ u x. IsTrue (user_fits tree u x)) (changes_of es)
 fits_changes tree es f k u x e =
     let at = at_of es k u x e in
     let each = f.each k u at.0 at.1 in
     (each.0, subst (λ o. IfSome o (λ y. IsTrue (user_fits tree u y))) (sym at.2) each.1)
 
 -- an assignment of fitting user values fits
-pub users_fit : (tree : Tree) (es : List (ℕ × UserValue)) → FitsTree tree es → FitsUsers (length tree.units) (λ u x. IsTrue (user_fits tree u x)) (users_of tree es)
+pub users_fit : (tree : Tree) (es : List (ℕ × UserValue)) → FitsTree tree es
+    → FitsUsers (length tree.units) (λ u x. IsTrue (user_fits tree u x)) (users_of tree es)
 users_fit tree es f =
     changed_fits (length tree.units) (λ u x. IsTrue (user_fits tree u x)) (changes_of es) (empty_assignment tree) (fits_changes tree es f)
     (none_fits (λ u x. IsTrue (user_fits tree u x)) (empty_assignment tree) (length tree.units) (length tree.units) refl refl)
 
 -- clearing units of the tree, and then fitting changes
-pub fits_both : (size : ℕ) (fits : ℕ → UserValue → Type 0) (units : List ℕ) (b : List (ℕ × Option UserValue)) → ((u : ℕ) → Contains units u → u < size) → FitsChanges size fits b → FitsChanges size fits (clears_of units ++ b)
+pub fits_both : (size : ℕ) (fits : ℕ → UserValue → Type 0) (units : List ℕ) (b : List (ℕ × Option UserValue)) → ((u : ℕ) → Contains units u → u < size)
+    → FitsChanges size fits b → FitsChanges size fits (clears_of units ++ b)
 fits_both size fits [] b within f k u x e = f k u x e
 fits_both size fits (w ∷ units) b within f zero u x e =
     let both = same_pair (w, None) (u, x) e in
@@ -146,7 +158,8 @@ fits_both size fits (w ∷ units) b within f zero u x e =
 fits_both size fits (w ∷ units) b within f (suc k) u x e = fits_both size fits units b (λ v c. within v (later_in w v units c)) f k u x e
 
 -- the units of fitting user values are units
-unit_at : (es : List (ℕ × UserValue)) (k u : ℕ) → k < length (units_of es) → slice_index_or (units_of es) k u ≡ u → (x : UserValue) × (slice_get es k ≡ Some (u, x))
+unit_at : (es : List (ℕ × UserValue)) (k u : ℕ) → k < length (units_of es) → slice_index_or (units_of es) k u ≡ u
+    → (x : UserValue) × (slice_get es k ≡ Some (u, x))
 unit_at [] k u h e = absurd (omega (arith, h))
 unit_at (a ∷ es) zero u h e = (a.1, ap (λ (v : ℕ). Some (v, a.1)) e)
 unit_at (a ∷ es) (suc k) u h e = unit_at es k u (omega (arith, h)) e
@@ -171,7 +184,8 @@ in_either (x ∷ xs) ys u (suc k, h, is) = elim (in_either xs ys u (k, omega (ar
 
 pub in_filter : (p : ℕ → Bool) (xs : List ℕ) (u : ℕ) → p u ≡ true → Contains xs u → Contains (filter p xs) u
 in_filter p [] u pass (k, h, is) = absurd (omega (arith, h))
-in_filter p (x ∷ xs) u pass (zero, h, is) = subst (λ (t : Bool). Contains (cond t (x ∷ filter p xs) (filter p xs)) u) (sym (ap p is ∙ pass)) (0, omega arith, is)
+in_filter p (x ∷ xs) u pass (zero, h, is) =
+    subst (λ (t : Bool). Contains (cond t (x ∷ filter p xs) (filter p xs)) u) (sym (ap p is ∙ pass)) (0, omega arith, is)
 in_filter p (x ∷ xs) u pass (suc k, h, is) = go (p x) (in_filter p xs u pass (k, omega (arith, h), is)) where
   go : (t : Bool) → Contains (filter p xs) u → Contains (cond t (x ∷ filter p xs) (filter p xs)) u
   go true c = later_in x u (filter p xs) c

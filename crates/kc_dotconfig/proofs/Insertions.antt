@@ -31,13 +31,15 @@ set_again (x ∷ xs) zero a b = refl
 set_again (x ∷ xs) (suc u) a b = ap (λ l. x ∷ l) (set_again xs u a b)
 
 -- a change of another unit may come first
-pub later_set : (es : List (ℕ × UserValue)) (u : ℕ) (x : Option UserValue) (base : List (Option UserValue)) → Above u es → changed_users (changes_of es) (slice_set base u x) ≡ slice_set (changed_users (changes_of es) base) u x
+pub later_set : (es : List (ℕ × UserValue)) (u : ℕ) (x : Option UserValue) (base : List (Option UserValue)) → Above u es
+    → changed_users (changes_of es) (slice_set base u x) ≡ slice_set (changed_users (changes_of es) base) u x
 later_set [] u x base a = refl
 later_set (e ∷ es) u x base a =
     let ne : u ≢ e.0 = (let b = a.0 in omega arith) in
     ap (changed_users (changes_of es)) (set_comm base u e.0 x (Some e.1) ne) ∙ later_set es u x (slice_set base e.0 (Some e.1)) a.1
 
-pub insert_set : (es : List (ℕ × UserValue)) (u : ℕ) (x : UserValue) (base : List (Option UserValue)) → Rises es → changed_users (changes_of (insert_entry nat_cmp es u x)) base ≡ slice_set (changed_users (changes_of es) base) u (Some x)
+pub insert_set : (es : List (ℕ × UserValue)) (u : ℕ) (x : UserValue) (base : List (Option UserValue)) → Rises es
+    → changed_users (changes_of (insert_entry nat_cmp es u x)) base ≡ slice_set (changed_users (changes_of es) base) u (Some x)
 insert_set [] u x base r = refl
 insert_set (e ∷ es) u x base r = elim (split u e.0) [
   | inl less ↦ (let is : nat_cmp u e.0 ≡ Less = sym (nat_cmp_is u e.0 Less less) in
@@ -60,18 +62,23 @@ above_insert k [] u x h a = (h, tt)
 above_insert k (e ∷ es) u x h a = elim (split u e.0) [
   | inl less ↦ subst (λ o. Above k (match_ordering o ((u, x) ∷ e ∷ es) ((e.0, x) ∷ es) (e ∷ insert_entry nat_cmp es u x))) (nat_cmp_is u e.0 Less less) (h, a)
   | inr more ↦ elim (split e.0 u) [
-    | inl less ↦ subst (λ o. Above k (match_ordering o ((u, x) ∷ e ∷ es) ((e.0, x) ∷ es) (e ∷ insert_entry nat_cmp es u x))) (nat_cmp_is u e.0 Greater less) (a.0, above_insert k es u x h a.1)
-    | inr same ↦ (let eq : u ≡ e.0 = omega arith in subst (λ o. Above k (match_ordering o ((u, x) ∷ e ∷ es) ((e.0, x) ∷ es) (e ∷ insert_entry nat_cmp es u x))) (nat_cmp_is u e.0 Equal eq) (a.0, a.1))
+    | inl less ↦ subst (λ o. Above k (match_ordering o ((u, x) ∷ e ∷ es) ((e.0, x) ∷ es) (e ∷ insert_entry nat_cmp es u x))) (nat_cmp_is u e.0 Greater less)
+        (a.0, above_insert k es u x h a.1)
+    | inr same ↦ (let eq : u ≡ e.0 = omega arith in subst (λ o. Above k (match_ordering o ((u, x) ∷ e ∷ es) ((e.0, x) ∷ es) (e ∷ insert_entry nat_cmp es u x)))
+        (nat_cmp_is u e.0 Equal eq) (a.0, a.1))
   ]
 ]
 
 rises_insert : (es : List (ℕ × UserValue)) (u : ℕ) (x : UserValue) → Rises es → Rises (insert_entry nat_cmp es u x)
 rises_insert [] u x r = (tt, tt)
 rises_insert (e ∷ es) u x r = elim (split u e.0) [
-  | inl less ↦ subst (λ o. Rises (match_ordering o ((u, x) ∷ e ∷ es) ((e.0, x) ∷ es) (e ∷ insert_entry nat_cmp es u x))) (nat_cmp_is u e.0 Less less) ((less, above_less u e.0 es less r.0), r)
+  | inl less ↦ subst (λ o. Rises (match_ordering o ((u, x) ∷ e ∷ es) ((e.0, x) ∷ es) (e ∷ insert_entry nat_cmp es u x))) (nat_cmp_is u e.0 Less less)
+      ((less, above_less u e.0 es less r.0), r)
   | inr more ↦ elim (split e.0 u) [
-    | inl less ↦ subst (λ o. Rises (match_ordering o ((u, x) ∷ e ∷ es) ((e.0, x) ∷ es) (e ∷ insert_entry nat_cmp es u x))) (nat_cmp_is u e.0 Greater less) (above_insert e.0 es u x less r.0, rises_insert es u x r.1)
-    | inr same ↦ (let eq : u ≡ e.0 = omega arith in subst (λ o. Rises (match_ordering o ((u, x) ∷ e ∷ es) ((e.0, x) ∷ es) (e ∷ insert_entry nat_cmp es u x))) (nat_cmp_is u e.0 Equal eq) (r.0, r.1))
+    | inl less ↦ subst (λ o. Rises (match_ordering o ((u, x) ∷ e ∷ es) ((e.0, x) ∷ es) (e ∷ insert_entry nat_cmp es u x))) (nat_cmp_is u e.0 Greater less)
+        (above_insert e.0 es u x less r.0, rises_insert es u x r.1)
+    | inr same ↦ (let eq : u ≡ e.0 = omega arith in subst (λ o. Rises (match_ordering o ((u, x) ∷ e ∷ es) ((e.0, x) ∷ es) (e ∷ insert_entry nat_cmp es u x)))
+        (nat_cmp_is u e.0 Equal eq) (r.0, r.1))
   ]
 ]
 
@@ -83,31 +90,40 @@ below_insert n (e ∷ es) u x h b = by (nat_cmp u e.0) (below_insert n es u x h 
   by Equal rest = (b.0, b.1)
   by Greater rest = (b.0, rest)
 
-over_more : (sayings : List LineMeaning) (s : LineMeaning) (users : List (Option UserValue)) → assigned_over (sayings ++ s ∷ []) users ≡ assigned s (assigned_over sayings users)
+over_more : (meanings : List LineMeaning) (s : LineMeaning) (users : List (Option UserValue))
+    → assigned_over (meanings ++ s ∷ []) users ≡ assigned s (assigned_over meanings users)
 over_more [] s users = refl
-over_more (x ∷ sayings) s users = over_more sayings s (assigned x users)
+over_more (x ∷ meanings) s users = over_more meanings s (assigned x users)
 
 notices_more : (n : ℕ) (a b : List LineMeaning) → notices_from n (a ++ b) ≡ notices_from n a ++ notices_from (n + length a) b
 notices_more n [] b = ap (λ m. notices_from m b) (let e : n ≡ n + 0 = omega arith in e)
-notices_more n (assigns u x ∷ a) b = notices_more (n + 1) a b ∙ ap (λ m. notices_from (n + 1) a ++ notices_from m b) (let e : (n + 1) + length a ≡ n + suc (length a) = omega arith in e)
-notices_more n (notice kind ∷ a) b = ap (λ l. (n, kind) ∷ l) (notices_more (n + 1) a b ∙ ap (λ m. notices_from (n + 1) a ++ notices_from m b) (let e : (n + 1) + length a ≡ n + suc (length a) = omega arith in e))
-notices_more n (silent ∷ a) b = notices_more (n + 1) a b ∙ ap (λ m. notices_from (n + 1) a ++ notices_from m b) (let e : (n + 1) + length a ≡ n + suc (length a) = omega arith in e)
+notices_more n (assigns u x ∷ a) b =
+    notices_more (n + 1) a b ∙ ap (λ m. notices_from (n + 1) a ++ notices_from m b) (let e : (n + 1) + length a ≡ n + suc (length a) = omega arith in e)
+notices_more n (notice kind ∷ a) b =
+    ap (λ l. (n, kind) ∷ l) (notices_more (n + 1) a b ∙ ap (λ m. notices_from (n + 1) a ++ notices_from m b)
+    (let e : (n + 1) + length a ≡ n + suc (length a) = omega arith in e))
+notices_more n (silent ∷ a) b =
+    notices_more (n + 1) a b ∙ ap (λ m. notices_from (n + 1) a ++ notices_from m b) (let e : (n + 1) + length a ≡ n + suc (length a) = omega arith in e)
 
 -- one line more
-pub gathers_user : (tree : Tree) (sayings : List LineMeaning) (g h : Accumulator) (u : ℕ) (x : UserValue) → u < length tree.units → IsGathered tree sayings g → h.assigns ≡ insert_entry nat_cmp g.assigns u x → h.notices.items ≡ g.notices.items → h.lines ≡ g.lines + 1 → IsGathered tree (sayings ++ assigns u x ∷ []) h
-gathers_user tree sayings g h u x within is entries notices lines = record {
-  users = ap (users_of tree) entries ∙ insert_set g.assigns u x (empty_assignment tree) is.rises ∙ ap (λ l. slice_set l u (Some x)) is.users ∙ sym (over_more sayings (assigns u x) (empty_assignment tree));
-  noted = ap (map notice_pair) notices ∙ is.noted ∙ sym (notices_more 1 sayings (assigns u x ∷ []) ∙ append-nil (notices_from 1 sayings));
-  counted = (let e = is.counted in let n = length-append sayings (assigns u x ∷ []) in omega arith);
+pub gathers_user : (tree : Tree) (meanings : List LineMeaning) (g h : Accumulator) (u : ℕ) (x : UserValue) → u < length tree.units → IsGathered tree meanings g
+    → h.assigns ≡ insert_entry nat_cmp g.assigns u x → h.notices.items ≡ g.notices.items → h.lines ≡ g.lines + 1
+    → IsGathered tree (meanings ++ assigns u x ∷ []) h
+gathers_user tree meanings g h u x within is entries notices lines = record {
+  users = ap (users_of tree) entries ∙ insert_set g.assigns u x (empty_assignment tree) is.rises ∙ ap (λ l. slice_set l u (Some x)) is.users
+      ∙ sym (over_more meanings (assigns u x) (empty_assignment tree));
+  noted = ap (map notice_pair) notices ∙ is.noted ∙ sym (notices_more 1 meanings (assigns u x ∷ []) ∙ append-nil (notices_from 1 meanings));
+  counted = (let e = is.counted in let n = length-append meanings (assigns u x ∷ []) in omega arith);
   rises = subst Rises (sym entries) (rises_insert g.assigns u x is.rises);
   below = subst (Below (length tree.units)) (sym entries) (below_insert (length tree.units) g.assigns u x within is.below);
 }
 
-pub gathers_nothing : (tree : Tree) (sayings : List LineMeaning) (g h : Accumulator) → IsGathered tree sayings g → h.assigns ≡ g.assigns → h.notices.items ≡ g.notices.items → h.lines ≡ g.lines + 1 → IsGathered tree (sayings ++ silent ∷ []) h
-gathers_nothing tree sayings g h is entries notices lines = record {
-  users = ap (users_of tree) entries ∙ is.users ∙ sym (over_more sayings silent (empty_assignment tree));
-  noted = ap (map notice_pair) notices ∙ is.noted ∙ sym (notices_more 1 sayings (silent ∷ []) ∙ append-nil (notices_from 1 sayings));
-  counted = (let e = is.counted in let n = length-append sayings (silent ∷ []) in omega arith);
+pub gathers_nothing : (tree : Tree) (meanings : List LineMeaning) (g h : Accumulator) → IsGathered tree meanings g → h.assigns ≡ g.assigns
+    → h.notices.items ≡ g.notices.items → h.lines ≡ g.lines + 1 → IsGathered tree (meanings ++ silent ∷ []) h
+gathers_nothing tree meanings g h is entries notices lines = record {
+  users = ap (users_of tree) entries ∙ is.users ∙ sym (over_more meanings silent (empty_assignment tree));
+  noted = ap (map notice_pair) notices ∙ is.noted ∙ sym (notices_more 1 meanings (silent ∷ []) ∙ append-nil (notices_from 1 meanings));
+  counted = (let e = is.counted in let n = length-append meanings (silent ∷ []) in omega arith);
   rises = subst Rises (sym entries) is.rises;
   below = subst (Below (length tree.units)) (sym entries) is.below;
 }
@@ -116,13 +132,16 @@ pairs_more : (a : List Notice) (b : Notice) → map notice_pair (a ++ b ∷ []) 
 pairs_more [] b = refl
 pairs_more (x ∷ a) b = ap (λ l. notice_pair x ∷ l) (pairs_more a b)
 
-pub gathers_notice : (tree : Tree) (sayings : List LineMeaning) (g h : Accumulator) (kind : NoticeKind) → IsGathered tree sayings g → h.assigns ≡ g.assigns → h.notices.items ≡ g.notices.items ++ record { line = g.lines + 1; kind = kind } ∷ [] → h.lines ≡ g.lines + 1 → IsGathered tree (sayings ++ notice kind ∷ []) h
-gathers_notice tree sayings g h kind is entries notices lines = record {
-  users = ap (users_of tree) entries ∙ is.users ∙ sym (over_more sayings (notice kind) (empty_assignment tree));
+pub gathers_notice : (tree : Tree) (meanings : List LineMeaning) (g h : Accumulator) (kind : NoticeKind) → IsGathered tree meanings g → h.assigns ≡ g.assigns
+    → h.notices.items ≡ g.notices.items ++ record { line = g.lines + 1; kind = kind } ∷ [] → h.lines ≡ g.lines + 1
+    → IsGathered tree (meanings ++ notice kind ∷ []) h
+gathers_notice tree meanings g h kind is entries notices lines = record {
+  users = ap (users_of tree) entries ∙ is.users ∙ sym (over_more meanings (notice kind) (empty_assignment tree));
   noted =
-      let number : g.lines + 1 ≡ 1 + length sayings = (let e = is.counted in omega arith) in
-      ap (map notice_pair) notices ∙ pairs_more g.notices.items (record { line = g.lines + 1; kind = kind }) ∙ ap (λ l. l ++ (g.lines + 1, kind) ∷ []) is.noted ∙ ap (λ n. notices_from 1 sayings ++ (n, kind) ∷ []) number ∙ sym (notices_more 1 sayings (notice kind ∷ []));
-  counted = (let e = is.counted in let n = length-append sayings (notice kind ∷ []) in omega arith);
+      let number : g.lines + 1 ≡ 1 + length meanings = (let e = is.counted in omega arith) in
+      ap (map notice_pair) notices ∙ pairs_more g.notices.items (record { line = g.lines + 1; kind = kind }) ∙ ap (λ l. l ++ (g.lines + 1, kind) ∷ []) is.noted
+      ∙ ap (λ n. notices_from 1 meanings ++ (n, kind) ∷ []) number ∙ sym (notices_more 1 meanings (notice kind ∷ []));
+  counted = (let e = is.counted in let n = length-append meanings (notice kind ∷ []) in omega arith);
   rises = subst Rises (sym entries) is.rises;
   below = subst (Below (length tree.units)) (sym entries) is.below;
 }

@@ -28,7 +28,8 @@ some_is o P x held is = subst (λ p. IfSome p P) is held
 pub none_is : {X : Type 0} (o : Option X) (P : Type 0) → IfNone o P → o ≡ None → P
 none_is o P held is = subst (λ p. IfNone p P) is held
 
-pub quoted_said : (unit : ℕ) (text means result : List ℕ) → result ≡ means → IsQuoted text means → assigns unit (TextUser result) ≡ string_meaning unit (unquoted text)
+pub quoted_said : (unit : ℕ) (text means result : List ℕ) → result ≡ means → IsQuoted text means
+    → assigns unit (TextUser result) ≡ string_meaning unit (unquoted text)
 quoted_said unit text means result same quoted = ap (λ t. assigns unit (TextUser t)) same ∙ sym (ap (string_meaning unit) (means_unquoted text means quoted))
 
 pub unquoted_said : (unit : ℕ) (text : List ℕ) → ((means : List ℕ) → IsQuoted text means → ⊥) → notice NotOfType ≡ string_meaning unit (unquoted text)
@@ -64,9 +65,10 @@ kind_within n Text u s choice text h = string_within n u (unquoted text) h
 kind_within n Int u s choice text h = number_within n u Int text h
 kind_within n Hex u s choice text h = number_within n u Hex text h
 
-pub said_within : {E : Type 0} (r : Result Meaning E) (n : ℕ) (kind : Kind) (u s : ℕ) (choice : Option ℕ) (text : List ℕ) → u < n → IfOk r (λ said. meaning_view said ≡ meaning_of_kind kind u s choice text) → IfOk r (λ said. IsWithin n (meaning_view said))
-said_within (Ok said) n kind u s choice text h is = subst (IsWithin n) (sym is) (kind_within n kind u s choice text h)
-said_within (Err e) n kind u s choice text h is = tt
+pub meaning_within : {E : Type 0} (r : Result Meaning E) (n : ℕ) (kind : Kind) (u s : ℕ) (choice : Option ℕ) (text : List ℕ) → u < n
+    → IfOk r (λ meaning. meaning_view meaning ≡ meaning_of_kind kind u s choice text) → IfOk r (λ meaning. IsWithin n (meaning_view meaning))
+meaning_within (Ok meaning) n kind u s choice text h is = subst (IsWithin n) (sym is) (kind_within n kind u s choice text h)
+meaning_within (Err e) n kind u s choice text h is = tt
 
 slice_there : {X : Type 0} (xs : List X) (k : ℕ) → k < length xs → (x : X) × (slice_get xs k ≡ Some x)
 slice_there [] k h = absurd (omega (arith, h))
@@ -74,35 +76,42 @@ slice_there (x ∷ xs) zero h = (x, refl)
 slice_there (x ∷ xs) (suc k) h = slice_there xs k (omega (arith, h))
 
 -- the meaning of a line of a symbol that is there
-pub named_at : (tree : Tree) (say : ℕ → Symbol → LineMeaning) (s : ℕ) (x : LineMeaning) → s < length tree.symbols → ((symbol : Symbol) → slice_get tree.symbols s ≡ Some symbol → x ≡ say s symbol) → x ≡ of_named tree say (Some s)
+pub named_at : (tree : Tree) (say : ℕ → Symbol → LineMeaning) (s : ℕ) (x : LineMeaning) → s < length tree.symbols
+    → ((symbol : Symbol) → slice_get tree.symbols s ≡ Some symbol → x ≡ say s symbol) → x ≡ of_named tree say (Some s)
 named_at tree say s x h is = go (slice_get tree.symbols s) refl (slice_there tree.symbols s h) where
   go : (o : Option Symbol) → slice_get tree.symbols s ≡ o → ((symbol : Symbol) × (slice_get tree.symbols s ≡ Some symbol)) → x ≡ of_symbol_at say s o
   go None e there = let f = there.1 in cc
   go (Some symbol) e there = is symbol e
 
-pub found_at_name : {E : Type 0} (r : Result Meaning E) (tree : Tree) (say : ℕ → Symbol → LineMeaning) (s : ℕ) (o : Option ℕ) → o ≡ Some s → s < length tree.symbols → IfOk r (λ said. (symbol : Symbol) → slice_get tree.symbols s ≡ Some symbol → meaning_view said ≡ say s symbol)
-    → IfOk r (λ said. meaning_view said ≡ of_named tree say o)
-found_at_name (Ok said) tree say s o e h is = named_at tree say s (meaning_view said) h is ∙ sym (ap (of_named tree say) e)
+pub found_at_name : {E : Type 0} (r : Result Meaning E) (tree : Tree) (say : ℕ → Symbol → LineMeaning) (s : ℕ) (o : Option ℕ) → o ≡ Some s
+    → s < length tree.symbols → IfOk r (λ meaning. (symbol : Symbol) → slice_get tree.symbols s ≡ Some symbol → meaning_view meaning ≡ say s symbol)
+    → IfOk r (λ meaning. meaning_view meaning ≡ of_named tree say o)
+found_at_name (Ok meaning) tree say s o e h is = named_at tree say s (meaning_view meaning) h is ∙ sym (ap (of_named tree say) e)
 found_at_name (Err x) tree say s o e h is = tt
 
 -- lines by their forms
-pub value_line_says : (prefix : List ℕ) (tree whole : Tree) (line text name rest : List ℕ) (x : LineMeaning) → whole ≡ tree → text ≡ line → value_parts prefix text ≡ Some (name, rest)
+pub value_line_says : (prefix : List ℕ) (tree whole : Tree) (line text name rest : List ℕ) (x : LineMeaning) → whole ≡ tree → text ≡ line
+    → value_parts prefix text ≡ Some (name, rest)
     → x ≡ of_named whole (λ s symbol. value_meaning whole s symbol rest) (symbol_named whole name) → Some x ≡ line_meaning prefix tree line
 unfolding line_meaning
 value_line_says prefix tree whole line text name rest x same is parts says =
     ap Some says ∙ sym (ap (of_value prefix whole text) parts) ∙ ap (λ l. line_meaning prefix whole l) is ∙ ap (λ t. line_meaning prefix t line) same
 
-pub unset_line_says : (prefix : List ℕ) (tree whole : Tree) (line text name : List ℕ) (x : LineMeaning) → whole ≡ tree → text ≡ line → value_parts prefix text ≡ None → unset_name prefix text ≡ Some name
+pub unset_line_says : (prefix : List ℕ) (tree whole : Tree) (line text name : List ℕ) (x : LineMeaning) → whole ≡ tree → text ≡ line
+    → value_parts prefix text ≡ None → unset_name prefix text ≡ Some name
     → x ≡ of_named whole (λ s symbol. unset_meaning whole s symbol symbol.choice) (symbol_named whole name) → Some x ≡ line_meaning prefix tree line
 unfolding line_meaning
 unset_line_says prefix tree whole line text name x same is parts unset says =
-    ap Some says ∙ sym (ap (of_value prefix whole text) parts ∙ ap (of_unset whole text) unset) ∙ ap (λ l. line_meaning prefix whole l) is ∙ ap (λ t. line_meaning prefix t line) same
+    ap Some says ∙ sym (ap (of_value prefix whole text) parts ∙ ap (of_unset whole text) unset) ∙ ap (λ l. line_meaning prefix whole l) is
+    ∙ ap (λ t. line_meaning prefix t line) same
 
-pub other_line_says : (prefix : List ℕ) (tree whole : Tree) (line text : List ℕ) (o : Option LineMeaning) → whole ≡ tree → text ≡ line → value_parts prefix text ≡ None → unset_name prefix text ≡ None
+pub other_line_says : (prefix : List ℕ) (tree whole : Tree) (line text : List ℕ) (o : Option LineMeaning) → whole ≡ tree → text ≡ line
+    → value_parts prefix text ≡ None → unset_name prefix text ≡ None
     → o ≡ of_other text → o ≡ line_meaning prefix tree line
 unfolding line_meaning
 other_line_says prefix tree whole line text o same is parts unset says =
-    says ∙ sym (ap (of_value prefix whole text) parts ∙ ap (of_unset whole text) unset) ∙ ap (λ l. line_meaning prefix whole l) is ∙ ap (λ t. line_meaning prefix t line) same
+    says ∙ sym (ap (of_value prefix whole text) parts ∙ ap (of_unset whole text) unset) ∙ ap (λ l. line_meaning prefix whole l) is
+    ∙ ap (λ t. line_meaning prefix t line) same
 
 pub hash_says : (line : List ℕ) → is_hash (find (λ b. not (is_white_byte b)) line) ≡ true → Some silent ≡ of_other line
 hash_says [] h = refl
@@ -117,7 +126,8 @@ no_hash_says [] some h = cc
 no_hash_says (b ∷ line) some h = sym (ap (λ t. cond {A = Option LineMeaning} t (Some silent) None) h)
 
 -- a symbol that has the name is the symbol of the name
-pub named_there : (tree : Tree) → IsConsistent tree → (s : ℕ) (found name : List ℕ) → option_map (λ (t : Symbol). t.name) (slice_get tree.symbols s) ≡ Some found → true ≡ bytes_eq found name → symbol_named tree name ≡ Some s
+pub named_there : (tree : Tree) → IsConsistent tree → (s : ℕ) (found name : List ℕ) → option_map (λ (t : Symbol). t.name) (slice_get tree.symbols s) ≡ Some found
+    → true ≡ bytes_eq found name → symbol_named tree name ≡ Some s
 named_there tree sound s found name at equal = go (slice_get tree.symbols s) refl at where
   go : (o : Option Symbol) → slice_get tree.symbols s ≡ o → option_map (λ (t : Symbol). t.name) o ≡ Some found → symbol_named tree name ≡ Some s
   go None e f = cc

@@ -17,7 +17,8 @@ behind_is : (front text rest : List ℕ) → after_front front text ≡ Some res
 behind_is [] text rest e = cc
 behind_is (a ∷ front) [] rest e = cc
 behind_is (a ∷ front) (b ∷ text) rest e = go (a == b) refl e (behind_is front text rest) where
-  go : (t : Bool) → (a == b) ≡ t → cond t (after_front front text) None ≡ Some rest → (after_front front text ≡ Some rest → text ≡ front ++ rest) → b ∷ text ≡ a ∷ (front ++ rest)
+  go : (t : Bool) → (a == b) ≡ t → cond t (after_front front text) None ≡ Some rest → (after_front front text ≡ Some rest → text ≡ front ++ rest)
+      → b ∷ text ≡ a ∷ (front ++ rest)
   go true same e next = ap (λ c. c ∷ text) (sym (eqb-true a b same)) ∙ ap (λ l. a ∷ l) (next e)
   go false same e next = cc
 
@@ -25,7 +26,8 @@ pub behind_some : (front text rest : List ℕ) → text ≡ front ++ rest → af
 behind_some front text rest is = ap (after_front front) is ∙ behind_front front rest
 
 -- a text may be cut after a front of ASCII
-pub front_boundary : (front text : List ℕ) → IsAscii front → IsUtf8 text → text ≡ front ++ drop (length front) text → 0 < length front → IsCharBoundary text (length front)
+pub front_boundary : (front text : List ℕ) → IsAscii front → IsUtf8 text → text ≡ front ++ drop (length front) text → 0 < length front
+    → IsCharBoundary text (length front)
 front_boundary front text low utf8 is some =
     let n : (length front - 1) + 1 ≡ length front = omega (arith, some) in
     let whole = ap length is in
@@ -50,20 +52,26 @@ pub behind_both : (a b text : List ℕ) → after_front (a ++ b) text ≡ option
 behind_both [] b text = refl
 behind_both (x ∷ a) b [] = refl
 behind_both (x ∷ a) b (y ∷ text) = go (x == y) (behind_both a b text) where
-  go : (t : Bool) → after_front (a ++ b) text ≡ option_and_then (after_front b) (after_front a text) → cond t (after_front (a ++ b) text) None ≡ option_and_then (after_front b) (cond t (after_front a text) None)
+  go : (t : Bool) → after_front (a ++ b) text ≡ option_and_then (after_front b) (after_front a text)
+      → cond t (after_front (a ++ b) text) None ≡ option_and_then (after_front b) (cond t (after_front a text) None)
   go true e = e
   go false e = refl
 
 abbrev Parts : Type 0
 Parts = List ℕ × List ℕ
 
-pub cut_is : (b : ℕ) (text : List ℕ) → position_or_len (λ c. c == b) text < length text → split_at_byte b text ≡ Some (before_first (λ c. c == b) text, after_first (λ c. c == b) text)
+pub cut_is : (b : ℕ) (text : List ℕ) → position_or_len (λ c. c == b) text < length text
+    → split_at_byte b text ≡ Some (before_first (λ c. c == b) text, after_first (λ c. c == b) text)
 cut_is b [] h = absurd (omega (arith, h))
 cut_is b (c ∷ text) h = go (c == b) h (cut_is b text) where
   go : (t : Bool) → cond (not t) (1 + position_or_len (λ c. c == b) text) 0 < length (c ∷ text)
       → (position_or_len (λ c. c == b) text < length text → split_at_byte b text ≡ Some (before_first (λ c. c == b) text, after_first (λ c. c == b) text))
       → cond {A = Option Parts} t (Some ([], text)) (option_map (λ (q : Parts). (c ∷ q.0, q.1)) (split_at_byte b text))
-      ≡ Some (take (cond (not t) (1 + position_or_len (λ c. c == b) text) 0) (c ∷ text), drop (cond (not t) (1 + position_or_len (λ c. c == b) text) 0 + 1) (c ∷ text))
+      ≡ Some (
+        take (cond (not t) (1 + position_or_len (λ c. c == b) text) 0) (c ∷ text),
+        drop (cond (not t) (1 + position_or_len (λ c. c == b) text) 0 + 1)
+            (c ∷ text),
+      )
   go true h next = refl
   go false h next =
       let n = position_or_len (λ c. c == b) text in
@@ -76,20 +84,24 @@ cut_is b (c ∷ text) h = go (c == b) h (cut_is b text) where
 pub cut_none : (b : ℕ) (text : List ℕ) → position_or_len (λ c. c == b) text ≡ length text → split_at_byte b text ≡ None
 cut_none b [] e = refl
 cut_none b (c ∷ text) e = go (c == b) e (cut_none b text) where
-  go : (t : Bool) → cond (not t) (1 + position_or_len (λ c. c == b) text) 0 ≡ length (c ∷ text) → (position_or_len (λ c. c == b) text ≡ length text → split_at_byte b text ≡ None)
+  go : (t : Bool) → cond (not t) (1 + position_or_len (λ c. c == b) text) 0 ≡ length (c ∷ text)
+      → (position_or_len (λ c. c == b) text ≡ length text → split_at_byte b text ≡ None)
       → cond {A = Option Parts} t (Some ([], text)) (option_map (λ (q : Parts). (c ∷ q.0, q.1)) (split_at_byte b text)) ≡ None
   go true e next = absurd (omega (arith, e))
   go false e next = ap (option_map (λ (q : Parts). (c ∷ q.0, q.1))) (next (omega (arith, e)))
 
 -- the parts before and after the first such byte
-pub cut_parts : (b : ℕ) (text name rest : List ℕ) → name ≡ before_first (λ c. c == b) text → rest ≡ after_first (λ c. c == b) text → position_or_len (λ c. c == b) text < length text → split_at_byte b text ≡ Some (name, rest)
+pub cut_parts : (b : ℕ) (text name rest : List ℕ) → name ≡ before_first (λ c. c == b) text → rest ≡ after_first (λ c. c == b) text
+    → position_or_len (λ c. c == b) text < length text → split_at_byte b text ≡ Some (name, rest)
 cut_parts b text name rest front back h =
     cut_is b text h ∙ ap {B = Option Parts} (λ x. Some (x, after_first (λ c. c == b) text)) (sym front) ∙ ap {B = Option Parts} (λ x. Some (name, x)) (sym back)
 
 -- a name is there if it isn't empty
-pub named_is : (b : ℕ) (text name rest : List ℕ) → split_at_byte b text ≡ Some (name, rest) → (length name == 0) ≡ false → named_before b text ≡ Some (name, rest)
+pub named_is : (b : ℕ) (text name rest : List ℕ) → split_at_byte b text ≡ Some (name, rest) → (length name == 0) ≡ false
+    → named_before b text ≡ Some (name, rest)
 named_is b text [] rest e some = cc
-named_is b text (c ∷ name) rest e some = ap (option_and_then if_named) e ∙ ap (λ t. cond {A = Option Parts} t (Some (c ∷ name, rest)) None) (lt-ltb 0 (length (c ∷ name)) (omega arith))
+named_is b text (c ∷ name) rest e some =
+    ap (option_and_then if_named) e ∙ ap (λ t. cond {A = Option Parts} t (Some (c ∷ name, rest)) None) (lt-ltb 0 (length (c ∷ name)) (omega arith))
 
 pub not_named : (b : ℕ) (text name rest : List ℕ) → split_at_byte b text ≡ Some (name, rest) → (length name == 0) ≡ true → named_before b text ≡ None
 not_named b text [] rest e none = ap (option_and_then if_named) e

@@ -13,7 +13,8 @@ use Rattle.kc_dotconfig.specs.declared.accumulator.Accumulator.{Accumulator}
 use Rattle.kc_dotconfig_model.specs.PrefixGrammar.{lacks}
 use Rattle.kc_dotconfig_model.specs.ConfigLines.{LineMeaning, Means, IsMalformed, without_white_end}
 use Rattle.kc_dotconfig_model.specs.ConfigFiles.{FileMeans}
-use Rattle.kc_dotconfig_model.specs.LoadFaults.{complete, MAX_BYTES, MAX_LINES, MAX_LINE_BYTES, IsFirstFault}
+use Rattle.kc_value.specs.declared.limits.TheConstants.{MAX_CONFIG_BYTES, MAX_CONFIG_LINES, MAX_LINE_BYTES}
+use Rattle.kc_dotconfig_model.specs.LoadFaults.{complete, IsFirstFault}
 use Rattle.kc_dotconfig_model.specs.between.Cutting.{IsSound, IsCut}
 use Rattle.kc_dotconfig.specs.checker.Accumulation.{IsGathered, Holds, GoesOn, StopsIn, AcceptsBytes, Refuses, EndsWell, EndsBadly}
 use Rattle.kc_dotconfig_model.proofs.FaultsAtCuts.{too_many, too_long, too_large, not_utf8, malformed, held, line_ended, accepted, file_says}
@@ -31,7 +32,8 @@ none_of [] e = refl
 none_of (x ∷ xs) e = let n = eqb-true (length (x ∷ xs)) 0 e in absurd (omega arith)
 
 -- the bytes of a line have no newline before the limit, and one is there
-cut_piece : (k : ℕ) (piece : List ℕ) → k < length piece → lacks 10 piece ≡ true → (b : ℕ) × (more : List ℕ) × (piece ≡ take k piece ++ b ∷ more) × (lacks 10 (take k piece) ≡ true) × ((b == 10) ≡ false) × (length (take k piece) ≡ k)
+cut_piece : (k : ℕ) (piece : List ℕ) → k < length piece → lacks 10 piece ≡ true
+    → (b : ℕ) × (more : List ℕ) × (piece ≡ take k piece ++ b ∷ more) × (lacks 10 (take k piece) ≡ true) × ((b == 10) ≡ false) × (length (take k piece) ≡ k)
 cut_piece k [] h one = absurd (omega arith)
 cut_piece zero (b ∷ piece) h one = (b, piece, refl, refl, no (b == 10) (and_parts (not (b == 10)) (lacks 10 piece) one).0, refl) where
   no : (t : Bool) → not t ≡ true → t ≡ false
@@ -43,15 +45,16 @@ cut_piece (suc k) (b ∷ piece) h one =
     (rest.0, rest.1, ap (λ l. b ∷ l) rest.2, and_from (not (b == 10)) (lacks 10 (take k piece)) parts.0 rest.3, rest.4, (let e = rest.5 in omega arith))
 
 -- lines are at their limit
-pub many_stops : (old piece : List ℕ) (lines : ℕ) → 0 < length piece → lines ≡ MAX_LINES → StopsIn old piece lines TooManyLines
-many_stops old piece lines some full prefix tree told rest sayings c same room =
+pub many_stops : (old piece : List ℕ) (lines : ℕ) → 0 < length piece → lines ≡ MAX_CONFIG_LINES → StopsIn old piece lines TooManyLines
+many_stops old piece lines some full prefix tree known rest meanings c same room =
     let none : old ≡ [] = no_bytes old (λ h. (let r = c.room h in omega arith)) in
-    let here = too_many prefix tree told old sayings c (piece ++ rest) none (same ∙ full) (omega arith) (let e = length-append piece rest in omega arith) in
-    subst (λ n. IsFirstFault prefix tree complete (told ++ (piece ++ rest)) TooManyLines (n + 1)) same here
+    let here = too_many prefix tree known old meanings c (piece ++ rest) none (same ∙ full) (omega arith) (let e = length-append piece rest in omega arith) in
+    subst (λ n. IsFirstFault prefix tree complete (known ++ (piece ++ rest)) TooManyLines (n + 1)) same here
 
 -- a line passes its limit
-pub long_stops : (old piece : List ℕ) (lines : ℕ) → MAX_LINE_BYTES < length old + length piece → lacks 10 piece ≡ true → lines < MAX_LINES → StopsIn old piece lines LineTooLong
-long_stops old piece lines long one few prefix tree told rest sayings c same room =
+pub long_stops : (old piece : List ℕ) (lines : ℕ) → MAX_LINE_BYTES < length old + length piece → lacks 10 piece ≡ true → lines < MAX_CONFIG_LINES
+    → StopsIn old piece lines LineTooLong
+long_stops old piece lines long one few prefix tree known rest meanings c same room =
     let short = c.short in
     let cut = cut_piece (MAX_LINE_BYTES - length old) piece (omega arith) one in
     let front = take (MAX_LINE_BYTES - length old) piece in
@@ -59,185 +62,242 @@ long_stops old piece lines long one few prefix tree told rest sayings c same roo
     let whole = ap length cut.2 ∙ length-append front (cut.0 ∷ cut.1) in
     let fits : length old + length front ≤ MAX_LINE_BYTES = omega arith in
     let full : length (old ++ front) ≡ MAX_LINE_BYTES = (let e = length-append old front in omega arith) in
-    let kept = held prefix tree told old sayings c front cut.3 fits (omega arith) (omega arith) in
-    let less : length (told ++ front) < MAX_BYTES = (let e = length-append told front in omega arith) in
-    let here = too_long prefix tree (told ++ front) (old ++ front) sayings kept cut.0 (cut.1 ++ rest) full cut.4 less in
-    let bytes : (told ++ front) ++ (cut.0 ∷ (cut.1 ++ rest)) ≡ told ++ (piece ++ rest) =
-    append_assoc told front (cut.0 ∷ (cut.1 ++ rest)) ∙ ap (λ x. told ++ x) (sym (append_assoc front (cut.0 ∷ cut.1) rest)) ∙ ap (λ x. told ++ (x ++ rest)) (sym cut.2) in
-    subst (λ m. IsFirstFault prefix tree complete (told ++ (piece ++ rest)) LineTooLong (m + 1)) same (subst (λ b. IsFirstFault prefix tree complete b LineTooLong (length sayings + 1)) bytes here)
+    let kept = held prefix tree known old meanings c front cut.3 fits (omega arith) (omega arith) in
+    let less : length (known ++ front) < MAX_CONFIG_BYTES = (let e = length-append known front in omega arith) in
+    let here = too_long prefix tree (known ++ front) (old ++ front) meanings kept cut.0 (cut.1 ++ rest) full cut.4 less in
+    let bytes : (known ++ front) ++ (cut.0 ∷ (cut.1 ++ rest)) ≡ known ++ (piece ++ rest) =
+    append_assoc known front (cut.0 ∷ (cut.1 ++ rest)) ∙ ap (λ x. known ++ x) (sym (append_assoc front (cut.0 ∷ cut.1) rest))
+    ∙ ap (λ x. known ++ (x ++ rest)) (sym cut.2) in
+    subst (λ m. IsFirstFault prefix tree complete (known ++ (piece ++ rest)) LineTooLong (m + 1)) same
+    (subst (λ b. IsFirstFault prefix tree complete b LineTooLong (length meanings + 1)) bytes here)
 
-pub push_stops : {T : Type 0} (r : Result T LoadKind) (old piece : List ℕ) (lines : ℕ) → (r ≡ Err LineTooLong → MAX_LINE_BYTES < length old + length piece) → IfErr r (λ kind. (kind ≡ LineTooLong) ⊎ (kind ≡ OutOfMemory))
-    → lacks 10 piece ≡ true → lines < MAX_LINES → IfErr r (λ kind. (kind ≡ OutOfMemory) ⊎ StopsIn old piece lines kind)
+pub push_stops : {T : Type 0} (r : Result T LoadKind) (old piece : List ℕ) (lines : ℕ) → (r ≡ Err LineTooLong → MAX_LINE_BYTES < length old + length piece)
+    → IfErr r (λ kind. (kind ≡ LineTooLong) ⊎ (kind ≡ OutOfMemory))
+    → lacks 10 piece ≡ true → lines < MAX_CONFIG_LINES → IfErr r (λ kind. (kind ≡ OutOfMemory) ⊎ StopsIn old piece lines kind)
 push_stops (Ok x) old piece lines long kinds one few = tt
 push_stops {T} (Err kind) old piece lines long kinds one few = elim kinds [
-  | inl e ↦ inr (subst (StopsIn old piece lines) (sym e) (long_stops old piece lines (long (ap (λ (k : LoadKind). let r : Result T LoadKind = Err k in r) e)) one few))
+  | inl e ↦ inr (subst (StopsIn old piece lines) (sym e) (long_stops old piece lines (long (ap (λ (k : LoadKind). let r : Result T LoadKind = Err k in r) e))
+      one few))
   | inr e ↦ inl e
 ]
 
-seam : (told piece rest : List ℕ) → told ++ ((piece ++ 10 ∷ []) ++ rest) ≡ told ++ (piece ++ (10 ∷ rest))
-seam told piece rest = ap (λ x. told ++ x) (append_assoc piece (10 ∷ []) rest)
+seam : (known piece rest : List ℕ) → known ++ ((piece ++ 10 ∷ []) ++ rest) ≡ known ++ (piece ++ (10 ∷ rest))
+seam known piece rest = ap (λ x. known ++ x) (append_assoc piece (10 ∷ []) rest)
 
 -- a fault in a piece is one of the line
-pub stops_refuses : (prefix : List ℕ) (tree : Tree) (old : List ℕ) (g : Accumulator) (piece : List ℕ) (kind : LoadKind) (lines : ℕ) → lines ≡ g.lines → StopsIn old piece lines kind → Refuses prefix tree old g (piece ++ 10 ∷ []) kind g.lines
-stops_refuses prefix tree old g piece kind lines same stops told rest (sayings, c, gathered) room =
+pub stops_refuses : (prefix : List ℕ) (tree : Tree) (old : List ℕ) (g : Accumulator) (piece : List ℕ) (kind : LoadKind) (lines : ℕ) → lines ≡ g.lines
+    → StopsIn old piece lines kind → Refuses prefix tree old g (piece ++ 10 ∷ []) kind g.lines
+stops_refuses prefix tree old g piece kind lines same stops known rest (meanings, c, gathered) room =
     let n = length-append piece (10 ∷ []) in
-    let here = stops prefix tree told (10 ∷ rest) sayings c (let e = gathered.counted in omega arith) (omega arith) in
-    subst (λ m. IsFirstFault prefix tree complete (told ++ ((piece ++ 10 ∷ []) ++ rest)) kind (m + 1)) same (subst (λ b. IsFirstFault prefix tree complete b kind (lines + 1)) (sym (seam told piece rest)) here)
+    let here = stops prefix tree known (10 ∷ rest) meanings c (let e = gathered.counted in omega arith) (omega arith) in
+    subst (λ m. IsFirstFault prefix tree complete (known ++ ((piece ++ 10 ∷ []) ++ rest)) kind (m + 1)) same
+    (subst (λ b. IsFirstFault prefix tree complete b kind (lines + 1)) (sym (seam known piece rest)) here)
 
 -- and of the bytes after it
-pub stops_last : (prefix : List ℕ) (tree : Tree) (old : List ℕ) (g : Accumulator) (piece : List ℕ) (kind : LoadKind) → StopsIn old piece g.lines kind → Refuses prefix tree old g piece kind g.lines
-stops_last prefix tree old g piece kind stops told rest (sayings, c, gathered) room = stops prefix tree told rest sayings c (sym gathered.counted) room
+pub stops_last : (prefix : List ℕ) (tree : Tree) (old : List ℕ) (g : Accumulator) (piece : List ℕ) (kind : LoadKind) → StopsIn old piece g.lines kind
+    → Refuses prefix tree old g piece kind g.lines
+stops_last prefix tree old g piece kind stops known rest (meanings, c, gathered) room = stops prefix tree known rest meanings c (sym gathered.counted) room
 
-pub many_refuses : (prefix : List ℕ) (tree : Tree) (old : List ℕ) (g : Accumulator) (piece : List ℕ) → g.lines ≡ MAX_LINES → Refuses prefix tree old g (piece ++ 10 ∷ []) TooManyLines g.lines
-many_refuses prefix tree old g piece full told rest (sayings, c, gathered) room =
-    many_stops old (piece ++ 10 ∷ []) g.lines (let e = length-append piece (10 ∷ []) in omega arith) full prefix tree told rest sayings c (sym gathered.counted) room
+pub many_refuses : (prefix : List ℕ) (tree : Tree) (old : List ℕ) (g : Accumulator) (piece : List ℕ) → g.lines ≡ MAX_CONFIG_LINES
+    → Refuses prefix tree old g (piece ++ 10 ∷ []) TooManyLines g.lines
+many_refuses prefix tree old g piece full known rest (meanings, c, gathered) room =
+    many_stops old (piece ++ 10 ∷ []) g.lines (let e = length-append piece (10 ∷ []) in omega arith) full prefix tree known rest meanings c
+    (sym gathered.counted) room
 
 -- a line that is taken
-pub line_taken : (prefix : List ℕ) (tree : Tree) (old : List ℕ) (g : Accumulator) (piece line : List ℕ) (g_new : Accumulator) → line ≡ old ++ piece → length line ≤ MAX_LINE_BYTES → lacks 10 piece ≡ true → g.lines < MAX_LINES
-    → IsUtf8 line × ((x : LineMeaning) × Means prefix tree (without_white_end line) x × ((sayings : List LineMeaning) → IsGathered tree sayings g → IsGathered tree (sayings ++ x ∷ []) g_new))
+pub line_taken : (prefix : List ℕ) (tree : Tree) (old : List ℕ) (g : Accumulator) (piece line : List ℕ) (g_new : Accumulator) → line ≡ old ++ piece
+    → length line ≤ MAX_LINE_BYTES → lacks 10 piece ≡ true → g.lines < MAX_CONFIG_LINES
+    → IsUtf8 line × ((x : LineMeaning) × Means prefix tree (without_white_end line) x
+    × ((meanings : List LineMeaning) → IsGathered tree meanings g → IsGathered tree (meanings ++ x ∷ []) g_new))
     → AcceptsBytes prefix tree old g (piece ++ 10 ∷ []) [] g_new
-line_taken prefix tree old g piece line g_new is short one few (text, said) told (sayings, c, gathered) room =
+line_taken prefix tree old g piece line g_new is short one few (text, meaning) known (meanings, c, gathered) room =
     let n = length-append piece (10 ∷ []) in
     let counted = gathered.counted in
     let joined : length line ≡ length old + length piece = ap length is ∙ length-append old piece in
-    let kept = held prefix tree told old sayings c piece one (omega arith) (omega arith) (omega arith) in
-    let sound : IsSound prefix tree (old ++ piece) said.0 = subst (λ l. IsSound prefix tree l said.0) is (record { text = text; short = short; says = said.1 }) in
-    let e = length-append told piece in
-    let done = line_ended prefix tree (told ++ piece) (old ++ piece) sayings kept said.0 sound (omega arith) (omega arith) in
-    (sayings ++ said.0 ∷ [], subst (λ b. IsCut prefix tree b [] (sayings ++ said.0 ∷ [])) (append_assoc told piece (10 ∷ [])) done, said.2 sayings gathered)
+    let kept = held prefix tree known old meanings c piece one (omega arith) (omega arith) (omega arith) in
+    let sound : IsSound prefix tree (old ++ piece) meaning.0 = subst (λ l. IsSound prefix tree l meaning.0) is
+    (record { text = text; short = short; says = meaning.1 }) in
+    let e = length-append known piece in
+    let done = line_ended prefix tree (known ++ piece) (old ++ piece) meanings kept meaning.0 sound (omega arith) (omega arith) in (
+      meanings ++ meaning.0 ∷ [],
+      subst (λ b. IsCut prefix tree b [] (meanings ++ meaning.0 ∷ [])) (append_assoc known piece (10 ∷ [])) done,
+      meaning.2 meanings
+          gathered,
+    )
 
 -- a line that is refused
-pub line_refused : (prefix : List ℕ) (tree : Tree) (old : List ℕ) (g : Accumulator) (piece line : List ℕ) (kind : LoadKind) (lines : ℕ) → line ≡ old ++ piece → length line ≤ MAX_LINE_BYTES → lacks 10 piece ≡ true → g.lines < MAX_LINES → lines ≡ g.lines
-    → (kind ≡ NotUtf8 → IsUtf8 line → ⊥) → (kind ≡ Malformed → IsUtf8 line × IsMalformed prefix tree line) → (kind ≡ NotUtf8) ⊎ (kind ≡ Malformed) ⊎ (kind ≡ OutOfMemory)
+pub line_refused : (prefix : List ℕ) (tree : Tree) (old : List ℕ) (g : Accumulator) (piece line : List ℕ) (kind : LoadKind) (lines : ℕ) → line ≡ old ++ piece
+    → length line ≤ MAX_LINE_BYTES → lacks 10 piece ≡ true → g.lines < MAX_CONFIG_LINES → lines ≡ g.lines
+    → (kind ≡ NotUtf8 → IsUtf8 line → ⊥) → (kind ≡ Malformed → IsUtf8 line × IsMalformed prefix tree line)
+    → (kind ≡ NotUtf8) ⊎ (kind ≡ Malformed) ⊎ (kind ≡ OutOfMemory)
     → (kind ≡ OutOfMemory) ⊎ Refuses prefix tree old g (piece ++ 10 ∷ []) kind lines
 line_refused prefix tree old g piece line kind lines is short one few same odd bad kinds = elim kinds [
-  | inl e ↦ inr (λ told rest h room. let k = kept told h room in
-      renumber told rest NotUtf8 kind h (sym e) (not_utf8 prefix tree (told ++ piece) (old ++ piece) h.0 k (10 ∷ rest) (inr (rest, refl, under told room)) (subst (λ l. IsUtf8 l → ⊥) is (odd e))))
+  | inl e ↦ inr (λ known rest h room. let k = kept known h room in
+      renumber known rest NotUtf8 kind h (sym e) (not_utf8 prefix tree (known ++ piece) (old ++ piece) h.0 k (10 ∷ rest) (inr (rest, refl, under known room))
+      (subst (λ l. IsUtf8 l → ⊥) is (odd e))))
   | inr f ↦ elim f [
-    | inl e ↦ inr (λ told rest h room. let k = kept told h room in
-        renumber told rest Malformed kind h (sym e) (malformed prefix tree (told ++ piece) (old ++ piece) h.0 k (10 ∷ rest) (inr (rest, refl, under told room)) (subst IsUtf8 is (bad e).0) (subst (IsMalformed prefix tree) is (bad e).1)))
+    | inl e ↦ inr (λ known rest h room. let k = kept known h room in
+        renumber known rest Malformed kind h (sym e) (malformed prefix tree (known ++ piece) (old ++ piece) h.0 k (10 ∷ rest)
+        (inr (rest, refl, under known room)) (subst IsUtf8 is (bad e).0) (subst (IsMalformed prefix tree) is (bad e).1)))
     | inr e ↦ inl e
   ]
 ] where
-  under : (told : List ℕ) → length told + length (piece ++ 10 ∷ []) ≤ MAX_BYTES → length (told ++ piece) < MAX_BYTES
-  under told room = let n = length-append piece (10 ∷ []) in let e = length-append told piece in omega arith
+  under : (known : List ℕ) → length known + length (piece ++ 10 ∷ []) ≤ MAX_CONFIG_BYTES → length (known ++ piece) < MAX_CONFIG_BYTES
+  under known room = let n = length-append piece (10 ∷ []) in let e = length-append known piece in omega arith
 
-  kept : (told : List ℕ) → (h : Holds prefix tree told old g) → length told + length (piece ++ 10 ∷ []) ≤ MAX_BYTES → IsCut prefix tree (told ++ piece) (old ++ piece) h.0
-  kept told h room =
+  kept : (known : List ℕ) → (h : Holds prefix tree known old g) → length known + length (piece ++ 10 ∷ []) ≤ MAX_CONFIG_BYTES
+      → IsCut prefix tree (known ++ piece) (old ++ piece) h.0
+  kept known h room =
       let n = length-append piece (10 ∷ []) in
       let counted = h.2.counted in
       let joined : length line ≡ length old + length piece = ap length is ∙ length-append old piece in
-      held prefix tree told old h.0 h.1 piece one (omega arith) (omega arith) (omega arith)
+      held prefix tree known old h.0 h.1 piece one (omega arith) (omega arith) (omega arith)
 
-  renumber : (told rest : List ℕ) (from to : LoadKind) → (h : Holds prefix tree told old g) → from ≡ to → IsFirstFault prefix tree complete ((told ++ piece) ++ 10 ∷ rest) from (length h.0 + 1) → IsFirstFault prefix tree complete (told ++ ((piece ++ 10 ∷ []) ++ rest)) to (lines + 1)
-  renumber told rest from to h kinds fault =
+  renumber : (known rest : List ℕ) (from to : LoadKind) → (h : Holds prefix tree known old g) → from ≡ to
+      → IsFirstFault prefix tree complete ((known ++ piece) ++ 10 ∷ rest) from (length h.0 + 1)
+      → IsFirstFault prefix tree complete (known ++ ((piece ++ 10 ∷ []) ++ rest)) to (lines + 1)
+  renumber known rest from to h kinds fault =
       let counted : length h.0 ≡ lines = sym h.2.counted ∙ sym same in
-      subst (λ m. IsFirstFault prefix tree complete (told ++ ((piece ++ 10 ∷ []) ++ rest)) to (m + 1)) counted
-      (subst (λ k. IsFirstFault prefix tree complete (told ++ ((piece ++ 10 ∷ []) ++ rest)) k (length h.0 + 1)) kinds
-      (subst (λ b. IsFirstFault prefix tree complete b from (length h.0 + 1)) (append_assoc told piece (10 ∷ rest) ∙ sym (seam told piece rest)) fault))
+      subst (λ m. IsFirstFault prefix tree complete (known ++ ((piece ++ 10 ∷ []) ++ rest)) to (m + 1)) counted
+      (subst (λ k. IsFirstFault prefix tree complete (known ++ ((piece ++ 10 ∷ []) ++ rest)) k (length h.0 + 1)) kinds
+      (subst (λ b. IsFirstFault prefix tree complete b from (length h.0 + 1)) (append_assoc known piece (10 ∷ rest) ∙ sym (seam known piece rest)) fault))
 
 -- what is taken in two parts
-pub both_taken : (prefix : List ℕ) (tree : Tree) (a : List ℕ) (g : Accumulator) (front : List ℕ) (b : List ℕ) (h : Accumulator) (back c : List ℕ) (k : Accumulator) → AcceptsBytes prefix tree a g front b h → AcceptsBytes prefix tree b h back c k → AcceptsBytes prefix tree a g (front ++ back) c k
-both_taken prefix tree a g front b h back c k first second told holds room =
+pub both_taken : (prefix : List ℕ) (tree : Tree) (a : List ℕ) (g : Accumulator) (front : List ℕ) (b : List ℕ) (h : Accumulator) (back c : List ℕ) (k : Accumulator)
+    → AcceptsBytes prefix tree a g front b h → AcceptsBytes prefix tree b h back c k → AcceptsBytes prefix tree a g (front ++ back) c k
+both_taken prefix tree a g front b h back c k first second known holds room =
     let n = length-append front back in
-    let e = length-append told front in
-    subst (λ t. Holds prefix tree t c k) (append_assoc told front back) (second (told ++ front) (first told holds (omega arith)) (omega arith))
+    let e = length-append known front in
+    subst (λ t. Holds prefix tree t c k) (append_assoc known front back) (second (known ++ front) (first known holds (omega arith)) (omega arith))
 
 -- a fault after what is taken
-pub later_refused : (prefix : List ℕ) (tree : Tree) (a : List ℕ) (g : Accumulator) (front b : List ℕ) (h : Accumulator) (back more : List ℕ) (kind : LoadKind) (lines : ℕ) → AcceptsBytes prefix tree a g front b h → Refuses prefix tree b h back kind lines → Refuses prefix tree a g (front ++ (back ++ more)) kind lines
-later_refused prefix tree a g front b h back more kind lines first second told rest holds room =
+pub later_refused : (prefix : List ℕ) (tree : Tree) (a : List ℕ) (g : Accumulator) (front b : List ℕ) (h : Accumulator) (back more : List ℕ) (kind : LoadKind) (lines : ℕ)
+    → AcceptsBytes prefix tree a g front b h → Refuses prefix tree b h back kind lines → Refuses prefix tree a g (front ++ (back ++ more)) kind lines
+later_refused prefix tree a g front b h back more kind lines first second known rest holds room =
     let n = length-append front (back ++ more) in
     let m = length-append back more in
-    let e = length-append told front in
-    let bytes : (told ++ front) ++ (back ++ (more ++ rest)) ≡ told ++ ((front ++ (back ++ more)) ++ rest) =
-    append_assoc told front (back ++ (more ++ rest)) ∙ ap (λ x. told ++ (front ++ x)) (sym (append_assoc back more rest)) ∙ ap (λ x. told ++ x) (sym (append_assoc front (back ++ more) rest)) in
-    subst (λ x. IsFirstFault prefix tree complete x kind (lines + 1)) bytes (second (told ++ front) (more ++ rest) (first told holds (omega arith)) (omega arith))
+    let e = length-append known front in
+    let bytes : (known ++ front) ++ (back ++ (more ++ rest)) ≡ known ++ ((front ++ (back ++ more)) ++ rest) =
+    append_assoc known front (back ++ (more ++ rest)) ∙ ap (λ x. known ++ (front ++ x)) (sym (append_assoc back more rest))
+    ∙ ap (λ x. known ++ x) (sym (append_assoc front (back ++ more) rest)) in
+    subst (λ x. IsFirstFault prefix tree complete x kind (lines + 1)) bytes
+    (second (known ++ front) (more ++ rest) (first known holds (omega arith)) (omega arith))
 
 -- a last piece that goes on
-pub piece_taken : (prefix : List ℕ) (tree : Tree) (a : List ℕ) (g : Accumulator) (piece b : List ℕ) → GoesOn a b piece g.lines → AcceptsBytes prefix tree a g piece b g
-piece_taken prefix tree a g piece b goes told (sayings, c, gathered) room = (sayings, goes prefix tree told sayings c (sym gathered.counted) room, gathered)
+pub piece_taken : (prefix : List ℕ) (tree : Tree) (a : List ℕ) (g : Accumulator) (piece b : List ℕ) → GoesOn a b piece g.lines
+    → AcceptsBytes prefix tree a g piece b g
+piece_taken prefix tree a g piece b goes known (meanings, c, gathered) room =
+    (meanings, goes prefix tree known meanings c (sym gathered.counted) room, gathered)
 
 pub nothing_taken : (prefix : List ℕ) (tree : Tree) (a : List ℕ) (g : Accumulator) → AcceptsBytes prefix tree a g [] a g
-nothing_taken prefix tree a g told holds room = subst (λ t. Holds prefix tree t a g) (sym (append-nil told)) holds
+nothing_taken prefix tree a g known holds room = subst (λ t. Holds prefix tree t a g) (sym (append-nil known)) holds
 
 -- the file is past its size
-pub past_size : (prefix : List ℕ) (tree : Tree) (a : List ℕ) (g : Accumulator) (front b : List ℕ) (h : Accumulator) (more : List ℕ) (size : ℕ) → AcceptsBytes prefix tree a g front b h → size + length front ≡ MAX_BYTES → 0 < length more
-    → (told rest : List ℕ) → Holds prefix tree told a g → length told ≡ size → IsFirstFault prefix tree complete (told ++ ((front ++ more) ++ rest)) TooLarge (h.lines + 1)
-past_size prefix tree a g front b h more size takes full some told rest holds is =
-    let e = length-append told front in
+pub past_size : (prefix : List ℕ) (tree : Tree) (a : List ℕ) (g : Accumulator) (front b : List ℕ) (h : Accumulator) (more : List ℕ) (size : ℕ)
+    → AcceptsBytes prefix tree a g front b h → size + length front ≡ MAX_CONFIG_BYTES → 0 < length more
+    → (known rest : List ℕ) → Holds prefix tree known a g → length known ≡ size
+    → IsFirstFault prefix tree complete (known ++ ((front ++ more) ++ rest)) TooLarge (h.lines + 1)
+past_size prefix tree a g front b h more size takes full some known rest holds is =
+    let e = length-append known front in
     let m = length-append more rest in
-    let now = takes told holds (omega arith) in
-    let here = too_large prefix tree (told ++ front) b now.0 now.1 (more ++ rest) (omega arith) (omega arith) in
-    subst (λ n. IsFirstFault prefix tree complete (told ++ ((front ++ more) ++ rest)) TooLarge (n + 1)) (sym now.2.counted)
-    (subst (λ x. IsFirstFault prefix tree complete x TooLarge (length now.0 + 1)) (append_assoc told front (more ++ rest) ∙ ap (λ x. told ++ x) (sym (append_assoc front more rest))) here)
+    let now = takes known holds (omega arith) in
+    let here = too_large prefix tree (known ++ front) b now.0 now.1 (more ++ rest) (omega arith) (omega arith) in
+    subst (λ n. IsFirstFault prefix tree complete (known ++ ((front ++ more) ++ rest)) TooLarge (n + 1)) (sym now.2.counted)
+    (subst (λ x. IsFirstFault prefix tree complete x TooLarge (length now.0 + 1))
+    (append_assoc known front (more ++ rest) ∙ ap (λ x. known ++ x) (sym (append_assoc front more rest))) here)
 
 -- the end of the file
 pub ends_empty : (prefix : List ℕ) (tree : Tree) (g : Accumulator) → EndsWell prefix tree [] g g
-ends_empty prefix tree g told (sayings, c, gathered) =
-    (sayings, accepted prefix tree told [] sayings c [] (inl (refl, refl)), subst (FileMeans prefix tree told) (append-nil sayings) (file_says prefix tree told [] sayings c [] (inl (refl, refl))), gathered)
+ends_empty prefix tree g known (meanings, c, gathered) = (
+  meanings,
+  accepted prefix tree known [] meanings c [] (inl (refl, refl)),
+  subst (FileMeans prefix tree known) (append-nil meanings)
+      (file_says prefix tree known [] meanings c [] (inl (refl, refl))),
+  gathered,
+)
 
 pub ends_line : (prefix : List ℕ) (tree : Tree) (line : List ℕ) (g g_new : Accumulator) → 0 < length line → length line ≤ MAX_LINE_BYTES
-    → IsUtf8 line × ((x : LineMeaning) × Means prefix tree (without_white_end line) x × ((sayings : List LineMeaning) → IsGathered tree sayings g → IsGathered tree (sayings ++ x ∷ []) g_new))
+    → IsUtf8 line × ((x : LineMeaning) × Means prefix tree (without_white_end line) x
+    × ((meanings : List LineMeaning) → IsGathered tree meanings g → IsGathered tree (meanings ++ x ∷ []) g_new))
     → EndsWell prefix tree line g g_new
-ends_line prefix tree line g g_new some short (text, said) told (sayings, c, gathered) =
-    let sound : IsSound prefix tree line said.0 = record { text = text; short = short; says = said.1 } in
-    let last = inr (some, (said.0, refl, sound)) in
-    (sayings ++ said.0 ∷ [], accepted prefix tree told line sayings c (said.0 ∷ []) last, file_says prefix tree told line sayings c (said.0 ∷ []) last, said.2 sayings gathered)
+ends_line prefix tree line g g_new some short (text, meaning) known (meanings, c, gathered) =
+    let sound : IsSound prefix tree line meaning.0 = record { text = text; short = short; says = meaning.1 } in
+    let last = inr (some, (meaning.0, refl, sound)) in (
+      meanings ++ meaning.0 ∷ [],
+      accepted prefix tree known line meanings c (meaning.0 ∷ []) last,
+      file_says prefix tree known line meanings c (meaning.0 ∷ [])
+          last,
+      meaning.2 meanings gathered,
+    )
 
 pub ends_refused : (prefix : List ℕ) (tree : Tree) (line : List ℕ) (g : Accumulator) (kind : LoadKind) (lines : ℕ) → 0 < length line → lines ≡ g.lines
-    → (kind ≡ NotUtf8 → IsUtf8 line → ⊥) → (kind ≡ Malformed → IsUtf8 line × IsMalformed prefix tree line) → (kind ≡ NotUtf8) ⊎ (kind ≡ Malformed) ⊎ (kind ≡ OutOfMemory)
+    → (kind ≡ NotUtf8 → IsUtf8 line → ⊥) → (kind ≡ Malformed → IsUtf8 line × IsMalformed prefix tree line)
+    → (kind ≡ NotUtf8) ⊎ (kind ≡ Malformed) ⊎ (kind ≡ OutOfMemory)
     → (kind ≡ OutOfMemory) ⊎ EndsBadly prefix tree line g kind lines
 ends_refused prefix tree line g kind lines some same odd bad kinds = elim kinds [
-  | inl e ↦ inr (λ told h. renumber told NotUtf8 kind h (sym e) (not_utf8 prefix tree told line h.0 h.1 [] (inl (refl, some)) (odd e)))
+  | inl e ↦ inr (λ known h. renumber known NotUtf8 kind h (sym e) (not_utf8 prefix tree known line h.0 h.1 [] (inl (refl, some)) (odd e)))
   | inr f ↦ elim f [
-    | inl e ↦ inr (λ told h. renumber told Malformed kind h (sym e) (malformed prefix tree told line h.0 h.1 [] (inl (refl, some)) (bad e).0 (bad e).1))
+    | inl e ↦ inr (λ known h. renumber known Malformed kind h (sym e) (malformed prefix tree known line h.0 h.1 [] (inl (refl, some)) (bad e).0 (bad e).1))
     | inr e ↦ inl e
   ]
 ] where
-  renumber : (told : List ℕ) (from to : LoadKind) → (h : Holds prefix tree told line g) → from ≡ to → IsFirstFault prefix tree complete (told ++ []) from (length h.0 + 1) → IsFirstFault prefix tree complete told to (lines + 1)
-  renumber told from to h kinds fault =
+  renumber : (known : List ℕ) (from to : LoadKind) → (h : Holds prefix tree known line g) → from ≡ to
+      → IsFirstFault prefix tree complete (known ++ []) from (length h.0 + 1) → IsFirstFault prefix tree complete known to (lines + 1)
+  renumber known from to h kinds fault =
       let counted : length h.0 ≡ lines = sym h.2.counted ∙ sym same in
-      subst (λ m. IsFirstFault prefix tree complete told to (m + 1)) counted
-      (subst (λ k. IsFirstFault prefix tree complete told k (length h.0 + 1)) kinds
-      (subst (λ b. IsFirstFault prefix tree complete b from (length h.0 + 1)) (append-nil told) fault))
+      subst (λ m. IsFirstFault prefix tree complete known to (m + 1)) counted
+      (subst (λ k. IsFirstFault prefix tree complete known k (length h.0 + 1)) kinds
+      (subst (λ b. IsFirstFault prefix tree complete b from (length h.0 + 1)) (append-nil known) fault))
 
 -- a refused line or piece, by the result of the call
 abbrev AsErr : (T : Type 0) → LoadKind → Result T LoadKind
 AsErr T kind = Err kind
 
-pub result_refused : {T : Type 0} (r : Result T LoadKind) (prefix : List ℕ) (tree : Tree) (old : List ℕ) (g : Accumulator) (piece line : List ℕ) (lines : ℕ) → line ≡ old ++ piece → length line ≤ MAX_LINE_BYTES → lacks 10 piece ≡ true → g.lines < MAX_LINES
-    → (r ≡ Err NotUtf8 → IsUtf8 line → ⊥) → (r ≡ Err Malformed → IsUtf8 line × IsMalformed prefix tree line) → IfErr r (λ kind. (kind ≡ NotUtf8) ⊎ (kind ≡ Malformed) ⊎ (kind ≡ OutOfMemory)) → OnErr r (lines ≡ g.lines)
+pub result_refused : {T : Type 0} (r : Result T LoadKind) (prefix : List ℕ) (tree : Tree) (old : List ℕ) (g : Accumulator) (piece line : List ℕ) (lines : ℕ)
+    → line ≡ old ++ piece → length line ≤ MAX_LINE_BYTES → lacks 10 piece ≡ true → g.lines < MAX_CONFIG_LINES
+    → (r ≡ Err NotUtf8 → IsUtf8 line → ⊥) → (r ≡ Err Malformed → IsUtf8 line × IsMalformed prefix tree line)
+    → IfErr r (λ kind. (kind ≡ NotUtf8) ⊎ (kind ≡ Malformed) ⊎ (kind ≡ OutOfMemory)) → OnErr r (lines ≡ g.lines)
     → IfErr r (λ kind. (kind ≡ OutOfMemory) ⊎ Refuses prefix tree old g (piece ++ 10 ∷ []) kind lines)
 result_refused (Ok x) prefix tree old g piece line lines is short one few odd bad kinds same = tt
 result_refused {T} (Err kind) prefix tree old g piece line lines is short one few odd bad kinds same =
     line_refused prefix tree old g piece line kind lines is short one few same (λ e. odd (ap (AsErr T) e)) (λ e. bad (ap (AsErr T) e)) kinds
 
-pub push_refused : {T : Type 0} (r : Result T LoadKind) (prefix : List ℕ) (tree : Tree) (old : List ℕ) (g : Accumulator) (piece : List ℕ) → (r ≡ Err LineTooLong → MAX_LINE_BYTES < length old + length piece) → IfErr r (λ kind. (kind ≡ LineTooLong) ⊎ (kind ≡ OutOfMemory))
-    → lacks 10 piece ≡ true → g.lines < MAX_LINES → IfErr r (λ kind. (kind ≡ OutOfMemory) ⊎ Refuses prefix tree old g (piece ++ 10 ∷ []) kind g.lines)
+pub push_refused : {T : Type 0} (r : Result T LoadKind) (prefix : List ℕ) (tree : Tree) (old : List ℕ) (g : Accumulator) (piece : List ℕ)
+    → (r ≡ Err LineTooLong → MAX_LINE_BYTES < length old + length piece) → IfErr r (λ kind. (kind ≡ LineTooLong) ⊎ (kind ≡ OutOfMemory))
+    → lacks 10 piece ≡ true → g.lines < MAX_CONFIG_LINES → IfErr r (λ kind. (kind ≡ OutOfMemory) ⊎ Refuses prefix tree old g (piece ++ 10 ∷ []) kind g.lines)
 push_refused (Ok x) prefix tree old g piece long kinds one few = tt
 push_refused {T} (Err kind) prefix tree old g piece long kinds one few = elim kinds [
-  | inl e ↦ inr (subst (λ k. Refuses prefix tree old g (piece ++ 10 ∷ []) k g.lines) (sym e) (stops_refuses prefix tree old g piece LineTooLong g.lines refl (long_stops old piece g.lines (long (ap (AsErr T) e)) one few)))
+  | inl e ↦ inr (subst (λ k. Refuses prefix tree old g (piece ++ 10 ∷ []) k g.lines) (sym e)
+      (stops_refuses prefix tree old g piece LineTooLong g.lines refl (long_stops old piece g.lines (long (ap (AsErr T) e)) one few)))
   | inr e ↦ inl e
 ]
 
-pub result_taken : {T : Type 0} (r : Result T LoadKind) (prefix : List ℕ) (tree : Tree) (old : List ℕ) (g : Accumulator) (piece line after : List ℕ) (g_new : Accumulator) → line ≡ old ++ piece → length line ≤ MAX_LINE_BYTES → lacks 10 piece ≡ true → g.lines < MAX_LINES → after ≡ []
-    → OnOk r (IsUtf8 line × ((x : LineMeaning) × Means prefix tree (without_white_end line) x × ((sayings : List LineMeaning) → IsGathered tree sayings g → IsGathered tree (sayings ++ x ∷ []) g_new)))
+pub result_taken : {T : Type 0} (r : Result T LoadKind) (prefix : List ℕ) (tree : Tree) (old : List ℕ) (g : Accumulator) (piece line after : List ℕ) (g_new : Accumulator)
+    → line ≡ old ++ piece → length line ≤ MAX_LINE_BYTES → lacks 10 piece ≡ true → g.lines < MAX_CONFIG_LINES → after ≡ []
+    → OnOk r (IsUtf8 line × ((x : LineMeaning) × Means prefix tree (without_white_end line) x
+    × ((meanings : List LineMeaning) → IsGathered tree meanings g → IsGathered tree (meanings ++ x ∷ []) g_new)))
     → OnOk r (AcceptsBytes prefix tree old g (piece ++ 10 ∷ []) after g_new)
-result_taken (Ok x) prefix tree old g piece line after g_new is short one few empty said = subst (λ a. AcceptsBytes prefix tree old g (piece ++ 10 ∷ []) a g_new) (sym empty) (line_taken prefix tree old g piece line g_new is short one few said)
-result_taken (Err e) prefix tree old g piece line after g_new is short one few empty said = tt
+result_taken (Ok x) prefix tree old g piece line after g_new is short one few empty meaning =
+    subst (λ a. AcceptsBytes prefix tree old g (piece ++ 10 ∷ []) a g_new) (sym empty) (line_taken prefix tree old g piece line g_new is short one few meaning)
+result_taken (Err e) prefix tree old g piece line after g_new is short one few empty meaning = tt
 
-pub lines_bound : {T : Type 0} (r : Result T LoadKind) (a b : ℕ) → OnOk r (b ≡ a + 1) → OnErr r (b ≡ a) → a < MAX_LINES → b ≤ MAX_LINES
+pub lines_bound : {T : Type 0} (r : Result T LoadKind) (a b : ℕ) → OnOk r (b ≡ a + 1) → OnErr r (b ≡ a) → a < MAX_CONFIG_LINES → b ≤ MAX_CONFIG_LINES
 lines_bound (Ok x) a b ok err few = omega arith
 lines_bound (Err e) a b ok err few = omega arith
 
-pub result_ends : {T : Type 0} (r : Result T LoadKind) (prefix : List ℕ) (tree : Tree) (old line : List ℕ) (g g_new : Accumulator) → line ≡ old → 0 < length line → length old ≤ MAX_LINE_BYTES
-    → OnOk r (IsUtf8 line × ((x : LineMeaning) × Means prefix tree (without_white_end line) x × ((sayings : List LineMeaning) → IsGathered tree sayings g → IsGathered tree (sayings ++ x ∷ []) g_new)))
+pub result_ends : {T : Type 0} (r : Result T LoadKind) (prefix : List ℕ) (tree : Tree) (old line : List ℕ) (g g_new : Accumulator) → line ≡ old → 0 < length line
+    → length old ≤ MAX_LINE_BYTES
+    → OnOk r (IsUtf8 line × ((x : LineMeaning) × Means prefix tree (without_white_end line) x
+    × ((meanings : List LineMeaning) → IsGathered tree meanings g → IsGathered tree (meanings ++ x ∷ []) g_new)))
     → OnOk r (EndsWell prefix tree old g g_new)
-result_ends (Ok x) prefix tree old line g g_new is some short said = subst (λ l. EndsWell prefix tree l g g_new) is (ends_line prefix tree line g g_new some (subst (λ l. length l ≤ MAX_LINE_BYTES) (sym is) short) said)
-result_ends (Err e) prefix tree old line g g_new is some short said = tt
+result_ends (Ok x) prefix tree old line g g_new is some short meaning =
+    subst (λ l. EndsWell prefix tree l g g_new) is (ends_line prefix tree line g g_new some (subst (λ l. length l ≤ MAX_LINE_BYTES) (sym is) short) meaning)
+result_ends (Err e) prefix tree old line g g_new is some short meaning = tt
 
-pub result_ends_badly : {T : Type 0} (r : Result T LoadKind) (prefix : List ℕ) (tree : Tree) (old line : List ℕ) (g : Accumulator) (lines : ℕ) → line ≡ old → 0 < length line
-    → (r ≡ Err NotUtf8 → IsUtf8 line → ⊥) → (r ≡ Err Malformed → IsUtf8 line × IsMalformed prefix tree line) → IfErr r (λ kind. (kind ≡ NotUtf8) ⊎ (kind ≡ Malformed) ⊎ (kind ≡ OutOfMemory)) → OnErr r (lines ≡ g.lines)
+pub result_ends_badly : {T : Type 0} (r : Result T LoadKind) (prefix : List ℕ) (tree : Tree) (old line : List ℕ) (g : Accumulator) (lines : ℕ) → line ≡ old
+    → 0 < length line
+    → (r ≡ Err NotUtf8 → IsUtf8 line → ⊥) → (r ≡ Err Malformed → IsUtf8 line × IsMalformed prefix tree line)
+    → IfErr r (λ kind. (kind ≡ NotUtf8) ⊎ (kind ≡ Malformed) ⊎ (kind ≡ OutOfMemory)) → OnErr r (lines ≡ g.lines)
     → IfErr r (λ kind. (kind ≡ OutOfMemory) ⊎ EndsBadly prefix tree old g kind lines)
 result_ends_badly (Ok x) prefix tree old line g lines is some odd bad kinds same = tt
 result_ends_badly {T} (Err kind) prefix tree old line g lines is some odd bad kinds same =
@@ -245,27 +305,32 @@ result_ends_badly {T} (Err kind) prefix tree old line g lines is some odd bad ki
     (ends_refused prefix tree line g kind lines some same (λ e. odd (ap (AsErr T) e)) (λ e. bad (ap (AsErr T) e)) kinds)
 
 -- the bytes up to the first newline, and those after it
-newline_at : (rest : List ℕ) (at : ℕ) → at < length rest → (slice_index rest at == 10) ≡ true → ((k : ℕ) → k < at → (slice_index rest k == 10) ≡ true → ⊥) → (rest ≡ take at rest ++ 10 ∷ drop (at + 1) rest) × (lacks 10 (take at rest) ≡ true)
+newline_at : (rest : List ℕ) (at : ℕ) → at < length rest → (slice_index rest at == 10) ≡ true → ((k : ℕ) → k < at → (slice_index rest k == 10) ≡ true → ⊥)
+    → (rest ≡ take at rest ++ 10 ∷ drop (at + 1) rest) × (lacks 10 (take at rest) ≡ true)
 newline_at [] at h e none = absurd (omega arith)
 newline_at (b ∷ rest) zero h e none = (ap (λ c. c ∷ rest) (eqb-true b 10 e), refl)
 newline_at (b ∷ rest) (suc at) h e none =
     let next = newline_at rest at (omega arith) e (λ k less is. none (suc k) (omega arith) is) in
     let n : suc at + 1 ≡ suc (at + 1) = omega arith in
     let other : not (b == 10) ≡ true = no (b == 10) (none 0 (omega arith)) in
-    (ap (λ l. b ∷ l) next.0 ∙ ap (λ m. b ∷ (take at rest ++ 10 ∷ drop m (b ∷ rest))) (sym n), and_from (not (b == 10)) (lacks 10 (take at rest)) other next.1) where
-      no : (t : Bool) → (t ≡ true → ⊥) → not t ≡ true
-      no true h = absurd (h refl)
-      no false h = refl
+    (ap (λ l. b ∷ l) next.0 ∙ ap (λ m. b ∷ (take at rest ++ 10 ∷ drop m (b ∷ rest))) (sym n), and_from (not (b == 10)) (lacks 10 (take at rest)) other next.1)
+  where
+    no : (t : Bool) → (t ≡ true → ⊥) → not t ≡ true
+    no true h = absurd (h refl)
+    no false h = refl
 
-pub first_newline : (rest : List ℕ) (at : ℕ) → IsFirstByte (is_byte 10) rest (Some at) → (rest ≡ take at rest ++ 10 ∷ drop (at + 1) rest) × (lacks 10 (take at rest) ≡ true)
+pub first_newline : (rest : List ℕ) (at : ℕ) → IsFirstByte (is_byte 10) rest (Some at)
+    → (rest ≡ take at rest ++ 10 ∷ drop (at + 1) rest) × (lacks 10 (take at rest) ≡ true)
 first_newline rest at first = newline_at rest at first.0.high first.1 (λ k less is. first.0.before k (omega arith) less is)
 
 pub no_newline : (rest : List ℕ) → IsFirstByte (is_byte 10) rest None → lacks 10 rest ≡ true
 no_newline [] none = refl
-no_newline (b ∷ rest) none = and_from (not (b == 10)) (lacks 10 rest) (no (b == 10) (none 0 (omega arith) (omega arith))) (no_newline rest (λ k low high is. none (suc k) (omega arith) (omega arith) is)) where
-  no : (t : Bool) → (t ≡ true → ⊥) → not t ≡ true
-  no true h = absurd (h refl)
-  no false h = refl
+no_newline (b ∷ rest) none =
+    and_from (not (b == 10)) (lacks 10 rest) (no (b == 10) (none 0 (omega arith) (omega arith)))
+    (no_newline rest (λ k low high is. none (suc k) (omega arith) (omega arith) is)) where
+      no : (t : Bool) → (t ≡ true → ⊥) → not t ≡ true
+      no true h = absurd (h refl)
+      no false h = refl
 
 -- one line more of some bytes
 rest_is : (rest : List ℕ) (n : ℕ) → take (length rest - n) (drop n rest) ≡ drop n rest
@@ -275,67 +340,86 @@ line_of : (rest : List ℕ) (at : ℕ) → IsFirstByte (is_byte 10) rest (Some a
 line_of rest at first = (first_newline rest at first).0 ∙ sym (append_assoc (take at rest) (10 ∷ []) (drop (at + 1) rest))
 
 pub step_taken : (prefix : List ℕ) (tree : Tree) (a : List ℕ) (g : Accumulator) (bytes rest : List ℕ) (at : ℕ) (b : List ℕ) (h : Accumulator) (c : List ℕ) (k : Accumulator)
-    → (front : List ℕ) × (bytes ≡ front ++ rest) × AcceptsBytes prefix tree a g front b h → IsFirstByte (is_byte 10) rest (Some at) → AcceptsBytes prefix tree b h (take at rest ++ 10 ∷ []) c k
+    → (front : List ℕ) × (bytes ≡ front ++ rest) × AcceptsBytes prefix tree a g front b h → IsFirstByte (is_byte 10) rest (Some at)
+    → AcceptsBytes prefix tree b h (take at rest ++ 10 ∷ []) c k
     → (front : List ℕ) × (bytes ≡ front ++ take (length rest - (at + 1)) (drop (at + 1) rest)) × AcceptsBytes prefix tree a g front c k
 step_taken prefix tree a g bytes rest at b h c k (front, is, takes) first second = (
   front ++ (take at rest ++ 10 ∷ []),
-  is ∙ ap (λ r. front ++ r) (line_of rest at first) ∙ sym (append_assoc front (take at rest ++ 10 ∷ []) (drop (at + 1) rest)) ∙ ap (λ r. (front ++ (take at rest ++ 10 ∷ [])) ++ r) (sym (rest_is rest (at + 1))),
+  is ∙ ap (λ r. front ++ r) (line_of rest at first) ∙ sym (append_assoc front (take at rest ++ 10 ∷ []) (drop (at + 1) rest))
+      ∙ ap (λ r. (front ++ (take at rest ++ 10 ∷ [])) ++ r) (sym (rest_is rest (at + 1))),
   both_taken prefix tree a g front b h (take at rest ++ 10 ∷ []) c k takes second,
 )
 
 pub step_refused : (prefix : List ℕ) (tree : Tree) (a : List ℕ) (g : Accumulator) (bytes rest : List ℕ) (at : ℕ) (b : List ℕ) (h : Accumulator) (kind : LoadKind) (lines : ℕ)
-    → (front : List ℕ) × (bytes ≡ front ++ rest) × AcceptsBytes prefix tree a g front b h → IsFirstByte (is_byte 10) rest (Some at) → (kind ≡ OutOfMemory) ⊎ Refuses prefix tree b h (take at rest ++ 10 ∷ []) kind lines
+    → (front : List ℕ) × (bytes ≡ front ++ rest) × AcceptsBytes prefix tree a g front b h → IsFirstByte (is_byte 10) rest (Some at)
+    → (kind ≡ OutOfMemory) ⊎ Refuses prefix tree b h (take at rest ++ 10 ∷ []) kind lines
     → (kind ≡ OutOfMemory) ⊎ Refuses prefix tree a g bytes kind lines
 step_refused prefix tree a g bytes rest at b h kind lines (front, is, takes) first fault = elim fault [
   | inl e ↦ inl e
-  | inr refuses ↦ inr (subst (λ x. Refuses prefix tree a g x kind lines) (sym (is ∙ ap (λ r. front ++ r) (line_of rest at first))) (later_refused prefix tree a g front b h (take at rest ++ 10 ∷ []) (drop (at + 1) rest) kind lines takes refuses))
+  | inr refuses ↦ inr (subst (λ x. Refuses prefix tree a g x kind lines) (sym (is ∙ ap (λ r. front ++ r) (line_of rest at first)))
+      (later_refused prefix tree a g front b h (take at rest ++ 10 ∷ []) (drop (at + 1) rest) kind lines takes refuses))
 ]
 
 pub last_taken : {T : Type 0} (r : Result T LoadKind) (prefix : List ℕ) (tree : Tree) (a : List ℕ) (g : Accumulator) (bytes rest b : List ℕ) (h : Accumulator) (c : List ℕ)
-    → (front : List ℕ) × (bytes ≡ front ++ rest) × AcceptsBytes prefix tree a g front b h → OnOk r (GoesOn b c rest h.lines) → OnOk r (AcceptsBytes prefix tree a g bytes c h)
-last_taken (Ok x) prefix tree a g bytes rest b h c (front, is, takes) goes = subst (λ x. AcceptsBytes prefix tree a g x c h) (sym is) (both_taken prefix tree a g front b h rest c h takes (piece_taken prefix tree b h rest c goes))
+    → (front : List ℕ) × (bytes ≡ front ++ rest) × AcceptsBytes prefix tree a g front b h → OnOk r (GoesOn b c rest h.lines)
+    → OnOk r (AcceptsBytes prefix tree a g bytes c h)
+last_taken (Ok x) prefix tree a g bytes rest b h c (front, is, takes) goes =
+    subst (λ x. AcceptsBytes prefix tree a g x c h) (sym is) (both_taken prefix tree a g front b h rest c h takes (piece_taken prefix tree b h rest c goes))
 last_taken (Err e) prefix tree a g bytes rest b h c taken goes = tt
 
 pub last_refused : {T : Type 0} (r : Result T LoadKind) (prefix : List ℕ) (tree : Tree) (a : List ℕ) (g : Accumulator) (bytes rest b : List ℕ) (h : Accumulator)
-    → (front : List ℕ) × (bytes ≡ front ++ rest) × AcceptsBytes prefix tree a g front b h → IfErr r (λ kind. (kind ≡ OutOfMemory) ⊎ StopsIn b rest h.lines kind) → IfErr r (λ kind. (kind ≡ OutOfMemory) ⊎ Refuses prefix tree a g bytes kind h.lines)
+    → (front : List ℕ) × (bytes ≡ front ++ rest) × AcceptsBytes prefix tree a g front b h → IfErr r (λ kind. (kind ≡ OutOfMemory) ⊎ StopsIn b rest h.lines kind)
+    → IfErr r (λ kind. (kind ≡ OutOfMemory) ⊎ Refuses prefix tree a g bytes kind h.lines)
 last_refused (Ok x) prefix tree a g bytes rest b h taken fault = tt
 last_refused (Err kind) prefix tree a g bytes rest b h (front, is, takes) fault = elim fault [
   | inl e ↦ inl e
-  | inr stops ↦ inr (subst (λ x. Refuses prefix tree a g x kind h.lines) (ap (λ r. front ++ r) (append-nil rest) ∙ sym is) (later_refused prefix tree a g front b h rest [] kind h.lines takes (stops_last prefix tree b h rest kind stops)))
+  | inr stops ↦ inr (subst (λ x. Refuses prefix tree a g x kind h.lines) (ap (λ r. front ++ r) (append-nil rest) ∙ sym is)
+      (later_refused prefix tree a g front b h rest [] kind h.lines takes (stops_last prefix tree b h rest kind stops)))
 ]
 
 -- a block's end is past the size
-pub block_refused : (prefix : List ℕ) (tree : Tree) (a : List ℕ) (g : Accumulator) (front : List ℕ) (more : List ℕ) (kind : LoadKind) (size lines : ℕ) → size + length front ≤ MAX_BYTES → (kind ≡ OutOfMemory) ⊎ Refuses prefix tree a g front kind lines
-    → (kind ≡ OutOfMemory) ⊎ ((told rest : List ℕ) → Holds prefix tree told a g → length told ≡ size → IsFirstFault prefix tree complete (told ++ ((front ++ more) ++ rest)) kind (lines + 1))
+pub block_refused : (prefix : List ℕ) (tree : Tree) (a : List ℕ) (g : Accumulator) (front : List ℕ) (more : List ℕ) (kind : LoadKind) (size lines : ℕ)
+    → size + length front ≤ MAX_CONFIG_BYTES → (kind ≡ OutOfMemory) ⊎ Refuses prefix tree a g front kind lines
+    → (kind ≡ OutOfMemory) ⊎ ((known rest : List ℕ) → Holds prefix tree known a g → length known ≡ size
+    → IsFirstFault prefix tree complete (known ++ ((front ++ more) ++ rest)) kind (lines + 1))
 block_refused prefix tree a g front more kind size lines room fault = elim fault [
   | inl e ↦ inl e
-  | inr refuses ↦ inr (λ told rest holds is. subst (λ x. IsFirstFault prefix tree complete x kind (lines + 1)) (ap (λ x. told ++ x) (sym (append_assoc front more rest))) (refuses told (more ++ rest) holds (omega arith)))
+  | inr refuses ↦ inr (λ known rest holds is. subst (λ x. IsFirstFault prefix tree complete x kind (lines + 1))
+      (ap (λ x. known ++ x) (sym (append_assoc front more rest))) (refuses known (more ++ rest) holds (omega arith)))
 ]
 
 -- a block within the size
-pub block_faulty : {T : Type 0} (r : Result T LoadKind) (prefix : List ℕ) (tree : Tree) (a : List ℕ) (g : Accumulator) (block : List ℕ) (size lines : ℕ) → size ≤ MAX_BYTES → length block ≤ MAX_BYTES - size
+pub block_faulty : {T : Type 0} (r : Result T LoadKind) (prefix : List ℕ) (tree : Tree) (a : List ℕ) (g : Accumulator) (block : List ℕ) (size lines : ℕ)
+    → size ≤ MAX_CONFIG_BYTES → length block ≤ MAX_CONFIG_BYTES - size
     → IfErr r (λ kind. (kind ≡ OutOfMemory) ⊎ Refuses prefix tree a g block kind lines)
-    → IfErr r (λ kind. (kind ≡ OutOfMemory) ⊎ ((told rest : List ℕ) → Holds prefix tree told a g → length told ≡ size → IsFirstFault prefix tree complete (told ++ (block ++ rest)) kind (lines + 1)))
+    → IfErr r (λ kind. (kind ≡ OutOfMemory) ⊎ ((known rest : List ℕ) → Holds prefix tree known a g → length known ≡ size
+    → IsFirstFault prefix tree complete (known ++ (block ++ rest)) kind (lines + 1)))
 block_faulty (Ok x) prefix tree a g block size lines small short fault = tt
 block_faulty (Err kind) prefix tree a g block size lines small short fault = elim fault [
   | inl e ↦ inl e
-  | inr refuses ↦ inr (λ told rest holds is. refuses told rest holds (omega (arith, small, short, is)))
+  | inr refuses ↦ inr (λ known rest holds is. refuses known rest holds (omega (arith, small, short, is)))
 ]
 
 -- of a block that reaches past the size, the part within it
-pub part_refused : (prefix : List ℕ) (tree : Tree) (a : List ℕ) (g : Accumulator) (block : List ℕ) (kind : LoadKind) (size lines : ℕ) → size ≤ MAX_BYTES → MAX_BYTES - size < length block → (kind ≡ OutOfMemory) ⊎ Refuses prefix tree a g (take (MAX_BYTES - size) block) kind lines
-    → (kind ≡ OutOfMemory) ⊎ ((told rest : List ℕ) → Holds prefix tree told a g → length told ≡ size → IsFirstFault prefix tree complete (told ++ (block ++ rest)) kind (lines + 1))
+pub part_refused : (prefix : List ℕ) (tree : Tree) (a : List ℕ) (g : Accumulator) (block : List ℕ) (kind : LoadKind) (size lines : ℕ) → size ≤ MAX_CONFIG_BYTES
+    → MAX_CONFIG_BYTES - size < length block → (kind ≡ OutOfMemory) ⊎ Refuses prefix tree a g (take (MAX_CONFIG_BYTES - size) block) kind lines
+    → (kind ≡ OutOfMemory) ⊎ ((known rest : List ℕ) → Holds prefix tree known a g → length known ≡ size
+    → IsFirstFault prefix tree complete (known ++ (block ++ rest)) kind (lines + 1))
 part_refused prefix tree a g block kind size lines small long fault =
-    let n = length-take-le (MAX_BYTES - size) block (omega arith) in
-    subst (λ x. (kind ≡ OutOfMemory) ⊎ ((told rest : List ℕ) → Holds prefix tree told a g → length told ≡ size → IsFirstFault prefix tree complete (told ++ (x ++ rest)) kind (lines + 1))) (take-append-drop (MAX_BYTES - size) block)
-    (block_refused prefix tree a g (take (MAX_BYTES - size) block) (drop (MAX_BYTES - size) block) kind size lines (omega arith) fault)
+    let n = length-take-le (MAX_CONFIG_BYTES - size) block (omega arith) in
+    subst (λ x. (kind ≡ OutOfMemory) ⊎ ((known rest : List ℕ) → Holds prefix tree known a g → length known ≡ size
+    → IsFirstFault prefix tree complete (known ++ (x ++ rest)) kind (lines + 1))) (take-append-drop (MAX_CONFIG_BYTES - size) block)
+    (block_refused prefix tree a g (take (MAX_CONFIG_BYTES - size) block) (drop (MAX_CONFIG_BYTES - size) block) kind size lines (omega arith) fault)
 
-pub part_too_large : (prefix : List ℕ) (tree : Tree) (a : List ℕ) (g : Accumulator) (block b : List ℕ) (h : Accumulator) (size : ℕ) → size ≤ MAX_BYTES → MAX_BYTES - size < length block → AcceptsBytes prefix tree a g (take (MAX_BYTES - size) block) b h
-    → (told rest : List ℕ) → Holds prefix tree told a g → length told ≡ size → IsFirstFault prefix tree complete (told ++ (block ++ rest)) TooLarge (h.lines + 1)
-part_too_large prefix tree a g block b h size small long takes told rest holds is =
-    let n = length-take-le (MAX_BYTES - size) block (omega arith) in
-    let whole = take-append-drop (MAX_BYTES - size) block in
+pub part_too_large : (prefix : List ℕ) (tree : Tree) (a : List ℕ) (g : Accumulator) (block b : List ℕ) (h : Accumulator) (size : ℕ) → size ≤ MAX_CONFIG_BYTES
+    → MAX_CONFIG_BYTES - size < length block → AcceptsBytes prefix tree a g (take (MAX_CONFIG_BYTES - size) block) b h
+    → (known rest : List ℕ) → Holds prefix tree known a g → length known ≡ size
+    → IsFirstFault prefix tree complete (known ++ (block ++ rest)) TooLarge (h.lines + 1)
+part_too_large prefix tree a g block b h size small long takes known rest holds is =
+    let n = length-take-le (MAX_CONFIG_BYTES - size) block (omega arith) in
+    let whole = take-append-drop (MAX_CONFIG_BYTES - size) block in
     let all = ap length whole in
-    let sum = length-append (take (MAX_BYTES - size) block) (drop (MAX_BYTES - size) block) in
-    subst (λ x. IsFirstFault prefix tree complete (told ++ (x ++ rest)) TooLarge (h.lines + 1)) whole
-    (past_size prefix tree a g (take (MAX_BYTES - size) block) b h (drop (MAX_BYTES - size) block) size takes (omega arith) (omega arith) told rest holds is)
+    let sum = length-append (take (MAX_CONFIG_BYTES - size) block) (drop (MAX_CONFIG_BYTES - size) block) in
+    subst (λ x. IsFirstFault prefix tree complete (known ++ (x ++ rest)) TooLarge (h.lines + 1)) whole
+    (past_size prefix tree a g (take (MAX_CONFIG_BYTES - size) block) b h (drop (MAX_CONFIG_BYTES - size) block) size takes (omega arith) (omega arith) known
+    rest holds is)

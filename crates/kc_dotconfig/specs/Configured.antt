@@ -9,7 +9,7 @@ use Rattle.kc_rules_model.specs.Rule.{rule}
 use Rattle.kc_rules_model.specs.Shapes.{user_fits, value_fits}
 use Rattle.kc_rules_model.specs.SettledTrees.{IsSettledTree}
 use Rattle.kc_rules.specs.declared.rules.Settled.{Settled}
-use Rattle.kc_rules.specs.SettledViews.{tree_of_settled, profile_of}
+use Rattle.kc_rules.specs.between.SettledViews.{tree_of_settled, profile_of}
 
 -- a settled tree, an assignment and its values
 abbrev pub Configured : Type 0

@@ -12,14 +12,14 @@ use Rattle.kc_dotconfig.specs.Fragments.{users_of, notice_pair}
 
 -- the file was read to its end, it has no fault, and this is its assignment with its notices
 pub record IsReadAs (prefix : List ℕ) (tree : Tree) (before after : Option (List ℕ)) (f : Fragment) : Type 0 where
-  pub told : List ℕ
-  pub consumed : Consumes before after told
+  pub known : List ℕ
+  pub consumed : Consumes before after known
   pub ended : IsAtEnd after
-  pub accepted : IsAccepted prefix tree told
-  pub sayings : List LineMeaning
-  pub says : FileMeans prefix tree told sayings
-  pub users : users_of tree f.assigns.items ≡ file_assignment tree sayings
-  pub noted : map notice_pair f.notices.items ≡ notices_from 1 sayings
+  pub accepted : IsAccepted prefix tree known
+  pub meanings : List LineMeaning
+  pub says : FileMeans prefix tree known meanings
+  pub users : users_of tree f.assigns.items ≡ file_assignment tree meanings
+  pub noted : map notice_pair f.notices.items ≡ notices_from 1 meanings
 
 -- the most bytes that are read at once
 abbrev pub MAX_READ : ℕ
@@ -28,18 +28,18 @@ MAX_READ = 4096
 -- the first fault of the known bytes: they are the whole file, or it is the first whatever follows them; no fault comes
 -- before the bytes that were read last
 pub record IsRefused (prefix : List ℕ) (tree : Tree) (before after : Option (List ℕ)) (kind : LoadKind) (number : ℕ) : Type 0 where
-  pub told : List ℕ
-  pub consumed : Consumes before after told
-  pub first : (IsAtEnd after × IsFirstFault prefix tree complete told kind number)
-      ⊎ ((rest : List ℕ) → IsFirstFault prefix tree complete (told ++ rest) kind number)
-  pub soon : (rest : List ℕ) (other : LoadKind) (byte n : ℕ) → OccursAt prefix tree (told ++ rest) other byte n
-      → length told ≤ byte + MAX_READ
+  pub known : List ℕ
+  pub consumed : Consumes before after known
+  pub first : (IsAtEnd after × IsFirstFault prefix tree complete known kind number)
+      ⊎ ((rest : List ℕ) → IsFirstFault prefix tree complete (known ++ rest) kind number)
+  pub soon : (rest : List ℕ) (other : LoadKind) (byte n : ℕ) → OccursAt prefix tree (known ++ rest) other byte n
+      → length known ≤ byte + MAX_READ
 
 -- a read failed after the supplied bytes, which have no fault before it
 pub record IsCutShort (prefix : List ℕ) (tree : Tree) (before after : Option (List ℕ)) (number : ℕ) : Type 0 where
-  pub told : List ℕ
-  pub consumed : Consumes before after told
-  pub first : IsFirstFault prefix tree cut_short told Read number
+  pub known : List ℕ
+  pub consumed : Consumes before after known
+  pub first : IsFirstFault prefix tree cut_short known Read number
 
 -- what a reported fault implies; for a failed read also that the reader's failures rose from `failed` to `failed_after`;
 -- out of memory has the line 0

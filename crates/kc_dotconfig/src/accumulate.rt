@@ -1,10 +1,11 @@
 //! Accumulates the meanings of lines.
 ghost use Rattle.std.specs.Prelude.{◌≡◌, ◌⊎◌, ℕ, ◌+◌, ◌<◌, List, [], ◌∷◌, ◌++◌, length, IfOk, IfErr, OnOk, OnErr, map};
 ghost use Rattle.std.specs.Str.{IsUtf8};
+ghost use Rattle.kc_value.specs.declared.limits.TheConstants.{MAX_CONFIG_LINES};
 ghost use Rattle.kc_tree_model.specs.Trees.{Tree};
-ghost use Rattle.kc_rules.specs.SettledViews.{tree_of_settled};
+ghost use Rattle.kc_rules.specs.between.SettledViews.{tree_of_settled};
 ghost use Rattle.kc_dotconfig_model.specs.ConfigLines.{LineMeaning, Means, IsMalformed, without_white_end};
-ghost use Rattle.kc_dotconfig_model.specs.Prefixes.{prefix_bytes};
+ghost use Rattle.kc_dotconfig_model.specs.between.Prefixes.{prefix_bytes};
 ghost use Rattle.std.specs.BTreeMap.{insert_entry};
 ghost use Rattle.std.specs.Ordering.{nat_cmp};
 ghost use Rattle.kc_dotconfig.specs.checker.MeaningViews.{meaning_view, IsWithin};
@@ -33,7 +34,7 @@ pub(crate) fn empty_accumulator(alloc: Global) -> Accumulator
 
 /// Takes a user value.
 fn take_assignment(gathered: &mut Accumulator, unit: u32, user: UserValue) -> Result<(), AllocError>
-    requires { gathered.old.lines < 1048576 }
+    requires few { gathered.old.lines < MAX_CONFIG_LINES }
     ensures entries { OnOk result (gathered.new.assigns ≡ insert_entry nat_cmp gathered.old.assigns unit user) }
     ensures notices { OnOk result (gathered.new.notices.items ≡ gathered.old.notices.items) }
     ensures lines { OnOk result (gathered.new.lines ≡ gathered.old.lines + 1) }
@@ -47,7 +48,7 @@ fn take_assignment(gathered: &mut Accumulator, unit: u32, user: UserValue) -> Re
 
 /// Takes a notice.
 fn take_notice(gathered: &mut Accumulator, kind: NoticeKind) -> Result<(), AllocError>
-    requires { gathered.old.lines < 1048576 }
+    requires few { gathered.old.lines < MAX_CONFIG_LINES }
     ensures entries { OnOk result (gathered.new.assigns ≡ gathered.old.assigns) }
     ensures notices { OnOk result (gathered.new.notices.items ≡ gathered.old.notices.items ++ record { line = gathered.old.lines + 1; kind = kind } ∷ []) }
     ensures lines { OnOk result (gathered.new.lines ≡ gathered.old.lines + 1) }
@@ -60,13 +61,13 @@ fn take_notice(gathered: &mut Accumulator, kind: NoticeKind) -> Result<(), Alloc
 }
 
 /// Adds the meaning of the next line.
-fn take(gathered: &mut Accumulator, said: Meaning) -> Result<(), AllocError>
-    requires { gathered.old.lines < 1048576 }
-    ensures ok { OnOk result ((tree : Tree) (sayings : List LineMeaning) → IsWithin (length tree.units) (meaning_view said) → IsGathered tree sayings gathered.old → IsGathered tree (sayings ++ meaning_view said ∷ []) gathered.new) }
+fn take(gathered: &mut Accumulator, meaning: Meaning) -> Result<(), AllocError>
+    requires few { gathered.old.lines < MAX_CONFIG_LINES }
+    ensures ok { OnOk result ((tree : Tree) (meanings : List LineMeaning) → IsWithin (length tree.units) (meaning_view meaning) → IsGathered tree meanings gathered.old → IsGathered tree (meanings ++ meaning_view meaning ∷ []) gathered.new) }
     ensures lines { OnOk result (gathered.new.lines ≡ gathered.old.lines + 1) }
     ensures err { OnErr result (gathered.new.lines ≡ gathered.old.lines) }
 {
-    match said {
+    match meaning {
         Meaning::Assigns(unit, user) => take_assignment(gathered, unit, user),
         Meaning::Noted(kind) => take_notice(gathered, kind),
         Meaning::Nothing => {
@@ -84,8 +85,8 @@ pub(crate) fn take_line(
     gathered: &mut Accumulator,
     line: &[u8],
 ) -> Result<(), LoadKind>
-    requires { gathered.old.lines < 1048576 }
-    ensures ok { OnOk result (IsUtf8 line.now × ((saying : LineMeaning) × Means (prefix_bytes prefix.now) (tree_of_settled settled.now) (without_white_end line.now) saying × ((sayings : List LineMeaning) → IsGathered (tree_of_settled settled.now) sayings gathered.old → IsGathered (tree_of_settled settled.now) (sayings ++ saying ∷ []) gathered.new))) }
+    requires few { gathered.old.lines < MAX_CONFIG_LINES }
+    ensures ok { OnOk result (IsUtf8 line.now × ((meaning : LineMeaning) × Means (prefix_bytes prefix.now) (tree_of_settled settled.now) (without_white_end line.now) meaning × ((meanings : List LineMeaning) → IsGathered (tree_of_settled settled.now) meanings gathered.old → IsGathered (tree_of_settled settled.now) (meanings ++ meaning ∷ []) gathered.new))) }
     ensures not_utf8 { result ≡ Err LoadKind.NotUtf8 → IsUtf8 line.now → ⊥ }
     ensures malformed { result ≡ Err LoadKind.Malformed → IsUtf8 line.now × IsMalformed (prefix_bytes prefix.now) (tree_of_settled settled.now) line.now }
     ensures kinds { IfErr result (λ kind. (kind ≡ LoadKind.NotUtf8) ⊎ (kind ≡ LoadKind.Malformed) ⊎ (kind ≡ LoadKind.OutOfMemory)) }
@@ -96,7 +97,7 @@ pub(crate) fn take_line(
         return Err(LoadKind::NotUtf8);
     };
     match read_line(alloc, settled, prefix, gathered.next, text) {
-        Ok(Some(said)) => match take(gathered, said) {
+        Ok(Some(meaning)) => match take(gathered, meaning) {
             Ok(()) => Ok(()),
             Err(_) => Err(LoadKind::OutOfMemory),
         },

@@ -33,8 +33,8 @@ impl Model for AssignedValues {
 
 /// Whether a unit is above all of a list.
 fn is_above(unit: u32, listed: &[(u32, UserValue)]) -> bool
-    requires { Rises listed.now }
-    ensures { IsTrue result → Below unit listed.now }
+    requires rising { Rises listed.now }
+    ensures below { IsTrue result → Below unit listed.now }
 {
     match listed.last() {
         Some((last, _user)) => *last < unit,
@@ -47,8 +47,8 @@ fn map_of(
     alloc: Global,
     listed: Vec<(u32, UserValue)>,
 ) -> Result<BTreeMap<u32, UserValue>, AllocError>
-    requires { Rises listed.items }
-    ensures { IfOk result (λ map. map.entries ≡ listed.items) }
+    requires rising { Rises listed.items }
+    ensures ok { IfOk result (λ map. map.entries ≡ listed.items) }
 {
     let mut map = BTreeMap::new(alloc);
     for (unit, user) in listed {

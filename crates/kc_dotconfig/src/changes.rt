@@ -69,8 +69,8 @@ pub(crate) fn users_assigned(
     size: u32,
     assigns: &[(u32, UserValue)],
 ) -> Result<Vec<Option<UserValue>>, AllocError>
-    requires { (k u : ℕ) (x : UserValue) → slice_get assigns.now k ≡ Some (u, x) → u < size }
-    ensures { IfOk result (λ users. users.items ≡ changed_users (changes_of assigns.now) (replicate size None)) }
+    requires units { (k u : ℕ) (x : UserValue) → slice_get assigns.now k ≡ Some (u, x) → u < size }
+    ensures ok { IfOk result (λ users. users.items ≡ changed_users (changes_of assigns.now) (replicate size None)) }
 {
     let mut users = blank_users(alloc, size)?;
     for (unit, user) in assigns {

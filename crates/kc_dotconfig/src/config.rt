@@ -5,7 +5,7 @@ ghost use Rattle.kc_system.specs.Changes.{IsTouched, IsChanged, IsCountOf, IsLis
 ghost use Rattle.kc_tree_model.specs.TreeLookup.{symbol_named};
 ghost use Rattle.kc_rules_model.specs.Dependencies.{dependencies};
 ghost use Rattle.kc_rules_model.specs.SymbolValues.{value_of_symbol};
-ghost use Rattle.kc_rules.specs.SettledViews.{tree_of_settled, value_view, value_of_ref};
+ghost use Rattle.kc_rules.specs.between.SettledViews.{tree_of_settled, value_view, value_of_ref};
 ghost use Rattle.kc_dotconfig_model.specs.ConfigFiles.{empty_assignment, overlay};
 ghost use Rattle.kc_dotconfig_model.specs.Missed.{missed};
 ghost use Rattle.kc_dotconfig.specs.Fragments.{FitsTree, users_of};
@@ -77,7 +77,7 @@ impl<'a> Config<'a> {
         settled: &'a Settled,
         fragment: &Fragment,
     ) -> Result<Config<'a>, AllocError>
-        requires { FitsTree (tree_of_settled settled.now) fragment.now.assigns.items }
+        requires fits { FitsTree (tree_of_settled settled.now) fragment.now.assigns.items }
         ensures settled { IfOk result (λ c. c.system ≡ settled.now) }
         ensures users { IfOk result (λ c. c.users ≡ users_of (tree_of_settled settled.now) fragment.now.assigns.items) }
         ensures solved { IfOk result (λ c. IsSolved c) }
@@ -102,7 +102,7 @@ impl<'a> Config<'a> {
     /// fragment that
     /// fits.
     pub fn replace(&mut self, fragment: &Fragment) -> Result<Report, AllocError>
-        requires { FitsTree (tree_in self.old) fragment.now.assigns.items }
+        requires fits { FitsTree (tree_in self.old) fragment.now.assigns.items }
         ensures settled { self.new.system ≡ self.old.system }
         ensures users { OnOk result (self.new.users ≡ users_of (tree_in self.old) fragment.now.assigns.items) }
         ensures solved { IsSolved self.new }
@@ -123,7 +123,7 @@ impl<'a> Config<'a> {
     /// configuration is as
     /// before. The caller owes a fragment that fits.
     pub fn merge(&mut self, fragment: &Fragment) -> Result<Report, AllocError>
-        requires { FitsTree (tree_in self.old) fragment.now.assigns.items }
+        requires fits { FitsTree (tree_in self.old) fragment.now.assigns.items }
         ensures settled { self.new.system ≡ self.old.system }
         ensures users { OnOk result (self.new.users ≡ overlay (users_of (tree_in self.old) fragment.now.assigns.items) self.old.users) }
         ensures solved { IsSolved self.new }

@@ -1,6 +1,6 @@
 //! The assignment of a configuration file.
 ghost use Rattle.std.specs.Prelude.{◌↔◌, IsTrue};
-ghost use Rattle.kc_rules.specs.SettledViews.{tree_of_settled};
+ghost use Rattle.kc_rules.specs.between.SettledViews.{tree_of_settled};
 ghost use Rattle.kc_dotconfig.specs.Fragments.{FitsTree};
 
 use kc_dotconfig_model::Notice;

@@ -2,13 +2,11 @@
 ghost use Rattle.std.specs.Prelude.{◌≡◌, ℕ, ◌+◌, ◌<◌, ◌≤◌, [], ◌++◌, length, IfOk, IfErr, OnOk, ◌⊎◌, OnErr};
 
 use kc_dotconfig_model::LoadKind;
+use kc_value::MAX_LINE_BYTES;
 use std::alloc::Global;
 use std::marker::Model;
 
-/// The most bytes of a line without its newline.
-pub(crate) const MAX_LINE_BYTES: usize = 65_536;
-
-/// The line so far: at most 65,536 bytes.
+/// The line so far: at most `MAX_LINE_BYTES` bytes.
 #[derive(Drop)]
 pub(crate) struct LineBuffer {
     line: Vec<u8>,
@@ -16,12 +14,13 @@ pub(crate) struct LineBuffer {
 
 impl Model for LineBuffer {
     ghost use Rattle.std.specs.Prelude.{ℕ, ◌≤◌, List, length};
+    ghost use Rattle.kc_value.specs.declared.limits.TheConstants.{MAX_LINE_BYTES};
 
     ghost Value = { List ℕ };
 
     ghost view = { λ c. c.line.items };
 
-    ghost invariant = { λ c. length c.line.items ≤ 65536 };
+    ghost invariant = { λ c. length c.line.items ≤ MAX_LINE_BYTES };
 }
 
 impl LineBuffer {

@@ -3,7 +3,7 @@ ghost use Rattle.std.specs.Prelude.{◌≡◌, ◌<◌, not, Some, None, IfSome,
 ghost use Rattle.std.specs.List.{find};
 ghost use Rattle.kc_expr.specs.Token.{is_white_byte};
 ghost use Rattle.kc_dotconfig_model.specs.ConfigLines.{without_white_end};
-ghost use Rattle.kc_dotconfig_model.specs.Prefixes.{prefix_bytes};
+ghost use Rattle.kc_dotconfig_model.specs.between.Prefixes.{prefix_bytes};
 ghost use Rattle.kc_dotconfig_model.specs.between.LineMeanings.{after_front, named_before, value_parts, unset_name, is_hash};
 
 use kc_dotconfig_model::Prefix;
@@ -29,7 +29,7 @@ pub(crate) fn trimmed(line: &str) -> &str
 
 /// The rest of a text after a prefix of ASCII.
 fn after_front<'a>(front: &[u8], line: &'a str) -> Option<&'a str>
-    requires { IsAscii front.now }
+    requires ascii { IsAscii front.now }
     ensures some { IfSome result (λ rest. after_front front.now line.now ≡ Some rest.now) }
     ensures none { IfNone result (after_front front.now line.now ≡ None) }
 {
@@ -41,7 +41,7 @@ fn after_front<'a>(front: &[u8], line: &'a str) -> Option<&'a str>
 
 /// The text before the first such ASCII character, if it isn't empty, and the text after it.
 fn named_before(end: char, text: &str) -> Option<(&str, &str)>
-    requires { end < 128 }
+    requires ascii { end < 128 }
     ensures some { IfSome result (λ parts. named_before end text.now ≡ Some (parts.0.now, parts.1.now)) }
     ensures none { IfNone result (named_before end text.now ≡ None) }
 {

@@ -3,9 +3,9 @@ ghost use Rattle.std.specs.Prelude.{◌≡◌, ◌<◌, List, ℕ, IfOk, IfSome,
 ghost use Rattle.kc_tree_model.specs.Trees.{Symbol};
 ghost use Rattle.kc_tree_model.specs.TreeLookup.{symbol_named};
 ghost use Rattle.kc_value.specs.Number.{number_of_text};
-ghost use Rattle.kc_rules.specs.SettledViews.{tree_of_settled};
+ghost use Rattle.kc_rules.specs.between.SettledViews.{tree_of_settled};
 ghost use Rattle.kc_dotconfig_model.specs.ConfigLines.{tri_of_text, unset_meaning, without_white_end};
-ghost use Rattle.kc_dotconfig_model.specs.Prefixes.{prefix_bytes};
+ghost use Rattle.kc_dotconfig_model.specs.between.Prefixes.{prefix_bytes};
 ghost use Rattle.kc_dotconfig_model.specs.between.LineMeanings.{line_meaning, tri_meaning, string_meaning, number_meaning, meaning_of_kind, value_meaning, unquoted, of_named, of_other};
 ghost use Rattle.kc_dotconfig.specs.checker.MeaningViews.{meaning_view, IsWithin};
 
@@ -54,7 +54,7 @@ fn read_tri(unit: u32, s: Sym, choice: Option<u32>, tri: Option<Tri>) -> Meaning
 
 /// Interprets the value of a string.
 fn read_string(alloc: Global, unit: u32, text: &str) -> Result<Meaning, AllocError>
-    ensures { IfOk result (λ said. meaning_view said ≡ string_meaning unit (unquoted text.now)) }
+    ensures { IfOk result (λ meaning. meaning_view meaning ≡ string_meaning unit (unquoted text.now)) }
 {
     match read_quoted(alloc, text)? {
         Some(text) => Ok(Meaning::Assigns(unit, UserValue::Text(Text::from_string(text)))),
@@ -77,7 +77,7 @@ fn is_number(kind: Kind, text: &str) -> bool
 
 /// Interprets the value of an int or hex.
 fn read_number(alloc: Global, unit: u32, kind: Kind, text: &str) -> Result<Meaning, AllocError>
-    ensures { IfOk result (λ said. meaning_view said ≡ number_meaning unit kind text.now) }
+    ensures { IfOk result (λ meaning. meaning_view meaning ≡ number_meaning unit kind text.now) }
 {
     if is_number(kind, text) {
         let text = Text::copied(alloc, text)?;
@@ -98,7 +98,7 @@ fn read_text(
     choice: Option<u32>,
     text: &str,
 ) -> Result<Meaning, AllocError>
-    ensures { IfOk result (λ said. meaning_view said ≡ meaning_of_kind kind unit s choice text.now) }
+    ensures { IfOk result (λ meaning. meaning_view meaning ≡ meaning_of_kind kind unit s choice text.now) }
 {
     match kind {
         Kind::Text => read_string(alloc, unit, text),
@@ -111,9 +111,9 @@ fn read_text(
 
 /// Interprets the text after `=` for a symbol.
 fn read_value(alloc: Global, tree: &Tree, s: Sym, text: &str) -> Result<Meaning, AllocError>
-    requires { s < length tree.now.tree.symbols }
-    ensures said { IfOk result (λ said. (symbol : Symbol) → slice_get tree.now.tree.symbols s ≡ Some symbol → meaning_view said ≡ value_meaning tree.now.tree s symbol text.now) }
-    ensures within { IfOk result (λ said. IsWithin (length tree.now.tree.units) (meaning_view said)) }
+    requires there { s < length tree.now.tree.symbols }
+    ensures meaning { IfOk result (λ meaning. (symbol : Symbol) → slice_get tree.now.tree.symbols s ≡ Some symbol → meaning_view meaning ≡ value_meaning tree.now.tree s symbol text.now) }
+    ensures within { IfOk result (λ meaning. IsWithin (length tree.now.tree.units) (meaning_view meaning)) }
 {
     let symbol = tree.symbol(s);
     read_text(alloc, symbol.kind, symbol.unit, s, symbol.choice, text)
@@ -121,8 +121,8 @@ fn read_value(alloc: Global, tree: &Tree, s: Sym, text: &str) -> Result<Meaning,
 
 /// Interprets an unset line for a symbol.
 fn read_unset(tree: &Tree, s: Sym) -> Meaning
-    requires { s < length tree.now.tree.symbols }
-    ensures said { (symbol : Symbol) → slice_get tree.now.tree.symbols s ≡ Some symbol → meaning_view result ≡ unset_meaning tree.now.tree s symbol symbol.choice }
+    requires there { s < length tree.now.tree.symbols }
+    ensures meaning { (symbol : Symbol) → slice_get tree.now.tree.symbols s ≡ Some symbol → meaning_view result ≡ unset_meaning tree.now.tree s symbol symbol.choice }
     ensures within { IsWithin (length tree.now.tree.units) (meaning_view result) }
 {
     let symbol = tree.symbol(s);
@@ -167,8 +167,8 @@ fn read_value_line(
     name: &str,
     text: &str,
 ) -> Result<Meaning, AllocError>
-    ensures said { IfOk result (λ said. meaning_view said ≡ of_named tree.now.tree (λ s symbol. value_meaning tree.now.tree s symbol text.now) (symbol_named tree.now.tree name.now)) }
-    ensures within { IfOk result (λ said. IsWithin (length tree.now.tree.units) (meaning_view said)) }
+    ensures meaning { IfOk result (λ meaning. meaning_view meaning ≡ of_named tree.now.tree (λ s symbol. value_meaning tree.now.tree s symbol text.now) (symbol_named tree.now.tree name.now)) }
+    ensures within { IfOk result (λ meaning. IsWithin (length tree.now.tree.units) (meaning_view meaning)) }
 {
     match find_symbol(tree, next, name) {
         Some(s) => read_value(alloc, tree, s, text),
@@ -178,7 +178,7 @@ fn read_value_line(
 
 /// Interprets a line `# CONFIG_X is not set`.
 fn read_unset_line(tree: &Tree, next: u32, name: &str) -> Meaning
-    ensures said { meaning_view result ≡ of_named tree.now.tree (λ s symbol. unset_meaning tree.now.tree s symbol symbol.choice) (symbol_named tree.now.tree name.now) }
+    ensures meaning { meaning_view result ≡ of_named tree.now.tree (λ s symbol. unset_meaning tree.now.tree s symbol symbol.choice) (symbol_named tree.now.tree name.now) }
     ensures within { IsWithin (length tree.now.tree.units) (meaning_view result) }
 {
     match find_symbol(tree, next, name) {
@@ -189,8 +189,8 @@ fn read_unset_line(tree: &Tree, next: u32, name: &str) -> Meaning
 
 /// Interprets any other line; `None` if it is malformed.
 fn read_other_line(line: &str) -> Option<Meaning>
-    ensures said { option_map meaning_view result ≡ of_other line.now }
-    ensures within { (n : ℕ) → IfSome result (λ said. IsWithin n (meaning_view said)) }
+    ensures meaning { option_map meaning_view result ≡ of_other line.now }
+    ensures within { (n : ℕ) → IfSome result (λ meaning. IsWithin n (meaning_view meaning)) }
 {
     if line.is_empty() || is_comment(line.as_bytes()) {
         Some(Meaning::Nothing)
@@ -207,14 +207,14 @@ pub(crate) fn read_line(
     next: u32,
     line: &str,
 ) -> Result<Option<Meaning>, AllocError>
-    ensures within { IfOk result (λ said. IfSome said (λ s. IsWithin (length (tree_of_settled settled.now).units) (meaning_view s))) }
-    ensures said { IfOk result (λ said. option_map meaning_view said ≡ line_meaning (prefix_bytes prefix.now) (tree_of_settled settled.now) (without_white_end line.now)) }
+    ensures within { IfOk result (λ meaning. IfSome meaning (λ s. IsWithin (length (tree_of_settled settled.now).units) (meaning_view s))) }
+    ensures meaning { IfOk result (λ meaning. option_map meaning_view meaning ≡ line_meaning (prefix_bytes prefix.now) (tree_of_settled settled.now) (without_white_end line.now)) }
 {
     let tree = settled.tree();
     let line = trimmed(line);
     if let Some((name, text)) = value_parts(prefix, line) {
-        let said = read_value_line(alloc, tree, next, name, text)?;
-        return Ok(Some(said));
+        let meaning = read_value_line(alloc, tree, next, name, text)?;
+        return Ok(Some(meaning));
     }
     if let Some(name) = unset_name(prefix, line) {
         return Ok(Some(read_unset_line(tree, next, name)));

@@ -45,8 +45,8 @@ fn is_missed_value(
 
 /// Whether a symbol is missed, by its number.
 fn is_missed(tree: &Tree, users: &[Option<UserValue>], values: &[UnitValue], s: Sym) -> bool
-    requires { s < length tree.now.tree.symbols }
-    ensures { result ≡ is_missed tree.now.tree users.now values.now s }
+    requires there { s < length tree.now.tree.symbols }
+    ensures value { result ≡ is_missed tree.now.tree users.now values.now s }
 {
     let symbol = tree.symbol(s);
     let user = match users.get(symbol.unit as usize) {

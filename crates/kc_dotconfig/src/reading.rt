@@ -1,35 +1,29 @@
 //! Reading a configuration file, a block at a time.
 ghost use Rattle.std.specs.Prelude.{◌≡◌, ◌⊎◌, ◌<◌, ◌≤◌, ℕ, ◌+◌, ◌-◌, ◌^◌, List, [], ◌∷◌, ◌++◌, length, true, IfOk, IfErr, OnOk, OnErr};
 ghost use Rattle.kc_dotconfig_model.specs.PrefixGrammar.{lacks};
-ghost use Rattle.kc_dotconfig_model.specs.Prefixes.{prefix_bytes};
+ghost use Rattle.kc_dotconfig_model.specs.between.Prefixes.{prefix_bytes};
 ghost use Rattle.kc_dotconfig_model.specs.LoadFaults.{complete, IsFirstFault};
 ghost use Rattle.kc_dotconfig.specs.checker.Accumulation.{fault_line, Holds, GoesOn, StopsIn, AcceptsBytes, Refuses, EndsWell, EndsBadly, IsFragmentOf};
 ghost use Rattle.kc_dotconfig.specs.Fragments.{FitsTree};
 ghost use Rattle.kc_dotconfig.specs.ReadResults.{IsReadAs, ReportsFault};
-ghost use Rattle.kc_rules.specs.SettledViews.{tree_of_settled};
+ghost use Rattle.kc_rules.specs.between.SettledViews.{tree_of_settled};
 
 use super::accumulate::{empty_accumulator, fragment_of, take_line};
 use super::accumulator::Accumulator;
 use super::fragment::Fragment;
-use super::line_buffer::{LineBuffer, MAX_LINE_BYTES};
+use super::line_buffer::LineBuffer;
 use bstr::ByteSlice;
 use kc_dotconfig_model::{LoadFault, LoadKind, Prefix};
 use kc_rules::Settled;
-use kc_value::Source;
+use kc_value::{MAX_CONFIG_BYTES, MAX_CONFIG_LINES, MAX_LINE_BYTES, Source};
 use std::alloc::{AllocError, Global};
-
-/// The most bytes of a configuration file.
-const MAX_BYTES: usize = 67_108_864;
-
-/// The most lines of a configuration file.
-const MAX_LINES: u32 = 1_048_576;
 
 /// How many bytes are read at once.
 const BLOCK: usize = 4096;
 
 /// Takes a piece of a line that goes on.
 fn take_piece(cutter: &mut LineBuffer, lines: u32, piece: &[u8]) -> Result<(), LoadKind>
-    requires few { lines ≤ MAX_LINES }
+    requires few { lines ≤ MAX_CONFIG_LINES }
     requires one_line { lacks 10 piece.now ≡ true }
     ensures ok { OnOk result (GoesOn cutter.old cutter.new piece.now lines) }
     ensures err { IfErr result (λ kind. (kind ≡ LoadKind.OutOfMemory) ⊎ StopsIn cutter.old piece.now lines kind) }
@@ -37,7 +31,7 @@ fn take_piece(cutter: &mut LineBuffer, lines: u32, piece: &[u8]) -> Result<(), L
     if piece.is_empty() {
         return Ok(());
     }
-    if lines == MAX_LINES {
+    if lines == MAX_CONFIG_LINES {
         return Err(LoadKind::TooManyLines);
     }
     cutter.push(piece)
@@ -52,13 +46,13 @@ fn take_ended(
     gathered: &mut Accumulator,
     piece: &[u8],
 ) -> Result<(), LoadKind>
-    requires few { gathered.old.lines ≤ MAX_LINES }
+    requires few { gathered.old.lines ≤ MAX_CONFIG_LINES }
     requires one_line { lacks 10 piece.now ≡ true }
     ensures ok { OnOk result (AcceptsBytes (prefix_bytes prefix.now) (tree_of_settled settled.now) cutter.old gathered.old (piece.now ++ 10 ∷ []) cutter.new gathered.new) }
     ensures err { IfErr result (λ kind. (kind ≡ LoadKind.OutOfMemory) ⊎ Refuses (prefix_bytes prefix.now) (tree_of_settled settled.now) cutter.old gathered.old (piece.now ++ 10 ∷ []) kind gathered.new.lines) }
-    ensures few { gathered.new.lines ≤ MAX_LINES }
+    ensures few { gathered.new.lines ≤ MAX_CONFIG_LINES }
 {
-    if gathered.lines == MAX_LINES {
+    if gathered.lines == MAX_CONFIG_LINES {
         return Err(LoadKind::TooManyLines);
     }
     if cutter.line().is_empty() {
@@ -82,10 +76,10 @@ fn take_bytes(
     gathered: &mut Accumulator,
     bytes: &[u8],
 ) -> Result<(), LoadKind>
-    requires few { gathered.old.lines ≤ MAX_LINES }
+    requires few { gathered.old.lines ≤ MAX_CONFIG_LINES }
     ensures ok { OnOk result (AcceptsBytes (prefix_bytes prefix.now) (tree_of_settled settled.now) cutter.old gathered.old bytes.now cutter.new gathered.new) }
     ensures err { IfErr result (λ kind. (kind ≡ LoadKind.OutOfMemory) ⊎ Refuses (prefix_bytes prefix.now) (tree_of_settled settled.now) cutter.old gathered.old bytes.now kind gathered.new.lines) }
-    ensures few { gathered.new.lines ≤ MAX_LINES }
+    ensures few { gathered.new.lines ≤ MAX_CONFIG_LINES }
 {
     let mut rest = bytes;
     while let Some(at) = rest.find_byte(b'\n') {
@@ -105,14 +99,14 @@ fn take_block(
     size: usize,
     block: &[u8],
 ) -> Result<(), LoadKind>
-    requires few { gathered.old.lines ≤ MAX_LINES }
-    requires size { size ≤ MAX_BYTES }
+    requires few { gathered.old.lines ≤ MAX_CONFIG_LINES }
+    requires size { size ≤ MAX_CONFIG_BYTES }
     ensures ok { OnOk result (AcceptsBytes (prefix_bytes prefix.now) (tree_of_settled settled.now) cutter.old gathered.old block.now cutter.new gathered.new) }
-    ensures room { OnOk result (size + length block.now ≤ MAX_BYTES) }
-    ensures err { IfErr result (λ kind. (kind ≡ LoadKind.OutOfMemory) ⊎ ((told rest : List ℕ) → Holds (prefix_bytes prefix.now) (tree_of_settled settled.now) told cutter.old gathered.old → length told ≡ size → IsFirstFault (prefix_bytes prefix.now) (tree_of_settled settled.now) complete (told ++ (block.now ++ rest)) kind (gathered.new.lines + 1))) }
-    ensures few { gathered.new.lines ≤ MAX_LINES }
+    ensures room { OnOk result (size + length block.now ≤ MAX_CONFIG_BYTES) }
+    ensures err { IfErr result (λ kind. (kind ≡ LoadKind.OutOfMemory) ⊎ ((known rest : List ℕ) → Holds (prefix_bytes prefix.now) (tree_of_settled settled.now) known cutter.old gathered.old → length known ≡ size → IsFirstFault (prefix_bytes prefix.now) (tree_of_settled settled.now) complete (known ++ (block.now ++ rest)) kind (gathered.new.lines + 1))) }
+    ensures few { gathered.new.lines ≤ MAX_CONFIG_LINES }
 {
-    let room = MAX_BYTES - size;
+    let room = MAX_CONFIG_BYTES - size;
     if block.len() > room {
         take_bytes(alloc, settled, prefix, cutter, gathered, &block[..room])?;
         return Err(LoadKind::TooLarge);
@@ -128,10 +122,10 @@ fn take_end(
     cutter: &LineBuffer,
     gathered: &mut Accumulator,
 ) -> Result<(), LoadKind>
-    requires { (cutter.now ≡ []) ⊎ (gathered.old.lines < MAX_LINES) }
+    requires room { (cutter.now ≡ []) ⊎ (gathered.old.lines < MAX_CONFIG_LINES) }
     ensures ok { OnOk result (EndsWell (prefix_bytes prefix.now) (tree_of_settled settled.now) cutter.now gathered.old gathered.new) }
     ensures err { IfErr result (λ kind. (kind ≡ LoadKind.OutOfMemory) ⊎ EndsBadly (prefix_bytes prefix.now) (tree_of_settled settled.now) cutter.now gathered.old kind gathered.new.lines) }
-    ensures few { gathered.old.lines ≤ MAX_LINES → gathered.new.lines ≤ MAX_LINES }
+    ensures few { gathered.old.lines ≤ MAX_CONFIG_LINES → gathered.new.lines ≤ MAX_CONFIG_LINES }
 {
     if cutter.line().is_empty() {
         return Ok(());
@@ -141,7 +135,7 @@ fn take_end(
 
 /// A fault on the line after the complete ones; out of memory is of no line, and has the line 0.
 fn fault_on_next_line(lines: u32, kind: LoadKind) -> LoadFault
-    requires { lines ≤ MAX_LINES }
+    requires few { lines ≤ MAX_CONFIG_LINES }
     ensures line { result.line ≡ fault_line kind lines }
     ensures kind { result.kind ≡ kind }
 {
@@ -160,10 +154,10 @@ fn finish(
     cutter: &LineBuffer,
     mut gathered: Accumulator,
 ) -> Result<Fragment, LoadFault>
-    requires few { gathered.lines ≤ MAX_LINES }
-    requires room { (cutter.now ≡ []) ⊎ (gathered.lines < MAX_LINES) }
+    requires few { gathered.lines ≤ MAX_CONFIG_LINES }
+    requires room { (cutter.now ≡ []) ⊎ (gathered.lines < MAX_CONFIG_LINES) }
     ensures ok { IfOk result (λ f. IsFragmentOf (prefix_bytes prefix.now) (tree_of_settled settled.now) cutter.now gathered f) }
-    ensures err { IfErr result (λ fault. ((fault.kind ≡ LoadKind.OutOfMemory) × (fault.line ≡ 0)) ⊎ ((told : List ℕ) → Holds (prefix_bytes prefix.now) (tree_of_settled settled.now) told cutter.now gathered → IsFirstFault (prefix_bytes prefix.now) (tree_of_settled settled.now) complete told fault.kind fault.line)) }
+    ensures err { IfErr result (λ fault. ((fault.kind ≡ LoadKind.OutOfMemory) × (fault.line ≡ 0)) ⊎ ((known : List ℕ) → Holds (prefix_bytes prefix.now) (tree_of_settled settled.now) known cutter.now gathered → IsFirstFault (prefix_bytes prefix.now) (tree_of_settled settled.now) complete known fault.kind fault.line)) }
 {
     if let Err(kind) = take_end(alloc, settled, prefix, cutter, &mut gathered) {
         return Err(fault_on_next_line(gathered.lines, kind));
@@ -182,8 +176,7 @@ fn finish(
 /// 67,108,864, `TooManyLines` at the first byte of line 1,048,577, `LineTooLong` at the first byte of a line past 65,536,
 /// `NotUtf8` and `Malformed` at a line's end, `Read` where the reader failed after lines without a fault. Then no file
 /// that begins with the bytes read is accepted, but where the file ends there or a read failed. `OutOfMemory` has the
-/// line 0, and means nothing for the file. A refused reader is left at an unstated place. At most one read fails: the
-/// first that does ends the reading.
+/// line 0, and means nothing for the file. A refused reader is left at an unstated place. At most one read fails.
 pub fn read_config<R: Source>(
     alloc: Global,
     settled: &Settled,
@@ -202,7 +195,7 @@ pub fn read_config<R: Source>(
     let mut gathered = empty_accumulator(alloc);
     let mut size = 0;
     let mut block = [0; BLOCK];
-    while size <= MAX_BYTES {
+    while size <= MAX_CONFIG_BYTES {
         let Ok(count) = source.read_some(&mut block) else {
             return Err(fault_on_next_line(gathered.lines, LoadKind::Read));
         };

@@ -1,4 +1,4 @@
--- Each line of a file has its number and place, and an accepted file says something.
+-- Each line of a file has its number and place, and the lines of an accepted file have meanings.
 use Rattle.std.proofs.Common.{◌≡◌, inl, inr, ℕ, zero, suc, ◌+◌, ◌<◌, Bool, true, false, not, ◌==◌, cond, List, [], ◌∷◌, ◌++◌, Option, Some, None, length, refl, sym, ◌∙◌, ap, subst, arith}
 use Rattle.std.specs.Prelude.{slice_get}
 use Rattle.std.specs.List.{onto_first}
@@ -87,46 +87,82 @@ Placed bytes line n = (start : ℕ) × IsLineAt bytes line n start
 pub placed : (bytes : List ℕ) (k n : ℕ) (line : List ℕ) → n ≡ k + 1 → slice_get (file_lines bytes) k ≡ Some line → (start : ℕ) × IsLineAt bytes line n start
 placed [] k n line e at = cc
 placed (b ∷ bytes) k n line e at = go (b == 10) refl (file_lines bytes) refl k e at (placed bytes) where
-  go : (t : Bool) → (b == 10) ≡ t → (lines : List (List ℕ)) → file_lines bytes ≡ lines → (k : ℕ) → n ≡ k + 1 → slice_get (cond t ([] ∷ lines) (onto_first b lines)) k ≡ Some line
-      → ((k n : ℕ) (line : List ℕ) → n ≡ k + 1 → slice_get (file_lines bytes) k ≡ Some line → (start : ℕ) × IsLineAt bytes line n start) → (start : ℕ) × IsLineAt (b ∷ bytes) line n start
+  go : (t : Bool) → (b == 10) ≡ t → (lines : List (List ℕ)) → file_lines bytes ≡ lines → (k : ℕ) → n ≡ k + 1
+      → slice_get (cond t ([] ∷ lines) (onto_first b lines)) k ≡ Some line
+      → ((k n : ℕ) (line : List ℕ) → n ≡ k + 1 → slice_get (file_lines bytes) k ≡ Some line → (start : ℕ) × IsLineAt bytes line n start)
+      → (start : ℕ) × IsLineAt (b ∷ bytes) line n start
   go true newline lines is zero e at next =
-      let none : [] ≡ line = cc in
-      (0, subst (λ l. IsLineAt (b ∷ bytes) l n 0) none (record { front = []; rest = b ∷ bytes; whole = refl; starts = refl; number_is = e; begins = inl refl; ends = inr (bytes, ap (λ c. c ∷ bytes) (eqb-true b 10 newline)); one_line = refl }))
+      let none : [] ≡ line = cc in (
+        0,
+        subst (λ l. IsLineAt (b ∷ bytes) l n 0) none (record {
+          front = [];
+          rest = b ∷ bytes;
+          whole = refl;
+          starts = refl;
+          number_is = e;
+          begins = inl refl;
+          ends = inr (bytes, ap (λ c. c ∷ bytes) (eqb-true b 10 newline));
+          one_line = refl;
+        }),
+      )
   go true newline lines is (suc k) e at next =
       let below = next k (k + 1) line refl (ap (λ ls. slice_get ls k) is ∙ at) in
-      let number : k + 1 + 1 ≡ n = omega arith in
-      (below.0 + 1, subst (λ m. IsLineAt (b ∷ bytes) line m (below.0 + 1)) number (subst (λ c. IsLineAt (c ∷ bytes) line (k + 1 + 1) (below.0 + 1)) (sym (eqb-true b 10 newline)) (behind_newline bytes line (k + 1) below.0 below.1)))
+      let number : k + 1 + 1 ≡ n = omega arith in (
+        below.0 + 1,
+        subst (λ m. IsLineAt (b ∷ bytes) line m (below.0 + 1)) number
+            (subst (λ c. IsLineAt (c ∷ bytes) line (k + 1 + 1) (below.0 + 1)) (sym (eqb-true b 10 newline)) (behind_newline bytes line (k + 1) below.0 below.1)),
+      )
   go false other [] is zero e at next =
       let whole : b ∷ [] ≡ line = cc in
-      let none = no_bytes bytes is in
-      (0, subst (λ l. IsLineAt (b ∷ bytes) l n 0) whole (record { front = []; rest = []; whole = ap (λ l. b ∷ l) none; starts = refl; number_is = e; begins = inl refl; ends = inl (refl, omega arith); one_line = and_from (not (b == 10)) true (ap not other) refl }))
+      let none = no_bytes bytes is in (
+        0,
+        subst (λ l. IsLineAt (b ∷ bytes) l n 0) whole (record {
+          front = [];
+          rest = [];
+          whole = ap (λ l. b ∷ l) none;
+          starts = refl;
+          number_is = e;
+          begins =
+              inl refl;
+          ends = inl (refl, omega arith);
+          one_line = and_from (not (b == 10)) true (ap not other) refl;
+        }),
+      )
   go false other [] is (suc k) e at next = cc
   go false other (first ∷ lines) is zero e at next =
       let whole : b ∷ first ≡ line = cc in
       let below = next 0 1 first refl (ap (λ ls. slice_get ls 0) is) in
-      let number : 1 ≡ n = omega arith in
-      (0, subst (λ l. IsLineAt (b ∷ bytes) l n 0) whole (subst (λ m. IsLineAt (b ∷ bytes) (b ∷ first) m 0) number (longer_first b bytes first below.0 other below.1)))
+      let number : 1 ≡ n = omega arith in (
+        0,
+        subst (λ l. IsLineAt (b ∷ bytes) l n 0) whole (subst (λ m. IsLineAt (b ∷ bytes) (b ∷ first) m 0) number
+            (longer_first b bytes first below.0 other below.1)),
+      )
   go false other (first ∷ lines) is (suc k) e at next =
       let below = next (suc k) n line e (ap (λ ls. slice_get ls (suc k)) is ∙ at) in
       (below.0 + 1, behind_byte b bytes line n below.0 other (omega arith) below.1)
 
--- a line that says nothing, where the lines together say nothing
-unread : (prefix : List ℕ) (tree : Tree) (lines : List (List ℕ)) → meanings_of_lines prefix tree lines ≡ None → (k : ℕ) × (line : List ℕ) × (slice_get lines k ≡ Some line) × (line_meaning prefix tree (without_white_end line) ≡ None)
+-- a line without a meaning, where the lines together have none
+unread : (prefix : List ℕ) (tree : Tree) (lines : List (List ℕ)) → meanings_of_lines prefix tree lines ≡ None
+    → (k : ℕ) × (line : List ℕ) × (slice_get lines k ≡ Some line) × (line_meaning prefix tree (without_white_end line) ≡ None)
 unread prefix tree [] e = cc
-unread prefix tree (line ∷ lines) e = go (line_meaning prefix tree (without_white_end line)) refl (meanings_of_lines prefix tree lines) refl e (unread prefix tree lines) where
-  go : (o : Option LineMeaning) → line_meaning prefix tree (without_white_end line) ≡ o → (os : Option (List LineMeaning)) → meanings_of_lines prefix tree lines ≡ os → with_rest o os ≡ None
-      → (meanings_of_lines prefix tree lines ≡ None → (k : ℕ) × (l : List ℕ) × (slice_get lines k ≡ Some l) × (line_meaning prefix tree (without_white_end l) ≡ None))
-      → (k : ℕ) × (l : List ℕ) × (slice_get (line ∷ lines) k ≡ Some l) × (line_meaning prefix tree (without_white_end l) ≡ None)
-  go None a os b e next = (0, line, refl, a)
-  go (Some saying) a None b e next = let later = next b in (suc later.0, later.1, later.2, later.3)
-  go (Some saying) a (Some sayings) b e next = cc
+unread prefix tree (line ∷ lines) e =
+    go (line_meaning prefix tree (without_white_end line)) refl (meanings_of_lines prefix tree lines) refl e (unread prefix tree lines) where
+      go : (o : Option LineMeaning) → line_meaning prefix tree (without_white_end line) ≡ o → (os : Option (List LineMeaning))
+          → meanings_of_lines prefix tree lines ≡ os → with_rest o os ≡ None
+          → (meanings_of_lines prefix tree lines ≡ None → (k : ℕ) × (l : List ℕ) × (slice_get lines k ≡ Some l)
+          × (line_meaning prefix tree (without_white_end l) ≡ None))
+          → (k : ℕ) × (l : List ℕ) × (slice_get (line ∷ lines) k ≡ Some l) × (line_meaning prefix tree (without_white_end l) ≡ None)
+      go None a os b e next = (0, line, refl, a)
+      go (Some meaning) a None b e next = let later = next b in (suc later.0, later.1, later.2, later.3)
+      go (Some meaning) a (Some meanings) b e next = cc
 
 pub accepted_read : AcceptedFilesAreRead
 accepted_read prefix tree bytes valid accepted = go (file_meanings prefix tree bytes) refl where
-  go : (o : Option (List LineMeaning)) → file_meanings prefix tree bytes ≡ o → (sayings : List LineMeaning) × FileMeans prefix tree bytes sayings
-  go (Some sayings) e = (sayings, (file_read prefix tree bytes sayings valid).0 e)
+  go : (o : Option (List LineMeaning)) → file_meanings prefix tree bytes ≡ o → (meanings : List LineMeaning) × FileMeans prefix tree bytes meanings
+  go (Some meanings) e = (meanings, (file_read prefix tree bytes meanings valid).0 e)
   go None e =
       let lost = unread prefix tree (file_lines bytes) e in
       let place = placed bytes lost.0 (lost.0 + 1) lost.1 refl lost.2 in
-      let malformed : IsMalformed prefix tree lost.1 = λ saying says. let read = (line_read prefix tree (without_white_end lost.1) saying valid).1 says in cc (read, lost.3) in
+      let malformed : IsMalformed prefix tree lost.1 = λ meaning says. let read = (line_read prefix tree (without_white_end lost.1) meaning valid).1 says in cc
+      (read, lost.3) in
       absurd (accepted Malformed (place.0 + length lost.1) (lost.0 + 1) (lost.1, place.0, place.1, malformed, refl))

@@ -17,7 +17,8 @@ use Rattle.kc_dotconfig_model.specs.FileLaws.{IsGoodLine, AcceptedFilesHaveGoodL
 use Rattle.kc_dotconfig_model.specs.between.LineMeanings.{line_meaning}
 use Rattle.kc_dotconfig_model.proofs.LineLaws.{line_read}
 use Rattle.kc_dotconfig_model.proofs.AcceptedFiles.{placed}
-use Rattle.kc_dotconfig_model.specs.LoadFaults.{IsLineAt, newlines, IsAccepted, MAX_BYTES, MAX_LINES, MAX_LINE_BYTES}
+use Rattle.kc_value.specs.declared.limits.TheConstants.{MAX_CONFIG_BYTES, MAX_CONFIG_LINES, MAX_LINE_BYTES}
+use Rattle.kc_dotconfig_model.specs.LoadFaults.{IsLineAt, newlines, IsAccepted}
 
 count_more : (b : ℕ) (bytes : List ℕ) → newlines (b ∷ bytes) ≡ cond (b == 10) 1 0 + newlines bytes
 count_more b bytes = sum_by-cons (λ c. cond (c == 10) 1 0) b bytes
@@ -48,18 +49,22 @@ first_line (c ∷ cs) rest none ends =
     let parts = and_parts (not (c == 10)) (lacks 10 cs) none in
     let other = not-true (c == 10) parts.0 in
     ap (λ t. slice_get (cond t ([] ∷ file_lines (cs ++ rest)) (onto_first c (file_lines (cs ++ rest)))) 0) other ∙ go cs ends (first_line cs rest parts.1) where
-      go : (ds : List ℕ) → Ends (c ∷ ds) rest → (Ends ds rest → slice_get (file_lines (ds ++ rest)) 0 ≡ Some ds) → slice_get (onto_first c (file_lines (ds ++ rest))) 0 ≡ Some (c ∷ ds)
+      go : (ds : List ℕ) → Ends (c ∷ ds) rest → (Ends ds rest → slice_get (file_lines (ds ++ rest)) 0 ≡ Some ds)
+          → slice_get (onto_first c (file_lines (ds ++ rest))) 0 ≡ Some (c ∷ ds)
       go [] (inl e) next = ap (λ r. slice_get (onto_first c (file_lines r)) 0) e.0
       go [] (inr e) next = onto_head c (file_lines rest) [] (next (inr e))
       go (d ∷ ds) (inl e) next = onto_head c (file_lines ((d ∷ ds) ++ rest)) (d ∷ ds) (next (inl (e.0, omega arith)))
       go (d ∷ ds) (inr e) next = onto_head c (file_lines ((d ∷ ds) ++ rest)) (d ∷ ds) (next (inr e))
 
 -- the line after some lines, at their number
-later_line : (front line rest : List ℕ) → Begins front → lacks 10 line ≡ true → Ends line rest → slice_get (file_lines (front ++ (line ++ rest))) (newlines front) ≡ Some line
+later_line : (front line rest : List ℕ) → Begins front → lacks 10 line ≡ true → Ends line rest
+    → slice_get (file_lines (front ++ (line ++ rest))) (newlines front) ≡ Some line
 later_line [] line rest begins none ends = first_line line rest none ends
 later_line (b ∷ front) line rest (inl e) none ends = cc
 later_line (b ∷ front) line rest (inr e) none ends = go e.0 e.1 (cases_Bool (b == 10)) (λ begins. later_line front line rest begins none ends) where
-  go : (earlier : List ℕ) → b ∷ front ≡ earlier ++ 10 ∷ [] → ((b == 10) ≡ true) ⊎ ((b == 10) ≡ false) → (Begins front → slice_get (file_lines (front ++ (line ++ rest))) (newlines front) ≡ Some line) → slice_get (file_lines (b ∷ (front ++ (line ++ rest)))) (newlines (b ∷ front)) ≡ Some line
+  go : (earlier : List ℕ) → b ∷ front ≡ earlier ++ 10 ∷ [] → ((b == 10) ≡ true) ⊎ ((b == 10) ≡ false)
+      → (Begins front → slice_get (file_lines (front ++ (line ++ rest))) (newlines front) ≡ Some line)
+      → slice_get (file_lines (b ∷ (front ++ (line ++ rest)))) (newlines (b ∷ front)) ≡ Some line
   go [] e (inl is) next =
       let nothing : front ≡ [] = cc in
       let count : newlines (b ∷ front) ≡ suc (newlines front) = count_more b front ∙ ap (λ t. cond t 1 0 + newlines front) is ∙ (omega arith) in
@@ -75,15 +80,22 @@ later_line (b ∷ front) line rest (inr e) none ends = go e.0 e.1 (cases_Bool (b
       let ends_so : front ≡ xs ++ 10 ∷ [] = cc in
       let count : newlines (b ∷ front) ≡ newlines front = count_more b front ∙ ap (λ t. cond t 1 0 + newlines front) isn't ∙ (omega arith) in
       let some : newlines front ≡ newlines xs + 1 = ap newlines ends_so ∙ count_ends xs in
-      ap (λ t. slice_get (cond t ([] ∷ file_lines (front ++ (line ++ rest))) (onto_first b (file_lines (front ++ (line ++ rest))))) (newlines (b ∷ front))) isn't
-      ∙ ap (slice_get (onto_first b (file_lines (front ++ (line ++ rest))))) count ∙ onto_rest b (file_lines (front ++ (line ++ rest))) (newlines front) (omega (arith, some)) ∙ next (inr (xs, ends_so))
+      ap (λ t. slice_get (cond t ([] ∷ file_lines (front ++ (line ++ rest))) (onto_first b (file_lines (front ++ (line ++ rest))))) (newlines (b ∷ front)))
+      isn't
+      ∙ ap (slice_get (onto_first b (file_lines (front ++ (line ++ rest))))) count
+      ∙ onto_rest b (file_lines (front ++ (line ++ rest))) (newlines front) (omega (arith, some)) ∙ next (inr (xs, ends_so))
 
 -- each line is among the lines of the file
-pub line_listed : (bytes line : List ℕ) (number start : ℕ) → IsLineAt bytes line number start → (i : ℕ) × (slice_get (file_lines bytes) i ≡ Some line) × (number ≡ i + 1)
-line_listed bytes line number start at =
-    (newlines at.front, ap (λ b. slice_get (file_lines b) (newlines at.front)) at.whole ∙ later_line at.front line at.rest at.begins at.one_line at.ends, at.number_is)
+pub line_listed : (bytes line : List ℕ) (number start : ℕ) → IsLineAt bytes line number start
+    → (i : ℕ) × (slice_get (file_lines bytes) i ≡ Some line) × (number ≡ i + 1)
+line_listed bytes line number start at = (
+  newlines at.front,
+  ap (λ b. slice_get (file_lines b) (newlines at.front)) at.whole
+      ∙ later_line at.front line at.rest at.begins at.one_line at.ends,
+  at.number_is,
+)
 
-pub accepted_of_lines : (prefix : List ℕ) (tree : Tree) (bytes : List ℕ) → length bytes ≤ MAX_BYTES → length (file_lines bytes) ≤ MAX_LINES
+pub accepted_of_lines : (prefix : List ℕ) (tree : Tree) (bytes : List ℕ) → length bytes ≤ MAX_CONFIG_BYTES → length (file_lines bytes) ≤ MAX_CONFIG_LINES
     → ((i : ℕ) (line : List ℕ) → slice_get (file_lines bytes) i ≡ Some line → IsGoodLine prefix tree line)
     → IsAccepted prefix tree bytes
 accepted_of_lines prefix tree bytes small few good TooLarge byte number c = let long = c.0 in absurd (omega (arith, long, small))
@@ -99,19 +111,23 @@ accepted_of_lines prefix tree bytes small few good LineTooLong byte number c =
     let long = c.3 in
     absurd (omega (arith, short, long))
 accepted_of_lines prefix tree bytes small few good NotUtf8 byte number c = let l = line_listed bytes c.0 number c.1 c.2 in absurd (c.3 (good l.0 c.0 l.1).utf8)
-accepted_of_lines prefix tree bytes small few good Malformed byte number c = let l = line_listed bytes c.0 number c.1 c.2 in let g = good l.0 c.0 l.1 in absurd (c.3 g.saying g.says)
+accepted_of_lines prefix tree bytes small few good Malformed byte number c =
+    let l = line_listed bytes c.0 number c.1 c.2 in let g = good l.0 c.0 l.1 in absurd (c.3 g.meaning g.says)
 accepted_of_lines prefix tree bytes small few good Read byte number c = absurd c
 accepted_of_lines prefix tree bytes small few good OutOfMemory byte number c = absurd c
 
--- a line that says nothing is malformed
-says_something : (prefix : List ℕ) (tree : Tree) (line : List ℕ) → is_prefix prefix ≡ true → (IsMalformed prefix tree line → ⊥) → (saying : LineMeaning) × Means prefix tree (without_white_end line) saying
+-- a line without a meaning is malformed
+says_something : (prefix : List ℕ) (tree : Tree) (line : List ℕ) → is_prefix prefix ≡ true → (IsMalformed prefix tree line → ⊥)
+    → (meaning : LineMeaning) × Means prefix tree (without_white_end line) meaning
 says_something prefix tree line valid good = go (line_meaning prefix tree (without_white_end line)) refl where
-  go : (o : Option LineMeaning) → line_meaning prefix tree (without_white_end line) ≡ o → (saying : LineMeaning) × Means prefix tree (without_white_end line) saying
-  go (Some saying) e = (saying, (line_read prefix tree (without_white_end line) saying valid).0 e)
-  go None e = absurd (good (λ saying says. let read = (line_read prefix tree (without_white_end line) saying valid).1 says in cc (read, e)))
+  go : (o : Option LineMeaning) → line_meaning prefix tree (without_white_end line) ≡ o
+      → (meaning : LineMeaning) × Means prefix tree (without_white_end line) meaning
+  go (Some meaning) e = (meaning, (line_read prefix tree (without_white_end line) meaning valid).0 e)
+  go None e = absurd (good (λ meaning says. let read = (line_read prefix tree (without_white_end line) meaning valid).1 says in cc (read, e)))
 
 -- each line of an accepted file is good
-pub accepted_line : (prefix : List ℕ) (tree : Tree) (bytes : List ℕ) → is_prefix prefix ≡ true → IsAccepted prefix tree bytes → (i : ℕ) (line : List ℕ) → slice_get (file_lines bytes) i ≡ Some line → IsGoodLine prefix tree line
+pub accepted_line : (prefix : List ℕ) (tree : Tree) (bytes : List ℕ) → is_prefix prefix ≡ true → IsAccepted prefix tree bytes → (i : ℕ) (line : List ℕ)
+    → slice_get (file_lines bytes) i ≡ Some line → IsGoodLine prefix tree line
 accepted_line prefix tree bytes valid accepted i line at =
     let place = placed bytes i (i + 1) line refl at in
     let some = says_something prefix tree line valid (λ bad. accepted Malformed (place.0 + length line) (i + 1) (line, place.0, place.1, bad, refl)) in
@@ -122,31 +138,37 @@ accepted_line prefix tree bytes valid accepted i line at =
       ];
       utf8 = elim (cases_Bool (is_utf8 line)) [
         | inl is ↦ IsUtf8-from_is_utf8 line is
-        | inr odd ↦ absurd (accepted NotUtf8 (place.0 + length line) (i + 1) (line, place.0, place.1, (λ u. false≢true (sym odd ∙ is_utf8-from_IsUtf8 line u)), refl))
+        | inr odd ↦ absurd (accepted NotUtf8 (place.0 + length line) (i + 1)
+            (line, place.0, place.1, (λ u. false≢true (sym odd ∙ is_utf8-from_IsUtf8 line u)), refl))
       ];
-      saying = some.0;
+      meaning = some.0;
       says = some.1;
     }
 
 -- an accepted file is within the limits
-pub accepted_size : (prefix : List ℕ) (tree : Tree) (bytes : List ℕ) → IsAccepted prefix tree bytes → length bytes ≤ MAX_BYTES
-accepted_size prefix tree bytes accepted = elim (cases_lt MAX_BYTES (length bytes)) [
-  | inl large ↦ absurd (accepted TooLarge MAX_BYTES (newlines (take MAX_BYTES bytes) + 1) (large, refl, refl))
+pub accepted_size : (prefix : List ℕ) (tree : Tree) (bytes : List ℕ) → IsAccepted prefix tree bytes → length bytes ≤ MAX_CONFIG_BYTES
+accepted_size prefix tree bytes accepted = elim (cases_lt MAX_CONFIG_BYTES (length bytes)) [
+  | inl large ↦ absurd (accepted TooLarge MAX_CONFIG_BYTES (newlines (take MAX_CONFIG_BYTES bytes) + 1) (large, refl, refl))
   | inr small ↦ small
 ]
 
-pub accepted_count : (prefix : List ℕ) (tree : Tree) (bytes : List ℕ) → IsAccepted prefix tree bytes → length (file_lines bytes) ≤ MAX_LINES
-accepted_count prefix tree bytes accepted = elim (cases_lt MAX_LINES (length (file_lines bytes))) [
+pub accepted_count : (prefix : List ℕ) (tree : Tree) (bytes : List ℕ) → IsAccepted prefix tree bytes → length (file_lines bytes) ≤ MAX_CONFIG_LINES
+accepted_count prefix tree bytes accepted = elim (cases_lt MAX_CONFIG_LINES (length (file_lines bytes))) [
   | inl many ↦
-      let line = get-some (file_lines bytes) MAX_LINES many in
-      let place = placed bytes MAX_LINES (MAX_LINES + 1) line.0 refl line.1 in
-      absurd (accepted TooManyLines place.0 (MAX_LINES + 1) (line.0, place.1, refl))
+      let line = get-some (file_lines bytes) MAX_CONFIG_LINES many in
+      let place = placed bytes MAX_CONFIG_LINES (MAX_CONFIG_LINES + 1) line.0 refl line.1 in
+      absurd (accepted TooManyLines place.0 (MAX_CONFIG_LINES + 1) (line.0, place.1, refl))
   | inr few ↦ few
 ]
 
 pub accepted_exactly : AcceptedFilesHaveGoodLines
 accepted_exactly prefix tree bytes valid = (
-  λ accepted. record { small = accepted_size prefix tree bytes accepted; few = accepted_count prefix tree bytes accepted; good = accepted_line prefix tree bytes valid accepted },
+  λ accepted. record {
+    small = accepted_size prefix tree bytes accepted;
+    few = accepted_count prefix tree bytes accepted;
+    good = accepted_line prefix tree bytes
+        valid accepted;
+  },
   λ lines. accepted_of_lines prefix tree bytes lines.small lines.few lines.good,
 )
 
@@ -157,4 +179,5 @@ each_passes p (line ∷ lines) each = and_from (p line) (list_all p lines) (each
 
 -- an accepted file is UTF-8
 pub accepted_utf8 : (prefix : List ℕ) (tree : Tree) (bytes : List ℕ) → is_prefix prefix ≡ true → IsAccepted prefix tree bytes → has_utf8_lines bytes ≡ true
-accepted_utf8 prefix tree bytes valid accepted = each_passes is_utf8 (file_lines bytes) (λ i line at. is_utf8-from_IsUtf8 line (accepted_line prefix tree bytes valid accepted i line at).utf8)
+accepted_utf8 prefix tree bytes valid accepted =
+    each_passes is_utf8 (file_lines bytes) (λ i line at. is_utf8-from_IsUtf8 line (accepted_line prefix tree bytes valid accepted i line at).utf8)

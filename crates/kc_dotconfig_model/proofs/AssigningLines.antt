@@ -1,4 +1,4 @@
--- Which line of a file assigned a text.
+-- The line of a file that assigned a text.
 use Rattle.std.proofs.Common.{◌≡◌, ◌⊎◌, inl, inr, ℕ, suc, ◌<◌, Bool, true, false, cond, List, [], ◌∷◌, ◌++◌, Option, Some, None, length, get_or, refl, sym, ap, ◌∙◌, subst, arith}
 use Rattle.std.specs.Prelude.{slice_get, slice_set, is_some, bytes_eq}
 use Rattle.std.specs.List.{AllZip, position_or_len}
@@ -23,7 +23,7 @@ use Rattle.kc_dotconfig_model.specs.ConfigLines.{LineMeaning, assigns, notice, s
 use Rattle.kc_dotconfig_model.specs.ConfigFiles.{assigned_over}
 
 abbrev Reads : List ℕ → Tree → List (List ℕ) → List LineMeaning → Type 0
-Reads prefix tree lines sayings = AllZip (λ line saying. Means prefix tree (without_white_end line) saying) lines sayings
+Reads prefix tree lines meanings = AllZip (λ line meaning. Means prefix tree (without_white_end line) meaning) lines meanings
 
 -- a line that assigns this to the unit
 pub record HasAssigningLine (prefix : List ℕ) (tree : Tree) (lines : List (List ℕ)) (u : ℕ) (x : UserValue) : Type 0 where
@@ -32,31 +32,42 @@ pub record HasAssigningLine (prefix : List ℕ) (tree : Tree) (lines : List (Lis
   pub at : slice_get lines number ≡ Some line
   pub says : Means prefix tree (without_white_end line) (assigns u x)
 
-one_further : (prefix : List ℕ) (tree : Tree) (first : List ℕ) (lines : List (List ℕ)) (u : ℕ) (x : UserValue) → HasAssigningLine prefix tree lines u x → HasAssigningLine prefix tree (first ∷ lines) u x
+one_further : (prefix : List ℕ) (tree : Tree) (first : List ℕ) (lines : List (List ℕ)) (u : ℕ) (x : UserValue) → HasAssigningLine prefix tree lines u x
+    → HasAssigningLine prefix tree (first ∷ lines) u x
 one_further prefix tree first lines u x h = record { number = suc h.number; line = h.line; at = h.at; says = h.says }
 
 -- what is held after some lines was held before, or one of them assigns it
-pub assigning_line : (prefix : List ℕ) (tree : Tree) (lines : List (List ℕ)) (sayings : List LineMeaning) (held : List (Option UserValue)) (u : ℕ) (x : UserValue) → Reads prefix tree lines sayings → u < length held
-    → user_of (assigned_over sayings held) u ≡ Some x → (user_of held u ≡ Some x) ⊎ HasAssigningLine prefix tree lines u x
+pub assigning_line : (prefix : List ℕ) (tree : Tree) (lines : List (List ℕ)) (meanings : List LineMeaning) (held : List (Option UserValue)) (u : ℕ) (x : UserValue)
+    → Reads prefix tree lines meanings → u < length held
+    → user_of (assigned_over meanings held) u ≡ Some x → (user_of held u ≡ Some x) ⊎ HasAssigningLine prefix tree lines u x
 assigning_line prefix tree [] [] held u x reads inside has = inl has
-assigning_line prefix tree [] (saying ∷ sayings) held u x reads inside has = absurd reads
+assigning_line prefix tree [] (meaning ∷ meanings) held u x reads inside has = absurd reads
 assigning_line prefix tree (line ∷ lines) [] held u x reads inside has = absurd reads
-assigning_line prefix tree (line ∷ lines) (notice kind ∷ sayings) held u x reads inside has = elim (assigning_line prefix tree lines sayings held u x reads.1 inside has) [
-  | inl before ↦ inl before
-  | inr later ↦ inr (one_further prefix tree line lines u x later)
-]
-assigning_line prefix tree (line ∷ lines) (silent ∷ sayings) held u x reads inside has = elim (assigning_line prefix tree lines sayings held u x reads.1 inside has) [
-  | inl before ↦ inl before
-  | inr later ↦ inr (one_further prefix tree line lines u x later)
-]
-assigning_line prefix tree (line ∷ lines) (assigns w y ∷ sayings) held u x reads inside has =
+assigning_line prefix tree (line ∷ lines) (notice kind ∷ meanings) held u x reads inside has =
+    elim (assigning_line prefix tree lines meanings held u x reads.1 inside has) [
+      | inl before ↦ inl before
+      | inr later ↦ inr (one_further prefix tree line lines u x later)
+    ]
+assigning_line prefix tree (line ∷ lines) (silent ∷ meanings) held u x reads inside has =
+    elim (assigning_line prefix tree lines meanings held u x reads.1 inside has) [
+      | inl before ↦ inl before
+      | inr later ↦ inr (one_further prefix tree line lines u x later)
+    ]
+assigning_line prefix tree (line ∷ lines) (assigns w y ∷ meanings) held u x reads inside has =
     let len = length-set held w (Some y) in
-    elim (assigning_line prefix tree lines sayings (slice_set held w (Some y)) u x reads.1 (omega arith) has) [
+    elim (assigning_line prefix tree lines meanings (slice_set held w (Some y)) u x reads.1 (omega arith) has) [
       | inl before ↦ elim (cases_eq u w) [
         | inl same ↦
-            let here : user_of (slice_set held w (Some y)) u ≡ Some y = ap (λ k. user_of (slice_set held k (Some y)) u) (sym same) ∙ get_or-set_same held u (Some y) None inside in
+            let here : user_of (slice_set held w (Some y)) u ≡ Some y = ap (λ k. user_of (slice_set held k (Some y)) u) (sym same)
+            ∙ get_or-set_same held u (Some y) None inside in
             let value : y ≡ x = cc (here, before) in
-            inr (record { number = 0; line = line; at = refl; says = subst (λ k. Means prefix tree (without_white_end line) (assigns k x)) (sym same) (subst (λ z. Means prefix tree (without_white_end line) (assigns w z)) value reads.0) })
+            inr (record {
+              number = 0;
+              line = line;
+              at = refl;
+              says = subst (λ k. Means prefix tree (without_white_end line) (assigns k x)) (sym same)
+                  (subst (λ z. Means prefix tree (without_white_end line) (assigns w z)) value reads.0);
+            })
         | inr other ↦ inl (sym (get_or-set_other held w u (Some y) None other) ∙ before)
       ]
       | inr later ↦ inr (one_further prefix tree line lines u x later)
@@ -75,25 +86,27 @@ pub record IsTextLine (prefix : List ℕ) (tree : Tree) (line : List ℕ) (u : �
   pub says : (IsQuoted text means × (symbol.kind ≡ Text)) ⊎ ((text ≡ means) × (is_some (number_of_text symbol.kind text) ≡ true))
 
 abbrev TextSays : Tree → ℕ → Symbol → List ℕ → ℕ → List ℕ → Type 0
-TextSays tree s symbol text u means = (unit_of tree s ≡ u) × ((IsQuoted text means × (symbol.kind ≡ Text)) ⊎ ((text ≡ means) × (is_some (number_of_text symbol.kind text) ≡ true)))
+TextSays tree s symbol text u means =
+    (unit_of tree s ≡ u) × ((IsQuoted text means × (symbol.kind ≡ Text)) ⊎ ((text ≡ means) × (is_some (number_of_text symbol.kind text) ≡ true)))
 
-text_says : (tree : Tree) (s : ℕ) (symbol : Symbol) (text : List ℕ) (saying : LineMeaning) (u : ℕ) (means : List ℕ) → ValueMeans tree s symbol text saying → saying ≡ assigns u (TextUser means) → TextSays tree s symbol text u means
-text_says tree s symbol text saying u means (tri _ t out meant) e = cc
-text_says tree s symbol text saying u means (chosen c _ within meant) e = cc
-text_says tree s symbol text saying u means (not_chosen c _ t within meant other) e = cc
-text_says tree s symbol text saying u means (quoted _ other is stands) e =
+text_says : (tree : Tree) (s : ℕ) (symbol : Symbol) (text : List ℕ) (meaning : LineMeaning) (u : ℕ) (means : List ℕ) → ValueMeans tree s symbol text meaning
+    → meaning ≡ assigns u (TextUser means) → TextSays tree s symbol text u means
+text_says tree s symbol text meaning u means (tri _ t out meant) e = cc
+text_says tree s symbol text meaning u means (chosen c _ within meant) e = cc
+text_says tree s symbol text meaning u means (not_chosen c _ t within meant other) e = cc
+text_says tree s symbol text meaning u means (quoted _ other is stands) e =
     let unit : unit_of tree s ≡ u = cc in
     let same : other ≡ means = cc in
     (unit, inl (subst (IsQuoted text) same stands, is))
-text_says tree s symbol text saying u means (number _ some) e =
+text_says tree s symbol text meaning u means (number _ some) e =
     let unit : unit_of tree s ≡ u = cc in
     let same : text ≡ means = cc in
     (unit, inr (same, some))
-text_says tree s symbol text saying u means (no_int is) e = cc
-text_says tree s symbol text saying u means (no_hex is) e = cc
-text_says tree s symbol text saying u means (no_tri _ small meant) e = cc
-text_says tree s symbol text saying u means (no_text _ is without) e = cc
-text_says tree s symbol text saying u means (no_number b rest large other without) e = cc
+text_says tree s symbol text meaning u means (no_int is) e = cc
+text_says tree s symbol text meaning u means (no_hex is) e = cc
+text_says tree s symbol text meaning u means (no_tri _ small meant) e = cc
+text_says tree s symbol text meaning u means (no_text _ is without) e = cc
+text_says tree s symbol text meaning u means (no_number b rest large other without) e = cc
 
 unset_no_text : (tree : Tree) (s : ℕ) (symbol : Symbol) (o : Option ℕ) (u : ℕ) (means : List ℕ) → unset_meaning tree s symbol o ≡ assigns u (TextUser means) → ⊥
 unset_no_text tree s symbol (Some c) u means e = cc
@@ -102,37 +115,43 @@ unset_no_text tree s symbol None u means e = go (is_tri_kind symbol.kind) e wher
   go true e = cc
   go false e = cc
 
-says_text : (prefix : List ℕ) (tree : Tree) (line : List ℕ) (saying : LineMeaning) (u : ℕ) (means : List ℕ) → Means prefix tree line saying → saying ≡ assigns u (TextUser means) → IsTextLine prefix tree line u means
-says_text prefix tree line saying u means (value _ name text s symbol _ is named at says) e =
-    let t = text_says tree s symbol text saying u means says e in
+says_text : (prefix : List ℕ) (tree : Tree) (line : List ℕ) (meaning : LineMeaning) (u : ℕ) (means : List ℕ) → Means prefix tree line meaning
+    → meaning ≡ assigns u (TextUser means) → IsTextLine prefix tree line u means
+says_text prefix tree line meaning u means (value _ name text s symbol _ is named at says) e =
+    let t = text_says tree s symbol text meaning u means says e in
     record { name = name; text = text; s = s; symbol = symbol; whole = is.2; named = named; at = at; unit = t.0; says = t.1 }
-says_text prefix tree line saying u means (unset _ name s symbol is named at) e = absurd (unset_no_text tree s symbol symbol.choice u means e)
-says_text prefix tree line saying u means (unknown_value _ name text is named) e = cc
-says_text prefix tree line saying u means (unknown_unset _ name is named) e = cc
-says_text prefix tree line saying u means empty e = cc
-says_text prefix tree line saying u means (comment _ hash without) e = cc
+says_text prefix tree line meaning u means (unset _ name s symbol is named at) e = absurd (unset_no_text tree s symbol symbol.choice u means e)
+says_text prefix tree line meaning u means (unknown_value _ name text is named) e = cc
+says_text prefix tree line meaning u means (unknown_unset _ name is named) e = cc
+says_text prefix tree line meaning u means empty e = cc
+says_text prefix tree line meaning u means (comment _ hash without) e = cc
 
 -- a line that assigns a text is a value line
-pub text_line : (prefix : List ℕ) (tree : Tree) (line : List ℕ) (u : ℕ) (means : List ℕ) → Means prefix tree line (assigns u (TextUser means)) → IsTextLine prefix tree line u means
+pub text_line : (prefix : List ℕ) (tree : Tree) (line : List ℕ) (u : ℕ) (means : List ℕ) → Means prefix tree line (assigns u (TextUser means))
+    → IsTextLine prefix tree line u means
 text_line prefix tree line u means says = says_text prefix tree line (assigns u (TextUser means)) u means says refl
 
 -- the symbol of a name has that name
-pub named_so : (tree : Tree) (name : List ℕ) (s : ℕ) (symbol : Symbol) → symbol_named tree name ≡ Some s → slice_get tree.symbols s ≡ Some symbol → name ≡ symbol.name
+pub named_so : (tree : Tree) (name : List ℕ) (s : ℕ) (symbol : Symbol) → symbol_named tree name ≡ Some s → slice_get tree.symbols s ≡ Some symbol
+    → name ≡ symbol.name
 named_so tree name s symbol named at = go (position_or_len (λ (t : Symbol). bytes_eq name t.name) tree.symbols) refl named where
   within : (place count : ℕ) (t : Bool) → cond t (Some place) None ≡ Some s → (t ≡ true) × (place ≡ s)
   within place count true e = (refl, cc)
   within place count false e = cc
 
-  go : (place : ℕ) → position_or_len (λ (t : Symbol). bytes_eq name t.name) tree.symbols ≡ place → index_if_found place (length tree.symbols) ≡ Some s → name ≡ symbol.name
+  go : (place : ℕ) → position_or_len (λ (t : Symbol). bytes_eq name t.name) tree.symbols ≡ place → index_if_found place (length tree.symbols) ≡ Some s
+      → name ≡ symbol.name
   go place is found =
       let p = within place (length tree.symbols) _ found in
       let below = ltb-true place (length tree.symbols) p.0 in
       let passes = passes_at_first (λ (t : Symbol). bytes_eq name t.name) tree.symbols symbol (omega arith) in
-      let here : get_or tree.symbols (position_or_len (λ (t : Symbol). bytes_eq name t.name) tree.symbols) symbol ≡ symbol = ap (λ k. get_or tree.symbols k symbol) (is ∙ p.1) ∙ get_or_from_slice_get tree.symbols s symbol symbol at in
+      let here : get_or tree.symbols (position_or_len (λ (t : Symbol). bytes_eq name t.name) tree.symbols) symbol ≡ symbol = ap
+      (λ k. get_or tree.symbols k symbol) (is ∙ p.1) ∙ get_or_from_slice_get tree.symbols s symbol symbol at in
       (bytes_eq-Decides name symbol.name).0 (ap (λ (t : Symbol). bytes_eq name t.name) (sym here) ∙ passes)
 
 -- two symbols outside choices of one unit are one
-pub same_symbol : (tree : Tree) → IsConsistent tree → (s t : ℕ) (a b : Symbol) → slice_get tree.symbols s ≡ Some a → slice_get tree.symbols t ≡ Some b → a.choice ≡ None → b.choice ≡ None → unit_of tree s ≡ unit_of tree t → s ≡ t
+pub same_symbol : (tree : Tree) → IsConsistent tree → (s t : ℕ) (a b : Symbol) → slice_get tree.symbols s ≡ Some a → slice_get tree.symbols t ≡ Some b
+    → a.choice ≡ None → b.choice ≡ None → unit_of tree s ≡ unit_of tree t → s ≡ t
 same_symbol tree sound s t a b first second out without same =
     let x = sound.own_units s a first out in
     let y = sound.own_units t b second without in

@@ -1,4 +1,4 @@
--- Where a line of a file stands to a part of it.
+-- A line of a file, and a known part of the file.
 use Rattle.std.proofs.Common.{◌≡◌, ◌⊎◌, inl, inr, ℕ, ◌+◌, ◌<◌, ◌≤◌, Bool, true, false, not, ◌==◌, cond, List, [], ◌∷◌, ◌++◌, length, refl, sym, ◌∙◌, ap, subst, append_assoc, length-append, arith}
 use Rattle.std.specs.List.{onto_first, AllZip}
 use Rattle.std.proofs.lemmas.Bool.{eqb-true, false≢true, and_from, and_parts}
@@ -43,18 +43,21 @@ first_of_lines [] rest e = refl
 first_of_lines (c ∷ line) rest e =
     let parts = and_parts (not (c == 10)) (lacks 10 line) e in
     go (c == 10) parts.0 (first_of_lines line rest parts.1) where
-      go : (t : Bool) → not t ≡ true → file_lines (line ++ 10 ∷ rest) ≡ line ∷ file_lines rest → cond t ([] ∷ file_lines (line ++ 10 ∷ rest)) (onto_first c (file_lines (line ++ 10 ∷ rest))) ≡ (c ∷ line) ∷ file_lines rest
+      go : (t : Bool) → not t ≡ true → file_lines (line ++ 10 ∷ rest) ≡ line ∷ file_lines rest
+          → cond t ([] ∷ file_lines (line ++ 10 ∷ rest)) (onto_first c (file_lines (line ++ 10 ∷ rest))) ≡ (c ∷ line) ∷ file_lines rest
       go true e next = absurd (false≢true e)
       go false e next = ap (onto_first c) next
 
 -- a last line without its newline
 pub last_of_lines : (line : List ℕ) → lacks 10 line ≡ true → 0 < length line → file_lines line ≡ line ∷ []
 last_of_lines [] e h = absurd (omega arith)
-last_of_lines (c ∷ line) e h = go (c == 10) (and_parts (not (c == 10)) (lacks 10 line) e).0 line (and_parts (not (c == 10)) (lacks 10 line) e).1 (last_of_lines line) where
-  go : (t : Bool) → not t ≡ true → (l : List ℕ) → lacks 10 l ≡ true → (lacks 10 l ≡ true → 0 < length l → file_lines l ≡ l ∷ []) → cond t ([] ∷ file_lines l) (onto_first c (file_lines l)) ≡ (c ∷ l) ∷ []
-  go true e l k next = absurd (false≢true e)
-  go false e [] k next = refl
-  go false e (d ∷ l) k next = let some : 0 < length (d ∷ l) = omega arith in ap (onto_first c) (next k some)
+last_of_lines (c ∷ line) e h =
+    go (c == 10) (and_parts (not (c == 10)) (lacks 10 line) e).0 line (and_parts (not (c == 10)) (lacks 10 line) e).1 (last_of_lines line) where
+      go : (t : Bool) → not t ≡ true → (l : List ℕ) → lacks 10 l ≡ true → (lacks 10 l ≡ true → 0 < length l → file_lines l ≡ l ∷ [])
+          → cond t ([] ∷ file_lines l) (onto_first c (file_lines l)) ≡ (c ∷ l) ∷ []
+      go true e l k next = absurd (false≢true e)
+      go false e [] k next = refl
+      go false e (d ∷ l) k next = let some : 0 < length (d ∷ l) = omega arith in ap (onto_first c) (next k some)
 
 no_lines : (a : List ℕ) (b : ℕ) → file_lines (a ++ b ∷ []) ≡ [] → ⊥
 no_lines [] b e = go (b == 10) e where
@@ -70,11 +73,13 @@ no_lines (c ∷ a) b e = go (c == 10) (file_lines (a ++ b ∷ [])) e where
 -- lines after whole lines
 pub behind_lines : (earlier rest : List ℕ) → file_lines ((earlier ++ 10 ∷ []) ++ rest) ≡ file_lines (earlier ++ 10 ∷ []) ++ file_lines rest
 behind_lines [] rest = refl
-behind_lines (c ∷ earlier) rest = go (c == 10) (file_lines (earlier ++ 10 ∷ [])) (file_lines ((earlier ++ 10 ∷ []) ++ rest)) (behind_lines earlier rest) (no_lines earlier 10) where
-  go : (t : Bool) (front all : List (List ℕ)) → all ≡ front ++ file_lines rest → (front ≡ [] → ⊥) → cond t ([] ∷ all) (onto_first c all) ≡ cond t ([] ∷ front) (onto_first c front) ++ file_lines rest
-  go true front all e some = ap (λ l. [] ∷ l) e
-  go false [] all e some = absurd (some refl)
-  go false (l ∷ ls) all e some = ap (onto_first c) e
+behind_lines (c ∷ earlier) rest =
+    go (c == 10) (file_lines (earlier ++ 10 ∷ [])) (file_lines ((earlier ++ 10 ∷ []) ++ rest)) (behind_lines earlier rest) (no_lines earlier 10) where
+      go : (t : Bool) (front all : List (List ℕ)) → all ≡ front ++ file_lines rest → (front ≡ [] → ⊥)
+          → cond t ([] ∷ all) (onto_first c all) ≡ cond t ([] ∷ front) (onto_first c front) ++ file_lines rest
+      go true front all e some = ap (λ l. [] ∷ l) e
+      go false [] all e some = absurd (some refl)
+      go false (l ∷ ls) all e some = ap (onto_first c) e
 
 pub lines_behind : (front rest : List ℕ) → IsEnded front → file_lines (front ++ rest) ≡ file_lines front ++ file_lines rest
 lines_behind front rest ended = elim ended [
@@ -95,7 +100,8 @@ zip_length R [] (y ∷ ys) all = absurd all
 zip_length R (x ∷ xs) [] all = absurd all
 zip_length R (x ∷ xs) (y ∷ ys) all = let rest = zip_length R xs ys all.1 in omega arith
 
-pub zip_append : {A B : Type 0} (R : A → B → Type 0) (xs : List A) (ys : List B) (x : A) (y : B) → AllZip R xs ys → R x y → AllZip R (xs ++ x ∷ []) (ys ++ y ∷ [])
+pub zip_append : {A B : Type 0} (R : A → B → Type 0) (xs : List A) (ys : List B) (x : A) (y : B) → AllZip R xs ys → R x y
+    → AllZip R (xs ++ x ∷ []) (ys ++ y ∷ [])
 zip_append R [] [] x y all h = (h, tt)
 zip_append R [] (z ∷ ys) x y all h = absurd all
 zip_append R (z ∷ xs) [] x y all h = absurd all
@@ -105,10 +111,13 @@ zip_append R (z ∷ xs) (w ∷ ys) x y all h = (all.0, zip_append R xs ys x y al
 pub line_count : (earlier : List ℕ) → length (file_lines (earlier ++ 10 ∷ [])) ≡ newlines (earlier ++ 10 ∷ [])
 line_count [] = refl
 line_count (c ∷ earlier) = go (c == 10) refl (file_lines (earlier ++ 10 ∷ [])) (line_count earlier) (no_lines earlier 10) where
-  go : (t : Bool) → (c == 10) ≡ t → (front : List (List ℕ)) → length front ≡ newlines (earlier ++ 10 ∷ []) → (front ≡ [] → ⊥) → length (cond t ([] ∷ front) (onto_first c front)) ≡ newlines (c ∷ (earlier ++ 10 ∷ []))
-  go true e front n some = let more = sum_by-cons (λ c. cond (c == 10) 1 0) c (earlier ++ 10 ∷ []) ∙ ap (λ t. cond t 1 0 + newlines (earlier ++ 10 ∷ [])) e in omega arith
+  go : (t : Bool) → (c == 10) ≡ t → (front : List (List ℕ)) → length front ≡ newlines (earlier ++ 10 ∷ []) → (front ≡ [] → ⊥)
+      → length (cond t ([] ∷ front) (onto_first c front)) ≡ newlines (c ∷ (earlier ++ 10 ∷ []))
+  go true e front n some =
+      let more = sum_by-cons (λ c. cond (c == 10) 1 0) c (earlier ++ 10 ∷ []) ∙ ap (λ t. cond t 1 0 + newlines (earlier ++ 10 ∷ [])) e in omega arith
   go false e [] n some = absurd (some refl)
-  go false e (l ∷ ls) n some = let more = sum_by-cons (λ c. cond (c == 10) 1 0) c (earlier ++ 10 ∷ []) ∙ ap (λ t. cond t 1 0 + newlines (earlier ++ 10 ∷ [])) e in omega arith
+  go false e (l ∷ ls) n some =
+      let more = sum_by-cons (λ c. cond (c == 10) 1 0) c (earlier ++ 10 ∷ []) ∙ ap (λ t. cond t 1 0 + newlines (earlier ++ 10 ∷ [])) e in omega arith
 
 pub ended_count : (front : List ℕ) → IsEnded front → length (file_lines front) ≡ newlines front
 ended_count front ended = elim ended [
@@ -116,7 +125,7 @@ ended_count front ended = elim ended [
   | inr some ↦ ap (λ f. length (file_lines f)) some.1 ∙ line_count some.0 ∙ ap newlines (sym some.1)
 ]
 
--- A line of the file stands in the complete lines, or it is the line so far and goes on, or it begins after it.
+-- A line of the file is among the complete lines, or it is the line so far and goes on, or it begins after that.
 pub data Stands (front line : List ℕ) (more found : List ℕ) (f r : List ℕ) : Type 0 where
   earlier : (g : List ℕ) → front ≡ f ++ (found ++ 10 ∷ g) → Stands front line more found f r
   this : f ≡ front → found ++ r ≡ line ++ more → Stands front line more found f r
@@ -154,19 +163,25 @@ Ends found r = ((r ≡ []) × (0 < length found)) ⊎ ((next : List ℕ) × (r �
 
 -- a line within whole lines is followed by a newline in them
 within : (found r g h rest : List ℕ) → g ≡ h ++ 10 ∷ [] → found ++ r ≡ g ++ rest → lacks 10 found ≡ true → Ends found r → (n : List ℕ) × (g ≡ found ++ 10 ∷ n)
-within found r g h rest end e one ends = elim (split (length found) (length g)) [ inl less ↦ fits (overlap found r g rest e (omega arith)) less | inr long ↦ passed (overlap g rest found r (sym e) long) ] where
-  fits : (m : List ℕ) × (g ≡ found ++ m) × (r ≡ m ++ rest) → length found < length g → (n : List ℕ) × (g ≡ found ++ 10 ∷ n)
-  fits (m, is, after) less =
-      let some : 0 < length m = (let a = ap length is in let b = length-append found m in omega arith) in
-      elim ends [
-        | inl last ↦ (let a = ap length after in let b = length-append m rest in let c = ap length last.0 in absurd (omega arith))
-        | inr next ↦ (let first = newline_first m r next.0 rest some after next.1 in (first.0, is ∙ ap (λ x. found ++ x) first.1))
-      ]
+within found r g h rest end e one ends =
+    elim (split (length found) (length g)) [
+      | inl less ↦ fits (overlap found r g rest e (omega arith)) less
+      | inr long ↦ passed
+          (overlap g rest found r (sym e) long)
+    ] where
+      fits : (m : List ℕ) × (g ≡ found ++ m) × (r ≡ m ++ rest) → length found < length g → (n : List ℕ) × (g ≡ found ++ 10 ∷ n)
+      fits (m, is, after) less =
+          let some : 0 < length m = (let a = ap length is in let b = length-append found m in omega arith) in
+          elim ends [
+            | inl last ↦ (let a = ap length after in let b = length-append m rest in let c = ap length last.0 in absurd (omega arith))
+            | inr next ↦ (let first = newline_first m r next.0 rest some after next.1 in (first.0, is ∙ ap (λ x. found ++ x) first.1))
+          ]
 
-  passed : (m : List ℕ) × (found ≡ g ++ m) × (rest ≡ m ++ r) → (n : List ℕ) × (g ≡ found ++ 10 ∷ n)
-  passed (m, is, after) = absurd (lacks_seam h m (subst (λ l. lacks 10 l ≡ true) (is ∙ ap (λ x. x ++ m) end ∙ append_assoc h (10 ∷ []) m) one))
+      passed : (m : List ℕ) × (found ≡ g ++ m) × (rest ≡ m ++ r) → (n : List ℕ) × (g ≡ found ++ 10 ∷ n)
+      passed (m, is, after) = absurd (lacks_seam h m (subst (λ l. lacks 10 l ≡ true) (is ∙ ap (λ x. x ++ m) end ∙ append_assoc h (10 ∷ []) m) one))
 
-inside : (front line more found f r : List ℕ) → IsEnded front → lacks 10 found ≡ true → Ends found r → front ++ (line ++ more) ≡ f ++ (found ++ r) → length f < length front → Stands front line more found f r
+inside : (front line more found f r : List ℕ) → IsEnded front → lacks 10 found ≡ true → Ends found r → front ++ (line ++ more) ≡ f ++ (found ++ r)
+    → length f < length front → Stands front line more found f r
 inside front line more found f r ended one ends whole less = go (overlap f (found ++ r) front (line ++ more) (sym whole) (omega arith)) where
   go : (m : List ℕ) × (front ≡ f ++ m) × (found ++ r ≡ m ++ (line ++ more)) → Stands front line more found f r
   go (m, is, after) =
@@ -175,7 +190,8 @@ inside front line more found f r ended one ends whole less = go (overlap f (foun
       let found_at = within found r m end.0 (line ++ more) end.1 after one ends in
       earlier found_at.0 (is ∙ ap (λ x. f ++ x) found_at.1)
 
-outside : (front line more found f r : List ℕ) → lacks 10 line ≡ true → IsEnded f → front ++ (line ++ more) ≡ f ++ (found ++ r) → length front ≤ length f → Stands front line more found f r
+outside : (front line more found f r : List ℕ) → lacks 10 line ≡ true → IsEnded f → front ++ (line ++ more) ≡ f ++ (found ++ r) → length front ≤ length f
+    → Stands front line more found f r
 outside front line more found f r one ended whole long = go (overlap front (line ++ more) f (found ++ r) whole long) where
   go : (m : List ℕ) × (f ≡ front ++ m) × (line ++ more ≡ m ++ (found ++ r)) → Stands front line more found f r
   go ([], is, after) = this (is ∙ append-nil front) (sym after)
@@ -188,7 +204,8 @@ outside front line more found f r one ended whole long = go (overlap front (line
         covered : (k : List ℕ) × (line ≡ (x ∷ m) ++ k) × (found ++ r ≡ k ++ more) → (h : List ℕ) × (x ∷ m ≡ h ++ 10 ∷ []) → Stands front line more found f r
         covered (k, at, after) (h, end) = absurd (lacks_seam h k (subst (λ l. lacks 10 l ≡ true) (at ∙ ap (λ y. y ++ k) end ∙ append_assoc h (10 ∷ []) k) one))
 
-pub stands : (front line more found f r : List ℕ) → IsEnded front → lacks 10 line ≡ true → lacks 10 found ≡ true → Ends found r → IsEnded f → front ++ (line ++ more) ≡ f ++ (found ++ r) → Stands front line more found f r
+pub stands : (front line more found f r : List ℕ) → IsEnded front → lacks 10 line ≡ true → lacks 10 found ≡ true → Ends found r → IsEnded f
+    → front ++ (line ++ more) ≡ f ++ (found ++ r) → Stands front line more found f r
 stands front line more found f r ended one one_found ends begins whole = elim (split (length f) (length front)) [
   | inl less ↦ inside front line more found f r ended one_found ends whole less
   | inr long ↦ outside front line more found f r one begins whole long
@@ -196,25 +213,30 @@ stands front line more found f r ended one one_found ends begins whole = elim (s
 
 -- a line that goes on in the line so far isn't shorter
 pub no_shorter : (line more found r : List ℕ) → lacks 10 line ≡ true → Ends found r → found ++ r ≡ line ++ more → length line ≤ length found
-no_shorter line more found r one ends whole = elim (split (length found) (length line)) [ inl less ↦ absurd (go (overlap found r line more whole (omega arith)) less) | inr long ↦ long ] where
-  go : (m : List ℕ) × (line ≡ found ++ m) × (r ≡ m ++ more) → length found < length line → ⊥
-  go (m, is, after) less =
-      let some : 0 < length m = (let a = ap length is in let b = length-append found m in omega arith) in
-      elim ends [
-        | inl last ↦ (let a = ap length after in let b = length-append m more in let c = ap length last.0 in omega arith)
-        | inr next ↦ (let first = newline_first m r next.0 more some after next.1 in lacks_seam found first.0 (subst (λ l. lacks 10 l ≡ true) (is ∙ ap (λ x. found ++ x) first.1) one))
-      ]
+no_shorter line more found r one ends whole =
+    elim (split (length found) (length line)) [ inl less ↦ absurd (go (overlap found r line more whole (omega arith)) less) | inr long ↦ long ] where
+      go : (m : List ℕ) × (line ≡ found ++ m) × (r ≡ m ++ more) → length found < length line → ⊥
+      go (m, is, after) less =
+          let some : 0 < length m = (let a = ap length is in let b = length-append found m in omega arith) in
+          elim ends [
+            | inl last ↦ (let a = ap length after in let b = length-append m more in let c = ap length last.0 in omega arith)
+            | inr next ↦ (let first = newline_first m r next.0 more some after next.1 in lacks_seam found first.0
+                (subst (λ l. lacks 10 l ≡ true) (is ∙ ap (λ x. found ++ x) first.1) one))
+          ]
 
 -- nor longer, where the line so far ends
-pub no_longer : (line more found r : List ℕ) → lacks 10 found ≡ true → (more ≡ []) ⊎ ((next : List ℕ) × (more ≡ 10 ∷ next)) → found ++ r ≡ line ++ more → length found ≤ length line
-no_longer line more found r one ends whole = elim (split (length line) (length found)) [ inl less ↦ absurd (go (overlap line more found r (sym whole) (omega arith)) less) | inr long ↦ long ] where
-  go : (m : List ℕ) × (found ≡ line ++ m) × (more ≡ m ++ r) → length line < length found → ⊥
-  go (m, is, after) less =
-      let some : 0 < length m = (let a = ap length is in let b = length-append line m in omega arith) in
-      elim ends [
-        | inl last ↦ (let a = ap length after in let b = length-append m r in let c = ap length last in omega arith)
-        | inr next ↦ (let first = newline_first m more next.0 r some after next.1 in lacks_seam line first.0 (subst (λ l. lacks 10 l ≡ true) (is ∙ ap (λ x. line ++ x) first.1) one))
-      ]
+pub no_longer : (line more found r : List ℕ) → lacks 10 found ≡ true → (more ≡ []) ⊎ ((next : List ℕ) × (more ≡ 10 ∷ next)) → found ++ r ≡ line ++ more
+    → length found ≤ length line
+no_longer line more found r one ends whole =
+    elim (split (length line) (length found)) [ inl less ↦ absurd (go (overlap line more found r (sym whole) (omega arith)) less) | inr long ↦ long ] where
+      go : (m : List ℕ) × (found ≡ line ++ m) × (more ≡ m ++ r) → length line < length found → ⊥
+      go (m, is, after) less =
+          let some : 0 < length m = (let a = ap length is in let b = length-append line m in omega arith) in
+          elim ends [
+            | inl last ↦ (let a = ap length after in let b = length-append m r in let c = ap length last in omega arith)
+            | inr next ↦ (let first = newline_first m more next.0 r some after next.1 in lacks_seam line first.0
+                (subst (λ l. lacks 10 l ≡ true) (is ∙ ap (λ x. line ++ x) first.1) one))
+          ]
 
 -- two fronts of one length are one
 pub same_front : (a b c d : List ℕ) → a ++ b ≡ c ++ d → length a ≡ length c → a ≡ c
@@ -227,10 +249,17 @@ same_front a b c d e n = go (overlap a b c d e (omega arith)) where
 pub a_line : (more : List ℕ) → 0 < length more → (found : List ℕ) × (r : List ℕ) × (more ≡ found ++ r) × (lacks 10 found ≡ true) × Ends found r
 a_line [] h = absurd (omega arith)
 a_line (x ∷ more) h = go (x == 10) refl more (a_line more) where
-  go : (t : Bool) → (x == 10) ≡ t → (more : List ℕ) → (0 < length more → (found : List ℕ) × (r : List ℕ) × (more ≡ found ++ r) × (lacks 10 found ≡ true) × Ends found r)
+  go : (t : Bool) → (x == 10) ≡ t → (more : List ℕ)
+      → (0 < length more → (found : List ℕ) × (r : List ℕ) × (more ≡ found ++ r) × (lacks 10 found ≡ true) × Ends found r)
       → (found : List ℕ) × (r : List ℕ) × (x ∷ more ≡ found ++ r) × (lacks 10 found ≡ true) × Ends found r
   go true e more next = ([], x ∷ more, refl, refl, inr (more, ap (λ y. y ∷ more) (eqb-true x 10 e)))
   go false e [] next = (x ∷ [], [], refl, and_from (not (x == 10)) true (ap not e) refl, inl (refl, omega arith))
   go false e (y ∷ more) next =
-      let rest = next (omega arith) in
-      (x ∷ rest.0, rest.1, ap (λ l. x ∷ l) rest.2, and_from (not (x == 10)) (lacks 10 rest.0) (ap not e) rest.3, elim rest.4 [ inl last ↦ inl (last.0, omega arith) | inr more ↦ inr more ])
+      let rest = next (omega arith) in (
+        x ∷ rest.0,
+        rest.1,
+        ap (λ l. x ∷ l) rest.2,
+        and_from (not (x == 10)) (lacks 10 rest.0) (ap not e) rest.3,
+        elim rest.4
+            [ inl last ↦ inl (last.0, omega arith) | inr more ↦ inr more ],
+      )

@@ -39,8 +39,8 @@ first_sound = record {
   says = (line_read plain tree_a (codes "CONFIG_A=y") (assigns 0 (TriUser Y)) refl).0 first_read;
 }
 
-told_front : IsCut plain tree_a front [] first
-told_front = record {
+known_front : IsCut plain tree_a front [] first
+known_front = record {
   front = front;
   whole = refl;
   ended = inr (codes "CONFIG_A=y", refl);
@@ -53,11 +53,11 @@ told_front = record {
 }
 
 front_accepted : IsAccepted plain tree_a front
-front_accepted = accepted plain tree_a front [] first told_front [] (inl (refl, refl))
+front_accepted = accepted plain tree_a front [] first known_front [] (inl (refl, refl))
 
 -- after it a line that isn't whole
-told_more : (line : List ℕ) → length line ≤ 8 → lacks 10 line ≡ true → IsCut plain tree_a (front ++ line) ([] ++ line) first
-told_more line few one = held plain tree_a front [] first told_front line one (omega arith) (omega arith) (omega arith)
+known_more : (line : List ℕ) → length line ≤ 8 → lacks 10 line ≡ true → IsCut plain tree_a (front ++ line) ([] ++ line) first
+known_more line few one = held plain tree_a front [] first known_front line one (omega arith) (omega arith) (omega arith)
 
 none_read : line_meaning plain tree_a (codes "CON") ≡ None
 unfolding line_meaning
@@ -66,13 +66,17 @@ none_read = refl
 -- at the file's end it is malformed, and where a read failed it counts for nothing
 malformed_line : IsFirstFault plain tree_a complete (codes "CONFIG_A=y\nCON") Malformed 2
 malformed_line =
-    malformed plain tree_a (front ++ codes "CON") (codes "CON") first (told_more (codes "CON") (omega arith) refl) [] (inl (refl, omega arith)) (low_utf8 (codes "CON") refl)
-    (λ saying says. let some = (line_read plain tree_a (codes "CON") saying refl).1 says in let none = none_read in cc (some, none))
+    malformed plain tree_a (front ++ codes "CON") (codes "CON") first (known_more (codes "CON") (omega arith) refl) [] (inl (refl, omega arith))
+    (low_utf8 (codes "CON") refl)
+    (λ meaning says. let some = (line_read plain tree_a (codes "CON") meaning refl).1 says in let none = none_read in cc (some, none))
 
 cut_line : IsFirstFault plain tree_a cut_short (codes "CONFIG_A=y\nCON") Read 2
 cut_line =
-    (failed_reads plain tree_a (codes "CONFIG_A=y\nCON") 2).1
-    ((λ kind byte number comes. clean plain tree_a (front ++ codes "CON") (codes "CON") first (told_more (codes "CON") (omega arith) refl) [] kind byte number comes), refl)
+    (failed_reads plain tree_a (codes "CONFIG_A=y\nCON") 2).1 (
+      (λ kind byte number comes. clean plain tree_a (front ++ codes "CON") (codes "CON") first (known_more (codes "CON") (omega arith) refl) [] kind byte number
+          comes),
+      refl,
+    )
 
 not_text : is_utf8 (255 ∷ []) ≡ false
 unfolding is_utf8 chars lib.Utf8.encode
@@ -81,10 +85,12 @@ not_text = refl
 -- so it is of bytes that aren't UTF-8
 odd_line : IsFirstFault plain tree_a complete (front ++ 255 ∷ []) NotUtf8 2
 odd_line =
-    not_utf8 plain tree_a (front ++ 255 ∷ []) (255 ∷ []) first (told_more (255 ∷ []) (omega arith) refl) [] (inl (refl, omega arith))
+    not_utf8 plain tree_a (front ++ 255 ∷ []) (255 ∷ []) first (known_more (255 ∷ []) (omega arith) refl) [] (inl (refl, omega arith))
     (λ text. false≢true (sym not_text ∙ is_utf8-from_IsUtf8 (255 ∷ []) text))
 
 cut_odd_line : IsFirstFault plain tree_a cut_short (front ++ 255 ∷ []) Read 2
 cut_odd_line =
-    (failed_reads plain tree_a (front ++ 255 ∷ []) 2).1
-    ((λ kind byte number comes. clean plain tree_a (front ++ 255 ∷ []) (255 ∷ []) first (told_more (255 ∷ []) (omega arith) refl) [] kind byte number comes), refl)
+    (failed_reads plain tree_a (front ++ 255 ∷ []) 2).1 (
+      (λ kind byte number comes. clean plain tree_a (front ++ 255 ∷ []) (255 ∷ []) first (known_more (255 ∷ []) (omega arith) refl) [] kind byte number comes),
+      refl,
+    )

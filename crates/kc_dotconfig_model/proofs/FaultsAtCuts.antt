@@ -1,4 +1,4 @@
--- Which fault is the first, where a part of a file was told.
+-- The first fault, where a part of a file is known.
 use Rattle.std.proofs.Common.{◌≡◌, ◌⊎◌, inl, inr, ℕ, ◌+◌, ◌<◌, ◌≤◌, true, false, not, ◌==◌, List, [], ◌∷◌, ◌++◌, length, take, refl, sym, ◌∙◌, ap, subst, append_assoc, length-append, arith}
 use Rattle.std.specs.List.{AllZip}
 use Rattle.std.specs.Str.{IsUtf8}
@@ -13,41 +13,44 @@ use Rattle.kc_dotconfig_model.specs.declared.fault.LoadKind.TheVariants.{Malform
 use Rattle.kc_dotconfig_model.specs.PrefixGrammar.{lacks}
 use Rattle.kc_dotconfig_model.specs.ConfigLines.{LineMeaning, Means, silent, empty, IsMalformed, without_white_end}
 use Rattle.kc_dotconfig_model.specs.ConfigFiles.{file_lines, FileMeans}
-use Rattle.kc_dotconfig_model.specs.LoadFaults.{complete, newlines, MAX_BYTES, MAX_LINES, MAX_LINE_BYTES, IsLineAt, OccursAt, rank_of, IsFirstFault, IsAccepted}
+use Rattle.kc_value.specs.declared.limits.TheConstants.{MAX_CONFIG_BYTES, MAX_CONFIG_LINES, MAX_LINE_BYTES}
+use Rattle.kc_dotconfig_model.specs.LoadFaults.{complete, newlines, IsLineAt, OccursAt, rank_of, IsFirstFault, IsAccepted}
 use Rattle.kc_dotconfig_model.specs.between.Cutting.{IsSound, IsEnded, IsCut}
 use Rattle.kc_dotconfig_model.proofs.Cuts.{split, Stands, earlier, this, later, stands, Ends, no_shorter, no_longer, same_front, a_line, newlines_append, none_in_line, first_of_lines, last_of_lines, lines_behind, one_of, zip_length, zip_append, ended_count}
 
 abbrev Part : List ℕ → Tree → List ℕ → List ℕ → List LineMeaning → List ℕ → List ℕ → Type 0
-Part prefix tree told line sayings more bytes = IsCut prefix tree told line sayings × (bytes ≡ told ++ more)
+Part prefix tree known line meanings more bytes = IsCut prefix tree known line meanings × (bytes ≡ known ++ more)
 
--- What is known of a part of a file, and of the bytes after it.
-module _ (prefix : List ℕ) (tree : Tree) (told line : List ℕ) (sayings : List LineMeaning) (c : IsCut prefix tree told line sayings) where
-  whole_is : (more : List ℕ) → told ++ more ≡ c.front ++ (line ++ more)
+-- A known part of a file, and the bytes after it.
+module _ (prefix : List ℕ) (tree : Tree) (known line : List ℕ) (meanings : List LineMeaning) (c : IsCut prefix tree known line meanings) where
+  whole_is : (more : List ℕ) → known ++ more ≡ c.front ++ (line ++ more)
   whole_is more = ap (λ t. t ++ more) c.whole ∙ append_assoc c.front line more
 
-  told_length : length told ≡ length c.front + length line
-  told_length = ap length c.whole ∙ length-append c.front line
+  known_length : length known ≡ length c.front + length line
+  known_length = ap length c.whole ∙ length-append c.front line
 
-  says_length : length sayings ≡ newlines c.front
-  says_length = sym (zip_length (IsSound prefix tree) (file_lines c.front) sayings c.sound) ∙ ended_count c.front c.ended
+  says_length : length meanings ≡ newlines c.front
+  says_length = sym (zip_length (IsSound prefix tree) (file_lines c.front) meanings c.sound) ∙ ended_count c.front c.ended
 
-  pub told_newlines : newlines told ≡ length sayings
-  told_newlines =
+  pub known_newlines : newlines known ≡ length meanings
+  known_newlines =
       let a = ap newlines c.whole in
       let b = newlines_append c.front line in
       let n = none_in_line line c.one_line in
       let d = says_length in
       omega arith
 
-  stands_in : (more found : List ℕ) (n s : ℕ) → (at : IsLineAt (told ++ more) found n s) → Stands c.front line more found at.front at.rest
-  stands_in more found n s at = stands c.front line more found at.front at.rest c.ended c.one_line at.one_line at.ends at.begins (sym (whole_is more) ∙ at.whole)
+  stands_in : (more found : List ℕ) (n s : ℕ) → (at : IsLineAt (known ++ more) found n s) → Stands c.front line more found at.front at.rest
+  stands_in more found n s at =
+      stands c.front line more found at.front at.rest c.ended c.one_line at.one_line at.ends at.begins (sym (whole_is more) ∙ at.whole)
 
   earlier_sound : (found f g : List ℕ) → IsEnded f → lacks 10 found ≡ true → c.front ≡ f ++ (found ++ 10 ∷ g) → (x : LineMeaning) × IsSound prefix tree found x
   earlier_sound found f g ended one is =
-      let lines : file_lines c.front ≡ file_lines f ++ (found ∷ file_lines g) = ap file_lines is ∙ lines_behind f (found ++ 10 ∷ g) ended ∙ ap (λ ls. file_lines f ++ ls) (first_of_lines found g one) in
-      one_of (IsSound prefix tree) (file_lines f) found (file_lines g) sayings (subst (λ ls. AllZip (IsSound prefix tree) ls sayings) lines c.sound)
+      let lines : file_lines c.front ≡ file_lines f ++ (found ∷ file_lines g) = ap file_lines is ∙ lines_behind f (found ++ 10 ∷ g) ended
+      ∙ ap (λ ls. file_lines f ++ ls) (first_of_lines found g one) in
+      one_of (IsSound prefix tree) (file_lines f) found (file_lines g) meanings (subst (λ ls. AllZip (IsSound prefix tree) ls meanings) lines c.sound)
 
-  earlier_count : (found f g : List ℕ) → c.front ≡ f ++ (found ++ 10 ∷ g) → newlines f + 1 ≤ length sayings
+  earlier_count : (found f g : List ℕ) → c.front ≡ f ++ (found ++ 10 ∷ g) → newlines f + 1 ≤ length meanings
   earlier_count found f g is =
       let a = ap newlines is in
       let b = newlines_append f (found ++ 10 ∷ g) in
@@ -60,21 +63,22 @@ module _ (prefix : List ℕ) (tree : Tree) (told line : List ℕ) (sayings : Lis
   earlier_length : (found f g : List ℕ) → c.front ≡ f ++ (found ++ 10 ∷ g) → length f + length found < length c.front
   earlier_length found f g is = let a = ap length is in let b = length-append f (found ++ 10 ∷ g) in let d = length-append found (10 ∷ g) in omega arith
 
-  -- no fault comes at a byte that was told, whatever follows
-  pub clean : (more : List ℕ) (kind : LoadKind) (byte number : ℕ) → OccursAt prefix tree (told ++ more) kind byte number → length told ≤ byte
+  -- no fault is at a known byte, whatever follows
+  pub clean : (more : List ℕ) (kind : LoadKind) (byte number : ℕ) → OccursAt prefix tree (known ++ more) kind byte number → length known ≤ byte
   clean more TooLarge byte number h = let s = c.small in let e = h.1 in omega arith
   clean more TooManyLines byte number (found, at, most) =
       let n = at.number_is in
       let s = at.starts in
-      let t = told_length in
+      let t = known_length in
       elim (stands_in more found number byte at) [
         | earlier g is ↦ (let few = c.few in let k = earlier_count found at.front g is in absurd (omega arith))
-        | this same after ↦ (let e = ap length same in let k = ap newlines same in let d = says_length in elim (split 0 (length line)) [ inl some ↦ (let room = c.room some in absurd (omega arith)) | inr none ↦ omega arith ])
+        | this same after ↦ (let e = ap length same in let k = ap newlines same in let d = says_length in elim (split 0 (length line))
+            [ inl some ↦ (let room = c.room some in absurd (omega arith)) | inr none ↦ omega arith ])
         | later h ↦ omega arith
       ]
   clean more LineTooLong byte number (found, start, at, long, is_byte) =
       let s = at.starts in
-      let t = told_length in
+      let t = known_length in
       let short = c.short in
       elim (stands_in more found number start at) [
         | earlier g is ↦ (let sound = (earlier_sound found at.front g at.begins at.one_line is).1.short in absurd (omega arith))
@@ -83,7 +87,7 @@ module _ (prefix : List ℕ) (tree : Tree) (told line : List ℕ) (sayings : Lis
       ]
   clean more NotUtf8 byte number (found, start, at, bad, is_byte) =
       let s = at.starts in
-      let t = told_length in
+      let t = known_length in
       elim (stands_in more found number start at) [
         | earlier g is ↦ absurd (bad ((earlier_sound found at.front g at.begins at.one_line is).1.text))
         | this same after ↦ (let e = ap length same in let h = no_shorter line more found at.rest c.one_line at.ends after in omega arith)
@@ -91,7 +95,7 @@ module _ (prefix : List ℕ) (tree : Tree) (told line : List ℕ) (sayings : Lis
       ]
   clean more Malformed byte number (found, start, at, bad, is_byte) =
       let s = at.starts in
-      let t = told_length in
+      let t = known_length in
       elim (stands_in more found number start at) [
         | earlier g is ↦ (let sound = earlier_sound found at.front g at.begins at.one_line is in absurd (bad sound.0 sound.1.says))
         | this same after ↦ (let e = ap length same in let h = no_shorter line more found at.rest c.one_line at.ends after in omega arith)
@@ -100,63 +104,67 @@ module _ (prefix : List ℕ) (tree : Tree) (told line : List ℕ) (sayings : Lis
   clean more Read byte number h = absurd h
   clean more OutOfMemory byte number h = absurd h
 
-  -- a fault after what was told is the first, if no other on its byte goes before it
-  first_by : (more : List ℕ) (kind : LoadKind) (number : ℕ) → OccursAt prefix tree (told ++ more) kind (length told) number
-      → ((other : LoadKind) (other_number : ℕ) → OccursAt prefix tree (told ++ more) other (length told) other_number → rank_of kind ≤ rank_of other)
-      → IsFirstFault prefix tree complete (told ++ more) kind number
+  -- a fault after the known bytes is the first, if no other at its byte comes before it
+  first_by : (more : List ℕ) (kind : LoadKind) (number : ℕ) → OccursAt prefix tree (known ++ more) kind (length known) number
+      → ((other : LoadKind) (other_number : ℕ) → OccursAt prefix tree (known ++ more) other (length known) other_number → rank_of kind ≤ rank_of other)
+      → IsFirstFault prefix tree complete (known ++ more) kind number
   first_by more kind number comes rank = record {
-    byte = length told;
+    byte = length known;
     comes = comes;
     first = λ other ob on at. go other ob on at (clean more other ob on at);
   } where
     parted : (a b : ℕ) → a ≤ b → (a < b) ⊎ (a ≡ b)
     parted a b h = grind arith
 
-    go : (other : LoadKind) (ob on : ℕ) → OccursAt prefix tree (told ++ more) other ob on → length told ≤ ob → (length told < ob) ⊎ ((length told ≡ ob) × (rank_of kind ≤ rank_of other))
-    go other ob on at h = elim (parted (length told) ob h) [
+    go : (other : LoadKind) (ob on : ℕ) → OccursAt prefix tree (known ++ more) other ob on → length known ≤ ob
+        → (length known < ob) ⊎ ((length known ≡ ob) × (rank_of kind ≤ rank_of other))
+    go other ob on at h = elim (parted (length known) ob h) [
       | inl less ↦ inl less
-      | inr same ↦ inr (same, rank other on (subst (λ k. OccursAt prefix tree (told ++ more) other k on) (sym same) at))
+      | inr same ↦ inr (same, rank other on (subst (λ k. OccursAt prefix tree (known ++ more) other k on) (sym same) at))
     ]
 
-  -- what can't come on the first byte after what was told
-  not_large : (more : List ℕ) (number : ℕ) → (length told < MAX_BYTES) ⊎ (more ≡ []) → OccursAt prefix tree (told ++ more) TooLarge (length told) number → ⊥
+  -- the faults that can't be at the first byte after the known ones
+  not_large : (more : List ℕ) (number : ℕ) → (length known < MAX_CONFIG_BYTES) ⊎ (more ≡ [])
+      → OccursAt prefix tree (known ++ more) TooLarge (length known) number → ⊥
   not_large more number room h = elim room [
     | inl less ↦ (let e = h.1 in omega arith)
-    | inr none ↦ (let a = h.0 in let b = length-append told more in let d = ap length none in let s = c.small in omega arith)
+    | inr none ↦ (let a = h.0 in let b = length-append known more in let d = ap length none in let s = c.small in omega arith)
   ]
 
-  not_many : (more : List ℕ) (number : ℕ) → 0 < length line → OccursAt prefix tree (told ++ more) TooManyLines (length told) number → ⊥
+  not_many : (more : List ℕ) (number : ℕ) → 0 < length line → OccursAt prefix tree (known ++ more) TooManyLines (length known) number → ⊥
   not_many more number some (found, at, most) =
       let s = at.starts in
-      let t = told_length in
-      elim (stands_in more found number (length told) at) [
+      let t = known_length in
+      elim (stands_in more found number (length known) at) [
         | earlier g is ↦ (let k = earlier_length found at.front g is in omega arith)
         | this same after ↦ (let e = ap length same in omega arith)
         | later h ↦ omega arith
       ]
 
-  not_long : (more : List ℕ) (number : ℕ) → (more ≡ []) ⊎ ((next : List ℕ) × (more ≡ 10 ∷ next)) → OccursAt prefix tree (told ++ more) LineTooLong (length told) number → ⊥
+  not_long : (more : List ℕ) (number : ℕ) → (more ≡ []) ⊎ ((next : List ℕ) × (more ≡ 10 ∷ next))
+      → OccursAt prefix tree (known ++ more) LineTooLong (length known) number → ⊥
   not_long more number ends (found, start, at, long, is_byte) =
       let s = at.starts in
-      let t = told_length in
+      let t = known_length in
       elim (stands_in more found number start at) [
         | earlier g is ↦ (let sound = (earlier_sound found at.front g at.begins at.one_line is).1.short in omega arith)
         | this same after ↦ (let h = no_longer line more found at.rest at.one_line ends after in let short = c.short in omega arith)
         | later h ↦ omega arith
       ]
 
-  not_odd : (more : List ℕ) (number : ℕ) → IsUtf8 line → OccursAt prefix tree (told ++ more) NotUtf8 (length told) number → ⊥
+  not_odd : (more : List ℕ) (number : ℕ) → IsUtf8 line → OccursAt prefix tree (known ++ more) NotUtf8 (length known) number → ⊥
   not_odd more number text (found, start, at, bad, is_byte) =
       let s = at.starts in
-      let t = told_length in
+      let t = known_length in
       elim (stands_in more found number start at) [
         | earlier g is ↦ (let k = earlier_length found at.front g is in omega arith)
-        | this same after ↦ (let e = ap length same in let n : length found ≡ length line = omega arith in bad (subst IsUtf8 (sym (same_front found at.rest line more after n)) text))
+        | this same after ↦ (let e = ap length same in let n : length found ≡ length line = omega arith in bad
+            (subst IsUtf8 (sym (same_front found at.rest line more after n)) text))
         | later h ↦ omega arith
       ]
 
   -- the line so far, where it ends
-  this_line : (more : List ℕ) → Ends line more → IsLineAt (told ++ more) line (length sayings + 1) (length c.front)
+  this_line : (more : List ℕ) → Ends line more → IsLineAt (known ++ more) line (length meanings + 1) (length c.front)
   this_line more ends = record {
     front = c.front;
     rest = more;
@@ -168,13 +176,19 @@ module _ (prefix : List ℕ) (tree : Tree) (told line : List ℕ) (sayings : Lis
     one_line = c.one_line;
   }
 
-  pub too_large : (more : List ℕ) → length told ≡ MAX_BYTES → 0 < length more → IsFirstFault prefix tree complete (told ++ more) TooLarge (length sayings + 1)
-  too_large more full some = first_by more TooLarge (length sayings + 1)
-      ((let a = length-append told more in omega arith), full, sym (ap (λ k. newlines (take k (told ++ more)) + 1) (sym full) ∙ ap (λ b. newlines b + 1) (take-append_seam told more) ∙ ap (λ n. n + 1) told_newlines))
+  pub too_large : (more : List ℕ) → length known ≡ MAX_CONFIG_BYTES → 0 < length more
+      → IsFirstFault prefix tree complete (known ++ more) TooLarge (length meanings + 1)
+  too_large more full some = first_by more TooLarge (length meanings + 1) (
+    (let a = length-append known more in omega arith),
+    full,
+    sym (ap (λ k. newlines (take k (known ++ more)) + 1) (sym full)
+        ∙ ap (λ b. newlines b + 1) (take-append_seam known more) ∙ ap (λ n. n + 1) known_newlines),
+  )
       (λ other on at. omega arith)
 
   -- the rank is at least that of kinds that can't come
-  after_large : (more : List ℕ) (n : ℕ) → (OccursAt prefix tree (told ++ more) TooLarge (length told) n → ⊥) → (other : LoadKind) → OccursAt prefix tree (told ++ more) other (length told) n → 1 ≤ rank_of other
+  after_large : (more : List ℕ) (n : ℕ) → (OccursAt prefix tree (known ++ more) TooLarge (length known) n → ⊥) → (other : LoadKind)
+      → OccursAt prefix tree (known ++ more) other (length known) n → 1 ≤ rank_of other
   after_large more n a TooLarge at = absurd (a at)
   after_large more n a TooManyLines at = omega arith
   after_large more n a LineTooLong at = omega arith
@@ -183,8 +197,9 @@ module _ (prefix : List ℕ) (tree : Tree) (told line : List ℕ) (sayings : Lis
   after_large more n a Read at = omega arith
   after_large more n a OutOfMemory at = omega arith
 
-  after_many : (more : List ℕ) (n : ℕ) → (OccursAt prefix tree (told ++ more) TooLarge (length told) n → ⊥) → (OccursAt prefix tree (told ++ more) TooManyLines (length told) n → ⊥)
-      → (other : LoadKind) → OccursAt prefix tree (told ++ more) other (length told) n → 2 ≤ rank_of other
+  after_many : (more : List ℕ) (n : ℕ) → (OccursAt prefix tree (known ++ more) TooLarge (length known) n → ⊥)
+      → (OccursAt prefix tree (known ++ more) TooManyLines (length known) n → ⊥)
+      → (other : LoadKind) → OccursAt prefix tree (known ++ more) other (length known) n → 2 ≤ rank_of other
   after_many more n a b TooLarge at = absurd (a at)
   after_many more n a b TooManyLines at = absurd (b at)
   after_many more n a b LineTooLong at = omega arith
@@ -193,8 +208,9 @@ module _ (prefix : List ℕ) (tree : Tree) (told line : List ℕ) (sayings : Lis
   after_many more n a b Read at = omega arith
   after_many more n a b OutOfMemory at = omega arith
 
-  after_long : (more : List ℕ) (n : ℕ) → (OccursAt prefix tree (told ++ more) TooLarge (length told) n → ⊥) → (OccursAt prefix tree (told ++ more) TooManyLines (length told) n → ⊥) → (OccursAt prefix tree (told ++ more) LineTooLong (length told) n → ⊥)
-      → (other : LoadKind) → OccursAt prefix tree (told ++ more) other (length told) n → 3 ≤ rank_of other
+  after_long : (more : List ℕ) (n : ℕ) → (OccursAt prefix tree (known ++ more) TooLarge (length known) n → ⊥)
+      → (OccursAt prefix tree (known ++ more) TooManyLines (length known) n → ⊥) → (OccursAt prefix tree (known ++ more) LineTooLong (length known) n → ⊥)
+      → (other : LoadKind) → OccursAt prefix tree (known ++ more) other (length known) n → 3 ≤ rank_of other
   after_long more n a b d TooLarge at = absurd (a at)
   after_long more n a b d TooManyLines at = absurd (b at)
   after_long more n a b d LineTooLong at = absurd (d at)
@@ -203,8 +219,10 @@ module _ (prefix : List ℕ) (tree : Tree) (told line : List ℕ) (sayings : Lis
   after_long more n a b d Read at = omega arith
   after_long more n a b d OutOfMemory at = omega arith
 
-  after_odd : (more : List ℕ) (n : ℕ) → (OccursAt prefix tree (told ++ more) TooLarge (length told) n → ⊥) → (OccursAt prefix tree (told ++ more) TooManyLines (length told) n → ⊥) → (OccursAt prefix tree (told ++ more) LineTooLong (length told) n → ⊥)
-      → (OccursAt prefix tree (told ++ more) NotUtf8 (length told) n → ⊥) → (other : LoadKind) → OccursAt prefix tree (told ++ more) other (length told) n → 4 ≤ rank_of other
+  after_odd : (more : List ℕ) (n : ℕ) → (OccursAt prefix tree (known ++ more) TooLarge (length known) n → ⊥)
+      → (OccursAt prefix tree (known ++ more) TooManyLines (length known) n → ⊥) → (OccursAt prefix tree (known ++ more) LineTooLong (length known) n → ⊥)
+      → (OccursAt prefix tree (known ++ more) NotUtf8 (length known) n → ⊥) → (other : LoadKind) → OccursAt prefix tree (known ++ more) other (length known) n
+      → 4 ≤ rank_of other
   after_odd more n a b d e TooLarge at = absurd (a at)
   after_odd more n a b d e TooManyLines at = absurd (b at)
   after_odd more n a b d e LineTooLong at = absurd (d at)
@@ -213,29 +231,31 @@ module _ (prefix : List ℕ) (tree : Tree) (told line : List ℕ) (sayings : Lis
   after_odd more n a b d e Read at = omega arith
   after_odd more n a b d e OutOfMemory at = omega arith
 
-  pub too_many : (more : List ℕ) → line ≡ [] → length sayings ≡ MAX_LINES → length told < MAX_BYTES → 0 < length more → IsFirstFault prefix tree complete (told ++ more) TooManyLines (length sayings + 1)
+  pub too_many : (more : List ℕ) → line ≡ [] → length meanings ≡ MAX_CONFIG_LINES → length known < MAX_CONFIG_BYTES → 0 < length more
+      → IsFirstFault prefix tree complete (known ++ more) TooManyLines (length meanings + 1)
   too_many more none full less some =
       let found = a_line more some in
-      let front_is : told ≡ c.front = c.whole ∙ ap (λ l. c.front ++ l) none ∙ append-nil c.front in
-      let at : IsLineAt (told ++ more) found.0 (length sayings + 1) (length told) = record {
-        front = told;
+      let front_is : known ≡ c.front = c.whole ∙ ap (λ l. c.front ++ l) none ∙ append-nil c.front in
+      let at : IsLineAt (known ++ more) found.0 (length meanings + 1) (length known) = record {
+        front = known;
         rest = found.1;
-        whole = ap (λ m. told ++ m) found.2;
+        whole = ap (λ m. known ++ m) found.2;
         starts = refl;
-        number_is = ap (λ n. n + 1) (sym told_newlines);
+        number_is = ap (λ n. n + 1) (sym known_newlines);
         begins = subst IsEnded (sym front_is) c.ended;
         ends = found.4;
         one_line = found.3;
       } in
-      first_by more TooManyLines (length sayings + 1) (found.0, at, ap (λ n. n + 1) full)
+      first_by more TooManyLines (length meanings + 1) (found.0, at, ap (λ n. n + 1) full)
       (λ other on at. after_large more on (not_large more on (inl less)) other at)
 
-  pub too_long : (b : ℕ) (more : List ℕ) → length line ≡ MAX_LINE_BYTES → (b == 10) ≡ false → length told < MAX_BYTES → IsFirstFault prefix tree complete (told ++ b ∷ more) LineTooLong (length sayings + 1)
+  pub too_long : (b : ℕ) (more : List ℕ) → length line ≡ MAX_LINE_BYTES → (b == 10) ≡ false → length known < MAX_CONFIG_BYTES
+      → IsFirstFault prefix tree complete (known ++ b ∷ more) LineTooLong (length meanings + 1)
   too_long b more full other less =
       let found = a_line (b ∷ more) (omega arith) in
       let some : 0 < length found.0 = first_some found.0 found.1 found.2 found.4 in
       let long : MAX_LINE_BYTES < length (line ++ found.0) = (let a = length-append line found.0 in omega arith) in
-      let at : IsLineAt (told ++ b ∷ more) (line ++ found.0) (length sayings + 1) (length c.front) = record {
+      let at : IsLineAt (known ++ b ∷ more) (line ++ found.0) (length meanings + 1) (length c.front) = record {
         front = c.front;
         rest = found.1;
         whole = whole_is (b ∷ more) ∙ ap (λ m. c.front ++ (line ++ m)) found.2 ∙ ap (λ m. c.front ++ m) (sym (append_assoc line found.0 found.1));
@@ -245,8 +265,8 @@ module _ (prefix : List ℕ) (tree : Tree) (told line : List ℕ) (sayings : Lis
         ends = elim found.4 [ inl last ↦ inl (last.0, omega arith) | inr next ↦ inr next ];
         one_line = list_all-append (λ c. not (c == 10)) line found.0 ∙ and_from (lacks 10 line) (lacks 10 found.0) c.one_line found.3;
       } in
-      let here : length told ≡ length c.front + MAX_LINE_BYTES = (let t = told_length in omega arith) in
-      first_by (b ∷ more) LineTooLong (length sayings + 1) (line ++ found.0, length c.front, at, long, here)
+      let here : length known ≡ length c.front + MAX_LINE_BYTES = (let t = known_length in omega arith) in
+      first_by (b ∷ more) LineTooLong (length meanings + 1) (line ++ found.0, length c.front, at, long, here)
       (λ o on at. after_many (b ∷ more) on (not_large (b ∷ more) on (inl less)) (not_many (b ∷ more) on (omega arith)) o at) where
         first_some : (found r : List ℕ) → b ∷ more ≡ found ++ r → Ends found r → 0 < length found
         first_some [] r is ends = elim ends [
@@ -257,7 +277,7 @@ module _ (prefix : List ℕ) (tree : Tree) (told line : List ℕ) (sayings : Lis
 
   -- the end of the line so far: a newline, or the end of the file
   abbrev pub AtEnd : List ℕ → Type 0
-  AtEnd more = ((more ≡ []) × (0 < length line)) ⊎ ((next : List ℕ) × (more ≡ 10 ∷ next) × (length told < MAX_BYTES))
+  AtEnd more = ((more ≡ []) × (0 < length line)) ⊎ ((next : List ℕ) × (more ≡ 10 ∷ next) × (length known < MAX_CONFIG_BYTES))
 
   ends_of : (more : List ℕ) → AtEnd more → Ends line more
   ends_of more (inl last) = inl last
@@ -267,7 +287,7 @@ module _ (prefix : List ℕ) (tree : Tree) (told line : List ℕ) (sayings : Lis
   stops_of more (inl last) = inl last.0
   stops_of more (inr next) = inr (next.0, next.1)
 
-  room_of : (more : List ℕ) → AtEnd more → (length told < MAX_BYTES) ⊎ (more ≡ [])
+  room_of : (more : List ℕ) → AtEnd more → (length known < MAX_CONFIG_BYTES) ⊎ (more ≡ [])
   room_of more (inl last) = inr last.0
   room_of more (inr next) = inl next.2
 
@@ -277,19 +297,21 @@ module _ (prefix : List ℕ) (tree : Tree) (told line : List ℕ) (sayings : Lis
     go [] e = absurd (bad (subst P (sym e) p))
     go (x ∷ l) e = omega arith
 
-  pub not_utf8 : (more : List ℕ) → AtEnd more → (IsUtf8 line → ⊥) → IsFirstFault prefix tree complete (told ++ more) NotUtf8 (length sayings + 1)
+  pub not_utf8 : (more : List ℕ) → AtEnd more → (IsUtf8 line → ⊥) → IsFirstFault prefix tree complete (known ++ more) NotUtf8 (length meanings + 1)
   not_utf8 more ends bad =
       let some = subst (λ n. 0 < n) refl (some_bytes IsUtf8 IsUtf8-nil bad) in
-      first_by more NotUtf8 (length sayings + 1) (line, length c.front, this_line more (ends_of more ends), bad, told_length)
+      first_by more NotUtf8 (length meanings + 1) (line, length c.front, this_line more (ends_of more ends), bad, known_length)
       (λ o on at. after_long more on (not_large more on (room_of more ends)) (not_many more on some) (not_long more on (stops_of more ends)) o at)
 
-  pub malformed : (more : List ℕ) → AtEnd more → IsUtf8 line → IsMalformed prefix tree line → IsFirstFault prefix tree complete (told ++ more) Malformed (length sayings + 1)
+  pub malformed : (more : List ℕ) → AtEnd more → IsUtf8 line → IsMalformed prefix tree line
+      → IsFirstFault prefix tree complete (known ++ more) Malformed (length meanings + 1)
   malformed more ends text bad =
-      let some = some_bytes (λ l. (saying : LineMeaning) × Means prefix tree (without_white_end l) saying) (silent, empty) (λ says. bad says.0 says.1) in
-      first_by more Malformed (length sayings + 1) (line, length c.front, this_line more (ends_of more ends), bad, told_length)
-      (λ o on at. after_odd more on (not_large more on (room_of more ends)) (not_many more on some) (not_long more on (stops_of more ends)) (not_odd more on text) o at)
+      let some = some_bytes (λ l. (meaning : LineMeaning) × Means prefix tree (without_white_end l) meaning) (silent, empty) (λ says. bad says.0 says.1) in
+      first_by more Malformed (length meanings + 1) (line, length c.front, this_line more (ends_of more ends), bad, known_length)
+      (λ o on at. after_odd more on (not_large more on (room_of more ends)) (not_many more on some) (not_long more on (stops_of more ends))
+      (not_odd more on text) o at)
 
-  -- the line so far says something, or there is none
+  -- the line so far has a meaning, or there is none
   abbrev pub SaysLast : List LineMeaning → Type 0
   SaysLast last = ((line ≡ []) × (last ≡ [])) ⊎ ((0 < length line) × ((x : LineMeaning) × (last ≡ x ∷ []) × IsSound prefix tree line x))
 
@@ -298,22 +320,22 @@ module _ (prefix : List ℕ) (tree : Tree) (told line : List ℕ) (sayings : Lis
   last_sound last (inr says) some = (says.1.0, says.1.2)
 
   -- the file ends here without a fault
-  pub accepted : (last : List LineMeaning) → SaysLast last → IsAccepted prefix tree told
+  pub accepted : (last : List LineMeaning) → SaysLast last → IsAccepted prefix tree known
   accepted last says kind byte number comes =
-      let whole : told ++ [] ≡ told = append-nil told in
+      let whole : known ++ [] ≡ known = append-nil known in
       go kind byte number (subst (λ b. OccursAt prefix tree b kind byte number) (sym whole) comes) where
-        at_end : (found : List ℕ) (n s : ℕ) → (at : IsLineAt (told ++ []) found n s) → s + length found + length at.rest ≡ length told
+        at_end : (found : List ℕ) (n s : ℕ) → (at : IsLineAt (known ++ []) found n s) → s + length found + length at.rest ≡ length known
         at_end found n s at =
             let a = ap length at.whole in
-            let b = ap length (append-nil told) in
+            let b = ap length (append-nil known) in
             let d = length-append at.front (found ++ at.rest) in
             let e = length-append found at.rest in
             let f = at.starts in
             omega arith
 
-        found_sound : (found : List ℕ) (n s : ℕ) → (at : IsLineAt (told ++ []) found n s) → (x : LineMeaning) × IsSound prefix tree found x
+        found_sound : (found : List ℕ) (n s : ℕ) → (at : IsLineAt (known ++ []) found n s) → (x : LineMeaning) × IsSound prefix tree found x
         found_sound found n s at =
-            let t = told_length in
+            let t = known_length in
             let s_is = at.starts in
             let all = at_end found n s at in
             elim (stands_in [] found n s at) [
@@ -323,14 +345,18 @@ module _ (prefix : List ℕ) (tree : Tree) (told line : List ℕ) (sayings : Lis
                   let e = ap length same in
                   let n_is : length found ≡ length line = omega arith in
                   let is : found ≡ line = same_front found at.rest line [] after n_is in
-                  let some : 0 < length line = elim at.ends [ inl last ↦ (let h = last.1 in omega arith) | inr next ↦ (let h = ap length next.1 in absurd (omega arith)) ] in
+                  let some : 0 < length line = elim at.ends [
+                    | inl last ↦ (let h = last.1 in omega arith)
+                    | inr next ↦
+                        (let h = ap length next.1 in absurd (omega arith))
+                  ] in
                   let sound = last_sound last says some in
                   (sound.0, subst (λ l. IsSound prefix tree l sound.0) (sym is) sound.1))
               | later h ↦ absurd (omega arith)
             ]
 
-        go : (kind : LoadKind) (byte number : ℕ) → OccursAt prefix tree (told ++ []) kind byte number → ⊥
-        go TooLarge byte number h = (let s = c.small in let a = h.0 in let b = ap length (append-nil told) in omega arith)
+        go : (kind : LoadKind) (byte number : ℕ) → OccursAt prefix tree (known ++ []) kind byte number → ⊥
+        go TooLarge byte number h = (let s = c.small in let a = h.0 in let b = ap length (append-nil known) in omega arith)
         go TooManyLines byte number (found, at, most) =
             let h = clean [] TooManyLines byte number (found, at, most) in
             let all = at_end found number byte at in
@@ -341,25 +367,29 @@ module _ (prefix : List ℕ) (tree : Tree) (told line : List ℕ) (sayings : Lis
         go Read byte number h = h
         go OutOfMemory byte number h = h
 
-  all_say : (lines : List (List ℕ)) (all : List LineMeaning) → AllZip (IsSound prefix tree) lines all → AllZip (λ l x. Means prefix tree (without_white_end l) x) lines all
+  all_say : (lines : List (List ℕ)) (all : List LineMeaning) → AllZip (IsSound prefix tree) lines all
+      → AllZip (λ l x. Means prefix tree (without_white_end l) x) lines all
   all_say [] [] h = tt
   all_say [] (x ∷ all) h = absurd h
   all_say (l ∷ lines) [] h = absurd h
   all_say (l ∷ lines) (x ∷ all) h = (h.0.says, all_say lines all h.1)
 
-  -- and says what its lines say
-  pub file_says : (last : List LineMeaning) → SaysLast last → FileMeans prefix tree told (sayings ++ last)
+  -- and has the meanings of its lines
+  pub file_says : (last : List LineMeaning) → SaysLast last → FileMeans prefix tree known (meanings ++ last)
   file_says last (inl none) =
-      subst (λ b. FileMeans prefix tree b (sayings ++ last)) (sym (c.whole ∙ ap (λ l. c.front ++ l) none.0 ∙ append-nil c.front))
-      (subst (λ all. FileMeans prefix tree c.front all) (sym (ap (λ l. sayings ++ l) none.1 ∙ append-nil sayings)) (all_say (file_lines c.front) sayings c.sound))
+      subst (λ b. FileMeans prefix tree b (meanings ++ last)) (sym (c.whole ∙ ap (λ l. c.front ++ l) none.0 ∙ append-nil c.front))
+      (subst (λ all. FileMeans prefix tree c.front all) (sym (ap (λ l. meanings ++ l) none.1 ∙ append-nil meanings))
+      (all_say (file_lines c.front) meanings c.sound))
   file_says last (inr (some, (x, is, sound))) =
-      let lines : file_lines told ≡ file_lines c.front ++ line ∷ [] = ap file_lines c.whole ∙ lines_behind c.front line c.ended ∙ ap (λ ls. file_lines c.front ++ ls) (last_of_lines line c.one_line some) in
-      subst (λ all. FileMeans prefix tree told (sayings ++ all)) (sym is)
-      (subst (λ ls. AllZip (λ l x. Means prefix tree (without_white_end l) x) ls (sayings ++ x ∷ [])) (sym lines)
-      (all_say (file_lines c.front ++ line ∷ []) (sayings ++ x ∷ []) (zip_append (IsSound prefix tree) (file_lines c.front) sayings line x c.sound sound)))
+      let lines : file_lines known ≡ file_lines c.front ++ line ∷ [] = ap file_lines c.whole ∙ lines_behind c.front line c.ended
+      ∙ ap (λ ls. file_lines c.front ++ ls) (last_of_lines line c.one_line some) in
+      subst (λ all. FileMeans prefix tree known (meanings ++ all)) (sym is)
+      (subst (λ ls. AllZip (λ l x. Means prefix tree (without_white_end l) x) ls (meanings ++ x ∷ [])) (sym lines)
+      (all_say (file_lines c.front ++ line ∷ []) (meanings ++ x ∷ []) (zip_append (IsSound prefix tree) (file_lines c.front) meanings line x c.sound sound)))
 
   -- a piece of the line goes on
-  pub held : (piece : List ℕ) → lacks 10 piece ≡ true → length line + length piece ≤ MAX_LINE_BYTES → length sayings < MAX_LINES → length told + length piece ≤ MAX_BYTES → IsCut prefix tree (told ++ piece) (line ++ piece) sayings
+  pub held : (piece : List ℕ) → lacks 10 piece ≡ true → length line + length piece ≤ MAX_LINE_BYTES → length meanings < MAX_CONFIG_LINES
+      → length known + length piece ≤ MAX_CONFIG_BYTES → IsCut prefix tree (known ++ piece) (line ++ piece) meanings
   held piece one short room small = record {
     front = c.front;
     whole = ap (λ t. t ++ piece) c.whole ∙ append_assoc c.front line piece;
@@ -368,25 +398,39 @@ module _ (prefix : List ℕ) (tree : Tree) (told line : List ℕ) (sayings : Lis
     sound = c.sound;
     few = c.few;
     room = λ h. room;
-    small = (let e = length-append told piece in omega arith);
+    small = (let e = length-append known piece in omega arith);
     short = (let e = length-append line piece in omega arith);
   }
 
   -- the line ends
-  pub line_ended : (x : LineMeaning) → IsSound prefix tree line x → length sayings < MAX_LINES → length told < MAX_BYTES → IsCut prefix tree (told ++ 10 ∷ []) [] (sayings ++ x ∷ [])
+  pub line_ended : (x : LineMeaning) → IsSound prefix tree line x → length meanings < MAX_CONFIG_LINES → length known < MAX_CONFIG_BYTES
+      → IsCut prefix tree (known ++ 10 ∷ []) [] (meanings ++ x ∷ [])
   line_ended x sound room small =
-      let lines : file_lines (told ++ 10 ∷ []) ≡ file_lines c.front ++ line ∷ [] = ap file_lines (whole_is (10 ∷ [])) ∙ lines_behind c.front (line ++ 10 ∷ []) c.ended ∙ ap (λ ls. file_lines c.front ++ ls) (first_of_lines line [] c.one_line) in
+      let lines : file_lines (known ++ 10 ∷ []) ≡ file_lines c.front ++ line ∷ [] = ap file_lines (whole_is (10 ∷ []))
+      ∙ lines_behind c.front (line ++ 10 ∷ []) c.ended ∙ ap (λ ls. file_lines c.front ++ ls) (first_of_lines line [] c.one_line) in
       record {
-        front = told ++ 10 ∷ [];
-        whole = sym (append-nil (told ++ 10 ∷ []));
-        ended = inr (told, refl);
+        front = known ++ 10 ∷ [];
+        whole = sym (append-nil (known ++ 10 ∷ []));
+        ended = inr (known, refl);
         one_line = refl;
-        sound = subst (λ ls. AllZip (IsSound prefix tree) ls (sayings ++ x ∷ [])) (sym lines) (zip_append (IsSound prefix tree) (file_lines c.front) sayings line x c.sound sound);
-        few = (let e = length-append sayings (x ∷ []) in omega arith);
+        sound = subst (λ ls. AllZip (IsSound prefix tree) ls (meanings ++ x ∷ [])) (sym lines)
+            (zip_append (IsSound prefix tree) (file_lines c.front) meanings line x c.sound sound);
+        few = (let e = length-append meanings (x ∷ []) in omega arith);
         room = λ h. absurd (omega arith);
-        small = (let e = length-append told (10 ∷ []) in omega arith);
+        small = (let e = length-append known (10 ∷ []) in omega arith);
         short = omega arith;
       }
 
 pub nothing_told : (prefix : List ℕ) (tree : Tree) → IsCut prefix tree [] [] []
-nothing_told prefix tree = record { front = []; whole = refl; ended = inl refl; one_line = refl; sound = tt; few = omega arith; room = λ h. absurd (omega arith); small = omega arith; short = omega arith }
+nothing_told prefix tree =
+    record {
+      front = [];
+      whole = refl;
+      ended = inl refl;
+      one_line = refl;
+      sound = tt;
+      few = omega arith;
+      room = λ h. absurd (omega arith);
+      small = omega arith;
+      short = omega arith;
+    }

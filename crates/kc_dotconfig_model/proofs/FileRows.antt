@@ -1,4 +1,4 @@
--- What small files say and assign.
+-- The meanings and the assignments of small files.
 use Rattle.std.proofs.Common.{◌≡◌, ℕ, List, [], ◌∷◌, Option, Some, None, refl}
 use Rattle.std.specs.Prelude.{codes}
 use Rattle.std.specs.Option.{option_map}
@@ -16,7 +16,8 @@ use Rattle.kc_dotconfig_model.specs.between.LineMeanings.{line_meaning, file_mea
 
 -- a file's assignment and its notices, if no line is malformed
 abbrev read : List ℕ → Tree → List ℕ → Option (List (Option UserValue) × List (ℕ × NoticeKind))
-read prefix tree bytes = option_map (λ (sayings : List LineMeaning). (file_assignment tree sayings, notices_from 1 sayings)) (file_meanings prefix tree bytes)
+read prefix tree bytes =
+    option_map (λ (meanings : List LineMeaning). (file_assignment tree meanings, notices_from 1 meanings)) (file_meanings prefix tree bytes)
 
 abbrev assigning : List (Option UserValue) → Option (List (Option UserValue) × List (ℕ × NoticeKind))
 assigning users = Some (users, [])
@@ -27,7 +28,8 @@ unfolding line_meaning
 unset_lines = (refl, refl, refl)
 
 ints : (read (codes "CONFIG_") tree_int (codes "CONFIG_N=25\n") ≡ assigning (writes (codes "25") ∷ [])) × (read (codes "CONFIG_") tree_int (codes "CONFIG_N=010\n") ≡ assigning (writes (codes "010") ∷ []))
-    × (read (codes "CONFIG_") tree_int (codes "CONFIG_N=\n") ≡ assigning (None ∷ [])) × (read (codes "CONFIG_") tree_int (codes "CONFIG_N=1x\n") ≡ Some (None ∷ [], (1, NotOfType) ∷ []))
+    × (read (codes "CONFIG_") tree_int (codes "CONFIG_N=\n") ≡ assigning (None ∷ []))
+    × (read (codes "CONFIG_") tree_int (codes "CONFIG_N=1x\n") ≡ Some (None ∷ [], (1, NotOfType) ∷ []))
 unfolding line_meaning int_text
 ints = (refl, refl, refl, refl)
 
@@ -53,7 +55,8 @@ later_lines_win = refl
 
 -- a line that assigns nothing leaves what was assigned
 notices_leave_assignments : (read (codes "CONFIG_") tree_a (codes "CONFIG_GONE=1\nCONFIG_A=m\n") ≡ Some (None ∷ [], (1, UnknownSymbol) ∷ (2, NotOfType) ∷ []))
-    × (read (codes "CONFIG_") tree_a (codes "CONFIG_A=y\nCONFIG_A=m\n# CONFIG_GONE is not set\n") ≡ Some (sets Y ∷ [], (2, NotOfType) ∷ (3, UnknownSymbol) ∷ []))
+    × (read (codes "CONFIG_") tree_a (codes "CONFIG_A=y\nCONFIG_A=m\n# CONFIG_GONE is not set\n") ≡ Some
+    (sets Y ∷ [], (2, NotOfType) ∷ (3, UnknownSymbol) ∷ []))
 unfolding line_meaning
 notices_leave_assignments = (refl, refl)
 
@@ -68,14 +71,16 @@ unfolding line_meaning
 malformed_lines = (refl, refl, refl, refl, refl)
 
 names_are_what_stands_there : (line_meaning (codes "CONFIG_") tree_a (codes "CONFIG_A =y") ≡ Some (notice UnknownSymbol)) × (line_meaning (codes "CONFIG_") tree_a (codes "# CONFIG_A=B is not set") ≡ Some (notice UnknownSymbol))
-    × (line_meaning (codes "CONFIG_") tree_a (codes "# CONFIG_A is not set is not set") ≡ Some silent) × (line_meaning (codes "CONFIG_") tree_a (codes " # CONFIG_A is not set") ≡ Some silent)
+    × (line_meaning (codes "CONFIG_") tree_a (codes "# CONFIG_A is not set is not set") ≡ Some silent)
+    × (line_meaning (codes "CONFIG_") tree_a (codes " # CONFIG_A is not set") ≡ Some silent)
     × (line_meaning (codes "CONFIG_") tree_a (codes "#CONFIG_A is not set") ≡ Some silent)
 unfolding line_meaning
 names_are_what_stands_there = (refl, refl, refl, refl, refl)
 
 -- the eleven bytes of `CONFIG_A=y` and a newline, cut
 cut_files : (line_meaning (codes "CONFIG_") tree_a (codes "C") ≡ None) × (line_meaning (codes "CONFIG_") tree_a (codes "CONFIG_A") ≡ None)
-    × (line_meaning (codes "CONFIG_") tree_a (codes "CONFIG_A=") ≡ Some (notice NotOfType)) × (line_meaning (codes "CONFIG_") tree_a (codes "CONFIG_A=y") ≡ Some (assigns 0 (TriUser Y)))
+    × (line_meaning (codes "CONFIG_") tree_a (codes "CONFIG_A=") ≡ Some (notice NotOfType))
+    × (line_meaning (codes "CONFIG_") tree_a (codes "CONFIG_A=y") ≡ Some (assigns 0 (TriUser Y)))
 unfolding line_meaning
 cut_files = (refl, refl, refl, refl)
 
@@ -86,7 +91,8 @@ other_prefixes = (refl, refl, refl)
 
 -- titles of menus are read as nothing
 headings : (read (codes "CONFIG_") (tree_titled (codes "CONFIG_A is not set")) (codes "\n#\n#  CONFIG_A is not set\n#\nCONFIG_A=y\n# end of CONFIG_A is not set\n") ≡ assigning (sets Y ∷ []))
-    × (read (codes "end") (tree_titled (codes "CONFIG_A is not set")) (codes "\n#\n# CONFIG_A is not set\n#\nendA=y\n# end of CONFIG_A is not set\n") ≡ assigning (sets Y ∷ []))
+    × (read (codes "end") (tree_titled (codes "CONFIG_A is not set")) (codes "\n#\n# CONFIG_A is not set\n#\nendA=y\n# end of CONFIG_A is not set\n")
+    ≡ assigning (sets Y ∷ []))
 unfolding line_meaning
 headings = (refl, refl)
 

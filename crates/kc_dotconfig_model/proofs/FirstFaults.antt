@@ -7,7 +7,8 @@ use Rattle.kc_tree_model.specs.Trees.{Tree}
 use Rattle.kc_dotconfig_model.specs.declared.fault.LoadKind.{LoadKind}
 use Rattle.kc_dotconfig_model.specs.declared.fault.LoadKind.TheVariants.{Malformed, NotUtf8, LineTooLong, TooManyLines, Read, OutOfMemory, TooLarge}
 use Rattle.kc_dotconfig_model.specs.PrefixGrammar.{lacks}
-use Rattle.kc_dotconfig_model.specs.LoadFaults.{InputEnd, complete, cut_short, IsLineAt, OccursAt, IsConsideredAt, rank_of, newlines, MAX_LINE_BYTES}
+use Rattle.kc_value.specs.declared.limits.TheConstants.{MAX_LINE_BYTES}
+use Rattle.kc_dotconfig_model.specs.LoadFaults.{InputEnd, complete, cut_short, IsLineAt, OccursAt, IsConsideredAt, rank_of, newlines}
 use Rattle.kc_dotconfig_model.specs.FileLaws.{OneFaultIsFirst, FaultyFilesAreRefused, FailedReadsAreReported}
 
 count_more : (b : ℕ) (bytes : List ℕ) → newlines (b ∷ bytes) ≡ cond (b == 10) 1 0 + newlines bytes
@@ -19,22 +20,27 @@ none_within line rest zero none h = refl
 none_within [] rest (suc k) none h = absurd (omega arith)
 none_within (c ∷ cs) rest (suc k) none h =
     let parts = and_parts (not (c == 10)) (lacks 10 cs) none in
-    count_more c (take k (cs ++ rest)) ∙ ap (λ t. cond t 1 0 + newlines (take k (cs ++ rest))) (not-true (c == 10) parts.0) ∙ (let more = none_within cs rest k parts.1 (omega arith) in omega arith)
+    count_more c (take k (cs ++ rest)) ∙ ap (λ t. cond t 1 0 + newlines (take k (cs ++ rest))) (not-true (c == 10) parts.0)
+    ∙ (let more = none_within cs rest k parts.1 (omega arith) in omega arith)
 
-front_counts : (front line rest : List ℕ) (k n : ℕ) → lacks 10 line ≡ true → k ≤ length line → n ≡ length front + k → newlines (take n (front ++ (line ++ rest))) ≡ newlines front
+front_counts : (front line rest : List ℕ) (k n : ℕ) → lacks 10 line ≡ true → k ≤ length line → n ≡ length front + k
+    → newlines (take n (front ++ (line ++ rest))) ≡ newlines front
 front_counts [] line rest k n none h e = let same : n ≡ k = omega arith in ap (λ i. newlines (take i (line ++ rest))) same ∙ none_within line rest k none h
 front_counts (b ∷ front) line rest k zero none h e = absurd (omega arith)
 front_counts (b ∷ front) line rest k (suc n) none h e =
-    count_more b (take n (front ++ (line ++ rest))) ∙ ap (λ t. cond (b == 10) 1 0 + t) (front_counts front line rest k n none h (omega arith)) ∙ sym (count_more b front)
+    count_more b (take n (front ++ (line ++ rest))) ∙ ap (λ t. cond (b == 10) 1 0 + t) (front_counts front line rest k n none h (omega arith))
+    ∙ sym (count_more b front)
 
--- a line's number is told by each of its places
-line_counts : (bytes line : List ℕ) (number start k byte : ℕ) → IsLineAt bytes line number start → k ≤ length line → byte ≡ start + k → number ≡ newlines (take byte bytes) + 1
+-- a line's number follows from each of its places
+line_counts : (bytes line : List ℕ) (number start k byte : ℕ) → IsLineAt bytes line number start → k ≤ length line → byte ≡ start + k
+    → number ≡ newlines (take byte bytes) + 1
 line_counts bytes line number start k byte at h e =
     let place : byte ≡ length at.front + k = (let s = at.starts in omega arith) in
     at.number_is ∙ ap (λ n. n + 1) (sym (ap (λ b. newlines (take byte b)) at.whole ∙ front_counts at.front line at.rest k byte at.one_line h place))
 
 -- and so is that of each fault
-number_at : (prefix : List ℕ) (tree : Tree) (bytes : List ℕ) (kind : LoadKind) (byte number : ℕ) → OccursAt prefix tree bytes kind byte number → number ≡ newlines (take byte bytes) + 1
+number_at : (prefix : List ℕ) (tree : Tree) (bytes : List ℕ) (kind : LoadKind) (byte number : ℕ) → OccursAt prefix tree bytes kind byte number
+    → number ≡ newlines (take byte bytes) + 1
 number_at prefix tree bytes TooLarge byte number c = c.2 ∙ ap (λ k. newlines (take k bytes) + 1) (sym c.1)
 number_at prefix tree bytes TooManyLines byte number c = line_counts bytes c.0 number byte 0 byte c.1 (omega arith) (omega arith)
 number_at prefix tree bytes LineTooLong byte number c = line_counts bytes c.0 number c.1 MAX_LINE_BYTES byte c.2 (let long = c.3 in omega arith) c.4
@@ -44,7 +50,9 @@ number_at prefix tree bytes Read byte number c = absurd c
 number_at prefix tree bytes OutOfMemory byte number c = absurd c
 
 abbrev kind_at : ℕ → LoadKind
-kind_at n = cond (n == 0) TooLarge (cond (n == 1) TooManyLines (cond (n == 2) LineTooLong (cond (n == 3) NotUtf8 (cond (n == 4) Malformed (cond (n == 5) Read OutOfMemory)))))
+kind_at n =
+    cond (n == 0) TooLarge (cond (n == 1) TooManyLines (cond (n == 2) LineTooLong
+    (cond (n == 3) NotUtf8 (cond (n == 4) Malformed (cond (n == 5) Read OutOfMemory)))))
 
 kind_back : (kind : LoadKind) → kind_at (rank_of kind) ≡ kind
 kind_back TooLarge = refl
@@ -55,11 +63,13 @@ kind_back Malformed = refl
 kind_back Read = refl
 kind_back OutOfMemory = refl
 
--- each fault that counts is told with the line on which its byte stands
-pub number_told : (prefix : List ℕ) (tree : Tree) (extent : InputEnd) (bytes : List ℕ) (kind : LoadKind) (byte number : ℕ) → IsConsideredAt prefix tree extent bytes kind byte number → number ≡ newlines (take byte bytes) + 1
+-- each fault that counts is reported with the line of its byte
+pub number_told : (prefix : List ℕ) (tree : Tree) (extent : InputEnd) (bytes : List ℕ) (kind : LoadKind) (byte number : ℕ)
+    → IsConsideredAt prefix tree extent bytes kind byte number → number ≡ newlines (take byte bytes) + 1
 number_told prefix tree complete bytes kind byte number comes = number_at prefix tree bytes kind byte number comes
 number_told prefix tree cut_short bytes kind byte number (inl comes) = number_at prefix tree bytes kind byte number comes.0
-number_told prefix tree cut_short bytes kind byte number (inr read) = read.2 ∙ ap (λ b. newlines b + 1) (sym (ap (λ k. take k bytes) read.1 ∙ take-length bytes))
+number_told prefix tree cut_short bytes kind byte number (inr read) =
+    read.2 ∙ ap (λ b. newlines b + 1) (sym (ap (λ k. take k bytes) read.1 ∙ take-length bytes))
 
 pub one_is_first : OneFaultIsFirst
 one_is_first prefix tree extent bytes k l m n a b =
@@ -67,17 +77,23 @@ one_is_first prefix tree extent bytes k l m n a b =
     let back = b.first k a.byte m a.comes in
     let both : (a.byte ≡ b.byte) × (rank_of k ≡ rank_of l) = elim there [
       | inl before ↦ elim back [ inl after ↦ absurd (omega (arith, before, after)) | inr same ↦ absurd (let e = same.0 in omega (arith, before, e)) ]
-      | inr same ↦ elim back [ inl after ↦ absurd (let e = same.0 in omega (arith, after, e)) | inr other ↦ (same.0, (let p = same.1 in let q = other.1 in omega (arith, p, q))) ]
+      | inr same ↦ elim back [
+        | inl after ↦ absurd (let e = same.0 in omega (arith, after, e))
+        | inr other ↦
+            (same.0, (let p = same.1 in let q = other.1 in omega (arith, p, q)))
+      ]
     ] in (
       sym (kind_back k) ∙ ap kind_at both.1 ∙ kind_back l,
-      number_told prefix tree extent bytes k a.byte m a.comes ∙ ap (λ i. newlines (take i bytes) + 1) both.0 ∙ sym (number_told prefix tree extent bytes l b.byte n b.comes),
+      number_told prefix tree extent bytes k a.byte m a.comes ∙ ap (λ i. newlines (take i bytes) + 1) both.0
+          ∙ sym (number_told prefix tree extent bytes l b.byte n b.comes),
     )
 
 pub refused : FaultyFilesAreRefused
 refused prefix tree bytes kind number fault accepted = accepted kind fault.byte number fault.comes
 
 -- a failed read comes after all bytes
-read_last : (prefix : List ℕ) (tree : Tree) (bytes : List ℕ) (byte number : ℕ) → IsConsideredAt prefix tree cut_short bytes Read byte number → (byte ≡ length bytes) × (number ≡ newlines bytes + 1)
+read_last : (prefix : List ℕ) (tree : Tree) (bytes : List ℕ) (byte number : ℕ) → IsConsideredAt prefix tree cut_short bytes Read byte number
+    → (byte ≡ length bytes) × (number ≡ newlines bytes + 1)
 read_last prefix tree bytes byte number (inl comes) = absurd comes.0
 read_last prefix tree bytes byte number (inr read) = (read.1, read.2)
 
@@ -85,7 +101,11 @@ pub failed_reads : FailedReadsAreReported
 failed_reads prefix tree bytes number = (
   λ fault. let read = read_last prefix tree bytes fault.byte number fault.comes in (
     λ kind byte other comes. elim (cases_lt byte (length bytes)) [
-      | inl below ↦ elim (fault.first kind byte other (inl (comes, below))) [ inl after ↦ (let e = read.0 in absurd (omega (arith, after, below, e))) | inr same ↦ (let e = read.0 in let f = same.0 in absurd (omega (arith, e, f, below))) ]
+      | inl below ↦ elim (fault.first kind byte other (inl (comes, below))) [
+        | inl after ↦ (let e = read.0 in absurd (omega (arith, after, below, e)))
+        | inr same ↦
+            (let e = read.0 in let f = same.0 in absurd (omega (arith, e, f, below)))
+      ]
       | inr above ↦ above
     ],
     read.1,

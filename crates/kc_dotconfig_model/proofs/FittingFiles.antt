@@ -1,4 +1,4 @@
--- What a file of UTF-8 assigns fits its units.
+-- The assignments of a file of UTF-8 fit its units.
 use Rattle.std.proofs.Common.{◌≡◌, ◌≢◌, inl, inr, ℕ, zero, suc, ◌+◌, ◌<◌, Bool, true, false, not, ◌||◌, ◌==◌, cond, IsTrue, IfSome, List, [], ◌∷◌, ◌++◌, Option, Some, None, length, take, drop, get_or, append_assoc, length-append, drop_at, refl, sym, ◌∙◌, ap, subst, arith}
 use Rattle.std.specs.Prelude.{slice_get, slice_set, is_some, replicate, codes, bytes_eq}
 use Rattle.std.specs.List.{AllZip, AllByRecursion, list_all, onto_first}
@@ -30,7 +30,7 @@ use Rattle.kc_dotconfig_model.specs.ConfigLines.{LineMeaning, assigns, notice, s
 use Rattle.kc_dotconfig_model.specs.ConfigFiles.{file_lines, assigned_over, empty_assignment}
 use Rattle.kc_dotconfig_model.specs.FileLaws.{FilesFit}
 
--- what a saying assigns fits
+-- the assignment of a meaning fits
 abbrev SayingFits : Tree → LineMeaning → Type 0
 SayingFits tree (assigns u x) = user_fits tree u x ≡ true
 SayingFits tree (notice kind) = Unit {0}
@@ -78,9 +78,10 @@ first_lacks : (xs ys : List ℕ) → lacks 10 (xs ++ ys) ≡ true → lacks 10 x
 first_lacks xs ys one = (and_parts (lacks 10 xs) (lacks 10 ys) (sym (list_all-append (λ c. not (c == 10)) xs ys) ∙ one)).0
 
 quoted_one_line : (text means : List ℕ) → IsQuoted text means → lacks 10 text ≡ true → has_newline means ≡ false
-quoted_one_line text means q one = body_one_line q.0 means q.2 (first_lacks q.0 (34 ∷ []) (second_lacks (34 ∷ []) (q.0 ++ 34 ∷ []) (ap (lacks 10) (sym q.1) ∙ one)))
+quoted_one_line text means q one =
+    body_one_line q.0 means q.2 (first_lacks q.0 (34 ∷ []) (second_lacks (34 ∷ []) (q.0 ++ 34 ∷ []) (ap (lacks 10) (sym q.1) ∙ one)))
 
--- what stands after a byte below 128 is UTF-8
+-- the bytes after one below 128 are UTF-8
 utf8_behind : (bytes front back : List ℕ) (b : ℕ) → b < 128 → IsUtf8 bytes → bytes ≡ front ++ b ∷ back → IsUtf8 back
 utf8_behind bytes front back b low u is =
     let v = subst IsUtf8 is u in
@@ -88,64 +89,74 @@ utf8_behind bytes front back b low u is =
     let long = length-append front (b ∷ back) in
     let cut = IsCharBoundary-after_ascii (front ++ b ∷ back) (length front) v (omega (arith, long)) (omega (arith, seam, low)) in
     let whole : (front ++ b ∷ []) ++ back ≡ front ++ b ∷ back = append_assoc front (b ∷ []) back in
-    subst IsUtf8 (ap (drop (length front + 1)) (sym whole) ∙ drop_at (front ++ b ∷ []) back (length front + 1) (length-append front (b ∷ []))) (IsUtf8-drop (front ++ b ∷ back) (length front + 1) v cut)
+    subst IsUtf8 (ap (drop (length front + 1)) (sym whole) ∙ drop_at (front ++ b ∷ []) back (length front + 1) (length-append front (b ∷ [])))
+    (IsUtf8-drop (front ++ b ∷ back) (length front + 1) v cut)
 
 module _ (tree : Tree) (sound : IsConsistent tree) (s : ℕ) (symbol : Symbol) (at : slice_get tree.symbols s ≡ Some symbol) where
   outside_fits : (x : UserValue) → symbol.choice ≡ None → symbol_user_fits (Some symbol) x ≡ true → user_fits tree (unit_of tree s) x ≡ true
   unfolding user_fits
   outside_fits x out fits =
       let own = sound.own_units s symbol at out in
-      ap (λ o. unit_user_fits tree o x) (ap (slice_get tree.units) (unit_is tree sound s own.0 symbol None at out own.1) ∙ own.1) ∙ ap (λ o. symbol_user_fits o x) at ∙ fits
+      ap (λ o. unit_user_fits tree o x) (ap (slice_get tree.units) (unit_is tree sound s own.0 symbol None at out own.1) ∙ own.1)
+      ∙ ap (λ o. symbol_user_fits o x) at ∙ fits
 
   member_fits : (c : ℕ) → symbol.choice ≡ Some c → user_fits tree (unit_of tree s) (MemberUser s) ≡ true
   unfolding user_fits
   member_fits c within =
       let own = sound.units_of_members s c symbol at within in
       let listed = sound.listed s c symbol at within in
-      ap (λ o. unit_user_fits tree o (MemberUser s)) (ap (slice_get tree.units) (unit_is tree sound s own.0 symbol (Some c) at within own.1) ∙ own.1) ∙ ap (λ o. is_member o s) listed.1 ∙ listed.2
+      ap (λ o. unit_user_fits tree o (MemberUser s)) (ap (slice_get tree.units) (unit_is tree sound s own.0 symbol (Some c) at within own.1) ∙ own.1)
+      ∙ ap (λ o. is_member o s) listed.1 ∙ listed.2
 
   -- only bools are members
   outside : (o : Option ℕ) → symbol.choice ≡ o → symbol.kind ≢ Boolean → symbol.choice ≡ None
   outside None e other = e
   outside (Some c) e other = absurd (other (sound.bool_members s c symbol at e))
 
-  value_fits_unit : (text : List ℕ) (saying : LineMeaning) → lacks 10 text ≡ true → IsUtf8 text → ValueMeans tree s symbol text saying → SayingFits tree saying
-  value_fits_unit text saying one utf8 (tri _ t out meant) = outside_fits (TriUser t) out (tri_meant_fits symbol.kind text t meant)
-  value_fits_unit text saying one utf8 (chosen c _ within meant) = member_fits c within
-  value_fits_unit text saying one utf8 (not_chosen c _ t within meant other) = tt
-  value_fits_unit text saying one utf8 (quoted _ means is stands) =
-      outside_fits (TextUser means) (outside symbol.choice refl (λ same. cc (is, same))) (ap (λ k. user_text_fits k means) is ∙ and_from (not (has_newline means)) (is_utf8 means) (ap not (quoted_one_line text means stands one)) (is_utf8-from_IsUtf8 means (unquoted_utf8 text means stands utf8)))
-  value_fits_unit text saying one utf8 (number _ some) =
+  value_fits_unit : (text : List ℕ) (meaning : LineMeaning) → lacks 10 text ≡ true → IsUtf8 text → ValueMeans tree s symbol text meaning
+      → SayingFits tree meaning
+  value_fits_unit text meaning one utf8 (tri _ t out meant) = outside_fits (TriUser t) out (tri_meant_fits symbol.kind text t meant)
+  value_fits_unit text meaning one utf8 (chosen c _ within meant) = member_fits c within
+  value_fits_unit text meaning one utf8 (not_chosen c _ t within meant other) = tt
+  value_fits_unit text meaning one utf8 (quoted _ means is stands) =
+      outside_fits (TextUser means) (outside symbol.choice refl (λ same. cc (is, same)))
+      (ap (λ k. user_text_fits k means) is ∙ and_from (not (has_newline means)) (is_utf8 means) (ap not (quoted_one_line text means stands one))
+      (is_utf8-from_IsUtf8 means (unquoted_utf8 text means stands utf8)))
+  value_fits_unit text meaning one utf8 (number _ some) =
       let fits = number_fits symbol.kind text some in outside_fits (TextUser text) (outside symbol.choice refl fits.1) fits.0
-  value_fits_unit text saying one utf8 (no_int is) = tt
-  value_fits_unit text saying one utf8 (no_hex is) = tt
-  value_fits_unit text saying one utf8 (no_tri _ small meant) = tt
-  value_fits_unit text saying one utf8 (no_text _ is without) = tt
-  value_fits_unit text saying one utf8 (no_number b rest large other without) = tt
+  value_fits_unit text meaning one utf8 (no_int is) = tt
+  value_fits_unit text meaning one utf8 (no_hex is) = tt
+  value_fits_unit text meaning one utf8 (no_tri _ small meant) = tt
+  value_fits_unit text meaning one utf8 (no_text _ is without) = tt
+  value_fits_unit text meaning one utf8 (no_number b rest large other without) = tt
 
   unset_fits : (o : Option ℕ) → symbol.choice ≡ o → (t : Bool) → is_tri_kind symbol.kind ≡ t → SayingFits tree (unset_meaning tree s symbol o)
   unset_fits (Some c) e t small = tt
-  unset_fits None e true small = subst (λ b. SayingFits tree (cond b (assigns (unit_of tree s) (TriUser N)) silent)) (sym small) (outside_fits (TriUser N) e (n_fits symbol.kind small))
+  unset_fits None e true small =
+      subst (λ b. SayingFits tree (cond b (assigns (unit_of tree s) (TriUser N)) silent)) (sym small) (outside_fits (TriUser N) e (n_fits symbol.kind small))
   unset_fits None e false small = subst (λ b. SayingFits tree (cond b (assigns (unit_of tree s) (TriUser N)) silent)) (sym small) tt
 
 module _ (prefix : List ℕ) (tree : Tree) (sound : IsConsistent tree) where
-  line_fits : (line : List ℕ) (saying : LineMeaning) → lacks 10 line ≡ true → IsUtf8 line → Means prefix tree line saying → SayingFits tree saying
-  line_fits line saying one utf8 (value _ name text s symbol _ is named at says) =
+  line_fits : (line : List ℕ) (meaning : LineMeaning) → lacks 10 line ≡ true → IsUtf8 line → Means prefix tree line meaning → SayingFits tree meaning
+  line_fits line meaning one utf8 (value _ name text s symbol _ is named at says) =
       let behind_name = second_lacks name (61 ∷ text) (second_lacks prefix (name ++ (61 ∷ text)) (ap (lacks 10) (sym is.2) ∙ one)) in
       let parted : line ≡ (prefix ++ name) ++ 61 ∷ text = is.2 ∙ sym (append_assoc prefix name (61 ∷ text)) in
-      value_fits_unit tree sound s symbol at text saying (second_lacks (61 ∷ []) text behind_name) (utf8_behind line (prefix ++ name) text 61 (omega arith) utf8 parted) says
-  line_fits line saying one utf8 (unset _ name s symbol is named at) = unset_fits tree sound s symbol at symbol.choice refl (is_tri_kind symbol.kind) refl
-  line_fits line saying one utf8 (unknown_value _ name text is named) = tt
-  line_fits line saying one utf8 (unknown_unset _ name is named) = tt
-  line_fits line saying one utf8 empty = tt
-  line_fits line saying one utf8 (comment _ hash without) = tt
+      value_fits_unit tree sound s symbol at text meaning (second_lacks (61 ∷ []) text behind_name)
+      (utf8_behind line (prefix ++ name) text 61 (omega arith) utf8 parted) says
+  line_fits line meaning one utf8 (unset _ name s symbol is named at) = unset_fits tree sound s symbol at symbol.choice refl (is_tri_kind symbol.kind) refl
+  line_fits line meaning one utf8 (unknown_value _ name text is named) = tt
+  line_fits line meaning one utf8 (unknown_unset _ name is named) = tt
+  line_fits line meaning one utf8 empty = tt
+  line_fits line meaning one utf8 (comment _ hash without) = tt
 
   front_lacks : (n : ℕ) (line : List ℕ) → lacks 10 line ≡ true → lacks 10 (take n line) ≡ true
   front_lacks zero line one = refl
   front_lacks (suc n) [] one = refl
-  front_lacks (suc n) (b ∷ line) one = let parts = and_parts (not (b == 10)) (lacks 10 line) one in and_from (not (b == 10)) (lacks 10 (take n line)) parts.0 (front_lacks n line parts.1)
+  front_lacks (suc n) (b ∷ line) one =
+      let parts = and_parts (not (b == 10)) (lacks 10 line) one in and_from (not (b == 10)) (lacks 10 (take n line)) parts.0 (front_lacks n line parts.1)
 
-  onto_lacks : (b : ℕ) (lines : List (List ℕ)) → (b == 10) ≡ false → AllByRecursion (λ line. lacks 10 line ≡ true) lines → AllByRecursion (λ line. lacks 10 line ≡ true) (onto_first b lines)
+  onto_lacks : (b : ℕ) (lines : List (List ℕ)) → (b == 10) ≡ false → AllByRecursion (λ line. lacks 10 line ≡ true) lines
+      → AllByRecursion (λ line. lacks 10 line ≡ true) (onto_first b lines)
   onto_lacks b [] other all = (and_from (not (b == 10)) true (ap not other) refl, tt)
   onto_lacks b (line ∷ lines) other all = (and_from (not (b == 10)) (lacks 10 line) (ap not other) all.0, all.1)
 
@@ -153,35 +164,43 @@ module _ (prefix : List ℕ) (tree : Tree) (sound : IsConsistent tree) where
   lines_lack : (bytes : List ℕ) → AllByRecursion (λ line. lacks 10 line ≡ true) (file_lines bytes)
   lines_lack [] = tt
   lines_lack (b ∷ bytes) = go (b == 10) refl (lines_lack bytes) where
-    go : (t : Bool) → (b == 10) ≡ t → AllByRecursion (λ line. lacks 10 line ≡ true) (file_lines bytes) → AllByRecursion (λ line. lacks 10 line ≡ true) (cond t ([] ∷ file_lines bytes) (onto_first b (file_lines bytes)))
+    go : (t : Bool) → (b == 10) ≡ t → AllByRecursion (λ line. lacks 10 line ≡ true) (file_lines bytes)
+        → AllByRecursion (λ line. lacks 10 line ≡ true) (cond t ([] ∷ file_lines bytes) (onto_first b (file_lines bytes)))
     go true e all = (refl, all)
     go false e all = onto_lacks b (file_lines bytes) e all
 
-  sayings_fit : (lines : List (List ℕ)) (sayings : List LineMeaning) → AllByRecursion (λ line. lacks 10 line ≡ true) lines → list_all is_utf8 lines ≡ true → AllZip (λ line saying. Means prefix tree (without_white_end line) saying) lines sayings → AllByRecursion (SayingFits tree) sayings
+  sayings_fit : (lines : List (List ℕ)) (meanings : List LineMeaning) → AllByRecursion (λ line. lacks 10 line ≡ true) lines → list_all is_utf8 lines ≡ true
+      → AllZip (λ line meaning. Means prefix tree (without_white_end line) meaning) lines meanings → AllByRecursion (SayingFits tree) meanings
   sayings_fit [] [] one utf8 all = tt
-  sayings_fit [] (saying ∷ sayings) one utf8 all = absurd all
+  sayings_fit [] (meaning ∷ meanings) one utf8 all = absurd all
   sayings_fit (line ∷ lines) [] one utf8 all = absurd all
-  sayings_fit (line ∷ lines) (saying ∷ sayings) one utf8 all =
-      let parts = and_parts (is_utf8 line) (list_all is_utf8 lines) utf8 in
-      (line_fits (without_white_end line) saying (front_lacks _ line one.0) (trimmed_utf8 line (IsUtf8-from_is_utf8 line parts.0)) all.0, sayings_fit lines sayings one.1 parts.1 all.1)
+  sayings_fit (line ∷ lines) (meaning ∷ meanings) one utf8 all =
+      let parts = and_parts (is_utf8 line) (list_all is_utf8 lines) utf8 in (
+        line_fits (without_white_end line) meaning (front_lacks _ line one.0) (trimmed_utf8 line (IsUtf8-from_is_utf8 line parts.0)) all.0,
+        sayings_fit lines
+            meanings one.1 parts.1 all.1,
+      )
 
-  set_fits : (users : List (Option UserValue)) (u : ℕ) (x : UserValue) → FitsUsers (length tree.units) (λ w y. IsTrue (user_fits tree w y)) users → user_fits tree u x ≡ true → FitsUsers (length tree.units) (λ w y. IsTrue (user_fits tree w y)) (slice_set users u (Some x))
+  set_fits : (users : List (Option UserValue)) (u : ℕ) (x : UserValue) → FitsUsers (length tree.units) (λ w y. IsTrue (user_fits tree w y)) users
+      → user_fits tree u x ≡ true → FitsUsers (length tree.units) (λ w y. IsTrue (user_fits tree w y)) (slice_set users u (Some x))
   set_fits users u x fitting fits = (
     length-set users u (Some x) ∙ fitting.0,
     λ w h. elim (cases_eq w u) [
       | inl same ↦
-          let here : user_of (slice_set users u (Some x)) w ≡ Some x = ap (user_of (slice_set users u (Some x))) same ∙ get_or-set_same users u (Some x) None (let len = fitting.0 in omega arith) in
+          let here : user_of (slice_set users u (Some x)) w ≡ Some x = ap (user_of (slice_set users u (Some x))) same
+          ∙ get_or-set_same users u (Some x) None (let len = fitting.0 in omega arith) in
           let there : user_fits tree w x ≡ true = ap (λ k. user_fits tree k x) same ∙ fits in
           subst (λ o. IfSome o (λ y. IsTrue (user_fits tree w y))) (sym here) there
       | inr other ↦ subst (λ o. IfSome o (λ y. IsTrue (user_fits tree w y))) (sym (get_or-set_other users u w (Some x) None other)) (fitting.1 w h)
     ],
   )
 
-  over_fits : (sayings : List LineMeaning) (users : List (Option UserValue)) → FitsUsers (length tree.units) (λ w y. IsTrue (user_fits tree w y)) users → AllByRecursion (SayingFits tree) sayings → FitsUsers (length tree.units) (λ w y. IsTrue (user_fits tree w y)) (assigned_over sayings users)
+  over_fits : (meanings : List LineMeaning) (users : List (Option UserValue)) → FitsUsers (length tree.units) (λ w y. IsTrue (user_fits tree w y)) users
+      → AllByRecursion (SayingFits tree) meanings → FitsUsers (length tree.units) (λ w y. IsTrue (user_fits tree w y)) (assigned_over meanings users)
   over_fits [] users fitting all = fitting
-  over_fits (assigns u x ∷ sayings) users fitting all = over_fits sayings (slice_set users u (Some x)) (set_fits users u x fitting all.0) all.1
-  over_fits (notice kind ∷ sayings) users fitting all = over_fits sayings users fitting all.1
-  over_fits (silent ∷ sayings) users fitting all = over_fits sayings users fitting all.1
+  over_fits (assigns u x ∷ meanings) users fitting all = over_fits meanings (slice_set users u (Some x)) (set_fits users u x fitting all.0) all.1
+  over_fits (notice kind ∷ meanings) users fitting all = over_fits meanings users fitting all.1
+  over_fits (silent ∷ meanings) users fitting all = over_fits meanings users fitting all.1
 
 none_held : (n u : ℕ) → get_or {A = Option UserValue} (replicate n None) u None ≡ None
 none_held zero u = refl
@@ -193,7 +212,7 @@ none_length zero = refl
 none_length (suc n) = let rest = none_length n in omega arith
 
 pub file_fits : FilesFit
-file_fits prefix tree bytes sayings sound utf8 says =
-    over_fits prefix tree sound sayings (empty_assignment tree)
+file_fits prefix tree bytes meanings sound utf8 says =
+    over_fits prefix tree sound meanings (empty_assignment tree)
     (none_length (length tree.units), λ u h. subst (λ o. IfSome o (λ y. IsTrue (user_fits tree u y))) (sym (none_held (length tree.units) u)) tt)
-    (sayings_fit prefix tree sound (file_lines bytes) sayings (lines_lack prefix tree sound bytes) utf8 says)
+    (sayings_fit prefix tree sound (file_lines bytes) meanings (lines_lack prefix tree sound bytes) utf8 says)

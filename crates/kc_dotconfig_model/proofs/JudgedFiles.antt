@@ -9,7 +9,8 @@ use Rattle.kc_dotconfig_model.specs.declared.fault.LoadKind.{LoadKind}
 use Rattle.kc_dotconfig_model.specs.declared.fault.LoadKind.TheVariants.{Malformed, NotUtf8, LineTooLong, TooManyLines, Read, TooLarge}
 use Rattle.kc_dotconfig_model.specs.PrefixGrammar.{is_prefix, lacks}
 use Rattle.kc_dotconfig_model.specs.ConfigLines.{LineMeaning, without_white_end}
-use Rattle.kc_dotconfig_model.specs.LoadFaults.{complete, cut_short, newlines, OccursAt, IsFirstFault, IsAccepted, MAX_BYTES, MAX_LINES, MAX_LINE_BYTES}
+use Rattle.kc_value.specs.declared.limits.TheConstants.{MAX_CONFIG_BYTES, MAX_CONFIG_LINES, MAX_LINE_BYTES}
+use Rattle.kc_dotconfig_model.specs.LoadFaults.{complete, cut_short, newlines, OccursAt, IsFirstFault, IsAccepted}
 use Rattle.kc_dotconfig_model.specs.FileLaws.{EachFileIsJudged, EachCutFileIsJudged}
 use Rattle.kc_dotconfig_model.specs.between.LineMeanings.{line_meaning}
 use Rattle.kc_dotconfig_model.specs.between.Cutting.{IsSound, IsCut}
@@ -24,62 +25,101 @@ no_length : (line : List ℕ) → length line ≤ 0 → line ≡ []
 no_length [] h = refl
 no_length (b ∷ line) h = absurd (omega arith)
 
-module _ (prefix : List ℕ) (valid : is_prefix prefix ≡ true) (tree : Tree) (told line : List ℕ) (sayings : List LineMeaning) (c : IsCut prefix tree told line sayings) where
+module _ (prefix : List ℕ) (valid : is_prefix prefix ≡ true) (tree : Tree) (known line : List ℕ) (meanings : List LineMeaning) (c : IsCut prefix tree known line meanings) where
   -- the line so far has a fault at its end, or what follows judges
-  at_line_end : (more : List ℕ) → AtEnd prefix tree told line sayings c more → ((x : LineMeaning) → IsSound prefix tree line x → Judged prefix tree (told ++ more)) → Judged prefix tree (told ++ more)
+  at_line_end : (more : List ℕ) → AtEnd prefix tree known line meanings c more
+      → ((x : LineMeaning) → IsSound prefix tree line x → Judged prefix tree (known ++ more)) → Judged prefix tree (known ++ more)
   at_line_end more ends next = elim (cases_Bool (is_utf8 line)) [
     | inl is ↦ read (line_meaning prefix tree (without_white_end line)) refl (IsUtf8-from_is_utf8 line is)
-    | inr odd ↦ inr (NotUtf8, length sayings + 1, not_utf8 prefix tree told line sayings c more ends (λ u. false≢true (sym odd ∙ is_utf8-from_IsUtf8 line u)))
+    | inr odd ↦ inr (
+      NotUtf8,
+      length meanings + 1,
+      not_utf8 prefix tree known line meanings c more ends
+          (λ u. false≢true (sym odd ∙ is_utf8-from_IsUtf8 line u)),
+    )
   ] where
-    read : (o : Option LineMeaning) → line_meaning prefix tree (without_white_end line) ≡ o → IsUtf8 line → IsAccepted prefix tree (told ++ more) ⊎ ((kind : LoadKind) × (number : ℕ) × IsFirstFault prefix tree complete (told ++ more) kind number)
+    read : (o : Option LineMeaning) → line_meaning prefix tree (without_white_end line) ≡ o → IsUtf8 line
+        → IsAccepted prefix tree (known ++ more) ⊎ ((kind : LoadKind) × (number : ℕ) × IsFirstFault prefix tree complete (known ++ more) kind number)
     read (Some x) e text = next x (record { text = text; short = c.short; says = (line_read prefix tree (without_white_end line) x valid).0 e })
-    read None e text = inr (Malformed, length sayings + 1, malformed prefix tree told line sayings c more ends text (λ x says. let some = (line_read prefix tree (without_white_end line) x valid).1 says in cc (some, e)))
+    read None e text =
+        inr (
+          Malformed,
+          length meanings + 1,
+          malformed prefix tree known line meanings c more ends text
+              (λ x says. let some = (line_read prefix tree (without_white_end line) x valid).1 says in cc (some, e)),
+        )
 
   -- the file ends here
-  at_file_end : Judged prefix tree (told ++ [])
+  at_file_end : Judged prefix tree (known ++ [])
   at_file_end = elim (cases_lt 0 (length line)) [
-    | inl some ↦ at_line_end [] (inl (refl, some)) (λ x sound. inl (subst (IsAccepted prefix tree) (sym (append-nil told)) (accepted prefix tree told line sayings c (x ∷ []) (inr (some, (x, refl, sound))))))
-    | inr none ↦ inl (subst (IsAccepted prefix tree) (sym (append-nil told)) (accepted prefix tree told line sayings c [] (inl (no_length line none, refl))))
+    | inl some ↦ at_line_end [] (inl (refl, some)) (λ x sound. inl (subst (IsAccepted prefix tree) (sym (append-nil known))
+        (accepted prefix tree known line meanings c (x ∷ []) (inr (some, (x, refl, sound))))))
+    | inr none ↦ inl (subst (IsAccepted prefix tree) (sym (append-nil known)) (accepted prefix tree known line meanings c [] (inl (no_length line none, refl))))
   ]
 
   -- a byte follows that is within the size, and either it is too many or goes on
-  at_byte : (b : ℕ) (rest : List ℕ) → length told < MAX_BYTES
-      → (((line_new : List ℕ) (sayings_new : List LineMeaning) → IsCut prefix tree (told ++ b ∷ []) line_new sayings_new → Judged prefix tree (told ++ b ∷ rest)))
-      → Judged prefix tree (told ++ b ∷ rest)
-  at_byte b rest less next = elim (cases_lt (length sayings) MAX_LINES) [
+  at_byte : (b : ℕ) (rest : List ℕ) → length known < MAX_CONFIG_BYTES
+      → (((line_new : List ℕ) (sayings_new : List LineMeaning) → IsCut prefix tree (known ++ b ∷ []) line_new sayings_new
+      → Judged prefix tree (known ++ b ∷ rest)))
+      → Judged prefix tree (known ++ b ∷ rest)
+  at_byte b rest less next = elim (cases_lt (length meanings) MAX_CONFIG_LINES) [
     | inl room ↦ elim (cases_Bool (b == 10)) [
       | inl newline ↦
           let is = eqb-true b 10 newline in
           at_line_end (b ∷ rest) (inr (rest, (ap (λ x. x ∷ rest) is), less))
-          (λ x sound. next [] (sayings ++ x ∷ []) (subst (λ y. IsCut prefix tree (told ++ y ∷ []) [] (sayings ++ x ∷ [])) (sym is) (line_ended prefix tree told line sayings c x sound room less)))
+          (λ x sound. next [] (meanings ++ x ∷ []) (subst (λ y. IsCut prefix tree (known ++ y ∷ []) [] (meanings ++ x ∷ [])) (sym is)
+          (line_ended prefix tree known line meanings c x sound room less)))
       | inr other ↦ elim (cases_lt (length line) MAX_LINE_BYTES) [
         | inl short ↦
             let one : lacks 10 (b ∷ []) ≡ true = and_from (not (b == 10)) true (ap not other) refl in
-            next (line ++ b ∷ []) sayings (held prefix tree told line sayings c (b ∷ []) one (omega arith) room (omega arith))
-        | inr full ↦ inr (LineTooLong, length sayings + 1, too_long prefix tree told line sayings c b rest (let h = c.short in omega (arith, h, full)) other less)
+            next (line ++ b ∷ []) meanings (held prefix tree known line meanings c (b ∷ []) one (omega arith) room (omega arith))
+        | inr full ↦ inr (
+          LineTooLong,
+          length meanings + 1,
+          too_long prefix tree known line meanings c b rest (let h = c.short in omega (arith, h, full)) other
+              less,
+        )
       ]
     ]
     | inr full ↦
-        let none : line ≡ [] = elim (cases_lt 0 (length line)) [ inl some ↦ (let h = c.room some in absurd (omega (arith, h, full))) | inr empty ↦ no_length line empty ] in
-        inr (TooManyLines, length sayings + 1, too_many prefix tree told line sayings c (b ∷ rest) none (let h = c.few in omega (arith, h, full)) less (omega arith))
+        let none : line ≡ [] = elim (cases_lt 0 (length line)) [
+          | inl some ↦ (let h = c.room some in absurd (omega (arith, h, full)))
+          | inr empty ↦ no_length
+              line empty
+        ] in
+        inr (
+          TooManyLines,
+          length meanings + 1,
+          too_many prefix tree known line meanings c (b ∷ rest) none (let h = c.few in omega (arith, h, full)) less
+              (omega arith),
+        )
   ]
 
--- what was told goes on by these bytes
-judge : (prefix : List ℕ) → is_prefix prefix ≡ true → (tree : Tree) (more told line : List ℕ) (sayings : List LineMeaning) → IsCut prefix tree told line sayings → Judged prefix tree (told ++ more)
-judge prefix valid tree [] told line sayings c = at_file_end prefix valid tree told line sayings c
-judge prefix valid tree (b ∷ rest) told line sayings c =
-    let later : (line_new : List ℕ) (sayings_new : List LineMeaning) → IsCut prefix tree (told ++ b ∷ []) line_new sayings_new → Judged prefix tree (told ++ b ∷ rest) =
-    λ l s d. subst (Judged prefix tree) (append_assoc told (b ∷ []) rest) (judge prefix valid tree rest (told ++ b ∷ []) l s d) in
-    elim (cases_lt (length told) MAX_BYTES) [
-      | inl less ↦ at_byte prefix valid tree told line sayings c b rest less later
-      | inr full ↦ inr (TooLarge, length sayings + 1, too_large prefix tree told line sayings c (b ∷ rest) (let h = c.small in omega (arith, h, full)) (omega arith))
+-- the known bytes, and these after them
+judge : (prefix : List ℕ) → is_prefix prefix ≡ true → (tree : Tree) (more known line : List ℕ) (meanings : List LineMeaning)
+    → IsCut prefix tree known line meanings → Judged prefix tree (known ++ more)
+judge prefix valid tree [] known line meanings c = at_file_end prefix valid tree known line meanings c
+judge prefix valid tree (b ∷ rest) known line meanings c =
+    let later : (line_new : List ℕ) (sayings_new : List LineMeaning) → IsCut prefix tree (known ++ b ∷ []) line_new sayings_new
+    → Judged prefix tree (known ++ b ∷ rest) =
+    λ l s d. subst (Judged prefix tree) (append_assoc known (b ∷ []) rest) (judge prefix valid tree rest (known ++ b ∷ []) l s d) in
+    elim (cases_lt (length known) MAX_CONFIG_BYTES) [
+      | inl less ↦ at_byte prefix valid tree known line meanings c b rest less later
+      | inr full ↦ inr (
+        TooLarge,
+        length meanings + 1,
+        too_large prefix tree known line meanings c (b ∷ rest) (let h = c.small in omega (arith, h, full))
+            (omega arith),
+      )
     ]
 
 pub judged : EachFileIsJudged
 judged prefix tree bytes valid = judge prefix valid tree bytes [] [] [] (nothing_told prefix tree)
 
 -- a failed read is the first fault where no other comes before it
-read_first : (prefix : List ℕ) (tree : Tree) (bytes : List ℕ) → ((kind : LoadKind) (byte other : ℕ) → OccursAt prefix tree bytes kind byte other → length bytes ≤ byte) → (kind : LoadKind) × (number : ℕ) × IsFirstFault prefix tree cut_short bytes kind number
+read_first : (prefix : List ℕ) (tree : Tree) (bytes : List ℕ)
+    → ((kind : LoadKind) (byte other : ℕ) → OccursAt prefix tree bytes kind byte other → length bytes ≤ byte)
+    → (kind : LoadKind) × (number : ℕ) × IsFirstFault prefix tree cut_short bytes kind number
 read_first prefix tree bytes late = (Read, newlines bytes + 1, (failed_reads prefix tree bytes (newlines bytes + 1)).1 (late, refl))
 
 pub cut_judged : EachCutFileIsJudged
@@ -98,6 +138,7 @@ cut_judged prefix tree bytes valid = elim (judged prefix tree bytes valid) [
         ];
       },
     )
-    | inr behind ↦ read_first prefix tree bytes (λ kind byte other comes. elim (fault.first kind byte other comes) [ inl less ↦ omega (arith, less, behind) | inr same ↦ (let e = same.0 in omega (arith, e, behind)) ])
+    | inr behind ↦ read_first prefix tree bytes (λ kind byte other comes. elim (fault.first kind byte other comes)
+        [ inl less ↦ omega (arith, less, behind) | inr same ↦ (let e = same.0 in omega (arith, e, behind)) ])
   ])
 ]

@@ -12,7 +12,8 @@ behind_is : (front text rest : List ℕ) → after_front front text ≡ Some res
 behind_is [] text rest e = cc
 behind_is (a ∷ front) [] rest e = cc
 behind_is (a ∷ front) (b ∷ text) rest e = go (a == b) refl e (behind_is front text rest) where
-  go : (t : Bool) → (a == b) ≡ t → cond t (after_front front text) None ≡ Some rest → (after_front front text ≡ Some rest → text ≡ front ++ rest) → b ∷ text ≡ a ∷ (front ++ rest)
+  go : (t : Bool) → (a == b) ≡ t → cond t (after_front front text) None ≡ Some rest → (after_front front text ≡ Some rest → text ≡ front ++ rest)
+      → b ∷ text ≡ a ∷ (front ++ rest)
   go true same e next = ap (λ c. c ∷ text) (sym (eqb-true a b same)) ∙ ap (λ l. a ∷ l) (next e)
   go false same e next = cc
 
@@ -26,25 +27,31 @@ Parts = List ℕ × List ℕ
 cut_is : (b : ℕ) (text : List ℕ) (parts : Parts) → split_at_byte b text ≡ Some parts → (text ≡ parts.0 ++ b ∷ parts.1) × (lacks b parts.0 ≡ true)
 cut_is b [] parts e = cc
 cut_is b (c ∷ text) parts e = go (c == b) refl e (cut_is b text) where
-  some_after : (o : Option Parts) (p : Parts) → option_map (λ (q : Parts). (c ∷ q.0, q.1)) o ≡ Some p → (q : Parts) × (o ≡ Some q) × (p.0 ≡ c ∷ q.0) × (p.1 ≡ q.1)
+  some_after : (o : Option Parts) (p : Parts) → option_map (λ (q : Parts). (c ∷ q.0, q.1)) o ≡ Some p
+      → (q : Parts) × (o ≡ Some q) × (p.0 ≡ c ∷ q.0) × (p.1 ≡ q.1)
   some_after None p e = cc
   some_after (Some q) p e = let same : (c ∷ q.0, q.1) ≡ p = cc in (q, refl, ap (λ (r : Parts). r.0) (sym same), ap (λ (r : Parts). r.1) (sym same))
 
   go : (t : Bool) → (c == b) ≡ t → cond t (Some ([], text)) (option_map (λ (q : Parts). (c ∷ q.0, q.1)) (split_at_byte b text)) ≡ Some parts
-      → ((p : Parts) → split_at_byte b text ≡ Some p → (text ≡ p.0 ++ b ∷ p.1) × (lacks b p.0 ≡ true)) → (c ∷ text ≡ parts.0 ++ b ∷ parts.1) × (lacks b parts.0 ≡ true)
+      → ((p : Parts) → split_at_byte b text ≡ Some p → (text ≡ p.0 ++ b ∷ p.1) × (lacks b p.0 ≡ true))
+      → (c ∷ text ≡ parts.0 ++ b ∷ parts.1) × (lacks b parts.0 ≡ true)
   go true same e next =
       let whole : ([], text) ≡ parts = cc in
       (ap (λ x. x ∷ text) (eqb-true c b same) ∙ ap (λ (p : Parts). p.0 ++ b ∷ p.1) whole, ap (λ (p : Parts). lacks b p.0) (sym whole))
   go false other e next =
       let o = some_after (split_at_byte b text) parts e in
-      let rest = next o.0 o.1 in
-      (ap (λ l. c ∷ l) rest.0 ∙ ap (λ l. l ++ b ∷ o.0.1) (sym o.2) ∙ ap (λ l. parts.0 ++ b ∷ l) (sym o.3), ap (lacks b) o.2 ∙ and_from (not (c == b)) (lacks b o.0.0) (ap not other) rest.1)
+      let rest = next o.0 o.1 in (
+        ap (λ l. c ∷ l) rest.0 ∙ ap (λ l. l ++ b ∷ o.0.1) (sym o.2) ∙ ap (λ l. parts.0 ++ b ∷ l) (sym o.3),
+        ap (lacks b) o.2
+            ∙ and_from (not (c == b)) (lacks b o.0.0) (ap not other) rest.1,
+      )
 
 cut_front : (b : ℕ) (before after : List ℕ) → lacks b before ≡ true → split_at_byte b (before ++ b ∷ after) ≡ Some (before, after)
 cut_front b [] after all = ap (λ t. cond t (Some ([], after)) (option_map (λ (q : Parts). (b ∷ q.0, q.1)) (split_at_byte b after))) (eq-eqb b b refl)
 cut_front b (c ∷ before) after all =
     let parts = and_parts (not (c == b)) (lacks b before) all in
-    ap (λ t. cond t (Some ([], before ++ b ∷ after)) (option_map (λ (q : Parts). (c ∷ q.0, q.1)) (split_at_byte b (before ++ b ∷ after)))) (not-true (c == b) parts.0)
+    ap (λ t. cond t (Some ([], before ++ b ∷ after)) (option_map (λ (q : Parts). (c ∷ q.0, q.1)) (split_at_byte b (before ++ b ∷ after))))
+    (not-true (c == b) parts.0)
     ∙ ap (option_map (λ (q : Parts). (c ∷ q.0, q.1))) (cut_front b before after parts.1)
 
 -- what is read before and after the first such byte
@@ -67,7 +74,8 @@ named_is b text parts e = go (split_at_byte b text) refl e where
       subst (IsCut b text) named.0 (record { some = named.1; lacking = cut.1; whole = cut.0 })
 
 named_front : (b : ℕ) (name after : List ℕ) → 0 < length name → lacks b name ≡ true → named_before b (name ++ b ∷ after) ≡ Some (name, after)
-named_front b name after some all = ap (option_and_then if_named) (cut_front b name after all) ∙ ap (λ t. cond {A = Option Parts} t (Some (name, after)) None) (lt-ltb 0 (length name) some)
+named_front b name after some all =
+    ap (option_and_then if_named) (cut_front b name after all) ∙ ap (λ t. cond {A = Option Parts} t (Some (name, after)) None) (lt-ltb 0 (length name) some)
 
 some_and_then : {X Y : Type 0} (f : X → Option Y) (o : Option X) (y : Y) → option_and_then f o ≡ Some y → (x : X) × (o ≡ Some x) × (f x ≡ Some y)
 some_and_then f None y e = cc
@@ -98,7 +106,8 @@ unset_line_is prefix line name e =
     let parts = if_not_set_is cut.0 name cut.2 in (
       subst (λ l. 0 < length l) parts.0 form.some,
       ap (lacks 32) (sym parts.0) ∙ form.lacking,
-      behind_is (codes "# " ++ prefix) line rest.0 rest.1 ∙ ap (λ l. (codes "# " ++ prefix) ++ l) (form.whole ∙ ap (λ l. l ++ 32 ∷ cut.0.1) parts.0 ∙ ap (λ l. name ++ 32 ∷ l) parts.1),
+      behind_is (codes "# " ++ prefix) line rest.0 rest.1 ∙ ap (λ l. (codes "# " ++ prefix) ++ l)
+          (form.whole ∙ ap (λ l. l ++ 32 ∷ cut.0.1) parts.0 ∙ ap (λ l. name ++ 32 ∷ l) parts.1),
     )
 
 pub unset_line_read : (prefix line name : List ℕ) → IsUnsetLine prefix line name → unset_name prefix line ≡ Some name

@@ -1,4 +1,4 @@
--- A line says what the function of `Reading` tells, and nothing else.
+-- A line has the meaning that `line_meaning` returns, and no other.
 use Rattle.std.proofs.Common.{◌≡◌, inl, inr, ℕ, ◌<◌, ◌≤◌, Bool, true, false, not, ◌||◌, ◌==◌, cond, List, [], ◌∷◌, ◌++◌, Option, Some, None, length, find, refl, sym, ◌∙◌, ap, subst, arith}
 use Rattle.std.specs.Prelude.{codes, slice_get, nat_lt}
 use Rattle.std.specs.Option.{option_and_then}
@@ -19,13 +19,16 @@ use Rattle.kc_dotconfig_model.proofs.LineForms.{value_line_is, value_line_read, 
 use Rattle.kc_tree_model.proofs.Lookups.{index_if_found}
 
 isn't : (k b : ℕ) → is_name_byte k ≡ false → is_name_byte b ≡ true → (b == k) ≡ false
-isn't k b fails passes = elim (cases_Bool (b == k)) [ inl same ↦ absurd (false≢true (sym fails ∙ ap is_name_byte (sym (eqb-true b k same)) ∙ passes)) | inr other ↦ other ]
+isn't k b fails passes =
+    elim (cases_Bool (b == k)) [ inl same ↦ absurd (false≢true (sym fails ∙ ap is_name_byte (sym (eqb-true b k same)) ∙ passes)) | inr other ↦ other ]
 
 none_white : (a b c d e : Bool) → a ≡ false → b ≡ false → c ≡ false → d ≡ false → e ≡ false → not (a || b || c || d || e) ≡ true
 none_white a b c d e p q r s t = rw (p, q, r, s, t) refl
 
 name_not_white : (b : ℕ) → is_name_byte b ≡ true → not (is_white_byte b) ≡ true
-name_not_white b e = none_white (b == 9) (b == 11) (b == 12) (b == 13) (b == 32) (isn't 9 b refl e) (isn't 11 b refl e) (isn't 12 b refl e) (isn't 13 b refl e) (isn't 32 b refl e)
+name_not_white b e =
+    none_white (b == 9) (b == 11) (b == 12) (b == 13) (b == 32) (isn't 9 b refl e) (isn't 11 b refl e) (isn't 12 b refl e) (isn't 13 b refl e)
+    (isn't 32 b refl e)
 
 -- the first byte of a prefix
 record IsHead (prefix : List ℕ) (b : ℕ) : Type 0 where
@@ -35,18 +38,28 @@ record IsHead (prefix : List ℕ) (b : ℕ) : Type 0 where
 
 head_of : (prefix : List ℕ) → is_prefix prefix ≡ true → (b : ℕ) × IsHead prefix b
 head_of [] e = absurd (false≢true e)
-head_of (b ∷ rest) e = (b, record { rest = rest; whole = refl; word = (and_parts (is_name_byte b) (list_all is_name_byte rest) (and_parts _ (list_all is_name_byte (b ∷ rest)) e).1).0 })
+head_of (b ∷ rest) e = (
+  b,
+  record {
+    rest = rest;
+    whole = refl;
+    word = (and_parts (is_name_byte b) (list_all is_name_byte rest)
+        (and_parts _ (list_all is_name_byte (b ∷ rest)) e).1).0;
+  },
+)
 
 -- a line that begins with another byte gives no name a text
 no_value_line : (prefix : List ℕ) → is_prefix prefix ≡ true → (b : ℕ) (line : List ℕ) → is_name_byte b ≡ false → value_parts prefix (b ∷ line) ≡ None
 no_value_line prefix valid b line fails =
     let head = head_of prefix valid in
-    ap (λ p. value_parts p (b ∷ line)) head.1.whole ∙ ap (λ t. option_and_then (named_before 61) (cond t (after_front head.1.rest line) None)) (isn't b head.0 fails head.1.word)
+    ap (λ p. value_parts p (b ∷ line)) head.1.whole ∙ ap (λ t. option_and_then (named_before 61) (cond t (after_front head.1.rest line) None))
+    (isn't b head.0 fails head.1.word)
 
 no_value_in_nothing : (prefix : List ℕ) → is_prefix prefix ≡ true → value_parts prefix [] ≡ None
 no_value_in_nothing prefix valid = let head = head_of prefix valid in ap (λ p. value_parts p []) head.1.whole
 
-no_value_in_comment : (prefix : List ℕ) → is_prefix prefix ≡ true → (line : List ℕ) → find (λ b. not (is_white_byte b)) line ≡ Some 35 → (o : Option (List ℕ × List ℕ)) → value_parts prefix line ≡ o → o ≡ None
+no_value_in_comment : (prefix : List ℕ) → is_prefix prefix ≡ true → (line : List ℕ) → find (λ b. not (is_white_byte b)) line ≡ Some 35
+    → (o : Option (List ℕ × List ℕ)) → value_parts prefix line ≡ o → o ≡ None
 no_value_in_comment prefix valid line hash None e = refl
 no_value_in_comment prefix valid line hash (Some parts) e =
     let head = head_of prefix valid in
@@ -73,14 +86,16 @@ named_inside tree name s named past =
     ]
 
 module _ (prefix : List ℕ) (tree : Tree) where
-  value_sound : (line : List ℕ) (parts : List ℕ × List ℕ) → IsValueLine prefix line parts.0 parts.1 → (o : Option ℕ) → symbol_named tree parts.0 ≡ o → Means prefix tree line (of_named tree (λ s symbol. value_meaning tree s symbol parts.1) o)
+  value_sound : (line : List ℕ) (parts : List ℕ × List ℕ) → IsValueLine prefix line parts.0 parts.1 → (o : Option ℕ) → symbol_named tree parts.0 ≡ o
+      → Means prefix tree line (of_named tree (λ s symbol. value_meaning tree s symbol parts.1) o)
   value_sound line parts is None named = unknown_value line parts.0 parts.1 is named
   value_sound line parts is (Some s) named = go (slice_get tree.symbols s) refl where
     go : (o : Option Symbol) → slice_get tree.symbols s ≡ o → Means prefix tree line (of_symbol_at (λ s symbol. value_meaning tree s symbol parts.1) s o)
     go None at = absurd (named_inside tree parts.0 s named at)
     go (Some symbol) at = value line parts.0 parts.1 s symbol (value_meaning tree s symbol parts.1) is named at (value_says tree s symbol parts.1)
 
-  unset_sound : (line name : List ℕ) → IsUnsetLine prefix line name → (o : Option ℕ) → symbol_named tree name ≡ o → Means prefix tree line (of_named tree (λ s symbol. unset_meaning tree s symbol symbol.choice) o)
+  unset_sound : (line name : List ℕ) → IsUnsetLine prefix line name → (o : Option ℕ) → symbol_named tree name ≡ o
+      → Means prefix tree line (of_named tree (λ s symbol. unset_meaning tree s symbol symbol.choice) o)
   unset_sound line name is None named = unknown_unset line name is named
   unset_sound line name is (Some s) named = go (slice_get tree.symbols s) refl where
     go : (o : Option Symbol) → slice_get tree.symbols s ≡ o → Means prefix tree line (of_symbol_at (λ s symbol. unset_meaning tree s symbol symbol.choice) s o)
@@ -91,25 +106,29 @@ module _ (prefix : List ℕ) (tree : Tree) where
   hash_found None e = absurd (false≢true e)
   hash_found (Some b) e = ap Some (eqb-true b 35 e)
 
-  other_sound : (line : List ℕ) (saying : LineMeaning) → unset_name prefix line ≡ None → of_other line ≡ Some saying → Means prefix tree line saying
-  other_sound [] saying unnamed e = let same : silent ≡ saying = cc in subst (Means prefix tree []) same empty
-  other_sound (b ∷ line) saying unnamed e = go (is_hash (find (λ c. not (is_white_byte c)) (b ∷ line))) refl e where
-    go : (t : Bool) → is_hash (find (λ c. not (is_white_byte c)) (b ∷ line)) ≡ t → cond t (Some silent) None ≡ Some saying → Means prefix tree (b ∷ line) saying
+  other_sound : (line : List ℕ) (meaning : LineMeaning) → unset_name prefix line ≡ None → of_other line ≡ Some meaning → Means prefix tree line meaning
+  other_sound [] meaning unnamed e = let same : silent ≡ meaning = cc in subst (Means prefix tree []) same empty
+  other_sound (b ∷ line) meaning unnamed e = go (is_hash (find (λ c. not (is_white_byte c)) (b ∷ line))) refl e where
+    go : (t : Bool) → is_hash (find (λ c. not (is_white_byte c)) (b ∷ line)) ≡ t → cond t (Some silent) None ≡ Some meaning
+        → Means prefix tree (b ∷ line) meaning
     go true hash e =
-        let same : silent ≡ saying = cc in
-        subst (Means prefix tree (b ∷ line)) same (comment (b ∷ line) (hash_found _ hash) (λ name is. let read = unset_line_read prefix (b ∷ line) name is in cc))
+        let same : silent ≡ meaning = cc in
+        subst (Means prefix tree (b ∷ line)) same (comment (b ∷ line) (hash_found _ hash)
+        (λ name is. let read = unset_line_read prefix (b ∷ line) name is in cc))
     go false hash e = cc
 
-  unset_form_sound : (line : List ℕ) (saying : LineMeaning) (o : Option (List ℕ)) → unset_name prefix line ≡ o → of_unset tree line o ≡ Some saying → Means prefix tree line saying
-  unset_form_sound line saying None e f = other_sound line saying e f
-  unset_form_sound line saying (Some name) e f =
-      let same : of_named tree (λ s symbol. unset_meaning tree s symbol symbol.choice) (symbol_named tree name) ≡ saying = cc in
+  unset_form_sound : (line : List ℕ) (meaning : LineMeaning) (o : Option (List ℕ)) → unset_name prefix line ≡ o → of_unset tree line o ≡ Some meaning
+      → Means prefix tree line meaning
+  unset_form_sound line meaning None e f = other_sound line meaning e f
+  unset_form_sound line meaning (Some name) e f =
+      let same : of_named tree (λ s symbol. unset_meaning tree s symbol symbol.choice) (symbol_named tree name) ≡ meaning = cc in
       subst (Means prefix tree line) same (unset_sound line name (unset_line_is prefix line name e) (symbol_named tree name) refl)
 
-  form_sound : (line : List ℕ) (saying : LineMeaning) (o : Option (List ℕ × List ℕ)) → value_parts prefix line ≡ o → of_value prefix tree line o ≡ Some saying → Means prefix tree line saying
-  form_sound line saying None e f = unset_form_sound line saying (unset_name prefix line) refl f
-  form_sound line saying (Some parts) e f =
-      let same : of_named tree (λ s symbol. value_meaning tree s symbol parts.1) (symbol_named tree parts.0) ≡ saying = cc in
+  form_sound : (line : List ℕ) (meaning : LineMeaning) (o : Option (List ℕ × List ℕ)) → value_parts prefix line ≡ o → of_value prefix tree line o ≡ Some meaning
+      → Means prefix tree line meaning
+  form_sound line meaning None e f = unset_form_sound line meaning (unset_name prefix line) refl f
+  form_sound line meaning (Some parts) e f =
+      let same : of_named tree (λ s symbol. value_meaning tree s symbol parts.1) (symbol_named tree parts.0) ≡ meaning = cc in
       subst (Means prefix tree line) same (value_sound line parts (value_line_is prefix line parts e) (symbol_named tree parts.0) refl)
 
   no_name : (line : List ℕ) → ((name : List ℕ) → IsUnsetLine prefix line name → ⊥) → (o : Option (List ℕ)) → unset_name prefix line ≡ o → o ≡ None
@@ -121,52 +140,64 @@ module _ (prefix : List ℕ) (tree : Tree) where
   other_of (b ∷ line) hash = ap (λ o. cond (is_hash o) (Some silent) None) hash
 
   module _ (valid : is_prefix prefix ≡ true) where
-    of_unset_line : (line name : List ℕ) → IsUnsetLine prefix line name → of_value prefix tree line (value_parts prefix line) ≡ Some (of_named tree (λ s symbol. unset_meaning tree s symbol symbol.choice) (symbol_named tree name))
+    of_unset_line : (line name : List ℕ) → IsUnsetLine prefix line name
+        → of_value prefix tree line (value_parts prefix line) ≡ Some (of_named tree (λ s symbol. unset_meaning tree s symbol symbol.choice) (symbol_named tree name))
     of_unset_line line name is =
         ap (of_value prefix tree line) (ap (value_parts prefix) is.2 ∙ no_value_line prefix valid 35 (32 ∷ (prefix ++ (name ++ codes " is not set"))) refl)
         ∙ ap (of_unset tree line) (unset_line_read prefix line name is)
 
-    form_complete : (line : List ℕ) (saying : LineMeaning) → Means prefix tree line saying → of_value prefix tree line (value_parts prefix line) ≡ Some saying
-    form_complete line saying (value _ name text s symbol _ is named at says) =
-        ap (of_value prefix tree line) (value_line_read prefix line name text is) ∙ ap (λ o. Some (of_named tree (λ s symbol. value_meaning tree s symbol text) o)) named
-        ∙ ap (λ o. Some (of_symbol_at (λ s symbol. value_meaning tree s symbol text) s o)) at ∙ ap Some (value_said tree s symbol text saying says)
-    form_complete line saying (unset _ name s symbol is named at) =
-        of_unset_line line name is ∙ ap (λ o. Some (of_named tree (λ s symbol. unset_meaning tree s symbol symbol.choice) o)) named ∙ ap (λ o. Some (of_symbol_at (λ s symbol. unset_meaning tree s symbol symbol.choice) s o)) at
-    form_complete line saying (unknown_value _ name text is named) =
-        ap (of_value prefix tree line) (value_line_read prefix line name text is) ∙ ap (λ o. Some (of_named tree (λ s symbol. value_meaning tree s symbol text) o)) named
-    form_complete line saying (unknown_unset _ name is named) =
+    form_complete : (line : List ℕ) (meaning : LineMeaning) → Means prefix tree line meaning → of_value prefix tree line (value_parts prefix line) ≡ Some meaning
+    form_complete line meaning (value _ name text s symbol _ is named at says) =
+        ap (of_value prefix tree line) (value_line_read prefix line name text is)
+        ∙ ap (λ o. Some (of_named tree (λ s symbol. value_meaning tree s symbol text) o)) named
+        ∙ ap (λ o. Some (of_symbol_at (λ s symbol. value_meaning tree s symbol text) s o)) at ∙ ap Some (value_said tree s symbol text meaning says)
+    form_complete line meaning (unset _ name s symbol is named at) =
         of_unset_line line name is ∙ ap (λ o. Some (of_named tree (λ s symbol. unset_meaning tree s symbol symbol.choice) o)) named
-    form_complete line saying empty = ap (of_value prefix tree []) (no_value_in_nothing prefix valid)
-    form_complete line saying (comment _ hash lacks) =
-        ap (of_value prefix tree line) (no_value_in_comment prefix valid line hash (value_parts prefix line) refl) ∙ ap (of_unset tree line) (no_name line lacks (unset_name prefix line) refl) ∙ other_of line hash
+        ∙ ap (λ o. Some (of_symbol_at (λ s symbol. unset_meaning tree s symbol symbol.choice) s o)) at
+    form_complete line meaning (unknown_value _ name text is named) =
+        ap (of_value prefix tree line) (value_line_read prefix line name text is)
+        ∙ ap (λ o. Some (of_named tree (λ s symbol. value_meaning tree s symbol text) o)) named
+    form_complete line meaning (unknown_unset _ name is named) =
+        of_unset_line line name is ∙ ap (λ o. Some (of_named tree (λ s symbol. unset_meaning tree s symbol symbol.choice) o)) named
+    form_complete line meaning empty = ap (of_value prefix tree []) (no_value_in_nothing prefix valid)
+    form_complete line meaning (comment _ hash lacks) =
+        ap (of_value prefix tree line) (no_value_in_comment prefix valid line hash (value_parts prefix line) refl)
+        ∙ ap (of_unset tree line) (no_name line lacks (unset_name prefix line) refl) ∙ other_of line hash
 
 pub line_read : LinesAreRead
 unfolding line_meaning
-line_read prefix tree line saying valid = (form_sound prefix tree line saying (value_parts prefix line) refl, form_complete prefix tree valid line saying)
+line_read prefix tree line meaning valid = (form_sound prefix tree line meaning (value_parts prefix line) refl, form_complete prefix tree valid line meaning)
 
-lines_sound : (prefix : List ℕ) (tree : Tree) → is_prefix prefix ≡ true → (lines : List (List ℕ)) (sayings : List LineMeaning) → meanings_of_lines prefix tree lines ≡ Some sayings → AllZip (λ line saying. Means prefix tree (without_white_end line) saying) lines sayings
+lines_sound : (prefix : List ℕ) (tree : Tree) → is_prefix prefix ≡ true → (lines : List (List ℕ)) (meanings : List LineMeaning)
+    → meanings_of_lines prefix tree lines ≡ Some meanings → AllZip (λ line meaning. Means prefix tree (without_white_end line) meaning) lines meanings
 lines_sound prefix tree valid [] [] e = tt
-lines_sound prefix tree valid [] (saying ∷ sayings) e = cc
-lines_sound prefix tree valid (line ∷ lines) sayings e =
+lines_sound prefix tree valid [] (meaning ∷ meanings) e = cc
+lines_sound prefix tree valid (line ∷ lines) meanings e =
     go (line_meaning prefix tree (without_white_end line)) (meanings_of_lines prefix tree lines) refl refl e (lines_sound prefix tree valid lines) where
-      go : (o : Option LineMeaning) (os : Option (List LineMeaning)) → line_meaning prefix tree (without_white_end line) ≡ o → meanings_of_lines prefix tree lines ≡ os → with_rest o os ≡ Some sayings
-          → ((rest : List LineMeaning) → meanings_of_lines prefix tree lines ≡ Some rest → AllZip (λ line saying. Means prefix tree (without_white_end line) saying) lines rest)
-          → AllZip (λ line saying. Means prefix tree (without_white_end line) saying) (line ∷ lines) sayings
+      go : (o : Option LineMeaning) (os : Option (List LineMeaning)) → line_meaning prefix tree (without_white_end line) ≡ o
+          → meanings_of_lines prefix tree lines ≡ os → with_rest o os ≡ Some meanings
+          → ((rest : List LineMeaning) → meanings_of_lines prefix tree lines ≡ Some rest
+          → AllZip (λ line meaning. Means prefix tree (without_white_end line) meaning) lines rest)
+          → AllZip (λ line meaning. Means prefix tree (without_white_end line) meaning) (line ∷ lines) meanings
       go None os a b e next = cc
-      go (Some saying) None a b e next = cc
-      go (Some saying) (Some rest) a b e next =
-          let same : saying ∷ rest ≡ sayings = cc in
-          subst (AllZip (λ line saying. Means prefix tree (without_white_end line) saying) (line ∷ lines)) same ((line_read prefix tree (without_white_end line) saying valid).0 a, next rest b)
+      go (Some meaning) None a b e next = cc
+      go (Some meaning) (Some rest) a b e next =
+          let same : meaning ∷ rest ≡ meanings = cc in
+          subst (AllZip (λ line meaning. Means prefix tree (without_white_end line) meaning) (line ∷ lines)) same
+          ((line_read prefix tree (without_white_end line) meaning valid).0 a, next rest b)
 
-lines_complete : (prefix : List ℕ) (tree : Tree) → is_prefix prefix ≡ true → (lines : List (List ℕ)) (sayings : List LineMeaning) → AllZip (λ line saying. Means prefix tree (without_white_end line) saying) lines sayings → meanings_of_lines prefix tree lines ≡ Some sayings
+lines_complete : (prefix : List ℕ) (tree : Tree) → is_prefix prefix ≡ true → (lines : List (List ℕ)) (meanings : List LineMeaning)
+    → AllZip (λ line meaning. Means prefix tree (without_white_end line) meaning) lines meanings → meanings_of_lines prefix tree lines ≡ Some meanings
 lines_complete prefix tree valid [] [] all = refl
-lines_complete prefix tree valid [] (saying ∷ sayings) all = absurd all
+lines_complete prefix tree valid [] (meaning ∷ meanings) all = absurd all
 lines_complete prefix tree valid (line ∷ lines) [] all = absurd all
-lines_complete prefix tree valid (line ∷ lines) (saying ∷ sayings) all =
-    ap (λ o. with_rest o (meanings_of_lines prefix tree lines)) ((line_read prefix tree (without_white_end line) saying valid).1 all.0) ∙ ap (with_rest (Some saying)) (lines_complete prefix tree valid lines sayings all.1)
+lines_complete prefix tree valid (line ∷ lines) (meaning ∷ meanings) all =
+    ap (λ o. with_rest o (meanings_of_lines prefix tree lines)) ((line_read prefix tree (without_white_end line) meaning valid).1 all.0)
+    ∙ ap (with_rest (Some meaning)) (lines_complete prefix tree valid lines meanings all.1)
 
 pub file_read : FilesAreRead
-file_read prefix tree bytes sayings valid = (lines_sound prefix tree valid (file_lines bytes) sayings, lines_complete prefix tree valid (file_lines bytes) sayings)
+file_read prefix tree bytes meanings valid =
+    (lines_sound prefix tree valid (file_lines bytes) meanings, lines_complete prefix tree valid (file_lines bytes) meanings)
 
 same_told : {X : Type 0} (a b : X) (o : Option X) → o ≡ Some a → o ≡ Some b → a ≡ b
 same_told a b o p q = cc
@@ -177,4 +208,5 @@ line_says_one prefix tree line a b valid of_a of_b =
 
 pub file_says_one : FilesHaveOneMeaning
 file_says_one prefix tree bytes a b valid of_a of_b =
-    same_told a b (meanings_of_lines prefix tree (file_lines bytes)) ((file_read prefix tree bytes a valid).1 of_a) ((file_read prefix tree bytes b valid).1 of_b)
+    same_told a b (meanings_of_lines prefix tree (file_lines bytes)) ((file_read prefix tree bytes a valid).1 of_a)
+    ((file_read prefix tree bytes b valid).1 of_b)

@@ -16,7 +16,8 @@ none_length : (n : ℕ) → length {A = Option UserValue} (replicate n None) ≡
 none_length zero = refl
 none_length (suc n) = let rest = none_length n in omega arith
 
-set_over : (over users : List (Option UserValue)) (u : ℕ) (x : UserValue) → length over ≡ length users → slice_set (overlay over users) u (Some x) ≡ overlay (slice_set over u (Some x)) users
+set_over : (over users : List (Option UserValue)) (u : ℕ) (x : UserValue) → length over ≡ length users
+    → slice_set (overlay over users) u (Some x) ≡ overlay (slice_set over u (Some x)) users
 set_over [] [] u x e = refl
 set_over [] (y ∷ users) u x e = absurd (omega arith)
 set_over (o ∷ over) [] u x e = absurd (omega arith)
@@ -25,13 +26,15 @@ set_over (None ∷ over) (y ∷ users) (suc u) x e = ap (λ l. y ∷ l) (set_ove
 set_over (Some o ∷ over) (y ∷ users) zero x e = refl
 set_over (Some o ∷ over) (y ∷ users) (suc u) x e = ap (λ l. Some o ∷ l) (set_over over users u x (omega arith))
 
-lines_over : (sayings : List LineMeaning) (over users : List (Option UserValue)) → length over ≡ length users → assigned_over sayings (overlay over users) ≡ overlay (assigned_over sayings over) users
+lines_over : (meanings : List LineMeaning) (over users : List (Option UserValue)) → length over ≡ length users
+    → assigned_over meanings (overlay over users) ≡ overlay (assigned_over meanings over) users
 lines_over [] over users e = refl
-lines_over (assigns u x ∷ sayings) over users e =
-    ap (assigned_over sayings) (set_over over users u x e) ∙ lines_over sayings (slice_set over u (Some x)) users (length-set over u (Some x) ∙ e)
-lines_over (notice kind ∷ sayings) over users e = lines_over sayings over users e
-lines_over (silent ∷ sayings) over users e = lines_over sayings over users e
+lines_over (assigns u x ∷ meanings) over users e =
+    ap (assigned_over meanings) (set_over over users u x e) ∙ lines_over meanings (slice_set over u (Some x)) users (length-set over u (Some x) ∙ e)
+lines_over (notice kind ∷ meanings) over users e = lines_over meanings over users e
+lines_over (silent ∷ meanings) over users e = lines_over meanings over users e
 
 pub file_over : FilesLieOverAssignments
-file_over tree sayings users e =
-    ap (assigned_over sayings) (sym (none_over (length tree.units) users e)) ∙ lines_over sayings (empty_assignment tree) users (none_length (length tree.units) ∙ sym e)
+file_over tree meanings users e =
+    ap (assigned_over meanings) (sym (none_over (length tree.units) users e))
+    ∙ lines_over meanings (empty_assignment tree) users (none_length (length tree.units) ∙ sym e)

@@ -27,7 +27,8 @@ all_or a b c d e p q r s t = rw (p, q, r, s, t) refl
 white_low : (b : ℕ) → is_white_byte b ≡ true → b < 128
 white_low b white = elim (cases_lt b 128) [
   | inl low ↦ low
-  | inr high ↦ absurd (false≢true (sym (all_or (b == 9) (b == 11) (b == 12) (b == 13) (b == 32) (other_than b 9 (omega arith)) (other_than b 11 (omega arith)) (other_than b 12 (omega arith)) (other_than b 13 (omega arith)) (other_than b 32 (omega arith))) ∙ white))
+  | inr high ↦ absurd (false≢true (sym (all_or (b == 9) (b == 11) (b == 12) (b == 13) (b == 32) (other_than b 9 (omega arith)) (other_than b 11 (omega arith))
+      (other_than b 12 (omega arith)) (other_than b 13 (omega arith)) (other_than b 32 (omega arith))) ∙ white))
 ]
 
 none_of_names : (p q r a b c d : Bool) → a ≡ false → b ≡ false → c ≡ false → d ≡ false → ((p && a) || (q && b) || (r && c) || d) ≡ false
@@ -46,13 +47,15 @@ none_of_names p q r a b c d ea eb ec ed = rw (ea, eb, ec, ed) (go p q r) where
 name_low : (b : ℕ) → is_name_byte b ≡ true → nat_lt b 128 ≡ true
 name_low b named = elim (cases_lt b 128) [
   | inl low ↦ lt-ltb b 128 low
-  | inr high ↦ absurd (false≢true (sym (none_of_names (nat_le 97 b) (nat_le 65 b) (nat_le 48 b) (nat_le b 122) (nat_le b 90) (nat_le b 57) (b == 95) (not_at_most b 122 (omega arith)) (not_at_most b 90 (omega arith)) (not_at_most b 57 (omega arith)) (other_than b 95 (omega arith))) ∙ named))
+  | inr high ↦ absurd (false≢true (sym (none_of_names (nat_le 97 b) (nat_le 65 b) (nat_le 48 b) (nat_le b 122) (nat_le b 90) (nat_le b 57) (b == 95)
+      (not_at_most b 122 (omega arith)) (not_at_most b 90 (omega arith)) (not_at_most b 57 (omega arith)) (other_than b 95 (omega arith))) ∙ named))
 ]
 
 -- bytes below 128 are UTF-8
 pub low_utf8 : (text : List ℕ) → list_all (λ b. nat_lt b 128) text ≡ true → IsUtf8 text
 low_utf8 [] all = IsUtf8-nil
-low_utf8 (b ∷ text) all = let parts = and_parts (nat_lt b 128) (list_all (λ c. nat_lt c 128) text) all in ascii_then b text (ltb-true b 128 parts.0) (low_utf8 text parts.1)
+low_utf8 (b ∷ text) all =
+    let parts = and_parts (nat_lt b 128) (list_all (λ c. nat_lt c 128) text) all in ascii_then b text (ltb-true b 128 parts.0) (low_utf8 text parts.1)
 
 -- a name is UTF-8
 pub name_utf8 : (name : List ℕ) → list_all is_name_byte name ≡ true → IsUtf8 name
@@ -74,8 +77,10 @@ trimmed_utf8 line u =
     let n = suffix_len is_white_byte line in
     let most : n ≤ length line = suffix_len-le-length is_white_byte line in
     elim (cases_lt 0 n) [
-      | inl some ↦ IsUtf8-take line (length line - n) u (IsCharBoundary-before_ascii line (length line - n) (omega arith) (white_low _ (white_behind line some)))
-      | inr none ↦ (let all : length line ≡ length line - n = omega arith in IsUtf8-take line (length line - n) u (subst (λ k. IsCharBoundary line k) all (IsCharBoundary-end line)))
+      | inl some ↦ IsUtf8-take line (length line - n) u (IsCharBoundary-before_ascii line (length line - n) (omega arith)
+          (white_low _ (white_behind line some)))
+      | inr none ↦ (let all : length line ≡ length line - n = omega arith in IsUtf8-take line (length line - n) u
+          (subst (λ k. IsCharBoundary line k) all (IsCharBoundary-end line)))
     ]
 
 -- and no longer

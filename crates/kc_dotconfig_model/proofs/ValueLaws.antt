@@ -1,4 +1,4 @@
--- The text after `=` says what the function tells, and nothing else.
+-- The text after `=` has the meaning that `value_meaning` returns, and no other.
 use Rattle.std.proofs.Common.{◌≡◌, ◌≢◌, ℕ, Bool, true, false, ◌==◌, cond, List, [], ◌∷◌, ◌++◌, Option, Some, None, ℤ, refl, sym, ◌∙◌, ap, subst}
 use Rattle.std.specs.Prelude.{is_some, option_map}
 use Rattle.std.proofs.lemmas.Bool.{false≢true, eqb-true}
@@ -24,7 +24,8 @@ record IsRest (rest means : List ℕ) : Type 0 where
   whole : rest ≡ body ++ 34 ∷ []
   stands : IsBody 34 body means
 
-some_mapped : (c : ℕ) (o : Option (List ℕ)) (means : List ℕ) → option_map (λ text. c ∷ text) o ≡ Some means → (text : List ℕ) × (o ≡ Some text) × (means ≡ c ∷ text)
+some_mapped : (c : ℕ) (o : Option (List ℕ)) (means : List ℕ) → option_map (λ text. c ∷ text) o ≡ Some means
+    → (text : List ℕ) × (o ≡ Some text) × (means ≡ c ∷ text)
 some_mapped c None means e = cc
 some_mapped c (Some text) means e = (text, refl, cc)
 
@@ -48,26 +49,31 @@ just_quote c rest means quote e =
 unquoted_sound : (rest means : List ℕ) → unquoted_rest false rest ≡ Some means → IsRest rest means
 unquoted_sound [] means e = cc
 unquoted_sound (c ∷ []) means e = go (c == 34) (c == 92) refl refl e where
-  go : (q b : Bool) → (c == 34) ≡ q → (c == 92) ≡ b → cond q (ended []) (cond b (unquoted_rest true []) (option_map (λ text. c ∷ text) (unquoted_rest false []))) ≡ Some means → IsRest (c ∷ []) means
+  go : (q b : Bool) → (c == 34) ≡ q → (c == 92) ≡ b
+      → cond q (ended []) (cond b (unquoted_rest true []) (option_map (λ text. c ∷ text) (unquoted_rest false []))) ≡ Some means → IsRest (c ∷ []) means
   go true b quote escape e = just_quote c [] means quote e
   go false true quote escape e = cc
   go false false quote escape e = cc
 unquoted_sound (c ∷ d ∷ rest) means e = go (c == 34) (c == 92) refl refl e (unquoted_sound (d ∷ rest)) (unquoted_sound rest) where
-  go : (q b : Bool) → (c == 34) ≡ q → (c == 92) ≡ b → cond q (ended (d ∷ rest)) (cond b (unquoted_rest true (d ∷ rest)) (option_map (λ text. c ∷ text) (unquoted_rest false (d ∷ rest)))) ≡ Some means
-      → ((m : List ℕ) → unquoted_rest false (d ∷ rest) ≡ Some m → IsRest (d ∷ rest) m) → ((m : List ℕ) → unquoted_rest false rest ≡ Some m → IsRest rest m) → IsRest (c ∷ d ∷ rest) means
+  go : (q b : Bool) → (c == 34) ≡ q → (c == 92) ≡ b
+      → cond q (ended (d ∷ rest)) (cond b (unquoted_rest true (d ∷ rest)) (option_map (λ text. c ∷ text) (unquoted_rest false (d ∷ rest)))) ≡ Some means
+      → ((m : List ℕ) → unquoted_rest false (d ∷ rest) ≡ Some m → IsRest (d ∷ rest) m) → ((m : List ℕ) → unquoted_rest false rest ≡ Some m → IsRest rest m)
+      → IsRest (c ∷ d ∷ rest) means
   go true b quote escape e one two = just_quote c (d ∷ rest) means quote e
   go false true quote escape e one two = let o = some_mapped d (unquoted_rest false rest) means e in pair_more c d rest o.0 means escape o.2 (two o.0 o.1)
-  go false false quote escape e one two = let o = some_mapped c (unquoted_rest false (d ∷ rest)) means e in one_more c (d ∷ rest) o.0 means quote escape o.2 (one o.0 o.1)
+  go false false quote escape e one two =
+      let o = some_mapped c (unquoted_rest false (d ∷ rest)) means e in one_more c (d ∷ rest) o.0 means quote escape o.2 (one o.0 o.1)
 
 unquoted_complete : (body means : List ℕ) → IsBody 34 body means → unquoted_rest false (body ++ 34 ∷ []) ≡ Some means
 unquoted_complete body means none = refl
 unquoted_complete body means (plain {c = c} {bs = bs} {cs = cs} quote escape rest) =
-    ap (λ q. cond q (ended (bs ++ 34 ∷ [])) (cond (c == 92) (unquoted_rest true (bs ++ 34 ∷ [])) (option_map (λ text. c ∷ text) (unquoted_rest false (bs ++ 34 ∷ []))))) quote
+    ap (λ q. cond q (ended (bs ++ 34 ∷ [])) (cond (c == 92) (unquoted_rest true (bs ++ 34 ∷ []))
+    (option_map (λ text. c ∷ text) (unquoted_rest false (bs ++ 34 ∷ []))))) quote
     ∙ ap (λ b. cond b (unquoted_rest true (bs ++ 34 ∷ [])) (option_map (λ text. c ∷ text) (unquoted_rest false (bs ++ 34 ∷ [])))) escape
     ∙ ap (option_map (λ text. c ∷ text)) (unquoted_complete bs cs rest)
 unquoted_complete body means (pair {c = c} {bs = bs} {cs = cs} rest) = ap (option_map (λ text. c ∷ text)) (unquoted_complete bs cs rest)
 
--- a quoted text stands for what is read between its quotes, and for nothing else
+-- a quoted text represents what is read between its quotes, and nothing else
 pub unquoted_means : (text means : List ℕ) → unquoted text ≡ Some means → IsQuoted text means
 unquoted_means [] means e = cc
 unquoted_means (c ∷ rest) means e = go (c == 34) refl e where
@@ -78,7 +84,8 @@ unquoted_means (c ∷ rest) means e = go (c == 34) refl e where
 pub means_unquoted : (text means : List ℕ) → IsQuoted text means → unquoted text ≡ Some means
 means_unquoted text means q = ap unquoted q.1 ∙ unquoted_complete q.0 means q.2
 
-tri_sound : (tree : Tree) (s : ℕ) (symbol : Symbol) (kind : Kind) (text : List ℕ) → symbol.kind ≡ kind → is_tri_kind kind ≡ true → (c : Option ℕ) → symbol.choice ≡ c → (o : Option Tri) → tri_of_text symbol.kind text ≡ o
+tri_sound : (tree : Tree) (s : ℕ) (symbol : Symbol) (kind : Kind) (text : List ℕ) → symbol.kind ≡ kind → is_tri_kind kind ≡ true → (c : Option ℕ)
+    → symbol.choice ≡ c → (o : Option Tri) → tri_of_text symbol.kind text ≡ o
     → ValueMeans tree s symbol text (tri_meaning (unit_of tree s) s c o)
 tri_sound tree s symbol kind text is small c choice None meant = no_tri text (ap is_tri_kind is ∙ small) meant
 tri_sound tree s symbol kind text is small None choice (Some t) meant = tri text t choice meant
@@ -86,24 +93,31 @@ tri_sound tree s symbol kind text is small (Some c) choice (Some Y) meant = chos
 tri_sound tree s symbol kind text is small (Some c) choice (Some N) meant = not_chosen c text N choice meant (λ e. cc)
 tri_sound tree s symbol kind text is small (Some c) choice (Some M) meant = not_chosen c text M choice meant (λ e. cc)
 
-string_sound : (tree : Tree) (s : ℕ) (symbol : Symbol) (text : List ℕ) → symbol.kind ≡ Text → (o : Option (List ℕ)) → unquoted text ≡ o → ValueMeans tree s symbol text (string_meaning (unit_of tree s) o)
+string_sound : (tree : Tree) (s : ℕ) (symbol : Symbol) (text : List ℕ) → symbol.kind ≡ Text → (o : Option (List ℕ)) → unquoted text ≡ o
+    → ValueMeans tree s symbol text (string_meaning (unit_of tree s) o)
 string_sound tree s symbol text is None e = no_text text is (λ means q. let same = means_unquoted text means q in cc)
 string_sound tree s symbol text is (Some means) e = quoted text means is (unquoted_means text means e)
 
-number_sound : (tree : Tree) (s : ℕ) (symbol : Symbol) (text : List ℕ) → is_tri_kind symbol.kind ≡ false → symbol.kind ≢ Text → ValueMeans tree s symbol [] silent → (o : Option ℤ) → number_of_text symbol.kind text ≡ o
+number_sound : (tree : Tree) (s : ℕ) (symbol : Symbol) (text : List ℕ) → is_tri_kind symbol.kind ≡ false → symbol.kind ≢ Text
+    → ValueMeans tree s symbol [] silent → (o : Option ℤ) → number_of_text symbol.kind text ≡ o
     → ValueMeans tree s symbol text (cond (is_some o) (assigns (unit_of tree s) (TextUser text)) (without_number text))
 number_sound tree s symbol text large other empty (Some n) e = number text (ap is_some e)
 number_sound tree s symbol [] large other empty None e = empty
 number_sound tree s symbol (b ∷ text) large other empty None e = no_number b text large other e
 
-says_at : (tree : Tree) (s : ℕ) (symbol : Symbol) (text : List ℕ) (kind : Kind) → symbol.kind ≡ kind → ValueMeans tree s symbol text (meaning_of_kind kind (unit_of tree s) s symbol.choice text)
-says_at tree s symbol text Boolean is = tri_sound tree s symbol Boolean text is refl symbol.choice refl (tri_of_text Boolean text) (ap (λ k. tri_of_text k text) is)
-says_at tree s symbol text Tristate is = tri_sound tree s symbol Tristate text is refl symbol.choice refl (tri_of_text Tristate text) (ap (λ k. tri_of_text k text) is)
+says_at : (tree : Tree) (s : ℕ) (symbol : Symbol) (text : List ℕ) (kind : Kind) → symbol.kind ≡ kind
+    → ValueMeans tree s symbol text (meaning_of_kind kind (unit_of tree s) s symbol.choice text)
+says_at tree s symbol text Boolean is =
+    tri_sound tree s symbol Boolean text is refl symbol.choice refl (tri_of_text Boolean text) (ap (λ k. tri_of_text k text) is)
+says_at tree s symbol text Tristate is =
+    tri_sound tree s symbol Tristate text is refl symbol.choice refl (tri_of_text Tristate text) (ap (λ k. tri_of_text k text) is)
 says_at tree s symbol text Text is = string_sound tree s symbol text is (unquoted text) refl
-says_at tree s symbol text Int is = number_sound tree s symbol text (ap is_tri_kind is) (λ e. cc) (no_int is) (number_of_text Int text) (ap (λ k. number_of_text k text) is)
-says_at tree s symbol text Hex is = number_sound tree s symbol text (ap is_tri_kind is) (λ e. cc) (no_hex is) (number_of_text Hex text) (ap (λ k. number_of_text k text) is)
+says_at tree s symbol text Int is =
+    number_sound tree s symbol text (ap is_tri_kind is) (λ e. cc) (no_int is) (number_of_text Int text) (ap (λ k. number_of_text k text) is)
+says_at tree s symbol text Hex is =
+    number_sound tree s symbol text (ap is_tri_kind is) (λ e. cc) (no_hex is) (number_of_text Hex text) (ap (λ k. number_of_text k text) is)
 
--- the text says what the function tells
+-- the text has the meaning that the function returns
 pub value_says : (tree : Tree) (s : ℕ) (symbol : Symbol) (text : List ℕ) → ValueMeans tree s symbol text (value_meaning tree s symbol text)
 value_says tree s symbol text = says_at tree s symbol text symbol.kind refl
 
@@ -114,14 +128,16 @@ is_tri_meant Text text t e = cc
 is_tri_meant Int text t e = cc
 is_tri_meant Hex text t e = cc
 
-of_tri_kind : (kind : Kind) (u s : ℕ) (choice : Option ℕ) (text : List ℕ) → is_tri_kind kind ≡ true → meaning_of_kind kind u s choice text ≡ tri_meaning u s choice (tri_of_text kind text)
+of_tri_kind : (kind : Kind) (u s : ℕ) (choice : Option ℕ) (text : List ℕ) → is_tri_kind kind ≡ true
+    → meaning_of_kind kind u s choice text ≡ tri_meaning u s choice (tri_of_text kind text)
 of_tri_kind Boolean u s choice text e = refl
 of_tri_kind Tristate u s choice text e = refl
 of_tri_kind Text u s choice text e = absurd (false≢true e)
 of_tri_kind Int u s choice text e = absurd (false≢true e)
 of_tri_kind Hex u s choice text e = absurd (false≢true e)
 
-of_number_kind : (kind : Kind) (u s : ℕ) (choice : Option ℕ) (text : List ℕ) → is_tri_kind kind ≡ false → kind ≢ Text → meaning_of_kind kind u s choice text ≡ number_meaning u kind text
+of_number_kind : (kind : Kind) (u s : ℕ) (choice : Option ℕ) (text : List ℕ) → is_tri_kind kind ≡ false → kind ≢ Text
+    → meaning_of_kind kind u s choice text ≡ number_meaning u kind text
 of_number_kind Boolean u s choice text e other = absurd (false≢true (sym e))
 of_number_kind Tristate u s choice text e other = absurd (false≢true (sym e))
 of_number_kind Text u s choice text e other = absurd (other refl)
@@ -153,26 +169,34 @@ no_meaning text None e lacks = refl
 no_meaning text (Some means) e lacks = absurd (lacks means (unquoted_means text means e))
 
 -- and nothing else
-pub value_said : (tree : Tree) (s : ℕ) (symbol : Symbol) (text : List ℕ) (saying : LineMeaning) → ValueMeans tree s symbol text saying → value_meaning tree s symbol text ≡ saying
-value_said tree s symbol text saying (tri _ t out meant) =
-    of_tri_kind symbol.kind (unit_of tree s) s symbol.choice text (is_tri_meant symbol.kind text t meant) ∙ ap (λ o. tri_meaning (unit_of tree s) s symbol.choice o) meant ∙ ap (λ c. tri_meaning (unit_of tree s) s c (Some t)) out
-value_said tree s symbol text saying (chosen c _ within meant) =
-    of_tri_kind symbol.kind (unit_of tree s) s symbol.choice text (is_tri_meant symbol.kind text Y meant) ∙ ap (λ o. tri_meaning (unit_of tree s) s symbol.choice o) meant ∙ ap (λ k. tri_meaning (unit_of tree s) s k (Some Y)) within
-value_said tree s symbol text saying (not_chosen c _ t within meant other) =
-    of_tri_kind symbol.kind (unit_of tree s) s symbol.choice text (is_tri_meant symbol.kind text t meant) ∙ ap (λ o. tri_meaning (unit_of tree s) s symbol.choice o) meant ∙ ap (λ k. tri_meaning (unit_of tree s) s k (Some t)) within
+pub value_said : (tree : Tree) (s : ℕ) (symbol : Symbol) (text : List ℕ) (meaning : LineMeaning) → ValueMeans tree s symbol text meaning
+    → value_meaning tree s symbol text ≡ meaning
+value_said tree s symbol text meaning (tri _ t out meant) =
+    of_tri_kind symbol.kind (unit_of tree s) s symbol.choice text (is_tri_meant symbol.kind text t meant)
+    ∙ ap (λ o. tri_meaning (unit_of tree s) s symbol.choice o) meant ∙ ap (λ c. tri_meaning (unit_of tree s) s c (Some t)) out
+value_said tree s symbol text meaning (chosen c _ within meant) =
+    of_tri_kind symbol.kind (unit_of tree s) s symbol.choice text (is_tri_meant symbol.kind text Y meant)
+    ∙ ap (λ o. tri_meaning (unit_of tree s) s symbol.choice o) meant ∙ ap (λ k. tri_meaning (unit_of tree s) s k (Some Y)) within
+value_said tree s symbol text meaning (not_chosen c _ t within meant other) =
+    of_tri_kind symbol.kind (unit_of tree s) s symbol.choice text (is_tri_meant symbol.kind text t meant)
+    ∙ ap (λ o. tri_meaning (unit_of tree s) s symbol.choice o) meant ∙ ap (λ k. tri_meaning (unit_of tree s) s k (Some t)) within
     ∙ ap (λ b. cond b (assigns (unit_of tree s) (MemberUser s)) silent) (not_y t other)
-value_said tree s symbol text saying (quoted _ means is stands) =
+value_said tree s symbol text meaning (quoted _ means is stands) =
     ap (λ k. meaning_of_kind k (unit_of tree s) s symbol.choice text) is ∙ ap (string_meaning (unit_of tree s)) (means_unquoted text means stands)
-value_said tree s symbol text saying (number _ some) =
+value_said tree s symbol text meaning (number _ some) =
     let kinds = number_kind symbol.kind text some in
-    of_number_kind symbol.kind (unit_of tree s) s symbol.choice text kinds.0 kinds.1 ∙ ap (λ b. cond b (assigns (unit_of tree s) (TextUser text)) (without_number text)) some
-value_said tree s symbol text saying (no_int is) =
-    ap (λ k. meaning_of_kind k (unit_of tree s) s symbol.choice []) is ∙ ap (λ o. cond (is_some o) (assigns (unit_of tree s) (TextUser [])) silent) no_int_number
-value_said tree s symbol text saying (no_hex is) =
-    ap (λ k. meaning_of_kind k (unit_of tree s) s symbol.choice []) is ∙ ap (λ o. cond (is_some o) (assigns (unit_of tree s) (TextUser [])) silent) no_hex_number
-value_said tree s symbol text saying (no_tri _ small meant) =
+    of_number_kind symbol.kind (unit_of tree s) s symbol.choice text kinds.0 kinds.1
+    ∙ ap (λ b. cond b (assigns (unit_of tree s) (TextUser text)) (without_number text)) some
+value_said tree s symbol text meaning (no_int is) =
+    ap (λ k. meaning_of_kind k (unit_of tree s) s symbol.choice []) is
+    ∙ ap (λ o. cond (is_some o) (assigns (unit_of tree s) (TextUser [])) silent) no_int_number
+value_said tree s symbol text meaning (no_hex is) =
+    ap (λ k. meaning_of_kind k (unit_of tree s) s symbol.choice []) is
+    ∙ ap (λ o. cond (is_some o) (assigns (unit_of tree s) (TextUser [])) silent) no_hex_number
+value_said tree s symbol text meaning (no_tri _ small meant) =
     of_tri_kind symbol.kind (unit_of tree s) s symbol.choice text small ∙ ap (λ o. tri_meaning (unit_of tree s) s symbol.choice o) meant
-value_said tree s symbol text saying (no_text _ is lacks) =
+value_said tree s symbol text meaning (no_text _ is lacks) =
     ap (λ k. meaning_of_kind k (unit_of tree s) s symbol.choice text) is ∙ ap (string_meaning (unit_of tree s)) (no_meaning text (unquoted text) refl lacks)
-value_said tree s symbol text saying (no_number b rest large other lacks) =
-    of_number_kind symbol.kind (unit_of tree s) s symbol.choice (b ∷ rest) large other ∙ ap (λ o. cond (is_some o) (assigns (unit_of tree s) (TextUser (b ∷ rest))) (notice NotOfType)) lacks
+value_said tree s symbol text meaning (no_number b rest large other lacks) =
+    of_number_kind symbol.kind (unit_of tree s) s symbol.choice (b ∷ rest) large other
+    ∙ ap (λ o. cond (is_some o) (assigns (unit_of tree s) (TextUser (b ∷ rest))) (notice NotOfType)) lacks

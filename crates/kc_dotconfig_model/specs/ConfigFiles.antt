@@ -18,8 +18,8 @@ has_utf8_lines bytes = list_all is_utf8 (file_lines bytes)
 
 -- the meanings of the lines of a file, in order
 abbrev pub FileMeans : List ℕ → Tree → List ℕ → List LineMeaning → Type 0
-FileMeans prefix tree bytes sayings =
-    AllZip (λ line saying. Means prefix tree (without_white_end line) saying) (file_lines bytes) sayings
+FileMeans prefix tree bytes meanings =
+    AllZip (λ line meaning. Means prefix tree (without_white_end line) meaning) (file_lines bytes) meanings
 
 -- the assignment after one line, over the one before it
 abbrev pub assigned : LineMeaning → List (Option UserValue) → List (Option UserValue)
@@ -30,7 +30,7 @@ assigned silent users = users
 -- a file over an assignment: later lines override earlier ones and what was held
 abbrev pub assigned_over : List LineMeaning → List (Option UserValue) → List (Option UserValue)
 assigned_over [] users = users
-assigned_over (saying ∷ sayings) users = assigned_over sayings (assigned saying users)
+assigned_over (meaning ∷ meanings) users = assigned_over meanings (assigned meaning users)
 
 -- the assignment of nothing
 abbrev pub empty_assignment : Tree → List (Option UserValue)
@@ -38,7 +38,7 @@ empty_assignment tree = replicate (length tree.units) None
 
 -- a file's own assignment
 abbrev pub file_assignment : Tree → List LineMeaning → List (Option UserValue)
-file_assignment tree sayings = assigned_over sayings (empty_assignment tree)
+file_assignment tree meanings = assigned_over meanings (empty_assignment tree)
 
 -- an assignment over another: it wins where it has a user value
 abbrev pub overlay : List (Option UserValue) → List (Option UserValue) → List (Option UserValue)
@@ -50,6 +50,6 @@ overlay (Some y ∷ over) (x ∷ users) = Some y ∷ overlay over users
 -- the notices of a file with the numbers of their lines, the first line having this number
 abbrev pub notices_from : ℕ → List LineMeaning → List (ℕ × NoticeKind)
 notices_from n [] = []
-notices_from n (assigns u x ∷ sayings) = notices_from (n + 1) sayings
-notices_from n (notice kind ∷ sayings) = (n, kind) ∷ notices_from (n + 1) sayings
-notices_from n (silent ∷ sayings) = notices_from (n + 1) sayings
+notices_from n (assigns u x ∷ meanings) = notices_from (n + 1) meanings
+notices_from n (notice kind ∷ meanings) = (n, kind) ∷ notices_from (n + 1) meanings
+notices_from n (silent ∷ meanings) = notices_from (n + 1) meanings

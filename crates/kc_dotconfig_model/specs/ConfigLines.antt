@@ -37,8 +37,8 @@ tri_of_text Tristate text = if bytes_eq text (codes "y")
     else (if bytes_eq text (codes "m") then Some M else (if bytes_eq text (codes "n") then Some N else None))
 tri_of_text _ text = None
 
--- what the text after `=` says of a symbol, by its type; `n` of a member of a choice and an empty int or hex say
--- nothing
+-- the meaning of the text after `=`, by the type of the symbol; `n` of a member of a choice and an empty int or hex have
+-- none
 pub data ValueMeans (tree : Tree) (s : ℕ) (symbol : Symbol) : List ℕ → LineMeaning → Type 0 where
   tri : (text : List ℕ) (t : Tri) → symbol.choice ≡ None → tri_of_text symbol.kind text ≡ Some t
       → ValueMeans tree s symbol text (assigns (unit_of tree s) (TriUser t))
@@ -77,9 +77,9 @@ IsValueLine prefix line name text = (0 < length name) × (lacks 61 name ≡ true
 -- The meaning of a line without trailing white space (Kconfiglib's `load_config`). Each line has at most one
 -- meaning, and a line without one is malformed.
 pub data Means (prefix : List ℕ) (tree : Tree) : List ℕ → LineMeaning → Type 0 where
-  value : (line name text : List ℕ) (s : ℕ) (symbol : Symbol) (saying : LineMeaning) → IsValueLine prefix line name text
-      → symbol_named tree name ≡ Some s → slice_get tree.symbols s ≡ Some symbol → ValueMeans tree s symbol text saying
-      → Means prefix tree line saying
+  value : (line name text : List ℕ) (s : ℕ) (symbol : Symbol) (meaning : LineMeaning) → IsValueLine prefix line name text
+      → symbol_named tree name ≡ Some s → slice_get tree.symbols s ≡ Some symbol → ValueMeans tree s symbol text meaning
+      → Means prefix tree line meaning
   unset : (line name : List ℕ) (s : ℕ) (symbol : Symbol) → IsUnsetLine prefix line name
       → symbol_named tree name ≡ Some s → slice_get tree.symbols s ≡ Some symbol
       → Means prefix tree line (unset_meaning tree s symbol symbol.choice)
@@ -93,4 +93,4 @@ pub data Means (prefix : List ℕ) (tree : Tree) : List ℕ → LineMeaning → 
 
 -- a line of none of these forms
 abbrev pub IsMalformed : List ℕ → Tree → List ℕ → Type 0
-IsMalformed prefix tree line = (saying : LineMeaning) → Means prefix tree (without_white_end line) saying → ⊥
+IsMalformed prefix tree line = (meaning : LineMeaning) → Means prefix tree (without_white_end line) meaning → ⊥

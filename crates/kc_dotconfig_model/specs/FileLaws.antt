@@ -11,7 +11,8 @@ use Rattle.kc_dotconfig_model.specs.declared.fault.LoadKind.TheVariants.{Read}
 use Rattle.kc_dotconfig_model.specs.PrefixGrammar.{is_prefix}
 use Rattle.kc_dotconfig_model.specs.ConfigLines.{LineMeaning, Means, without_white_end}
 use Rattle.kc_dotconfig_model.specs.ConfigFiles.{file_lines, has_utf8_lines, FileMeans, assigned_over, file_assignment, overlay}
-use Rattle.kc_dotconfig_model.specs.LoadFaults.{MAX_BYTES, MAX_LINES, MAX_LINE_BYTES, InputEnd, complete, cut_short, OccursAt, IsFirstFault, IsAccepted, newlines}
+use Rattle.kc_value.specs.declared.limits.TheConstants.{MAX_CONFIG_BYTES, MAX_CONFIG_LINES, MAX_LINE_BYTES}
+use Rattle.kc_dotconfig_model.specs.LoadFaults.{InputEnd, complete, cut_short, OccursAt, IsFirstFault, IsAccepted, newlines}
 
 -- each line has at most one meaning
 abbrev pub LinesHaveOneMeaning : Type 0
@@ -25,19 +26,19 @@ FilesHaveOneMeaning = (prefix : List ℕ) (tree : Tree) (bytes : List ℕ) (a b 
 
 -- the lines of a file over an assignment are its own assignment over it
 abbrev pub FilesLieOverAssignments : Type 0
-FilesLieOverAssignments = (tree : Tree) (sayings : List LineMeaning) (users : List (Option UserValue))
-    → length users ≡ length tree.units → assigned_over sayings users ≡ overlay (file_assignment tree sayings) users
+FilesLieOverAssignments = (tree : Tree) (meanings : List LineMeaning) (users : List (Option UserValue))
+    → length users ≡ length tree.units → assigned_over meanings users ≡ overlay (file_assignment tree meanings) users
 
 -- what a file of UTF-8 assigns fits its units
 abbrev pub FilesFit : Type 0
-FilesFit = (prefix : List ℕ) (tree : Tree) (bytes : List ℕ) (sayings : List LineMeaning) → IsConsistent tree
-    → has_utf8_lines bytes ≡ true → FileMeans prefix tree bytes sayings
-    → FitsUsers (length tree.units) (λ u x. IsTrue (user_fits tree u x)) (file_assignment tree sayings)
+FilesFit = (prefix : List ℕ) (tree : Tree) (bytes : List ℕ) (meanings : List LineMeaning) → IsConsistent tree
+    → has_utf8_lines bytes ≡ true → FileMeans prefix tree bytes meanings
+    → FitsUsers (length tree.units) (λ u x. IsTrue (user_fits tree u x)) (file_assignment tree meanings)
 
 -- an accepted file has a meaning
 abbrev pub AcceptedFilesAreRead : Type 0
 AcceptedFilesAreRead = (prefix : List ℕ) (tree : Tree) (bytes : List ℕ) → is_prefix prefix ≡ true
-    → IsAccepted prefix tree bytes → (sayings : List LineMeaning) × FileMeans prefix tree bytes sayings
+    → IsAccepted prefix tree bytes → (meanings : List LineMeaning) × FileMeans prefix tree bytes meanings
 
 -- only one fault is the first, with one number of a line
 abbrev pub OneFaultIsFirst : Type 0
@@ -60,13 +61,13 @@ FailedReadsAreReported = (prefix : List ℕ) (tree : Tree) (bytes : List ℕ) (n
 pub record IsGoodLine (prefix : List ℕ) (tree : Tree) (line : List ℕ) : Type 0 where
   pub short : length line ≤ MAX_LINE_BYTES
   pub utf8 : IsUtf8 line
-  pub saying : LineMeaning
-  pub says : Means prefix tree (without_white_end line) saying
+  pub meaning : LineMeaning
+  pub says : Means prefix tree (without_white_end line) meaning
 
 -- a file within the limits, of good lines alone
 pub record IsOfGoodLines (prefix : List ℕ) (tree : Tree) (bytes : List ℕ) : Type 0 where
-  pub small : length bytes ≤ MAX_BYTES
-  pub few : length (file_lines bytes) ≤ MAX_LINES
+  pub small : length bytes ≤ MAX_CONFIG_BYTES
+  pub few : length (file_lines bytes) ≤ MAX_CONFIG_LINES
   pub good : (i : ℕ) (line : List ℕ) → slice_get (file_lines bytes) i ≡ Some line → IsGoodLine prefix tree line
 
 -- just these files are accepted

@@ -1,5 +1,4 @@
 pub mod PrefixGrammar
-pub mod Prefixes
 pub mod ConfigLines
 pub mod ConfigFiles
 pub mod LoadFaults

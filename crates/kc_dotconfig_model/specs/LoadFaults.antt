@@ -2,21 +2,12 @@
 use Rattle.std.specs.Prelude.{◌≡◌, ◌⊎◌, ℕ, ◌+◌, ◌<◌, ◌≤◌, List, [], ◌∷◌, ◌++◌, length, take, ◌==◌, true}
 use Rattle.std.specs.List.{count_by}
 use Rattle.std.specs.Str.{IsUtf8}
+use Rattle.kc_value.specs.declared.limits.TheConstants.{MAX_CONFIG_BYTES, MAX_CONFIG_LINES, MAX_LINE_BYTES}
 use Rattle.kc_tree_model.specs.Trees.{Tree}
 use Rattle.kc_dotconfig_model.specs.declared.fault.LoadKind.{LoadKind}
 use Rattle.kc_dotconfig_model.specs.declared.fault.LoadKind.TheVariants.{Malformed, NotUtf8, LineTooLong, TooManyLines, Read, OutOfMemory, TooLarge}
 use Rattle.kc_dotconfig_model.specs.PrefixGrammar.{lacks}
 use Rattle.kc_dotconfig_model.specs.ConfigLines.{IsMalformed}
-
--- the most bytes of a file, lines of a file, and bytes of a line without its newline
-abbrev pub MAX_BYTES : ℕ
-MAX_BYTES = 67108864
-
-abbrev pub MAX_LINES : ℕ
-MAX_LINES = 1048576
-
-abbrev pub MAX_LINE_BYTES : ℕ
-MAX_LINE_BYTES = 65536
 
 -- the number of newlines
 abbrev pub newlines : List ℕ → ℕ
@@ -35,10 +26,10 @@ pub record IsLineAt (bytes line : List ℕ) (number start : ℕ) : Type 0 where
 
 -- a fault of this kind occurs at this byte, and is reported with this line
 abbrev pub OccursAt : List ℕ → Tree → List ℕ → LoadKind → ℕ → ℕ → Type 0
-OccursAt prefix tree bytes TooLarge byte number = (MAX_BYTES < length bytes) × (byte ≡ MAX_BYTES)
-    × (number ≡ newlines (take MAX_BYTES bytes) + 1)
+OccursAt prefix tree bytes TooLarge byte number = (MAX_CONFIG_BYTES < length bytes) × (byte ≡ MAX_CONFIG_BYTES)
+    × (number ≡ newlines (take MAX_CONFIG_BYTES bytes) + 1)
 OccursAt prefix tree bytes TooManyLines byte number = (line : List ℕ) × IsLineAt bytes line number byte
-    × (number ≡ MAX_LINES + 1)
+    × (number ≡ MAX_CONFIG_LINES + 1)
 OccursAt prefix tree bytes LineTooLong byte number = (line : List ℕ) × (start : ℕ) × IsLineAt bytes line number start
     × (MAX_LINE_BYTES < length line) × (byte ≡ start + MAX_LINE_BYTES)
 OccursAt prefix tree bytes NotUtf8 byte number = (line : List ℕ) × (start : ℕ) × IsLineAt bytes line number start

@@ -1,11 +1,12 @@
 -- Names and prefixes in configuration files.
 use Rattle.std.specs.Prelude.{ℕ, Bool, not, ◌&&◌, ◌==◌, nat_lt, nat_le, List, length}
 use Rattle.std.specs.List.{list_all}
+use Rattle.kc_value.specs.declared.limits.TheConstants.{MAX_PREFIX_BYTES}
 use Rattle.kc_tree_model.specs.TreeLookup.{is_name_byte}
 
--- 1 to 32 letters, digits and `_`
+-- 1 to `MAX_PREFIX_BYTES` letters, digits and `_`
 abbrev pub is_prefix : List ℕ → Bool
-is_prefix text = nat_lt 0 (length text) && nat_le (length text) 32 && list_all is_name_byte text
+is_prefix text = nat_lt 0 (length text) && nat_le (length text) MAX_PREFIX_BYTES && list_all is_name_byte text
 
 -- no byte of the text is this one
 abbrev pub lacks : ℕ → List ℕ → Bool

@@ -1,3 +1,4 @@
+pub mod Prefixes
 pub mod LineMeanings
 pub mod LineMeaningLaws
 pub mod Cutting

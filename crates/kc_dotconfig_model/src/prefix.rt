@@ -2,17 +2,17 @@
 ghost use Rattle.std.specs.Prelude.{◌≡◌, ◌↔◌, ◌≤◌, codes, take, IsTrue, IsSome, IfSome};
 ghost use Rattle.std.specs.List.{list_all};
 ghost use Rattle.kc_tree_model.specs.TreeLookup.{is_name_byte};
+ghost use Rattle.kc_value.specs.declared.limits.TheConstants.{MAX_PREFIX_BYTES};
 ghost use Rattle.kc_dotconfig_model.specs.PrefixGrammar.{is_prefix};
 
-/// The most bytes of a prefix.
-const MAX_BYTES: usize = 32;
+use kc_value::MAX_PREFIX_BYTES;
 
-/// The prefix of the names in configuration files: 1 to 32 letters, digits and `_`.
+/// The prefix of the names in configuration files: 1 to `MAX_PREFIX_BYTES` letters, digits and `_`.
 #[derive(Clone, Copy)]
 pub struct Prefix {
-    bytes: [u8; 32],
+    bytes: [u8; MAX_PREFIX_BYTES],
     len: usize,
-    ghost short: { len ≤ 32 },
+    ghost short: { len ≤ MAX_PREFIX_BYTES },
     ghost valid: { IsTrue (is_prefix (take len bytes)) },
 }
 
@@ -34,22 +34,22 @@ fn are_prefix_bytes(text: &[u8]) -> bool
 fn is_valid(text: &[u8]) -> bool
     ensures { result ≡ is_prefix text.now }
 {
-    !text.is_empty() && text.len() <= MAX_BYTES && are_prefix_bytes(text)
+    !text.is_empty() && text.len() <= MAX_PREFIX_BYTES && are_prefix_bytes(text)
 }
 
 impl Prefix {
-    ghost use Rattle.kc_dotconfig_model.specs.Prefixes.{prefix_bytes};
+    ghost use Rattle.kc_dotconfig_model.specs.between.Prefixes.{prefix_bytes};
 
     /// The prefix of Linux's configuration files, `CONFIG_`.
     pub fn plain() -> Prefix
         ensures { prefix_bytes result ≡ codes "CONFIG_" }
     {
-        let mut bytes = [0u8; 32];
+        let mut bytes = [0u8; MAX_PREFIX_BYTES];
         bytes[..7].copy_from_slice(b"CONFIG_");
         Prefix { bytes, len: 7 }
     }
 
-    /// The prefix of these bytes; `None` where they are none, more than 32, or have another byte
+    /// The prefix of these bytes; `None` where they are none, more than `MAX_PREFIX_BYTES`, or have another byte
     /// than letters, digits and `_`.
     pub fn of(text: &[u8]) -> Option<Prefix>
         ensures valid { IsSome result ↔ IsTrue (is_prefix text.now) }
@@ -58,7 +58,7 @@ impl Prefix {
         if !is_valid(text) {
             return None;
         }
-        let mut bytes = [0u8; 32];
+        let mut bytes = [0u8; MAX_PREFIX_BYTES];
         bytes[..text.len()].copy_from_slice(text);
         Some(Prefix {
             bytes,

@@ -7,6 +7,7 @@ use Rattle.std.specs.Prelude.{IsUtf8}
 use Rattle.std.proofs.Math.Seq.{take-length}
 use Rattle.std.proofs.lemmas.List.Sums.{take_while-cons}
 use Rattle.std.specs.Prelude.{take_while, IsCharBoundary}
+use Rattle.kc_expr.specs.declared.language.Language.{Language}
 use Rattle.kc_expr.specs.Token.{lexemes_from, next_token, Lexeme, is_word_byte, lexemes_of, lexeme_of}
 use Rattle.kc_expr.specs.declared.token.Token.{Token as CodeToken}
 use Rattle.std.proofs.lemmas.List.{map-append}
@@ -38,47 +39,47 @@ word_ends [] h = absurd (omega arith)
 word_ends (b ∷ bs) h = rw take_while-cons (word_ends_by (is_word_byte b) b bs refl (word_ends bs) (rw take_while-cons at h))
 
 -- bytes of a token that began before are passed over
-pub lexemes_skip : (k at : ℕ) (bs : List ℕ) → lexemes_from k at bs ≡ lexemes_from 0 (at + k) (drop k bs)
-lexemes_skip zero at [] = refl
-lexemes_skip (suc k) at [] = refl
-lexemes_skip zero at (b ∷ bs) = ap (λ n. lexemes_from 0 n (b ∷ bs)) (omega arith)
-lexemes_skip (suc k) at (b ∷ bs) = lexemes_skip k (at + 1) bs ∙ ap (λ n. lexemes_from 0 n (drop k bs)) (omega arith)
+pub lexemes_skip : (language : Language) (k at : ℕ) (bs : List ℕ) → lexemes_from language k at bs ≡ lexemes_from language 0 (at + k) (drop k bs)
+lexemes_skip language zero at [] = refl
+lexemes_skip language (suc k) at [] = refl
+lexemes_skip language zero at (b ∷ bs) = ap (λ n. lexemes_from language 0 n (b ∷ bs)) (omega arith)
+lexemes_skip language (suc k) at (b ∷ bs) = lexemes_skip language k (at + 1) bs ∙ ap (λ n. lexemes_from language 0 n (drop k bs)) (omega arith)
 
-pub lexemes_white : (at b : ℕ) (bs : List ℕ) → next_token (b ∷ bs) ≡ White → lexemes_from 0 at (b ∷ bs) ≡ lexemes_from 0 (at + 1) bs
-lexemes_white at b bs e = rw (e, lexemes_from) refl
+pub lexemes_white : (language : Language) (at b : ℕ) (bs : List ℕ) → next_token language (b ∷ bs) ≡ White → lexemes_from language 0 at (b ∷ bs) ≡ lexemes_from language 0 (at + 1) bs
+lexemes_white language at b bs e = rw (e, lexemes_from) refl
 
-pub lexemes_comment : (at b : ℕ) (bs : List ℕ) → next_token (b ∷ bs) ≡ Comment → lexemes_from 0 at (b ∷ bs) ≡ Ok []
-lexemes_comment at b bs e = rw (e, lexemes_from) refl
+pub lexemes_comment : (language : Language) (at b : ℕ) (bs : List ℕ) → next_token language (b ∷ bs) ≡ Comment → lexemes_from language 0 at (b ∷ bs) ≡ Ok []
+lexemes_comment language at b bs e = rw (e, lexemes_from) refl
 
-pub lexemes_fault : (at b : ℕ) (bs : List ℕ) (kind : ExprKind) (ahead : ℕ) → next_token (b ∷ bs) ≡ Fault kind ahead → lexemes_from 0 at (b ∷ bs) ≡ Err (record { offset = at + ahead; kind = kind })
-lexemes_fault at b bs kind ahead e = rw (e, lexemes_from) refl
+pub lexemes_fault : (language : Language) (at b : ℕ) (bs : List ℕ) (kind : ExprKind) (ahead : ℕ) → next_token language (b ∷ bs) ≡ Fault kind ahead → lexemes_from language 0 at (b ∷ bs) ≡ Err (record { offset = at + ahead; kind = kind })
+lexemes_fault language at b bs kind ahead e = rw (e, lexemes_from) refl
 
-pub lexemes_token : (at b : ℕ) (bs : List ℕ) (kind : TokenKind) (len : ℕ) → next_token (b ∷ bs) ≡ Token kind (suc len) → lexemes_from 0 at (b ∷ bs) ≡ with_front (record { kind = kind; start = at; stop = at + suc len; text = take (suc len) (b ∷ bs) } ∷ []) (lexemes_from 0 (at + suc len) (drop len bs))
-lexemes_token at b bs kind len e = rw (e, lexemes_from) (ap (λ r. with_front (record { kind = kind; start = at; stop = at + suc len; text = take (suc len) (b ∷ bs) } ∷ []) r) (lexemes_skip len (at + 1) bs ∙ ap (λ n. lexemes_from 0 n (drop len bs)) (omega arith)))
+pub lexemes_token : (language : Language) (at b : ℕ) (bs : List ℕ) (kind : TokenKind) (len : ℕ) → next_token language (b ∷ bs) ≡ Token kind (suc len) → lexemes_from language 0 at (b ∷ bs) ≡ with_front (record { kind = kind; start = at; stop = at + suc len; text = take (suc len) (b ∷ bs) } ∷ []) (lexemes_from language 0 (at + suc len) (drop len bs))
+lexemes_token language at b bs kind len e = rw (e, lexemes_from) (ap (λ r. with_front (record { kind = kind; start = at; stop = at + suc len; text = take (suc len) (b ∷ bs) } ∷ []) r) (lexemes_skip language len (at + 1) bs ∙ ap (λ n. lexemes_from language 0 n (drop len bs)) (omega arith)))
 
 pub with_front_more : {E : Type 0} (xs ys : List Lexeme) (r : Result (List Lexeme) E) → with_front xs (with_front ys r) ≡ with_front (xs ++ ys) r
 with_front_more xs ys (Ok zs) = ap Ok (sym (append_assoc xs ys zs))
 with_front_more xs ys (Err e) = refl
 
 -- one step of reading a line, at a place and after the pieces found so far
-module _ (line : List ℕ) (at : ℕ) (found : List Lexeme) (all : Result (List Lexeme) ExprFault) (here : at < length line) (so_far : with_front found (lexemes_from 0 at (drop at line)) ≡ all) where
-  pub step_white : next_token (drop at line) ≡ White → with_front found (lexemes_from 0 (at + 1) (drop (at + 1) line)) ≡ all
+module _ (language : Language) (line : List ℕ) (at : ℕ) (found : List Lexeme) (all : Result (List Lexeme) ExprFault) (here : at < length line) (so_far : with_front found (lexemes_from language 0 at (drop at line)) ≡ all) where
+  pub step_white : next_token language (drop at line) ≡ White → with_front found (lexemes_from language 0 (at + 1) (drop (at + 1) line)) ≡ all
   step_white e =
       let d = drop_more line at 0 here in
       let inv = rw d at so_far in
       let lead = rw d at e in
-      ap (with_front found) (sym (lexemes_white at (get_or line at 0) (drop (at + 1) line) lead)) ∙ inv
+      ap (with_front found) (sym (lexemes_white language at (get_or line at 0) (drop (at + 1) line) lead)) ∙ inv
 
-  pub step_token : (kind : TokenKind) (n : ℕ) → next_token (drop at line) ≡ Token kind (suc n) → with_front (found ++ record { kind = kind; start = at; stop = at + suc n; text = take (suc n) (drop at line) } ∷ []) (lexemes_from 0 (at + suc n) (drop (at + suc n) line)) ≡ all
+  pub step_token : (kind : TokenKind) (n : ℕ) → next_token language (drop at line) ≡ Token kind (suc n) → with_front (found ++ record { kind = kind; start = at; stop = at + suc n; text = take (suc n) (drop at line) } ∷ []) (lexemes_from language 0 (at + suc n) (drop (at + suc n) line)) ≡ all
   step_token kind n e =
       let d = drop_more line at 0 here in
       let inv = rw d at so_far in
       let lead = rw d at e in
-      let t = lexemes_token at (get_or line at 0) (drop (at + 1) line) kind n lead in
+      let t = lexemes_token language at (get_or line at 0) (drop (at + 1) line) kind n lead in
       let there : drop (at + suc n) line ≡ drop n (drop (at + 1) line) = rw drop-drop (ap (λ k. drop k line) (omega arith)) in
-      rw (there, d) (sym (with_front_more found (record { kind = kind; start = at; stop = at + suc n; text = take (suc n) (get_or line at 0 ∷ drop (at + 1) line) } ∷ []) (lexemes_from 0 (at + suc n) (drop n (drop (at + 1) line)))) ∙ ap (with_front found) (sym t) ∙ inv)
+      rw (there, d) (sym (with_front_more found (record { kind = kind; start = at; stop = at + suc n; text = take (suc n) (get_or line at 0 ∷ drop (at + 1) line) } ∷ []) (lexemes_from language 0 (at + suc n) (drop n (drop (at + 1) line)))) ∙ ap (with_front found) (sym t) ∙ inv)
 
-  pub step_token_of : (kind : TokenKind) (len : ℕ) → 0 < len → next_token (drop at line) ≡ Token kind len → with_front (found ++ record { kind = kind; start = at; stop = at + len; text = take len (drop at line) } ∷ []) (lexemes_from 0 (at + len) (drop (at + len) line)) ≡ all
+  pub step_token_of : (kind : TokenKind) (len : ℕ) → 0 < len → next_token language (drop at line) ≡ Token kind len → with_front (found ++ record { kind = kind; start = at; stop = at + len; text = take len (drop at line) } ∷ []) (lexemes_from language 0 (at + len) (drop (at + len) line)) ≡ all
   step_token_of kind zero h e = absurd (omega arith)
   step_token_of kind (suc n) h e = step_token kind n e
 

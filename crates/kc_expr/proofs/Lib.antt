@@ -1,7 +1,9 @@
 pub mod CutLaws
+pub mod Dollars
 pub mod GrammarComplete
 pub mod GrammarLaws
 pub mod KeptLists
+pub mod Languages
 pub mod LeafLemmas
 pub mod Lexing
 pub mod NamesInLemmas

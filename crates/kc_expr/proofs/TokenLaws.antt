@@ -8,14 +8,17 @@ use Rattle.std.proofs.lemmas.List.Sums.{take_while-cons}
 use Rattle.std.proofs.Math.Seq.{take-append_seam, drop-append_seam}
 use Rattle.kc_value.specs.Quoted.{closing}
 use Rattle.kc_value.proofs.QuotedLaws.{body_closes}
+use Rattle.kc_expr.specs.declared.language.Language.{Language}
+use Rattle.kc_expr.specs.declared.language.Language.TheVariants.{Strict, Linux}
 use Rattle.kc_expr.specs.declared.token.NextToken.TheVariants.{White, Comment, Token}
 use Rattle.kc_expr.specs.declared.token.Relop.TheVariants.{Equal, NotEqual, Less, Greater, LessEqual, GreaterEqual}
 use Rattle.kc_expr.specs.declared.token.TokenKind.{TokenKind}
 use Rattle.kc_expr.specs.declared.token.TokenKind.TheVariants.{Word, Quoted, Relation, Not, And, Or, Open, Close}
 use Rattle.kc_expr.specs.Token.{with_front}
 use Rattle.kc_expr.specs.Grammar.{is_quote}
-use Rattle.kc_expr.specs.Token.{Lexeme, is_white_byte, is_word_byte, next_token, quoted_up_to, quoted_or_left_out, lexemes_from}
+use Rattle.kc_expr.specs.Token.{Lexeme, is_white_byte, is_word_byte, next_token, dollar_left_out, quoted_up_to, quoted_or_left_out, lexemes_from}
 use Rattle.kc_expr.specs.TokenGrammar.{IsQuotedToken, IsToken, IsLongest, IsCut, ends, comment, white, token}
+use Rattle.kc_expr.proofs.Dollars.{none_left_out}
 use Rattle.kc_expr.proofs.Lexing.{lexemes_white, lexemes_comment, lexemes_token, word_run}
 
 -- bytes of one sort are of no other
@@ -56,28 +59,16 @@ run_front (b ∷ bs) = rw take_while-cons (by_test (is_word_byte b) (run_front b
     by_test true h = ap (λ xs. b ∷ xs) h
     by_test false h = refl
 
--- no place where no byte passes
-no_place : (p : ℕ → Bool) (xs : List ℕ) → list_any p xs ≡ false → position_or_len p xs ≡ length xs
-no_place p [] h = refl
-no_place p (x ∷ xs) h = let (f, r) = or_parts (p x) (list_any p xs) h in rw f (omega (arith, no_place p xs r))
-
-position_none : (p : ℕ → Bool) (xs : List ℕ) → list_any p xs ≡ false → position p xs ≡ None
-position_none p xs h = let e = no_place p xs h in let t : ltb (position_or_len p xs) (length xs) ≡ false = le-ltb _ _ (omega (arith, e)) in rw t refl
-
-any_append : (p : ℕ → Bool) (xs ys : List ℕ) → list_any p xs ≡ false → list_any p ys ≡ false → list_any p (xs ++ ys) ≡ false
-any_append p [] ys h k = k
-any_append p (x ∷ xs) ys h k = let (f, r) = or_parts (p x) (list_any p xs) h in rw f (any_append p xs ys r k)
-
 -- the token at the front, where the language has one there
-lead_word : (c : ℕ) (bs : List ℕ) → is_word_byte c ≡ true → next_token (c ∷ bs) ≡ Token Word (length (take_while is_word_byte (c ∷ bs)))
+lead_word : (language : Language) (c : ℕ) (bs : List ℕ) → is_word_byte c ≡ true → next_token language (c ∷ bs) ≡ Token Word (length (take_while is_word_byte (c ∷ bs)))
 unfolding next_token
-lead_word c bs h = let a = word_no_white c h in let b = word_no_hash c h in rw (a, b, h) refl
+lead_word language c bs h = let a = word_no_white c h in let b = word_no_hash c h in rw (a, b, h) refl
 
-lead_quoted : (q : ℕ) (bs : List ℕ) → is_quote q ≡ true → next_token (q ∷ bs) ≡ quoted_up_to (q ∷ bs) (closing q false bs)
+pub lead_quoted : (language : Language) (q : ℕ) (bs : List ℕ) → is_quote q ≡ true → next_token language (q ∷ bs) ≡ quoted_up_to language (q ∷ bs) (closing q false bs)
 unfolding next_token
-lead_quoted q bs h = by_sort (quote_is q h)
+lead_quoted language q bs h = by_sort (quote_is q h)
   where
-    by_sort : (q ≡ 34) ⊎ (q ≡ 39) → next_token (q ∷ bs) ≡ quoted_up_to (q ∷ bs) (closing q false bs)
+    by_sort : (q ≡ 34) ⊎ (q ≡ 39) → next_token language (q ∷ bs) ≡ quoted_up_to language (q ∷ bs) (closing q false bs)
     by_sort (inl e) = rw e refl
     by_sort (inr e) = rw e refl
 
@@ -88,122 +79,128 @@ quote_facts q h = by_sort (quote_is q h)
     by_sort (inl e) = rw e (refl, refl, refl)
     by_sort (inr e) = rw e (refl, refl, refl)
 
-quoted_lead : (text rest : List ℕ) → IsQuotedToken text → next_token (text ++ rest) ≡ Token Quoted (length text)
-quoted_lead text rest t =
+pub quote_no_slash : (q : ℕ) → is_quote q ≡ true → eqb q 92 ≡ false
+quote_no_slash q h = by_sort (quote_is q h)
+  where
+    by_sort : (q ≡ 34) ⊎ (q ≡ 39) → eqb q 92 ≡ false
+    by_sort (inl e) = rw e refl
+    by_sort (inr e) = rw e refl
+
+quoted_lead : (language : Language) (text rest : List ℕ) → IsQuotedToken language text → next_token language (text ++ rest) ≡ Token Quoted (length text)
+quoted_lead language text rest t =
     let (slash, dollar, word) = quote_facts t.quote t.sort in
     let whole : List ℕ = t.quote ∷ (t.body ++ t.quote ∷ []) in
     let close : closing t.quote false ((t.body ++ t.quote ∷ []) ++ rest) ≡ Some (suc (length t.body)) =
     ap (closing t.quote false) (append_assoc t.body (t.quote ∷ []) rest) ∙ body_closes t.quote t.body t.means rest slash t.is_body in
     let size : suc (length t.body) + 1 ≡ length whole = omega (arith, length-append t.body (t.quote ∷ [])) in
-    let clean : list_any (λ c. eqb c 36) whole ≡ false = rw dollar (any_append (λ c. eqb c 36) t.body (t.quote ∷ []) t.no_dollar (rw dollar refl)) in
-    let none : position (λ c. eqb c 36) (take (suc (length t.body) + 1) (whole ++ rest)) ≡ None =
-    ap (λ n. position (λ c. eqb c 36) (take n (whole ++ rest))) size ∙ ap (position (λ c. eqb c 36)) (take-append_seam whole rest) ∙ position_none (λ c. eqb c 36) whole clean in
-    let lead : next_token (whole ++ rest) ≡ Token Quoted (length whole) =
-    lead_quoted t.quote ((t.body ++ t.quote ∷ []) ++ rest) t.sort
-    ∙ ap (quoted_up_to (whole ++ rest)) close
+    let none : dollar_left_out language (take (suc (length t.body) + 1) (whole ++ rest)) ≡ None =
+    ap (λ n. dollar_left_out language (take n (whole ++ rest))) size ∙ ap (dollar_left_out language) (take-append_seam whole rest) ∙ none_left_out t.quote t.body dollar (quote_no_slash t.quote t.sort) language t.dollars in
+    let lead : next_token language (whole ++ rest) ≡ Token Quoted (length whole) =
+    lead_quoted language t.quote ((t.body ++ t.quote ∷ []) ++ rest) t.sort
+    ∙ ap (quoted_up_to language (whole ++ rest)) close
     ∙ ap (quoted_or_left_out (suc (length t.body) + 1)) none
     ∙ ap (Token Quoted) size in
-    subst (λ x. next_token (x ++ rest) ≡ Token Quoted (length x)) (sym t.parts) lead
+    subst (λ x. next_token language (x ++ rest) ≡ Token Quoted (length x)) (sym t.parts) lead
 
 -- where no longer operator fits, the second byte is another
-second_by : (a c : ℕ) (cs : List ℕ) (b : Bool) (k : TokenKind) → IsToken k (a ∷ 61 ∷ []) → IsLongest (a ∷ []) (a ∷ c ∷ cs) → eqb c 61 ≡ b → b ≡ false
-second_by a c cs false k is long e = refl
-second_by a c cs true k is long e = absurd (let l = long k (a ∷ 61 ∷ []) cs (ap (λ d. a ∷ d ∷ cs) (eqb-true c 61 e)) is in omega (arith, l))
+second_by : (language : Language) (a c : ℕ) (cs : List ℕ) (b : Bool) (k : TokenKind) → IsToken language k (a ∷ 61 ∷ []) → IsLongest language (a ∷ []) (a ∷ c ∷ cs) → eqb c 61 ≡ b → b ≡ false
+second_by language a c cs false k is long e = refl
+second_by language a c cs true k is long e = absurd (let l = long k (a ∷ 61 ∷ []) cs (ap (λ d. a ∷ d ∷ cs) (eqb-true c 61 e)) is in omega (arith, l))
 
-second : (a : ℕ) (rest : List ℕ) (k : TokenKind) → IsToken k (a ∷ 61 ∷ []) → IsLongest (a ∷ []) (a ∷ rest) → eqb (get_or rest 0 0) 61 ≡ false
-second a [] k is long = refl
-second a (c ∷ cs) k is long = second_by a c cs (eqb c 61) k is long refl
+second : (language : Language) (a : ℕ) (rest : List ℕ) (k : TokenKind) → IsToken language k (a ∷ 61 ∷ []) → IsLongest language (a ∷ []) (a ∷ rest) → eqb (get_or rest 0 0) 61 ≡ false
+second language a [] k is long = refl
+second language a (c ∷ cs) k is long = second_by language a c cs (eqb c 61) k is long refl
 
-operator_lead : (k : TokenKind) (rest : List ℕ) → (k ≡ Word → ⊥) → (k ≡ Quoted → ⊥) → (text : List ℕ) → IsToken k text → IsLongest text (text ++ rest) → next_token (text ++ rest) ≡ Token k (length text)
+operator_lead : (language : Language) (k : TokenKind) (rest : List ℕ) → (k ≡ Word → ⊥) → (k ≡ Quoted → ⊥) → (text : List ℕ) → IsToken language k text → IsLongest language text (text ++ rest) → next_token language (text ++ rest) ≡ Token k (length text)
 unfolding next_token
-operator_lead Word rest w q text is long = absurd (w refl)
-operator_lead Quoted rest w q text is long = absurd (q refl)
-operator_lead (Relation Equal) rest w q text is long = rw is refl
-operator_lead (Relation NotEqual) rest w q text is long = rw is refl
-operator_lead (Relation LessEqual) rest w q text is long = rw is refl
-operator_lead (Relation GreaterEqual) rest w q text is long = rw is refl
-operator_lead And rest w q text is long = rw is refl
-operator_lead Or rest w q text is long = rw is refl
-operator_lead Open rest w q text is long = rw is refl
-operator_lead Close rest w q text is long = rw is refl
-operator_lead (Relation Less) rest w q text is long =
-    let f = second 60 rest (Relation LessEqual) refl (subst (λ x. IsLongest x (x ++ rest)) is long) in
+operator_lead language Word rest w q text is long = absurd (w refl)
+operator_lead language Quoted rest w q text is long = absurd (q refl)
+operator_lead language (Relation Equal) rest w q text is long = rw is refl
+operator_lead language (Relation NotEqual) rest w q text is long = rw is refl
+operator_lead language (Relation LessEqual) rest w q text is long = rw is refl
+operator_lead language (Relation GreaterEqual) rest w q text is long = rw is refl
+operator_lead language And rest w q text is long = rw is refl
+operator_lead language Or rest w q text is long = rw is refl
+operator_lead language Open rest w q text is long = rw is refl
+operator_lead language Close rest w q text is long = rw is refl
+operator_lead language (Relation Less) rest w q text is long =
+    let f = second language 60 rest (Relation LessEqual) refl (subst (λ x. IsLongest language x (x ++ rest)) is long) in
     rw is (rw f refl)
-operator_lead (Relation Greater) rest w q text is long =
-    let f = second 62 rest (Relation GreaterEqual) refl (subst (λ x. IsLongest x (x ++ rest)) is long) in
+operator_lead language (Relation Greater) rest w q text is long =
+    let f = second language 62 rest (Relation GreaterEqual) refl (subst (λ x. IsLongest language x (x ++ rest)) is long) in
     rw is (rw f refl)
-operator_lead Not rest w q text is long =
-    let f = second 33 rest (Relation NotEqual) refl (subst (λ x. IsLongest x (x ++ rest)) is long) in
+operator_lead language Not rest w q text is long =
+    let f = second language 33 rest (Relation NotEqual) refl (subst (λ x. IsLongest language x (x ++ rest)) is long) in
     rw is (rw f refl)
 
-word_lead : (text rest : List ℕ) → IsToken Word text → IsLongest text (text ++ rest) → next_token (text ++ rest) ≡ Token Word (length text)
-word_lead [] rest is long = absurd (omega (arith, is.0))
-word_lead (c ∷ cs) rest is long =
+word_lead : (language : Language) (text rest : List ℕ) → IsToken language Word text → IsLongest language text (text ++ rest) → next_token language (text ++ rest) ≡ Token Word (length text)
+word_lead language [] rest is long = absurd (omega (arith, is.0))
+word_lead language (c ∷ cs) rest is long =
     let (w, r) = and_parts (is_word_byte c) (list_all is_word_byte cs) is.1 in
     let run = take_while is_word_byte (c ∷ (cs ++ rest)) in
     let some : 0 < length run = word_run (c ∷ (cs ++ rest)) (omega arith) w in
     let up = long Word run (drop (length run) (c ∷ (cs ++ rest))) (run_front (c ∷ (cs ++ rest))) (some, run_all (c ∷ (cs ++ rest))) in
     let down = front_run (c ∷ cs) rest is.1 in
-    lead_word c (cs ++ rest) w ∙ ap (Token Word) (let q : length run ≡ length (c ∷ cs) = omega (arith, up, down) in q)
+    lead_word language c (cs ++ rest) w ∙ ap (Token Word) (let q : length run ≡ length (c ∷ cs) = omega (arith, up, down) in q)
 
-token_lead : (k : TokenKind) (text rest : List ℕ) → IsToken k text → IsLongest text (text ++ rest) → next_token (text ++ rest) ≡ Token k (length text)
-token_lead Word text rest is long = word_lead text rest is long
-token_lead Quoted text rest is long = quoted_lead text rest is
-token_lead (Relation op) text rest is long = operator_lead (Relation op) rest (λ e. cc) (λ e. cc) text is long
-token_lead Not text rest is long = operator_lead Not rest (λ e. cc) (λ e. cc) text is long
-token_lead And text rest is long = operator_lead And rest (λ e. cc) (λ e. cc) text is long
-token_lead Or text rest is long = operator_lead Or rest (λ e. cc) (λ e. cc) text is long
-token_lead Open text rest is long = operator_lead Open rest (λ e. cc) (λ e. cc) text is long
-token_lead Close text rest is long = operator_lead Close rest (λ e. cc) (λ e. cc) text is long
+token_lead : (language : Language) (k : TokenKind) (text rest : List ℕ) → IsToken language k text → IsLongest language text (text ++ rest) → next_token language (text ++ rest) ≡ Token k (length text)
+token_lead language Word text rest is long = word_lead language text rest is long
+token_lead language Quoted text rest is long = quoted_lead language text rest is
+token_lead language (Relation op) text rest is long = operator_lead language (Relation op) rest (λ e. cc) (λ e. cc) text is long
+token_lead language Not text rest is long = operator_lead language Not rest (λ e. cc) (λ e. cc) text is long
+token_lead language And text rest is long = operator_lead language And rest (λ e. cc) (λ e. cc) text is long
+token_lead language Or text rest is long = operator_lead language Or rest (λ e. cc) (λ e. cc) text is long
+token_lead language Open text rest is long = operator_lead language Open rest (λ e. cc) (λ e. cc) text is long
+token_lead language Close text rest is long = operator_lead language Close rest (λ e. cc) (λ e. cc) text is long
 
 -- a token has a byte
-pub first_byte : (k : TokenKind) (text : List ℕ) → IsToken k text → (c : ℕ) × (cs : List ℕ) × (text ≡ c ∷ cs)
-first_byte Word [] is = absurd (omega (arith, is.0))
-first_byte Word (c ∷ cs) is = (c, cs, refl)
-first_byte Quoted text is = (is.quote, is.body ++ is.quote ∷ [], is.parts)
-first_byte (Relation Equal) text is = (61, [], is)
-first_byte (Relation NotEqual) text is = (33, 61 ∷ [], is)
-first_byte (Relation Less) text is = (60, [], is)
-first_byte (Relation Greater) text is = (62, [], is)
-first_byte (Relation LessEqual) text is = (60, 61 ∷ [], is)
-first_byte (Relation GreaterEqual) text is = (62, 61 ∷ [], is)
-first_byte Not text is = (33, [], is)
-first_byte And text is = (38, 38 ∷ [], is)
-first_byte Or text is = (124, 124 ∷ [], is)
-first_byte Open text is = (40, [], is)
-first_byte Close text is = (41, [], is)
+pub first_byte : (language : Language) (k : TokenKind) (text : List ℕ) → IsToken language k text → (c : ℕ) × (cs : List ℕ) × (text ≡ c ∷ cs)
+first_byte language Word [] is = absurd (omega (arith, is.0))
+first_byte language Word (c ∷ cs) is = (c, cs, refl)
+first_byte language Quoted text is = (is.quote, is.body ++ is.quote ∷ [], is.parts)
+first_byte language (Relation Equal) text is = (61, [], is)
+first_byte language (Relation NotEqual) text is = (33, 61 ∷ [], is)
+first_byte language (Relation Less) text is = (60, [], is)
+first_byte language (Relation Greater) text is = (62, [], is)
+first_byte language (Relation LessEqual) text is = (60, 61 ∷ [], is)
+first_byte language (Relation GreaterEqual) text is = (62, 61 ∷ [], is)
+first_byte language Not text is = (33, [], is)
+first_byte language And text is = (38, 38 ∷ [], is)
+first_byte language Or text is = (124, 124 ∷ [], is)
+first_byte language Open text is = (40, [], is)
+first_byte language Close text is = (41, [], is)
 
 -- one token read
-token_read : (at c : ℕ) (cs rest : List ℕ) (k : TokenKind) (s t : ℕ) (ps : List Lexeme) → s ≡ at → t ≡ at + suc (length cs) → next_token (c ∷ (cs ++ rest)) ≡ Token k (suc (length cs)) → lexemes_from 0 t rest ≡ Ok ps
-    → lexemes_from 0 at (c ∷ (cs ++ rest)) ≡ Ok (record { kind = k; start = s; stop = t; text = c ∷ cs } ∷ ps)
-token_read at c cs rest k s t ps e f lead h =
-    lexemes_token at c (cs ++ rest) k (length cs) lead
-    ∙ ap (λ x. with_front (record { kind = k; start = at; stop = at + suc (length cs); text = c ∷ x } ∷ []) (lexemes_from 0 (at + suc (length cs)) (drop (length cs) (cs ++ rest)))) (take-append_seam cs rest)
-    ∙ ap (λ x. with_front (record { kind = k; start = at; stop = at + suc (length cs); text = c ∷ cs } ∷ []) (lexemes_from 0 (at + suc (length cs)) x)) (drop-append_seam cs rest)
-    ∙ ap (λ n. with_front (record { kind = k; start = at; stop = n; text = c ∷ cs } ∷ []) (lexemes_from 0 n rest)) (sym f)
+token_read : (language : Language) (at c : ℕ) (cs rest : List ℕ) (k : TokenKind) (s t : ℕ) (ps : List Lexeme) → s ≡ at → t ≡ at + suc (length cs) → next_token language (c ∷ (cs ++ rest)) ≡ Token k (suc (length cs)) → lexemes_from language 0 t rest ≡ Ok ps
+    → lexemes_from language 0 at (c ∷ (cs ++ rest)) ≡ Ok (record { kind = k; start = s; stop = t; text = c ∷ cs } ∷ ps)
+token_read language at c cs rest k s t ps e f lead h =
+    lexemes_token language at c (cs ++ rest) k (length cs) lead
+    ∙ ap (λ x. with_front (record { kind = k; start = at; stop = at + suc (length cs); text = c ∷ x } ∷ []) (lexemes_from language 0 (at + suc (length cs)) (drop (length cs) (cs ++ rest)))) (take-append_seam cs rest)
+    ∙ ap (λ x. with_front (record { kind = k; start = at; stop = at + suc (length cs); text = c ∷ cs } ∷ []) (lexemes_from language 0 (at + suc (length cs)) x)) (drop-append_seam cs rest)
+    ∙ ap (λ n. with_front (record { kind = k; start = at; stop = n; text = c ∷ cs } ∷ []) (lexemes_from language 0 n rest)) (sym f)
     ∙ ap (with_front (record { kind = k; start = at; stop = t; text = c ∷ cs } ∷ [])) h
     ∙ ap (λ n. Ok (record { kind = k; start = n; stop = t; text = c ∷ cs } ∷ ps)) (sym e)
 
-white_lead : (c : ℕ) (bs : List ℕ) → is_white_byte c ≡ true → next_token (c ∷ bs) ≡ White
+white_lead : (language : Language) (c : ℕ) (bs : List ℕ) → is_white_byte c ≡ true → next_token language (c ∷ bs) ≡ White
 unfolding next_token
-white_lead c bs h = rw h refl
+white_lead language c bs h = rw h refl
 
-hash_lead : (bs : List ℕ) → next_token (35 ∷ bs) ≡ Comment
+hash_lead : (language : Language) (bs : List ℕ) → next_token language (35 ∷ bs) ≡ Comment
 unfolding next_token
-hash_lead bs = refl
+hash_lead language bs = refl
 
 -- a line that is cut so is read so
-pub cut_read : (at : ℕ) (bytes : List ℕ) (ps : List Lexeme) → IsCut at bytes ps → lexemes_from 0 at bytes ≡ Ok ps
-cut_read at bytes ps ends = refl
-cut_read at bytes ps (comment {bytes = bs}) = lexemes_comment at 35 bs (hash_lead bs)
-cut_read at bytes ps (white {c = c} {bytes = bs} h x) = lexemes_white at c bs (white_lead c bs h) ∙ cut_read (at + 1) bs ps x
-cut_read at bytes ps (token {ps = qs} p rest parts is long start stop x) = by_first (first_byte p.kind p.text is) (cut_read p.stop rest qs x)
+pub cut_read : (language : Language) (at : ℕ) (bytes : List ℕ) (ps : List Lexeme) → IsCut language at bytes ps → lexemes_from language 0 at bytes ≡ Ok ps
+cut_read language at bytes ps ends = refl
+cut_read language at bytes ps (comment {bytes = bs}) = lexemes_comment language at 35 bs (hash_lead language bs)
+cut_read language at bytes ps (white {c = c} {bytes = bs} h x) = lexemes_white language at c bs (white_lead language c bs h) ∙ cut_read language (at + 1) bs ps x
+cut_read language at bytes ps (token {ps = qs} p rest parts is long start stop x) = by_first (first_byte language p.kind p.text is) (cut_read language p.stop rest qs x)
   where
-    by_first : (c : ℕ) × (cs : List ℕ) × (p.text ≡ c ∷ cs) → lexemes_from 0 p.stop rest ≡ Ok qs → lexemes_from 0 at bytes ≡ Ok (p ∷ qs)
+    by_first : (c : ℕ) × (cs : List ℕ) × (p.text ≡ c ∷ cs) → lexemes_from language 0 p.stop rest ≡ Ok qs → lexemes_from language 0 at bytes ≡ Ok (p ∷ qs)
     by_first (c, cs, e) h =
-        let lead : next_token (c ∷ (cs ++ rest)) ≡ Token p.kind (suc (length cs)) =
-        subst (λ x. next_token (x ++ rest) ≡ Token p.kind (length x)) e (token_lead p.kind p.text rest is (subst (IsLongest p.text) parts long)) in
+        let lead : next_token language (c ∷ (cs ++ rest)) ≡ Token p.kind (suc (length cs)) =
+        subst (λ x. next_token language (x ++ rest) ≡ Token p.kind (length x)) e (token_lead language p.kind p.text rest is (subst (IsLongest language p.text) parts long)) in
         let stops : p.stop ≡ at + suc (length cs) = stop ∙ ap (λ x. at + length x) e in
-        ap (lexemes_from 0 at) (parts ∙ ap (λ x. x ++ rest) e)
-        ∙ token_read at c cs rest p.kind p.start p.stop qs start stops lead h
+        ap (lexemes_from language 0 at) (parts ∙ ap (λ x. x ++ rest) e)
+        ∙ token_read language at c cs rest p.kind p.start p.stop qs start stops lead h
         ∙ ap (λ x. Ok (record { kind = p.kind; start = p.start; stop = p.stop; text = x } ∷ qs)) (sym e)

@@ -6,7 +6,8 @@ use Rattle.kc_value.specs.declared.value.Kind.TheVariants.{Tristate, Text, Int, 
 use Rattle.kc_value.specs.Number.{int_text, hex_text, loose_number}
 use Rattle.kc_expr.specs.declared.token.Relop.TheVariants.{Equal}
 use Rattle.kc_expr.specs.declared.token.TokenKind.TheVariants.{Word, Quoted}
-use Rattle.kc_expr.specs.declared.fault.ExprKind.TheVariants.{UnclosedQuote, LeftOut}
+use Rattle.kc_expr.specs.declared.fault.ExprKind.TheVariants.{BadToken, UnclosedQuote, LeftOut}
+use Rattle.kc_expr.specs.declared.language.Language.TheVariants.{Strict, Linux}
 use Rattle.kc_expr.specs.Token.{lexemes_from, next_token, Lexeme}
 use Rattle.std.proofs.Common.{length}
 use Rattle.kc_expr.specs.declared.fault.ExprKind.{ExprKind}
@@ -43,21 +44,42 @@ unfolding names int_text hex_text loose_number
 text_compares_with_a_number = refl
 
 -- a line of a word and a quoted text, and a comment
-words_quotes_comment : lexemes_from 0 0 (codes "bool \"a b\" # x") ≡ Ok (record { kind = Word; start = 0; stop = 4; text = codes "bool" } ∷ record { kind = Quoted; start = 5; stop = 10; text = codes "\"a b\"" } ∷ [])
+words_quotes_comment : lexemes_from Strict 0 0 (codes "bool \"a b\" # x") ≡ Ok (record { kind = Word; start = 0; stop = 4; text = codes "bool" } ∷ record { kind = Quoted; start = 5; stop = 10; text = codes "\"a b\"" } ∷ [])
 unfolding next_token
 words_quotes_comment = refl
 
-quote_is_not_closed : lexemes_from 0 0 (codes "a \"b") ≡ Err (record { offset = 2; kind = UnclosedQuote })
+quote_is_not_closed : lexemes_from Strict 0 0 (codes "a \"b") ≡ Err (record { offset = 2; kind = UnclosedQuote })
 unfolding next_token
 quote_is_not_closed = refl
 
-dollar_is_left_out : lexemes_from 0 0 (codes "a \"b$\"") ≡ Err (record { offset = 4; kind = LeftOut })
+dollar_is_left_out : lexemes_from Strict 0 0 (codes "a \"b$\"") ≡ Err (record { offset = 4; kind = LeftOut })
 unfolding next_token
 dollar_is_left_out = refl
 
+-- in quotes a pair of a backslash and a `$` is read in the language of Linux alone, and any other `$` in none
+dollar_in_a_pair : lexemes_from Linux 0 0 (codes "a \"b\\$\"") ≡ Ok (record { kind = Word; start = 0; stop = 1; text = codes "a" } ∷ record { kind = Quoted; start = 2; stop = 7; text = codes "\"b\\$\"" } ∷ [])
+unfolding next_token
+dollar_in_a_pair = refl
+
+dollar_in_a_pair_is_left_out : lexemes_from Strict 0 0 (codes "a \"b\\$\"") ≡ Err (record { offset = 5; kind = LeftOut })
+unfolding next_token
+dollar_in_a_pair_is_left_out = refl
+
+dollar_after_a_pair : lexemes_from Linux 0 0 (codes "a \"b\\\\$\"") ≡ Err (record { offset = 6; kind = LeftOut })
+unfolding next_token
+dollar_after_a_pair = refl
+
+dollar_outside_quotes : lexemes_from Linux 0 0 (codes "a \\$") ≡ Err (record { offset = 2; kind = BadToken })
+unfolding next_token
+dollar_outside_quotes = refl
+
+bare_dollar_in_linux : lexemes_from Linux 0 0 (codes "a $b") ≡ Err (record { offset = 2; kind = LeftOut })
+unfolding next_token
+bare_dollar_in_linux = refl
+
 -- the expression of a text
 pieces : List ℕ → List Lexeme
-pieces text = elim (lexemes_from 0 0 text) [ Ok ps ↦ ps | Err e ↦ [] ]
+pieces text = elim (lexemes_from Strict 0 0 text) [ Ok ps ↦ ps | Err e ↦ [] ]
 
 read : List ℕ → Result Expr (ExprKind × ℕ)
 read text = elim (read_expr (extent (pieces text))) [ Ok e ↦ Ok e | Err f ↦ Err (f.0, length f.1) ]

@@ -1,8 +1,10 @@
 -- The tokens of a line.
-use Rattle.std.specs.Prelude.{ℕ, zero, suc, pred, ◌+◌, Bool, false, ◌&&◌, ◌||◌, ◌==◌, nat_le, List, [], ◌∷◌, ◌++◌, length, take, drop, map, take_while, position, Option, Some, None, Result, Ok, Err, slice_index, if◌then◌else◌}
+use Rattle.std.specs.Prelude.{ℕ, zero, suc, pred, ◌+◌, Bool, true, false, ◌&&◌, ◌||◌, ◌==◌, nat_le, List, [], ◌∷◌, ◌++◌, length, take, drop, map, take_while, position, Option, Some, None, option_map, Result, Ok, Err, slice_index, if◌then◌else◌}
 use Rattle.kc_value.specs.Quoted.{closing}
 use Rattle.kc_expr.specs.declared.fault.ExprFault.{ExprFault}
 use Rattle.kc_expr.specs.declared.fault.ExprKind.TheVariants.{BadToken, UnclosedQuote, LeftOut}
+use Rattle.kc_expr.specs.declared.language.Language.{Language}
+use Rattle.kc_expr.specs.declared.language.Language.TheVariants.{Strict, Linux}
 use Rattle.kc_expr.specs.declared.token.Relop.TheVariants.{Equal, NotEqual, Less, Greater, LessEqual, GreaterEqual}
 use Rattle.kc_expr.specs.declared.token.TokenKind.{TokenKind}
 use Rattle.kc_expr.specs.declared.token.TokenKind.TheVariants.{Word, Quoted, Relation, Not, And, Or, Open, Close}
@@ -25,19 +27,30 @@ is_white_byte c = c == 9 || (c == 11) || (c == 12) || (c == 13) || (c == 32)
 abbrev pub is_word_byte : ℕ → Bool
 is_word_byte c = (nat_le 65 c && nat_le c 90) || (nat_le 97 c && nat_le c 122) || (nat_le 48 c && nat_le c 57) || (c == 95) || (c == 45) || (c == 46) || (c == 47)
 
--- a quoted text reaches up to its closing quote, and a `$` in it is left out
+-- the place of the first `$` that stands in no pair of a backslash and a character
+abbrev pub bare_dollar : Bool → List ℕ → Option ℕ
+bare_dollar escaped [] = None
+bare_dollar true (c ∷ cs) = option_map suc (bare_dollar false cs)
+bare_dollar false (c ∷ cs) = if c == 36 then Some 0 else option_map suc (bare_dollar (c == 92) cs)
+
+-- the place of the first `$` of a quoted text that is left out: in the strict language of any, in that of Linux of one in no pair
+abbrev pub dollar_left_out : Language → List ℕ → Option ℕ
+dollar_left_out Strict text = position (λ c. c == 36) text
+dollar_left_out Linux text = bare_dollar false text
+
+-- a quoted text reaches up to its closing quote, unless a `$` in it is left out
 abbrev pub quoted_or_left_out : ℕ → Option ℕ → NextToken
 quoted_or_left_out len None = Token Quoted len
 quoted_or_left_out len (Some k) = Fault LeftOut k
 
 -- the quoted text that ends at its closing quote, if it has one
-abbrev pub quoted_up_to : List ℕ → Option ℕ → NextToken
-quoted_up_to bytes None = Fault UnclosedQuote 0
-quoted_up_to bytes (Some n) = quoted_or_left_out (n + 1) (position (λ c. c == 36) (take (n + 1) bytes))
+abbrev pub quoted_up_to : Language → List ℕ → Option ℕ → NextToken
+quoted_up_to language bytes None = Fault UnclosedQuote 0
+quoted_up_to language bytes (Some n) = quoted_or_left_out (n + 1) (dollar_left_out language (take (n + 1) bytes))
 
 -- the quoted text at the front of bytes
-abbrev pub next_quoted : List ℕ → NextToken
-next_quoted bytes = quoted_up_to bytes (closing (slice_index bytes 0) false (drop 1 bytes))
+abbrev pub next_quoted : Language → List ℕ → NextToken
+next_quoted language bytes = quoted_up_to language bytes (closing (slice_index bytes 0) false (drop 1 bytes))
 
 -- the longest operator that fits
 abbrev pub next_operator : ℕ → ℕ → NextToken
@@ -54,13 +67,13 @@ next_operator a b =
     else Fault BadToken 0
 
 -- the token or the white space at the front of bytes
-unfoldable pub next_token : List ℕ → NextToken
-next_token bytes =
+unfoldable pub next_token : Language → List ℕ → NextToken
+next_token language bytes =
     let a = slice_index bytes 0 in
     if is_white_byte a then White
     else if a == 35 then Comment
     else if is_word_byte a then Token Word (length (take_while is_word_byte bytes))
-    else if a == 34 || (a == 39) then next_quoted bytes
+    else if a == 34 || (a == 39) then next_quoted language bytes
     else next_operator a (slice_index bytes 1)
 
 -- a list in front of the list of a result
@@ -69,13 +82,13 @@ with_front front (Ok xs) = Ok (front ++ xs)
 with_front front (Err e) = Err e
 
 -- the tokens of a line from a byte on, or its first fault; `skip` counts the remaining bytes of the token before
-abbrev pub lexemes_from : ℕ → ℕ → List ℕ → Result (List Lexeme) ExprFault
-lexemes_from skip at [] = Ok []
-lexemes_from (suc skip) at (b ∷ bs) = lexemes_from skip (at + 1) bs
-lexemes_from zero at (b ∷ bs) = elim (next_token (b ∷ bs)) [
-  | White ↦ lexemes_from 0 (at + 1) bs
+abbrev pub lexemes_from : Language → (skip at : ℕ) → List ℕ → Result (List Lexeme) ExprFault
+lexemes_from language skip at [] = Ok []
+lexemes_from language (suc skip) at (b ∷ bs) = lexemes_from language skip (at + 1) bs
+lexemes_from language zero at (b ∷ bs) = elim (next_token language (b ∷ bs)) [
+  | White ↦ lexemes_from language 0 (at + 1) bs
   | Comment ↦ Ok []
-  | Token kind len ↦ with_front (record { kind = kind; start = at; stop = at + len; text = take len (b ∷ bs) } ∷ []) (lexemes_from (pred len) (at + 1) bs)
+  | Token kind len ↦ with_front (record { kind = kind; start = at; stop = at + len; text = take len (b ∷ bs) } ∷ []) (lexemes_from language (pred len) (at + 1) bs)
   | Fault kind ahead ↦ Err (record { offset = at + ahead; kind = kind })
 ]
 

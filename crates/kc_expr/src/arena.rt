@@ -71,8 +71,8 @@ impl Arena {
 
     /// The value of an expression, its names having the values of the look-up. Takes no memory.
     pub fn value<L: Lookup>(&self, id: ExprId, lookup: &L) -> Tri
-        requires { id < length self.now.nodes }
-        ensures { result ≡ value (environment_of self.now.names (L.symbol_values lookup.now)) (node_expr self.now id) }
+        requires there { id < length self.now.nodes }
+        ensures value { result ≡ value (environment_of self.now.names (L.symbol_values lookup.now)) (node_expr self.now id) }
     {
         value_of(&self.store, id.index(), lookup)
     }
@@ -94,7 +94,7 @@ impl Arena {
         at: usize,
         condition: bool,
     ) -> Result<(ExprId, usize), ExprFault>
-        requires { at ≤ length tokens.now }
+        requires within { at ≤ length tokens.now }
         ensures grows { Grows self.old self.new }
         ensures names { IfOk result (λ r. self.new.names ≡ with_names (names_in (node_expr self.new r.0)) self.old.names) }
         ensures end { IfOk result (λ r. r.1 ≡ expr_end (lexemes_of tokens.now) at) }
@@ -132,7 +132,7 @@ impl Arena {
 
     /// `y` where an expression isn't `n`, and else `n`. An `Err` means out of memory, and leaves the arena as it was.
     pub fn shown(&mut self, id: ExprId) -> Result<ExprId, ExprFault>
-        requires { id < length self.old.nodes }
+        requires there { id < length self.old.nodes }
         ensures grows { Grows self.old self.new }
         ensures names { self.new.names ≡ self.old.names }
         ensures ok { IfOk result (λ i. Represents self.new i (shown (node_expr self.old id))) }
@@ -190,8 +190,8 @@ impl Arena {
 
     /// The word of a name.
     pub fn name(&self, id: NameId) -> &str
-        requires { id < length self.now.names }
-        ensures { result.now ≡ slice_index_or self.now.names id [] }
+        requires there { id < length self.now.names }
+        ensures value { result.now ≡ slice_index_or self.now.names id [] }
     {
         self.store.name(id.index())
     }
@@ -206,7 +206,7 @@ impl Arena {
 
     /// The operand that an expression is; `None` where it isn't just one.
     pub fn operand(&self, id: ExprId) -> Option<Operand<'_>>
-        requires { id < length self.now.nodes }
+        requires there { id < length self.now.nodes }
         ensures operand { option_map (operand_of_ref self.now.names) result ≡ operand_alone (node_expr self.now id) }
         ensures held { IfSome result (HasKnownName self.now.names) }
     {
@@ -222,7 +222,7 @@ impl Arena {
 
     /// The name that an expression is; `None` where it isn't just one. Takes no memory.
     pub fn bare_name(&self, id: ExprId) -> Option<NameId>
-        requires { id < length self.now.nodes }
+        requires there { id < length self.now.nodes }
         ensures name { option_map (λ i. slice_index_or self.now.names i []) result ≡ name_alone (node_expr self.now id) }
         ensures held { IfSome result (λ i. i < length self.now.names) }
     {
@@ -239,7 +239,7 @@ impl Arena {
     /// Appends the names in an expression, some perhaps more than once. An `Err` means out of memory, and
     /// leaves the others alone.
     pub fn push_names(&self, id: ExprId, found: &mut Vec<NameId>) -> Result<(), AllocError>
-        requires { id < length self.now.nodes }
+        requires there { id < length self.now.nodes }
         ensures words { OnOk result (map (λ i. slice_index_or self.now.names i []) found.new.items
             ≡ map (λ i. slice_index_or self.now.names i []) found.old.items ++ names_in_reverse (node_expr self.now id)) }
         ensures held { OnOk result (All (λ i. i < length self.now.names) found.old.items → All (λ i. i < length self.now.names) found.new.items) }
@@ -296,7 +296,7 @@ impl Arena {
 
     /// The names in an expression, ascending, each once. An `Err` means out of memory.
     pub fn names(&self, id: ExprId) -> Result<Vec<NameId>, AllocError>
-        requires { id < length self.now.nodes }
+        requires there { id < length self.now.nodes }
         ensures ascending { IfOk result (λ ids. IsStrictlyIncreasing ids.items) }
         ensures exact { IfOk result (λ ids. (i : ℕ) → Contains ids.items i
             ↔ ((i < length self.now.names) × Contains (names_in (node_expr self.now id)) (slice_index_or self.now.names i []))) }

@@ -144,7 +144,7 @@ fn compare(a: Side<'_>, b: Side<'_>) -> Ordering
 fn leaf_value<L: Lookup>(store: &Store, leaf: Leaf, lookup: &L) -> Tri
     requires fits { LeafFits (length (stored_names store.now)) (length store.now.texts.items) leaf }
     requires distinct { AreDistinct (stored_names store.now) }
-    ensures { result ≡ operand_value (environment_of (stored_names store.now) (L.symbol_values lookup.now)) (operand_of (stored_names store.now) store.now.texts.items leaf) }
+    ensures value { result ≡ operand_value (environment_of (stored_names store.now) (L.symbol_values lookup.now)) (operand_of (stored_names store.now) store.now.texts.items leaf) }
 {
     match leaf {
         Leaf::Constant(t) => t,
@@ -171,7 +171,7 @@ fn related_value<L: Lookup>(store: &Store, op: Relop, a: Leaf, b: Leaf, lookup: 
     requires left { LeafFits (length (stored_names store.now)) (length store.now.texts.items) a }
     requires right { LeafFits (length (stored_names store.now)) (length store.now.texts.items) b }
     requires distinct { AreDistinct (stored_names store.now) }
-    ensures { let seen = environment_of (stored_names store.now) (L.symbol_values lookup.now) in
+    ensures value { let seen = environment_of (stored_names store.now) (L.symbol_values lookup.now) in
         result ≡ (if relation_holds op (compared seen (operand_of (stored_names store.now) store.now.texts.items a) (operand_of (stored_names store.now) store.now.texts.items b)) then Y else N) }
 {
     let left = side_of(store, a, lookup);
@@ -188,7 +188,7 @@ fn related_value<L: Lookup>(store: &Store, op: Relop, a: Leaf, b: Leaf, lookup: 
 pub(crate) fn value_of<L: Lookup>(store: &Store, index: usize, lookup: &L) -> Tri
     requires there { index < length store.now.nodes.items }
     requires sound { IsSound store.now }
-    ensures { result ≡ value (environment_of (stored_names store.now) (L.symbol_values lookup.now)) (node_expr (exprs_in store.now) index) }
+    ensures value { result ≡ value (environment_of (stored_names store.now) (L.symbol_values lookup.now)) (node_expr (exprs_in store.now) index) }
 {
     if let Node::Alone(leaf) = store.node(index) {
         return leaf_value(store, leaf, lookup);
@@ -201,7 +201,7 @@ pub(crate) fn value_of<L: Lookup>(store: &Store, index: usize, lookup: &L) -> Tr
 fn value_at<L: Lookup>(store: &Store, index: usize, lookup: &L) -> Tri
     requires there { index < length store.now.nodes.items }
     requires sound { IsSound store.now }
-    ensures { result ≡ value (environment_of (stored_names store.now) (L.symbol_values lookup.now)) (node_expr (exprs_in store.now) index) }
+    ensures value { result ≡ value (environment_of (stored_names store.now) (L.symbol_values lookup.now)) (node_expr (exprs_in store.now) index) }
 {
     match store.node(index) {
         Node::Alone(leaf) => leaf_value(store, leaf, lookup),

@@ -42,7 +42,7 @@ impl Store {
     /// The operand that a word is.
     #[inline(always)]
     fn word_leaf(&mut self, text: &str) -> Result<Leaf, ExprFault>
-        requires { IsSound self.old }
+        requires sound { IsSound self.old }
         ensures sound { IsSound self.new }
         ensures extends { Extends self.old self.new }
         ensures fits { IfOk result (λ l. LeafFits (length (stored_names self.new)) (length self.new.texts.items) l) }
@@ -62,7 +62,7 @@ impl Store {
 
     /// The operand that a quoted token is.
     fn quoted_leaf(&mut self, text: &str) -> Result<Leaf, ExprFault>
-        requires { IsSound self.old }
+        requires sound { IsSound self.old }
         ensures sound { IsSound self.new }
         ensures extends { Extends self.old self.new }
         ensures fits { IfOk result (λ l. LeafFits (length (stored_names self.new)) (length self.new.texts.items) l) }
@@ -86,7 +86,7 @@ impl Store {
         tokens: &[Token<'_>],
         at: usize,
     ) -> Result<Option<Leaf>, ExprFault>
-        requires { IsSound self.old }
+        requires sound { IsSound self.old }
         ensures sound { IsSound self.new }
         ensures extends { Extends self.old self.new }
         ensures fits { IfOk result (λ o. IfSome o (LeafFits (length (stored_names self.new)) (length self.new.texts.items))) }
@@ -108,7 +108,7 @@ impl Store {
     /// A node for a word that is a whole expression.
     #[inline(always)]
     pub(crate) fn parse_word(&mut self, text: &str, condition: bool) -> Result<u32, ExprFault>
-        requires { IsSound self.old }
+        requires sound { IsSound self.old }
         ensures sound { IsSound self.new }
         ensures extends { Extends self.old self.new }
         ensures names { IfOk result (HasNamesOf self.old self.new) }

@@ -16,7 +16,7 @@ use std::alloc::AllocError;
 /// Appends the name of a leaf, if it is one.
 #[tactic(auto, using(crate::proofs::KeptLists::kept_after))]
 fn push_name(store: &Store, leaf: Leaf, found: &mut Vec<NameId>) -> Result<(), AllocError>
-    requires { LeafFits (length (stored_names store.now)) (length store.now.texts.items) leaf }
+    requires fits { LeafFits (length (stored_names store.now)) (length store.now.texts.items) leaf }
     ensures words { OnOk result (map (λ i. slice_index_or (stored_names store.now) i []) found.new.items
         ≡ map (λ i. slice_index_or (stored_names store.now) i []) found.old.items ++ operand_names (operand_of (stored_names store.now) store.now.texts.items leaf)) }
     ensures held { OnOk result (All (λ i. i < length (stored_names store.now)) found.old.items → All (λ i. i < length (stored_names store.now)) found.new.items) }

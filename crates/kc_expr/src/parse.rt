@@ -39,7 +39,7 @@ fn relation_at(tokens: &[Token<'_>], at: usize) -> Option<Relop>
 
 /// The text of the token at a place, where it is a word and the last one.
 fn last_word<'a>(tokens: &[Token<'a>], at: usize) -> Option<&'a str>
-    requires { at ≤ length tokens.now }
+    requires within { at ≤ length tokens.now }
     ensures kind { IfSome result (λ _. first_kind (drop at (lexemes_of tokens.now)) ≡ Some Word) }
     ensures operand { IfSome result (λ text. first_operand (drop at (lexemes_of tokens.now)) ≡ Some (constant_or named text.now)) }
     ensures last { IfSome result (λ _. drop (at + 1) (lexemes_of tokens.now) ≡ []) }
@@ -84,8 +84,8 @@ fn is_symbol_at(tokens: &[Token<'_>], at: usize) -> bool
 
 /// The fault past the limit of depth: the first symbol is too deep, unless another token comes before it.
 fn too_deep(tokens: &[Token<'_>], at: usize) -> ExprFault
-    requires { at ≤ length tokens.now }
-    ensures { MeetsFault (lexemes_of tokens.now) (past_depth_limit (drop at (lexemes_of tokens.now))) result }
+    requires within { at ≤ length tokens.now }
+    ensures fault { MeetsFault (lexemes_of tokens.now) (past_depth_limit (drop at (lexemes_of tokens.now))) result }
 {
     let mut symbol = at;
     while is_prefix_at(tokens, symbol) {

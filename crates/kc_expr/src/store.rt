@@ -76,32 +76,32 @@ impl Store {
 
     /// The node of a number.
     pub(crate) fn node(&self, index: usize) -> Node
-        requires { index < length self.now.nodes.items }
-        ensures { result ≡ slice_index_or self.now.nodes.items index some_node }
+        requires there { index < length self.now.nodes.items }
+        ensures value { result ≡ slice_index_or self.now.nodes.items index some_node }
     {
         self.nodes[index]
     }
 
     /// The name of a number.
     pub(crate) fn name(&self, index: usize) -> &str
-        requires { index < length (stored_names self.now) }
-        ensures { result.now ≡ slice_index_or (stored_names self.now) index [] }
+        requires there { index < length (stored_names self.now) }
+        ensures value { result.now ≡ slice_index_or (stored_names self.now) index [] }
     {
         self.names.as_slice()[index].as_str()
     }
 
     /// The quoted text of a number.
     pub(crate) fn text(&self, index: usize) -> &str
-        requires { index < length self.now.texts.items }
-        ensures { result.now ≡ slice_index_or self.now.texts.items index [] }
+        requires there { index < length self.now.texts.items }
+        ensures value { result.now ≡ slice_index_or self.now.texts.items index [] }
     {
         self.texts[index].as_str()
     }
 
     /// The number of a name that is held.
     pub(crate) fn find(&self, name: &str) -> Option<u32>
-        requires { IsSound self.now }
-        ensures { result ≡ index_of_name name.now (stored_names self.now) }
+        requires sound { IsSound self.now }
+        ensures value { result ≡ index_of_name name.now (stored_names self.now) }
     {
         match self.names.get_index_of(name) {
             Some(index) => Some(index as u32),
@@ -111,7 +111,7 @@ impl Store {
 
     /// The number of a name that is one of the last two: expressions often name what was just defined.
     pub(crate) fn find_newest(&self, name: &str) -> Option<u32>
-        requires { IsSound self.now }
+        requires sound { IsSound self.now }
         ensures place { IfSome result (λ i. index_of_name name.now (stored_names self.now) ≡ Some i) }
     {
         let count = self.names.len();
@@ -127,8 +127,8 @@ impl Store {
     /// Whether this name is at a place. Names that follow one another differ mostly at their ends: these are compared
     /// first.
     fn has_at(&self, index: usize, name: &str) -> bool
-        requires { index < length (stored_names self.now) }
-        ensures { IsTrue result → slice_index_or (stored_names self.now) index [] ≡ name.now }
+        requires there { index < length (stored_names self.now) }
+        ensures name { IsTrue result → slice_index_or (stored_names self.now) index [] ≡ name.now }
     {
         let held = self.name(index);
         held.len() == name.len() && held.as_bytes().last() == name.as_bytes().last() && held == name
@@ -152,7 +152,7 @@ impl Store {
 
     /// The number of a name, which is appended if it is new.
     pub(crate) fn intern(&mut self, name: &str) -> Result<u32, ExprFault>
-        requires { IsSound self.old }
+        requires sound { IsSound self.old }
         ensures sound { IsSound self.new }
         ensures extends { Extends self.old self.new }
         ensures place { IfOk result (λ i. index_of_name name.now (stored_names self.new) ≡ Some i) }
@@ -172,7 +172,7 @@ impl Store {
 
     /// The number of a name, which is appended unless it is there. An `Err` means out of memory, as 2^32 names would be.
     pub(crate) fn insert_name(&mut self, name: &str) -> Result<u32, ExprFault>
-        requires { IsSound self.old }
+        requires sound { IsSound self.old }
         ensures sound { IsSound self.new }
         ensures extends { Extends self.old self.new }
         ensures place { IfOk result (λ i. index_of_name name.now (stored_names self.new) ≡ Some i) }
@@ -191,7 +191,7 @@ impl Store {
 
     /// Appends a quoted text. An `Err` means out of memory, as 2^32 texts would be.
     pub(crate) fn keep(&mut self, text: Text) -> Result<u32, ExprFault>
-        requires { IsSound self.old }
+        requires sound { IsSound self.old }
         ensures sound { IsSound self.new }
         ensures extends { Extends self.old self.new }
         ensures within { IfOk result (λ i. i < length self.new.texts.items) }

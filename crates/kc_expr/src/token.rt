@@ -1,12 +1,13 @@
 //! Words, quoted texts and operators of a line.
-ghost use Rattle.std.specs.Prelude.{◌≡◌, ◌<◌, ◌≤◌, ◌⊎◌, true, length, take, IfSome, IfErr, OnOk, OnErr, position, take_while, ◌==◌, ◌-◌, slice_index, [], ◌∷◌};
+ghost use Rattle.std.specs.Prelude.{◌≡◌, ◌<◌, ◌≤◌, ◌⊎◌, true, false, length, take, IfSome, IfErr, OnOk, OnErr, position, take_while, ◌==◌, ◌-◌, slice_index, [], ◌∷◌};
 ghost use Rattle.kc_expr.specs.declared.fault.ExprKind.TheVariants.{OutOfMemory};
-ghost use Rattle.kc_expr.specs.Token.{is_white_byte, is_word_byte, next_token, next_quoted, next_operator, lexemes_from, lexemes_of};
+ghost use Rattle.kc_expr.specs.Token.{is_white_byte, is_word_byte, bare_dollar, dollar_left_out, next_token, next_quoted, next_operator, lexemes_from, lexemes_of};
 ghost use Rattle.kc_expr.specs.checker.Leads.{Reaches};
 ghost use Rattle.kc_expr.specs.between.Results.{Returns};
 ghost use Rattle.kc_expr.specs.Token.{with_front};
 
 use super::fault::{ExprFault, ExprKind};
+use super::language::Language;
 use kc_value::closing_quote;
 use std::alloc::Global;
 
@@ -76,11 +77,40 @@ fn is_word(byte: u8) -> bool
 }
 
 /// The first `$`.
-fn dollar_in(bytes: &[u8]) -> Option<usize>
-    ensures place { result ≡ position (λ c. c == 36) bytes.now }
-    ensures within { IfSome result (λ k. k < length bytes.now) }
+fn first_dollar(text: &[u8]) -> Option<usize>
+    ensures place { result ≡ position (λ c. c == 36) text.now }
+    ensures within { IfSome result (λ k. k < length text.now) }
 {
-    bytes.iter().position(|b| *b == b'$')
+    text.iter().position(|b| *b == b'$')
+}
+
+/// The first `$` that stands in no pair of a backslash and a character.
+fn bare_dollar(text: &[u8]) -> Option<usize>
+    ensures place { result ≡ bare_dollar false text.now }
+    ensures within { IfSome result (λ k. k < length text.now) }
+{
+    let mut escaped = false;
+    for (i, byte) in text.iter().enumerate() {
+        if escaped {
+            escaped = false;
+        } else if *byte == b'$' {
+            return Some(i);
+        } else {
+            escaped = *byte == b'\\';
+        }
+    }
+    None
+}
+
+/// The first `$` of a quoted text that is left out.
+fn dollar_left_out(language: Language, text: &[u8]) -> Option<usize>
+    ensures place { result ≡ dollar_left_out language text.now }
+    ensures within { IfSome result (λ k. k < length text.now) }
+{
+    match language {
+        Language::Strict => first_dollar(text),
+        Language::Linux => bare_dollar(text),
+    }
 }
 
 /// How many bytes at the front are of a word.
@@ -99,15 +129,15 @@ fn word_len(bytes: &[u8]) -> usize
 }
 
 /// The quoted token at the front of bytes that begin with a quote.
-fn quoted_at_front(bytes: &[u8]) -> NextToken
+fn quoted_at_front(language: Language, bytes: &[u8]) -> NextToken
     requires some { 0 < length bytes.now }
     requires quote { slice_index bytes.now 0 < 128 }
-    ensures lead { result ≡ next_quoted bytes.now }
+    ensures lead { result ≡ next_quoted language bytes.now }
     ensures reaches { Reaches bytes.now result }
 {
     match closing_quote(bytes[0], &bytes[1..]) {
         None => NextToken::Fault(ExprKind::UnclosedQuote, 0),
-        Some(n) => match dollar_in(&bytes[..n + 1]) {
+        Some(n) => match dollar_left_out(language, &bytes[..n + 1]) {
             None => NextToken::Token(TokenKind::Quoted, n + 1),
             Some(k) => NextToken::Fault(ExprKind::LeftOut, k),
         },
@@ -139,9 +169,9 @@ fn operator_at_front(first: u8, second: u8) -> NextToken
 
 /// The token or white space at the front of bytes.
 #[tactic(auto, unfolding(crate::specs::Token::next_token))]
-fn token_at_front(bytes: &[u8]) -> NextToken
-    requires { 0 < length bytes.now }
-    ensures lead { result ≡ next_token bytes.now }
+fn token_at_front(language: Language, bytes: &[u8]) -> NextToken
+    requires there { 0 < length bytes.now }
+    ensures lead { result ≡ next_token language bytes.now }
     ensures reaches { Reaches bytes.now result }
 {
     let first = bytes[0];
@@ -152,7 +182,7 @@ fn token_at_front(bytes: &[u8]) -> NextToken
     } else if is_word(first) {
         NextToken::Token(TokenKind::Word, word_len(bytes))
     } else if first == b'"' || first == b'\'' {
-        quoted_at_front(bytes)
+        quoted_at_front(language, bytes)
     } else {
         let second = if bytes.len() > 1 { bytes[1] } else { 0 };
         operator_at_front(first, second)
@@ -160,22 +190,26 @@ fn token_at_front(bytes: &[u8]) -> NextToken
 }
 
 /// The tokens of a line, up to a comment.
-pub fn tokens(alloc: Global, line: &str) -> Result<Vec<Token<'_>>, ExprFault>
-    ensures { Returns (λ v. lexemes_of v.items) result (lexemes_from 0 0 line.now) }
+pub fn tokens(alloc: Global, language: Language, line: &str) -> Result<Vec<Token<'_>>, ExprFault>
+    ensures { Returns (λ v. lexemes_of v.items) result (lexemes_from language 0 0 line.now) }
 {
     let mut found = Vec::new(alloc);
-    push_tokens(line, &mut found)?;
+    push_tokens(language, line, &mut found)?;
     Ok(found)
 }
 
 /// Appends the tokens of a line, up to a comment. An `Err` leaves the list as it was.
-pub fn push_tokens<'a>(line: &'a str, found: &mut Vec<Token<'a>>) -> Result<(), ExprFault>
-    ensures tokens { OnOk result (with_front (lexemes_of found.old.items) (lexemes_from 0 0 line.now) ≡ Ok (lexemes_of found.new.items)) }
-    ensures fault { IfErr result (λ e. (e.kind ≡ OutOfMemory) ⊎ (lexemes_from 0 0 line.now ≡ Err e)) }
+pub fn push_tokens<'a>(
+    language: Language,
+    line: &'a str,
+    found: &mut Vec<Token<'a>>,
+) -> Result<(), ExprFault>
+    ensures tokens { OnOk result (with_front (lexemes_of found.old.items) (lexemes_from language 0 0 line.now) ≡ Ok (lexemes_of found.new.items)) }
+    ensures fault { IfErr result (λ e. (e.kind ≡ OutOfMemory) ⊎ (lexemes_from language 0 0 line.now ≡ Err e)) }
     ensures err { OnErr result (found.new.items ≡ found.old.items) }
 {
     let kept = found.len();
-    match scan_line(line, found) {
+    match scan_line(language, line, found) {
         Ok(()) => Ok(()),
         Err(fault) => {
             found.truncate(kept);
@@ -185,15 +219,19 @@ pub fn push_tokens<'a>(line: &'a str, found: &mut Vec<Token<'a>>) -> Result<(), 
 }
 
 /// Appends the tokens of a line, up to a comment or a fault.
-fn scan_line<'a>(line: &'a str, found: &mut Vec<Token<'a>>) -> Result<(), ExprFault>
-    ensures tokens { OnOk result (with_front (lexemes_of found.old.items) (lexemes_from 0 0 line.now) ≡ Ok (lexemes_of found.new.items)) }
-    ensures fault { IfErr result (λ e. (e.kind ≡ OutOfMemory) ⊎ (lexemes_from 0 0 line.now ≡ Err e)) }
+fn scan_line<'a>(
+    language: Language,
+    line: &'a str,
+    found: &mut Vec<Token<'a>>,
+) -> Result<(), ExprFault>
+    ensures tokens { OnOk result (with_front (lexemes_of found.old.items) (lexemes_from language 0 0 line.now) ≡ Ok (lexemes_of found.new.items)) }
+    ensures fault { IfErr result (λ e. (e.kind ≡ OutOfMemory) ⊎ (lexemes_from language 0 0 line.now ≡ Err e)) }
     ensures kept { take (length found.old.items) found.new.items ≡ found.old.items }
 {
     let bytes = line.as_bytes();
     let mut at = 0;
     while at < bytes.len() {
-        match token_at_front(&bytes[at..]) {
+        match token_at_front(language, &bytes[at..]) {
             NextToken::White => at += 1,
             NextToken::Comment => break,
             NextToken::Token(kind, len) => {

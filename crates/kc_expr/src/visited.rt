@@ -49,16 +49,16 @@ impl VisitedSet {
 
     /// Whether an expression was visited in this turn.
     pub(crate) fn contains(&self, index: usize) -> bool
-        requires { index < length self.now }
-        ensures { result ≡ is_visited self.now index }
+        requires there { index < length self.now }
+        ensures value { result ≡ is_visited self.now index }
     {
         self.stamps[index] == self.turn
     }
 
     /// Marks an expression as visited in this turn.
     pub(crate) fn mark(&mut self, index: usize)
-        requires { index < length self.old }
-        ensures { self.new ≡ slice_set self.old index true }
+        requires there { index < length self.old }
+        ensures marked { self.new ≡ slice_set self.old index true }
     {
         self.stamps[index] = self.turn;
     }

@@ -37,7 +37,9 @@ module _ (old new : Exprs) (grows : Grows old new) where
   node_held id h = let e = ap length nodes_are in omega (arith, e, length-append old.nodes (drop (length old.nodes) new.nodes))
 
   pub node_kept : (id : ℕ) → id < length old.nodes → node_expr new id ≡ node_expr old id
-  node_kept id h = ap (λ nodes. get_or nodes id (alone (constant N))) (sym nodes_are) ∙ get_or_append_left old.nodes (drop (length old.nodes) new.nodes) (alone (constant N)) id h
+  node_kept id h =
+      ap (λ nodes. get_or nodes id (alone (constant N))) (sym nodes_are)
+      ∙ get_or_append_left old.nodes (drop (length old.nodes) new.nodes) (alone (constant N)) id h
 
   if_held : (c : Option ℕ) → IfNodeExists old c → IfNodeExists new c
   if_held None h = tt
@@ -78,6 +80,7 @@ module _ (old new : Exprs) (grows : Grows old new) where
   attribute_kept (attributes.Visible id) h = rw (node_kept id h) refl
   attribute_kept attributes.Help h = refl
   attribute_kept attributes.Modules h = refl
+  attribute_kept attributes.Optional h = refl
 
   attribute_held : (a : CodeAttribute) → AttributeNodesExist old a → AttributeNodesExist new a
   attribute_held (attributes.Typed k) h = tt
@@ -92,6 +95,7 @@ module _ (old new : Exprs) (grows : Grows old new) where
   attribute_held (attributes.Visible id) h = node_held id h
   attribute_held attributes.Help h = tt
   attribute_held attributes.Modules h = tt
+  attribute_held attributes.Optional h = tt
 
   pub lines_held : (lines : List CodeLine) → All (LineNodesExist old) lines → All (LineNodesExist new) lines
   lines_held lines h = λ k d i. attribute_held _ (h k d i)
@@ -100,7 +104,8 @@ module _ (old new : Exprs) (grows : Grows old new) where
   lines_kept [] h = refl
   lines_kept (l ∷ lines) h = rw (attribute_kept l.attribute (h 0 l (omega arith)), lines_kept lines (λ k d i. h (suc k) d (omega arith))) refl
 
-  what_kept : (names ns texts ts : List (List ℕ)) (c : CodeWhat) (w : GroupHead) → RepresentsHead old names texts c w → RepresentsHead new (names ++ ns) (texts ++ ts) c w
+  what_kept : (names ns texts ts : List (List ℕ)) (c : CodeWhat) (w : GroupHead) → RepresentsHead old names texts c w
+      → RepresentsHead new (names ++ ns) (texts ++ ts) c w
   what_kept names ns texts ts (codes.Config s) w h = (h.0, get_more names ns s h.0 h.1, h.2)
   what_kept names ns texts ts codes.Choice w h = h
   what_kept names ns texts ts (codes.Menu t) w h = (h.0, get_more texts ts t h.0 h.1, h.2)
@@ -112,27 +117,38 @@ module _ (old new : Exprs) (grows : Grows old new) where
   what_kept names ns texts ts codes.FileEnd w h = h
 
   range_kept : (lines ls : List CodeLine) (a end : ℕ) → a ≤ end → end ≤ length lines → slice_range (lines ++ ls) a end ≡ slice_range lines a end
-  range_kept lines ls a end l e = ap (take (end - a)) (drop-append-le a lines ls (omega arith)) ∙ take-append-le (end - a) (drop a lines) ls (omega (arith, length-drop a lines))
+  range_kept lines ls a end l e =
+      ap (take (end - a)) (drop-append-le a lines ls (omega arith)) ∙ take-append-le (end - a) (drop a lines) ls (omega (arith, length-drop a lines))
 
-  group_kept : (names ns texts ts : List (List ℕ)) (lines ls : List CodeLine) (end before : ℕ) (g : CodeGroup) (m : Group) → All (LineNodesExist old) lines → g.attributes ≤ end → end ≤ length lines
-      → RepresentsGroup old names texts (slice_range lines g.attributes end) before g m → RepresentsGroup new (names ++ ns) (texts ++ ts) (slice_range (lines ++ ls) g.attributes end) before g m
+  group_kept : (names ns texts ts : List (List ℕ)) (lines ls : List CodeLine) (end before : ℕ) (g : CodeGroup) (m : Group) → All (LineNodesExist old) lines
+      → g.attributes ≤ end → end ≤ length lines
+      → RepresentsGroup old names texts (slice_range lines g.attributes end) before g m
+      → RepresentsGroup new (names ++ ns) (texts ++ ts) (slice_range (lines ++ ls) g.attributes end) before g m
   group_kept names ns texts ts lines ls end before g m held a e h = record {
     number_is = h.number_is;
     file_is = h.file_is;
     line_is = h.line_is;
     head = what_kept names ns texts ts g.head m.head h.head;
     attributes = rw (range_kept lines ls g.attributes end a e)
-        (h.attributes ∙ sym (lines_kept (slice_range lines g.attributes end) (All-take (LineNodesExist old) (end - g.attributes) (drop g.attributes lines) (All-drop (LineNodesExist old) g.attributes lines held))));
+        (h.attributes ∙ sym (lines_kept (slice_range lines g.attributes end)
+        (All-take (LineNodesExist old) (end - g.attributes) (drop g.attributes lines) (All-drop (LineNodesExist old) g.attributes lines held))));
   }
 
-  pub groups_kept : (names ns texts ts : List (List ℕ)) (lines ls : List CodeLine) → All (LineNodesExist old) lines → (end : ℕ) → end ≤ length lines → (gs : List CodeGroup) (ms : List Group)
+  pub groups_kept : (names ns texts ts : List (List ℕ)) (lines ls : List CodeLine) → All (LineNodesExist old) lines → (end : ℕ) → end ≤ length lines
+      → (gs : List CodeGroup) (ms : List Group)
       → RepresentsGroups old names texts lines end gs ms → RepresentsGroups new (names ++ ns) (texts ++ ts) (lines ++ ls) end gs ms
   groups_kept names ns texts ts lines ls held end e [] [] h = tt
   groups_kept names ns texts ts lines ls held end e [] (m ∷ ms) h = absurd h
   groups_kept names ns texts ts lines ls held end e (g ∷ gs) [] h = absurd h
-  groups_kept names ns texts ts lines ls held end e (g ∷ gs) (m ∷ ms) h =
-      (group_kept names ns texts ts lines ls end (length ms) g m held h.1 e h.0, h.1, groups_kept names ns texts ts lines ls held g.attributes (let a = h.1 in omega arith) gs ms h.2)
+  groups_kept names ns texts ts lines ls held end e (g ∷ gs) (m ∷ ms) h = (
+    group_kept names ns texts ts lines ls end (length ms) g m held h.1 e h.0,
+    h.1,
+    groups_kept names ns texts ts lines ls held g.attributes
+        (let a = h.1 in omega arith) gs ms h.2,
+  )
 
-  pub groups_later : (names ns names2 texts ts texts2 : List (List ℕ)) (lines ls lines2 : List CodeLine) → names2 ≡ names ++ ns → texts2 ≡ texts ++ ts → lines2 ≡ lines ++ ls → All (LineNodesExist old) lines → (gs : List CodeGroup) (ms : List Group)
+  pub groups_later : (names ns names2 texts ts texts2 : List (List ℕ)) (lines ls lines2 : List CodeLine) → names2 ≡ names ++ ns → texts2 ≡ texts ++ ts
+      → lines2 ≡ lines ++ ls → All (LineNodesExist old) lines → (gs : List CodeGroup) (ms : List Group)
       → (end : ℕ) → end ≤ length lines → RepresentsGroups old names texts lines end gs ms → RepresentsGroups new names2 texts2 lines2 end gs ms
-  groups_later names ns names2 texts ts texts2 lines ls lines2 e f g held gs ms end l h = rw (e, f, g) (groups_kept names ns texts ts lines ls held end l gs ms h)
+  groups_later names ns names2 texts ts texts2 lines ls lines2 e f g held gs ms end l h =
+      rw (e, f, g) (groups_kept names ns texts ts lines ls held end l gs ms h)

@@ -1,5 +1,3 @@
-pub mod CutSteps
-pub mod Joining
 pub mod NameLemmas
 pub mod SymbolSteps
 pub mod Growing

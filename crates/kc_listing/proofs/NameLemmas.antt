@@ -28,12 +28,16 @@ step_by f true o p e = refl
 step_by f false o p e = over_suc f o ∙ e ∙ sym (over_suc f p)
 
 -- names after those of the table lead nowhere
-place_more : (f : ℕ → Option ℕ) (x : List ℕ) (xs ys : List (List ℕ)) → ((i : ℕ) → length xs ≤ i → f i ≡ None) → option_and_then f (index_of_name x (xs ++ ys)) ≡ option_and_then f (index_of_name x xs)
+place_more : (f : ℕ → Option ℕ) (x : List ℕ) (xs ys : List (List ℕ)) → ((i : ℕ) → length xs ≤ i → f i ≡ None)
+    → option_and_then f (index_of_name x (xs ++ ys)) ≡ option_and_then f (index_of_name x xs)
 place_more f x [] ys h = none_by f (λ i. h i (omega arith)) (index_of_name x ys)
-place_more f x (y ∷ xs) ys h = step_by f (bytes_eq x y) (index_of_name x (xs ++ ys)) (index_of_name x xs) (place_more (λ i. f (suc i)) x xs ys (λ i l. h (suc i) (omega arith)))
+place_more f x (y ∷ xs) ys h =
+    step_by f (bytes_eq x y) (index_of_name x (xs ++ ys)) (index_of_name x xs) (place_more (λ i. f (suc i)) x xs ys (λ i l. h (suc i) (omega arith)))
 
-number_more : (held more : List (List ℕ)) (numbers : List ℕ) (x : List ℕ) → length numbers ≤ length held → number_in (held ++ more) numbers x ≡ number_in held numbers x
-number_more held more numbers x h = place_more (λ i. number_in_slot (get_or numbers i 0)) x held more (λ i l. ap number_in_slot (get_or_past numbers i 0 (omega arith)))
+number_more : (held more : List (List ℕ)) (numbers : List ℕ) (x : List ℕ) → length numbers ≤ length held
+    → number_in (held ++ more) numbers x ≡ number_in held numbers x
+number_more held more numbers x h =
+    place_more (λ i. number_in_slot (get_or numbers i 0)) x held more (λ i l. ap number_in_slot (get_or_past numbers i 0 (omega arith)))
 
 split : (old new : Exprs) → Grows old new → old.names ++ drop (length old.names) new.names ≡ new.names
 split old new g = ap (λ xs. xs ++ drop (length old.names) new.names) (sym g.names) ∙ take-append-drop (length old.names) new.names
@@ -49,13 +53,15 @@ pub longer : (old new : Exprs) → Grows old new → length old.names ≤ length
 longer old new g = let e = ap length (split old new g) in omega (arith, e, length-append old.names (drop (length old.names) new.names))
 
 -- the names stay where the arena grows
-pub names_later : (old new : Exprs) (symbols numbers : List ℕ) (names : List (List ℕ)) → Grows old new → HasNames old symbols numbers names → HasNames new symbols numbers names
+pub names_later : (old new : Exprs) (symbols numbers : List ℕ) (names : List (List ℕ)) → Grows old new → HasNames old symbols numbers names
+    → HasNames new symbols numbers names
 names_later old new symbols numbers names g h =
     let l = longer old new g in
     record {
       words = map_words old new g symbols h.held ∙ h.words;
       held = λ k d i. let w = h.held k d i in omega arith;
-      numbered = λ x. ap (λ held. number_in held numbers x) (sym (split old new g)) ∙ number_more old.names (drop (length old.names) new.names) numbers x h.few ∙ h.numbered x;
+      numbered = λ x. ap (λ held. number_in held numbers x) (sym (split old new g)) ∙ number_more old.names (drop (length old.names) new.names) numbers x h.few
+          ∙ h.numbered x;
       few = let f = h.few in omega arith;
     }
 
@@ -126,7 +132,8 @@ module _ (old new : Exprs) (symbols numbers padded : List ℕ) (names : List (Li
       let l = names_later old new symbols numbers names grows h in
       record {
         words = map-append (text_of_name new) symbols (id ∷ []) ∙ rw (l.words, there.1) refl;
-        held = All-append (λ i. i < length new.names) symbols (id ∷ []) l.held (All-cons (λ i. i < length new.names) id [] there.0 (All-nil (λ i. i < length new.names)));
+        held = All-append (λ i. i < length new.names) symbols (id ∷ []) l.held
+            (All-cons (λ i. i < length new.names) id [] there.0 (All-nil (λ i. i < length new.names)));
         numbered = λ y. numbered_by (bytes_eq y x) y refl;
         few = rw length-set few;
       }

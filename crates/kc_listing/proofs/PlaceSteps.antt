@@ -5,6 +5,7 @@ use Rattle.std.specs.List.{list_all, cons_option}
 use Rattle.std.proofs.lemmas.List.{get_or-reverse, length-reverse}
 use Rattle.std.proofs.lemmas.Option.{slice_get-get_or}
 use Rattle.std.proofs.lemmas.Bool.Decides.{nat_tests}
+use Rattle.kc_expr.specs.declared.language.Language.{Language}
 use Rattle.kc_expr.specs.between.Arena.{Exprs}
 use Rattle.kc_expr.specs.Token.{Lexeme}
 use Rattle.kc_tree_model.specs.declared.fault.TreeKind.TheVariants.{LeftOut, Misplaced, StrayEnd}
@@ -57,6 +58,7 @@ allowed_is words.Visible before = refl
 allowed_is words.Help before = refl
 allowed_is words.Modules before = refl
 allowed_is words.Option before = refl
+allowed_is words.Optional before = refl
 allowed_is words.LeftOut before = refl
 
 pub stray_is : (k : Keyword) (before : List Group) → is_stray_end before k ≡ is_stray_block before (block_ended k)
@@ -73,7 +75,8 @@ last_is : (xs : List CodeGroup) → slice_get xs (length xs - 1) ≡ slice_get (
 last_is [] = refl
 last_is (x ∷ xs) = last_by (x ∷ xs) (omega arith) x
 
-entry_same : (exprs : Exprs) (names texts : List (List ℕ)) (c : CodeWhat) (w : GroupHead) → RepresentsHead exprs names texts c w → from_head opened_by w ≡ (entry_opened c)
+entry_same : (exprs : Exprs) (names texts : List (List ℕ)) (c : CodeWhat) (w : GroupHead) → RepresentsHead exprs names texts c w
+    → from_head opened_by w ≡ (entry_opened c)
 entry_same exprs names texts (codes.Config s) w h = rw h.2 refl
 entry_same exprs names texts codes.Choice w h = rw h refl
 entry_same exprs names texts (codes.Menu t) w h = rw h.2 refl
@@ -84,13 +87,15 @@ entry_same exprs names texts codes.Mainmenu w h = rw h refl
 entry_same exprs names texts (codes.Ends b) w h = rw h refl
 entry_same exprs names texts codes.FileEnd w h = rw h refl
 
-entry_top : (exprs : Exprs) (names texts : List (List ℕ)) (lines : List CodeLine) (end : ℕ) (gs : List CodeGroup) (ms : List Group) → RepresentsGroups exprs names texts lines end gs ms → open_entry ms ≡ (entry_of_group (slice_get gs 0))
+entry_top : (exprs : Exprs) (names texts : List (List ℕ)) (lines : List CodeLine) (end : ℕ) (gs : List CodeGroup) (ms : List Group)
+    → RepresentsGroups exprs names texts lines end gs ms → open_entry ms ≡ (entry_of_group (slice_get gs 0))
 entry_top exprs names texts lines end [] [] h = refl
 entry_top exprs names texts lines end [] (m ∷ ms) h = absurd h
 entry_top exprs names texts lines end (g ∷ gs) [] h = absurd h
 entry_top exprs names texts lines end (g ∷ gs) (m ∷ ms) h = entry_same exprs names texts g.head m.head h.0.head
 
-pub entry_is : (exprs : Exprs) (symbols numbers : List ℕ) (texts : List (List ℕ)) (lines : List CodeLine) (groups : List CodeGroup) (read : List Group) → RepresentsLists exprs symbols numbers texts lines groups read
+pub entry_is : (exprs : Exprs) (symbols numbers : List ℕ) (texts : List (List ℕ)) (lines : List CodeLine) (groups : List CodeGroup) (read : List Group)
+    → RepresentsLists exprs symbols numbers texts lines groups read
     → open_entry read ≡ (entry_kept groups)
 entry_is exprs symbols numbers texts lines groups read h =
     entry_top exprs (names_defined read) texts lines (length lines) (reverse groups) read h.groups_are ∙ ap (λ g. (entry_of_group g)) (sym (last_is groups))
@@ -105,7 +110,8 @@ stray_none read b h = by_innermost (innermost read) h
 pub stray_some : (read : List Group) (b : Block) (c : Block) (line : ℕ) → IsInnermost (Some (c, line)) (innermost read) → is_stray read b ≡ not (same_block b c)
 stray_some read b c line h = by_innermost (innermost read) h
   where
-    by_innermost : (o : Option (Group × Block)) → IsInnermost (Some (c, line)) o → not (is_some_block b (option_map (λ (q : Group × Block). q.1) o)) ≡ not (same_block b c)
+    by_innermost : (o : Option (Group × Block)) → IsInnermost (Some (c, line)) o
+        → not (is_some_block b (option_map (λ (q : Group × Block). q.1) o)) ≡ not (same_block b c)
     by_innermost None h = absurd h
     by_innermost (Some q) h = rw h.0 refl
 
@@ -116,15 +122,15 @@ pub entry_none : (before : List Group) (k : Keyword) → open_entry before ≡ N
 entry_none before k h = rw (h, open_entry_allows) refl
 
 -- the fault before the form
-module _ (before : List Group) (k : Keyword) (ts : List Lexeme) where
-  pub reported_left_out : is_left_out before k ts ≡ true → fault_before before k ts ≡ Some LeftOut
+module _ (language : Language) (before : List Group) (k : Keyword) (ts : List Lexeme) where
+  pub reported_left_out : is_left_out language before k ts ≡ true → fault_before language before k ts ≡ Some LeftOut
   reported_left_out a = rw a refl
 
-  pub reported_misplaced : is_left_out before k ts ≡ false → is_allowed before k ≡ false → fault_before before k ts ≡ Some Misplaced
+  pub reported_misplaced : is_left_out language before k ts ≡ false → is_allowed before k ≡ false → fault_before language before k ts ≡ Some Misplaced
   reported_misplaced a b = rw (a, b) refl
 
-  pub reported_stray : is_left_out before k ts ≡ false → is_allowed before k ≡ true → is_stray_end before k ≡ true → fault_before before k ts ≡ Some StrayEnd
+  pub reported_stray : is_left_out language before k ts ≡ false → is_allowed before k ≡ true → is_stray_end before k ≡ true → fault_before language before k ts ≡ Some StrayEnd
   reported_stray a b c = rw (a, b, c) refl
 
-  pub reported_none : is_left_out before k ts ≡ false → is_allowed before k ≡ true → is_stray_end before k ≡ false → fault_before before k ts ≡ None
+  pub reported_none : is_left_out language before k ts ≡ false → is_allowed before k ≡ true → is_stray_end before k ≡ false → fault_before language before k ts ≡ None
   reported_none a b c = rw (a, b, c) refl

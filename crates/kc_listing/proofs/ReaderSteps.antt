@@ -1,6 +1,7 @@
 -- Steps of the reading of a file.
 use Rattle.std.proofs.Common.{◌≡◌, ◌⊎◌, inl, inr, ℕ, suc, zero, ◌+◌, ◌≤◌, ◌<◌, ◌-◌, Bool, true, false, List, [], ◌∷◌, length, drop, refl, ap, sym, subst, ◌∙◌, arith, cond, Option, Some, None, Result, Ok, Err}
 use Rattle.std.proofs.Math.Seq.{drop-length}
+use Rattle.kc_expr.specs.declared.language.Language.{Language}
 use Rattle.kc_tree_model.specs.declared.fault.TreeFault.{TreeFault}
 use Rattle.kc_tree_model.specs.declared.fault.TreeKind.{TreeKind}
 use Rattle.kc_tree_model.specs.declared.fault.TreeKind.TheVariants.{OutOfMemory}
@@ -12,11 +13,11 @@ use Rattle.kc_tree_model.specs.Limits.{FileSource, source_fault, bytes_in}
 use Rattle.kc_tree_model.specs.Reading.{Outcome, read_lines, read_file, statement_on_line, with_statement, with_group, at_file_end, ended_by_fault, continue_after_line, continue_after_statement}
 use Rattle.kc_listing.specs.declared.state.ReaderState.{ReaderState}
 use Rattle.kc_listing.specs.between.ListingView.{RepresentsListing}
-use Rattle.kc_listing.specs.checker.LinePlaces.{IsLogicalAt, IsLineAt}
+use Rattle.kc_lines.specs.between.LinePlaces.{IsLogicalAt, IsLineAt}
 use Rattle.kc_listing.specs.checker.StateViews.{Describes, at_line}
 use Rattle.kc_listing.specs.checker.Faults.{IsMemory, fault_in}
 use Rattle.kc_listing.specs.checker.Steps.{line_here, HasStatement, IsSource, LineRead, IsEnded, FileRead, HelpRead, Sourced, IsAfter, EndRead, IsSourceRead, SourceRead, left_from, IsOneRead, IsLeft}
-use Rattle.kc_listing.proofs.Joining.{logical_step, help_step}
+use Rattle.kc_lines.proofs.Joining.{logical_step, help_step}
 use Rattle.std.proofs.lemmas.Bool.Decides.{nat_tests}
 use Rattle.std.specs.Prelude.{nat_lt, nat_le, is_some, sum_by, slice_range, take_while}
 use Rattle.std.proofs.lemmas.List.Sums.{take_while-cons}
@@ -26,8 +27,8 @@ use Rattle.std.proofs.lemmas.Str.{is_utf8-from_IsUtf8, IsUtf8-from_is_utf8}
 use Rattle.kc_tree_model.specs.Limits.{is_in_list, open_files, files_read, size_in}
 use Rattle.kc_value.specs.declared.limits.TheConstants.{MAX_LINE_BYTES, MAX_OPEN_FILES, MAX_FILES, MAX_TREE_BYTES}
 use Rattle.kc_tree_model.specs.declared.fault.TreeKind.TheVariants.{LineTooLong, NotUtf8, SourceLoop, MissingFile, TooDeep, TooMany}
-use Rattle.kc_listing.specs.declared.lines.PhysicalLine.{PhysicalLine}
-use Rattle.kc_listing.specs.checker.LinePlaces.{is_of_help, line_of}
+use Rattle.kc_lines.specs.declared.lines.PhysicalLine.{PhysicalLine}
+use Rattle.kc_lines.specs.between.LinePlaces.{is_of_help, line_of}
 use Rattle.kc_listing.specs.checker.Steps.{indented, IsIndentedLeft}
 
 -- an outcome that is another one
@@ -45,7 +46,7 @@ module _ (r : FileSource) (sub : List ℕ → List Group → Outcome) (file : �
 
   -- the line at the front, and the lines after it
   front : left_from sub r file bytes at number before
-      ≡ continue_after_line sub (read_lines sub r file (logical_lines_from 0 (cond (begins_help text) (help_line_count (physical_lines (drop next bytes))) 0) (number + lines) (physical_lines (drop next bytes)))) r (at_line file number) before (statement_on_line before (line_here number text))
+      ≡ continue_after_line sub (read_lines sub r file (logical_lines_from 0 (cond (begins_help text) (help_line_count (physical_lines (drop next bytes))) 0) (number + lines) (physical_lines (drop next bytes)))) r (at_line file number) before (statement_on_line r.language before (line_here number text))
   front = ap (λ ls. read_lines sub r file ls before) (logical_step bytes at number text next lines here cut)
 
   pub one_faulty : (new : ReaderState) (k : TreeKind) (f : TreeFault) → LineRead r file number text before new (Err k)
@@ -54,60 +55,83 @@ module _ (r : FileSource) (sub : List ℕ → List Group → Outcome) (file : �
   one_faulty new k f (inr h) a (inl m) = inl m
   one_faulty new k f (inr h) a (inr e) =
       ended_as r (left_from sub r file bytes at number before) (ended_by_fault (at_line file number) k before) new f
-      (front ∙ ap (continue_after_line sub (read_lines sub r file (logical_lines_from 0 (cond (begins_help text) (help_line_count (physical_lines (drop next bytes))) 0) (number + lines) (physical_lines (drop next bytes)))) r (at_line file number) before) h.0)
+      (front ∙ ap (continue_after_line sub (read_lines sub r file (logical_lines_from 0
+      (cond (begins_help text) (help_line_count (physical_lines (drop next bytes))) 0) (number + lines) (physical_lines (drop next bytes)))) r
+      (at_line file number) before) h.0)
       (inr (ap Some (sym e), h.1))
 
   statement_left : (help : Bool) (new : ReaderState) (s : HasStatement r file number text before help new)
-      → left_from sub r file bytes at number before ≡ read_lines sub r file (logical_lines_from 0 (cond help (help_line_count (physical_lines (drop next bytes))) 0) (number + lines) (physical_lines (drop next bytes))) (with_statement (at_line file number) s.statement before)
+      → left_from sub r file bytes at number before ≡ read_lines sub r file
+      (logical_lines_from 0 (cond help (help_line_count (physical_lines (drop next bytes))) 0) (number + lines) (physical_lines (drop next bytes)))
+      (with_statement (at_line file number) s.statement before)
   statement_left help new s = front ∙ rw (s.says, s.no_path, s.begins) refl
 
   pub one_next : (new : ReaderState) → HasStatement r file number text before false new → IsOneRead r sub file bytes at number before new next lines
   one_next new s = record { now = with_statement (at_line file number) s.statement before; describes = s.describes; left = statement_left false new s }
 
-  pub one_help : (new : ReaderState) (count : ℕ) (p : ℕ × ℕ) → HasStatement r file number text before true new → count ≡ help_line_count (physical_lines (drop next bytes))
+  pub one_help : (new : ReaderState) (count : ℕ) (p : ℕ × ℕ) → HasStatement r file number text before true new
+      → count ≡ help_line_count (physical_lines (drop next bytes))
       → HelpRead file bytes next (number + lines) count (Ok p) → IsOneRead r sub file bytes at number before new p.0 (lines + p.1)
   one_help new count p s e h = record {
     now = with_statement (at_line file number) s.statement before;
     describes = s.describes;
     left = statement_left true new s
-        ∙ ap (λ n. read_lines sub r file (logical_lines_from 0 n (number + lines) (physical_lines (drop next bytes))) (with_statement (at_line file number) s.statement before)) (sym e)
+        ∙ ap (λ n. read_lines sub r file (logical_lines_from 0 n (number + lines) (physical_lines (drop next bytes)))
+        (with_statement (at_line file number) s.statement before)) (sym e)
         ∙ h.0 sub r (with_statement (at_line file number) s.statement before)
         ∙ ap (λ n. left_from sub r file bytes p.0 n (with_statement (at_line file number) s.statement before)) (omega arith);
   }
 
-  pub one_help_faulty : (new : ReaderState) (count : ℕ) (f : TreeFault) → HasStatement r file number text before true new → count ≡ help_line_count (physical_lines (drop next bytes))
+  pub one_help_faulty : (new : ReaderState) (count : ℕ) (f : TreeFault) → HasStatement r file number text before true new
+      → count ≡ help_line_count (physical_lines (drop next bytes))
       → HelpRead file bytes next (number + lines) count (Err f) → IsEnded r (left_from sub r file bytes at number before) new f
   one_help_faulty new count f s e (inl m) = inl m
   one_help_faulty new count f s e (inr h) =
       ended_as r (left_from sub r file bytes at number before) (record { read = with_statement (at_line file number) s.statement before; fault = Some f }) new f
       (statement_left true new s
-      ∙ ap (λ n. read_lines sub r file (logical_lines_from 0 n (number + lines) (physical_lines (drop next bytes))) (with_statement (at_line file number) s.statement before)) (sym e)
+      ∙ ap (λ n. read_lines sub r file (logical_lines_from 0 n (number + lines) (physical_lines (drop next bytes)))
+      (with_statement (at_line file number) s.statement before)) (sym e)
       ∙ h sub r (with_statement (at_line file number) s.statement before))
       (inr (refl, shown_of r new (with_statement (at_line file number) s.statement before) s.describes))
 
   source_left : (path : List ℕ) (said : ReaderState) → IsSource r number text path before said
-      → left_from sub r file bytes at number before ≡ continue_after_statement sub (read_lines sub r file (logical_lines_from 0 0 (number + lines) (physical_lines (drop next bytes)))) r (at_line file number) before (Some (head (source path))) (Some path)
+      → left_from sub r file bytes at number before ≡ continue_after_statement sub
+      (read_lines sub r file (logical_lines_from 0 0 (number + lines) (physical_lines (drop next bytes)))) r (at_line file number) before
+      (Some (head (source path))) (Some path)
   source_left path said s = front ∙ rw (s.says, s.begins) refl
 
-  pub one_source : (path : List ℕ) (said new : ReaderState) → IsSource r number text path before said → IsSourceRead r sub file number path before new → IsOneRead r sub file bytes at number before new next lines
-  one_source path said new s t = record { now = t.now; describes = t.describes; left = source_left path said s ∙ t.left (read_lines sub r file (logical_lines_from 0 0 (number + lines) (physical_lines (drop next bytes)))) }
+  pub one_source : (path : List ℕ) (said new : ReaderState) → IsSource r number text path before said → IsSourceRead r sub file number path before new
+      → IsOneRead r sub file bytes at number before new next lines
+  one_source path said new s t =
+      record {
+        now = t.now;
+        describes = t.describes;
+        left = source_left path said s
+            ∙ t.left (read_lines sub r file (logical_lines_from 0 0 (number + lines) (physical_lines (drop next bytes))));
+      }
 
-  pub one_source_faulty : (path : List ℕ) (said new : ReaderState) (f : TreeFault) → IsSource r number text path before said → SourceRead r sub file number path before new (Err f) → IsEnded r (left_from sub r file bytes at number before) new f
+  pub one_source_faulty : (path : List ℕ) (said new : ReaderState) (f : TreeFault) → IsSource r number text path before said
+      → SourceRead r sub file number path before new (Err f) → IsEnded r (left_from sub r file bytes at number before) new f
   one_source_faulty path said new f s (inl m) = inl m
   one_source_faulty path said new f s (inr t) =
-      ended_as r (left_from sub r file bytes at number before) t.outcome new f (source_left path said s ∙ t.is (read_lines sub r file (logical_lines_from 0 0 (number + lines) (physical_lines (drop next bytes))))) (inr (t.told, t.shows))
+      ended_as r (left_from sub r file bytes at number before) t.outcome new f
+      (source_left path said s ∙ t.is (read_lines sub r file (logical_lines_from 0 0 (number + lines) (physical_lines (drop next bytes)))))
+      (inr (t.told, t.shows))
 
 -- a file is read by its lines
-pub file_lines : (depth : ℕ) (r : FileSource) (path : List ℕ) (before : List Group) → 0 < depth → read_file depth r path before ≡ read_lines (read_file (depth - 1) r) r (r.number path) (lines_of (bytes_in r path)) before
+pub file_lines : (depth : ℕ) (r : FileSource) (path : List ℕ) (before : List Group) → 0 < depth
+    → read_file depth r path before ≡ read_lines (read_file (depth - 1) r) r (r.number path) (lines_of (bytes_in r path)) before
 file_lines zero r path before h = absurd (omega arith)
 file_lines (suc n) r path before h = ap (λ k. read_lines (read_file k r) r (r.number path) (lines_of (bytes_in r path)) before) (omega arith)
 
 -- all lines are left at the beginning
-pub all_left : (r : FileSource) (sub : List ℕ → List Group → Outcome) (file : ℕ) (bytes : List ℕ) (before : List Group) (l : ReaderState) → Describes r l before → IsLeft r sub file bytes before l 0 1
+pub all_left : (r : FileSource) (sub : List ℕ → List Group → Outcome) (file : ℕ) (bytes : List ℕ) (before : List Group) (l : ReaderState) → Describes r l before
+    → IsLeft r sub file bytes before l 0 1
 unfolding lines_of
 all_left r sub file bytes before l d = record { now = before; describes = d; left = refl }
 
-pub left_more : (r : FileSource) (sub : List ℕ → List Group → Outcome) (file : ℕ) (bytes : List ℕ) (before : List Group) (old new : ReaderState) (at number next lines : ℕ) → (l : IsLeft r sub file bytes before old at number)
+pub left_more : (r : FileSource) (sub : List ℕ → List Group → Outcome) (file : ℕ) (bytes : List ℕ) (before : List Group) (old new : ReaderState) (at number next lines : ℕ)
+    → (l : IsLeft r sub file bytes before old at number)
     → IsOneRead r sub file bytes at number l.now new next lines → IsLeft r sub file bytes before new next (number + lines)
 left_more r sub file bytes before old new at number next lines l o = record { now = o.now; describes = o.describes; left = sym o.left ∙ l.left }
 
@@ -116,10 +140,12 @@ ended_read file read None = refl
 ended_read file read (Some o) = refl
 
 -- no lines are left at the end
-end_left : (r : FileSource) (sub : List ℕ → List Group → Outcome) (file : ℕ) (bytes : List ℕ) (number at : ℕ) (now : List Group) → length bytes ≤ at → at ≤ length bytes → left_from sub r file bytes at number now ≡ at_file_end file now (innermost now)
+end_left : (r : FileSource) (sub : List ℕ → List Group → Outcome) (file : ℕ) (bytes : List ℕ) (number at : ℕ) (now : List Group) → length bytes ≤ at
+    → at ≤ length bytes → left_from sub r file bytes at number now ≡ at_file_end file now (innermost now)
 end_left r sub file bytes number at now a b = let e : at ≡ length bytes = omega arith in rw (e, drop-length bytes) refl
 
-pub file_ended : (r : FileSource) (sub : List ℕ → List Group → Outcome) (file : ℕ) (bytes : List ℕ) (before : List Group) (new : ReaderState) (at number : ℕ) (result : Result (Unit {0}) TreeFault) → length bytes ≤ at → at ≤ length bytes
+pub file_ended : (r : FileSource) (sub : List ℕ → List Group → Outcome) (file : ℕ) (bytes : List ℕ) (before : List Group) (new : ReaderState) (at number : ℕ) (result : Result (Unit {0}) TreeFault)
+    → length bytes ≤ at → at ≤ length bytes
     → (l : IsLeft r sub file bytes before new at number) → EndRead file l.now result → FileRead r (read_lines sub r file (lines_of bytes) before) new result
 file_ended r sub file bytes before new at number (Ok u) a b l h =
     let e = sym l.left ∙ end_left r sub file bytes number at l.now a b in
@@ -129,7 +155,8 @@ file_ended r sub file bytes before new at number (Ok u) a b l h =
 file_ended r sub file bytes before new at number (Err f) a b l h =
     let e = sym l.left ∙ end_left r sub file bytes number at l.now a b in
     let d = ended_read file l.now (innermost l.now) in
-    ended_as r (read_lines sub r file (lines_of bytes) before) (at_file_end file l.now (innermost l.now)) new f e (inr (h, rw d (shown_of r new l.now l.describes)))
+    ended_as r (read_lines sub r file (lines_of bytes) before) (at_file_end file l.now (innermost l.now)) new f e
+    (inr (h, rw d (shown_of r new l.now l.describes)))
 
 -- a sourced file and its end
 module _ (r : FileSource) (sub : List ℕ → List Group → Outcome) (file line : ℕ) (path : List ℕ) (before : List Group) where
@@ -145,7 +172,8 @@ module _ (r : FileSource) (sub : List ℕ → List Group → Outcome) (file line
     shows = h.3;
   })
 
-  pub file_faulty : (new : ReaderState) (f : TreeFault) → source_fault r before path ≡ None → IsEnded r (sub path (with_statement (at_line file line) (Some (head (source path))) before)) new f → SourceRead r sub file line path before new (Err f)
+  pub file_faulty : (new : ReaderState) (f : TreeFault) → source_fault r before path ≡ None
+      → IsEnded r (sub path (with_statement (at_line file line) (Some (head (source path))) before)) new f → SourceRead r sub file line path before new (Err f)
   file_faulty new f s (inl m) = inl m
   file_faulty new f s (inr h) = inr (record {
     outcome = sub path (with_statement (at_line file line) (Some (head (source path))) before);
@@ -156,7 +184,8 @@ module _ (r : FileSource) (sub : List ℕ → List Group → Outcome) (file line
 
   pub source_done : (new : ReaderState) (result : Result (Unit {0}) TreeFault) → source_fault r before path ≡ None
       → (sub path (with_statement (at_line file line) (Some (head (source path))) before)).fault ≡ None
-      → IsAfter r file line (sub path (with_statement (at_line file line) (Some (head (source path))) before)).read new result → SourceRead r sub file line path before new result
+      → IsAfter r file line (sub path (with_statement (at_line file line) (Some (head (source path))) before)).read new result
+      → SourceRead r sub file line path before new result
   source_done new (Ok u) s n a = record {
     now = with_group (at_line file line) file_end (sub path (with_statement (at_line file line) (Some (head (source path))) before)).read;
     describes = a;
@@ -165,36 +194,40 @@ module _ (r : FileSource) (sub : List ℕ → List Group → Outcome) (file line
   source_done new (Err f) s n a = inl a
 
 -- the tests of a line's bytes
-pub too_long : (read : List Group) (number : ℕ) (help : Bool) (text : List ℕ) → nat_lt MAX_LINE_BYTES (length text) ≡ true → statement_on_line read (record { number = number; text = text; help = help }) ≡ Err LineTooLong
+pub too_long : (language : Language) (read : List Group) (number : ℕ) (help : Bool) (text : List ℕ) → nat_lt MAX_LINE_BYTES (length text) ≡ true → statement_on_line language read (record { number = number; text = text; help = help }) ≡ Err LineTooLong
 unfolding statement_on_line
-too_long read number help text e = rw e refl
+too_long language read number help text e = rw e refl
 
-pub no_text : (read : List Group) (number : ℕ) (help : Bool) (text : List ℕ) → nat_lt MAX_LINE_BYTES (length text) ≡ false → is_utf8 text ≡ false → statement_on_line read (record { number = number; text = text; help = help }) ≡ Err NotUtf8
+pub no_text : (language : Language) (read : List Group) (number : ℕ) (help : Bool) (text : List ℕ) → nat_lt MAX_LINE_BYTES (length text) ≡ false → is_utf8 text ≡ false → statement_on_line language read (record { number = number; text = text; help = help }) ≡ Err NotUtf8
 unfolding statement_on_line
-no_text read number help text e u = rw (e, u) refl
+no_text language read number help text e u = rw (e, u) refl
 
-help_says : (read : List Group) (number : ℕ) (text : List ℕ) → nat_lt MAX_LINE_BYTES (length text) ≡ false → is_utf8 text ≡ true → statement_on_line read (record { number = number; text = text; help = true }) ≡ Ok None
+help_says : (language : Language) (read : List Group) (number : ℕ) (text : List ℕ) → nat_lt MAX_LINE_BYTES (length text) ≡ false → is_utf8 text ≡ true → statement_on_line language read (record { number = number; text = text; help = true }) ≡ Ok None
 unfolding statement_on_line
-help_says read number text e u = rw (e, u) refl
+help_says language read number text e u = rw (e, u) refl
 
 -- one line of a help text
-help_one : (sub : List ℕ → List Group → Outcome) (r : FileSource) (read : List Group) (file : ℕ) (bytes : List ℕ) (begin n left : ℕ) (p : PhysicalLine) → 0 < left → IsLineAt bytes begin p
+help_one : (sub : List ℕ → List Group → Outcome) (r : FileSource) (read : List Group) (file : ℕ) (bytes : List ℕ) (begin n left : ℕ) (p : PhysicalLine)
+    → 0 < left → IsLineAt bytes begin p
     → nat_lt MAX_LINE_BYTES (length (slice_range bytes begin p.end)) ≡ false → is_utf8 (slice_range bytes begin p.end) ≡ true
-    → read_lines sub r file (logical_lines_from 0 left n (physical_lines (drop begin bytes))) read ≡ read_lines sub r file (logical_lines_from 0 (left - 1) (n + 1) (physical_lines (drop p.next bytes))) read
+    → read_lines sub r file (logical_lines_from 0 left n (physical_lines (drop begin bytes))) read ≡ read_lines sub r file
+    (logical_lines_from 0 (left - 1) (n + 1) (physical_lines (drop p.next bytes))) read
 help_one sub r read file bytes begin n zero p h l e u = absurd (omega arith)
 help_one sub r read file bytes begin n (suc k) p h l e u =
     ap (λ ls. read_lines sub r file ls read) (help_step bytes begin n k p l)
-    ∙ ap (continue_after_line sub (read_lines sub r file (logical_lines_from 0 k (n + 1) (physical_lines (drop p.next bytes)))) r (at_line file n) read) (help_says read n (slice_range bytes begin p.end) e u)
+    ∙ ap (continue_after_line sub (read_lines sub r file (logical_lines_from 0 k (n + 1) (physical_lines (drop p.next bytes)))) r (at_line file n) read) (help_says r.language read n (slice_range bytes begin p.end) e u)
     ∙ ap (λ j. read_lines sub r file (logical_lines_from 0 j (n + 1) (physical_lines (drop p.next bytes))) read) (omega arith)
 
 -- `n` lines are indented so far
-indented_one : (columns : ℕ) (bytes : List ℕ) (begin : ℕ) (p : PhysicalLine) → IsLineAt bytes begin p → is_of_help columns (line_of bytes begin p) ≡ true → indented columns bytes begin ≡ suc (indented columns bytes p.next)
+indented_one : (columns : ℕ) (bytes : List ℕ) (begin : ℕ) (p : PhysicalLine) → IsLineAt bytes begin p → is_of_help columns (line_of bytes begin p) ≡ true
+    → indented columns bytes begin ≡ suc (indented columns bytes p.next)
 indented_one columns bytes begin p l e =
     ap (λ ls. length (take_while (is_of_help columns) ls)) l.lines
     ∙ ap length (take_while-cons (is_of_help columns) (line_of bytes begin p) (physical_lines (drop p.next bytes)))
     ∙ ap (λ (t : Bool). length (cond t (line_of bytes begin p ∷ take_while (is_of_help columns) (physical_lines (drop p.next bytes))) [])) e
 
-indented_none : (columns : ℕ) (bytes : List ℕ) (begin : ℕ) (p : PhysicalLine) → IsLineAt bytes begin p → is_of_help columns (line_of bytes begin p) ≡ false → indented columns bytes begin ≡ 0
+indented_none : (columns : ℕ) (bytes : List ℕ) (begin : ℕ) (p : PhysicalLine) → IsLineAt bytes begin p → is_of_help columns (line_of bytes begin p) ≡ false
+    → indented columns bytes begin ≡ 0
 indented_none columns bytes begin p l e = rw (l.lines, e) refl
 
 indented_end : (columns : ℕ) (bytes : List ℕ) (begin : ℕ) → length bytes ≤ begin → begin ≤ length bytes → indented columns bytes begin ≡ 0
@@ -217,45 +250,60 @@ module _ (file : ℕ) (bytes : List ℕ) (at number columns begin lines : ℕ) (
     pub help_stops : is_of_help columns (line_of bytes begin p) ≡ false → HelpRead file bytes at number (indented columns bytes at) (Ok (begin, lines))
     help_stops e = help_done (indented_none columns bytes begin p l e)
 
-    pub indented_more : is_of_help columns (line_of bytes begin p) ≡ true → nat_lt MAX_LINE_BYTES (length (slice_range bytes begin p.end)) ≡ false → is_utf8 (slice_range bytes begin p.end) ≡ true
+    pub indented_more : is_of_help columns (line_of bytes begin p) ≡ true → nat_lt MAX_LINE_BYTES (length (slice_range bytes begin p.end)) ≡ false
+        → is_utf8 (slice_range bytes begin p.end) ≡ true
         → IsIndentedLeft file bytes at number columns p.next (lines + 1)
     indented_more i e u =
         let n = indented_one columns bytes begin p l i in
         record {
           is = λ sub r read. h.is sub r read ∙ help_one sub r read file bytes begin (number + lines) (indented columns bytes begin) p (omega (arith, n)) l e u
               ∙ ap (λ k. read_lines sub r file (logical_lines_from 0 k (number + lines + 1) (physical_lines (drop p.next bytes))) read) (omega (arith, n))
-              ∙ ap (λ k. read_lines sub r file (logical_lines_from 0 (indented columns bytes p.next) k (physical_lines (drop p.next bytes))) read) (omega arith);
+              ∙ ap (λ k. read_lines sub r file (logical_lines_from 0 (indented columns bytes p.next) k (physical_lines (drop p.next bytes))) read)
+              (omega arith);
           later = let f = l.forward in let g = h.later in omega (arith, l.start, l.end);
           within = l.within;
           few = let f = l.forward in let g = h.few in omega arith;
         }
 
-    pub help_faulty : (kind : TreeKind) (f : TreeFault) → is_of_help columns (line_of bytes begin p) ≡ true → ((read : List Group) → statement_on_line read (record { number = number + lines; text = slice_range bytes begin p.end; help = true }) ≡ Err kind)
+    pub help_faulty : (kind : TreeKind) (f : TreeFault) → is_of_help columns (line_of bytes begin p) ≡ true → ((language : Language) (read : List Group) → statement_on_line language read (record { number = number + lines; text = slice_range bytes begin p.end; help = true }) ≡ Err kind)
         → f ≡ fault_in file (number + lines) kind → HelpRead file bytes at number (indented columns bytes at) (Err f)
     help_faulty kind f i says e = inr (λ sub r read.
         h.is sub r read
-        ∙ ap (λ k. read_lines sub r file (logical_lines_from 0 k (number + lines) (physical_lines (drop begin bytes))) read) (indented_one columns bytes begin p l i)
+        ∙ ap (λ k. read_lines sub r file (logical_lines_from 0 k (number + lines) (physical_lines (drop begin bytes))) read)
+        (indented_one columns bytes begin p l i)
         ∙ ap (λ ls. read_lines sub r file ls read) (help_step bytes begin (number + lines) (indented columns bytes p.next) p l)
-        ∙ ap (continue_after_line sub (read_lines sub r file (logical_lines_from 0 (indented columns bytes p.next) (number + lines + 1) (physical_lines (drop p.next bytes)))) r (at_line file (number + lines)) read) (says read)
+        ∙ ap (continue_after_line sub (read_lines sub r file (logical_lines_from 0 (indented columns bytes p.next) (number + lines + 1) (physical_lines (drop p.next bytes)))) r (at_line file (number + lines)) read) (says r.language read)
         ∙ ap (λ t. record { read = read; fault = Some t }) (sym e))
 
 -- a whole help text by its indentation
-help_as : (file : ℕ) (bytes : List ℕ) (at number count other : ℕ) (result : Result (ℕ × ℕ) TreeFault) → count ≡ other → HelpRead file bytes at number count result → HelpRead file bytes at number other result
+help_as : (file : ℕ) (bytes : List ℕ) (at number count other : ℕ) (result : Result (ℕ × ℕ) TreeFault) → count ≡ other
+    → HelpRead file bytes at number count result → HelpRead file bytes at number other result
 help_as file bytes at number count other result e h = let P : ℕ → Type 0 = λ n. HelpRead file bytes at number n result in subst P e h
 
 no_indentation : (bytes : List ℕ) (at : ℕ) → first_indentation (physical_lines (drop at bytes)) ≡ 0 → help_line_count (physical_lines (drop at bytes)) ≡ 0
 no_indentation bytes at e = rw e refl
 
-an_indentation : (bytes : List ℕ) (at columns : ℕ) → columns ≡ first_indentation (physical_lines (drop at bytes)) → (columns ≡ 0 → ⊥) → indented columns bytes at ≡ help_line_count (physical_lines (drop at bytes))
+an_indentation : (bytes : List ℕ) (at columns : ℕ) → columns ≡ first_indentation (physical_lines (drop at bytes)) → (columns ≡ 0 → ⊥)
+    → indented columns bytes at ≡ help_line_count (physical_lines (drop at bytes))
 an_indentation bytes at zero e h = absurd (h refl)
 an_indentation bytes at (suc k) e h = rw (← e, eqb-suc-zero k) refl
 
-pub help_nothing : (file : ℕ) (bytes : List ℕ) (at number : ℕ) → at ≤ length bytes → first_indentation (physical_lines (drop at bytes)) ≡ 0 → HelpRead file bytes at number (help_line_count (physical_lines (drop at bytes))) (Ok (at, 0))
-help_nothing file bytes at number w e = help_as file bytes at number 0 (help_line_count (physical_lines (drop at bytes))) (Ok (at, 0)) (sym (no_indentation bytes at e)) (λ sub r read. ap (λ n. read_lines sub r file (logical_lines_from 0 0 n (physical_lines (drop at bytes))) read) (omega arith), omega arith, w, omega arith)
+pub help_nothing : (file : ℕ) (bytes : List ℕ) (at number : ℕ) → at ≤ length bytes → first_indentation (physical_lines (drop at bytes)) ≡ 0
+    → HelpRead file bytes at number (help_line_count (physical_lines (drop at bytes))) (Ok (at, 0))
+help_nothing file bytes at number w e =
+    help_as file bytes at number 0 (help_line_count (physical_lines (drop at bytes))) (Ok (at, 0)) (sym (no_indentation bytes at e)) (
+      λ sub r read. ap (λ n. read_lines sub r file (logical_lines_from 0 0 n (physical_lines (drop at bytes))) read) (omega arith),
+      omega arith,
+      w,
+      omega
+          arith,
+    )
 
-pub help_by : (file : ℕ) (bytes : List ℕ) (at number columns : ℕ) (result : Result (ℕ × ℕ) TreeFault) → columns ≡ first_indentation (physical_lines (drop at bytes)) → (columns ≡ 0 → ⊥)
+pub help_by : (file : ℕ) (bytes : List ℕ) (at number columns : ℕ) (result : Result (ℕ × ℕ) TreeFault)
+    → columns ≡ first_indentation (physical_lines (drop at bytes)) → (columns ≡ 0 → ⊥)
     → HelpRead file bytes at number (indented columns bytes at) result → HelpRead file bytes at number (help_line_count (physical_lines (drop at bytes))) result
-help_by file bytes at number columns result e n h = help_as file bytes at number (indented columns bytes at) (help_line_count (physical_lines (drop at bytes))) result (an_indentation bytes at columns e n) h
+help_by file bytes at number columns result e n h =
+    help_as file bytes at number (indented columns bytes at) (help_line_count (physical_lines (drop at bytes))) result (an_indentation bytes at columns e n) h
 
 pub utf8_holds : (bs : List ℕ) → IsUtf8 bs → is_utf8 bs ≡ true
 utf8_holds bs h = is_utf8-from_IsUtf8 bs h
@@ -277,20 +325,24 @@ module _ (r : FileSource) (before : List Group) (path : List ℕ) where
   unfolding source_fault
   source_missing a b = rw (a, b) refl
 
-  pub source_deep : is_in_list path (open_files r before) ≡ false → is_some (r.bytes path) ≡ true → nat_le MAX_OPEN_FILES (length (open_files r before)) ≡ true → source_fault r before path ≡ Some TooDeep
+  pub source_deep : is_in_list path (open_files r before) ≡ false → is_some (r.bytes path) ≡ true → nat_le MAX_OPEN_FILES (length (open_files r before)) ≡ true
+      → source_fault r before path ≡ Some TooDeep
   unfolding source_fault
   source_deep a b c = rw (a, b, c) refl
 
-  pub source_many : is_in_list path (open_files r before) ≡ false → is_some (r.bytes path) ≡ true → nat_le MAX_OPEN_FILES (length (open_files r before)) ≡ false → nat_le MAX_FILES (length (files_read r before)) ≡ true → source_fault r before path ≡ Some TooMany
+  pub source_many : is_in_list path (open_files r before) ≡ false → is_some (r.bytes path) ≡ true → nat_le MAX_OPEN_FILES (length (open_files r before)) ≡ false
+      → nat_le MAX_FILES (length (files_read r before)) ≡ true → source_fault r before path ≡ Some TooMany
   unfolding source_fault
   source_many a b c d = rw (a, b, c, d) refl
 
-  pub source_large : is_in_list path (open_files r before) ≡ false → is_some (r.bytes path) ≡ true → nat_le MAX_OPEN_FILES (length (open_files r before)) ≡ false → nat_le MAX_FILES (length (files_read r before)) ≡ false
+  pub source_large : is_in_list path (open_files r before) ≡ false → is_some (r.bytes path) ≡ true → nat_le MAX_OPEN_FILES (length (open_files r before)) ≡ false
+      → nat_le MAX_FILES (length (files_read r before)) ≡ false
       → nat_lt MAX_TREE_BYTES (sum_by (size_in r) (files_read r before) + size_in r path) ≡ true → source_fault r before path ≡ Some TooMany
   unfolding source_fault
   source_large a b c d e = rw (a, b, c, d, e) refl
 
-  pub source_fits : is_in_list path (open_files r before) ≡ false → is_some (r.bytes path) ≡ true → nat_le MAX_OPEN_FILES (length (open_files r before)) ≡ false → nat_le MAX_FILES (length (files_read r before)) ≡ false
+  pub source_fits : is_in_list path (open_files r before) ≡ false → is_some (r.bytes path) ≡ true → nat_le MAX_OPEN_FILES (length (open_files r before)) ≡ false
+      → nat_le MAX_FILES (length (files_read r before)) ≡ false
       → nat_lt MAX_TREE_BYTES (sum_by (size_in r) (files_read r before) + size_in r path) ≡ false → source_fault r before path ≡ None
   unfolding source_fault
   source_fits a b c d e = rw (a, b, c, d, e) refl

@@ -2,6 +2,7 @@
 use Rattle.std.proofs.Common.{◌≡◌, ◌⊎◌, inl, inr, ℕ, ◌≤◌, ◌<◌, true, false, List, [], ◌∷◌, length, refl, ap, sym, arith, Option, Some, None, Result, Err}
 use Rattle.std.specs.Prelude.{is_some, nat_lt}
 use Rattle.std.proofs.lemmas.Bool.{lt-ltb, le-ltb}
+use Rattle.kc_value.specs.declared.limits.TheConstants.{MAX_TREE_BYTES}
 use Rattle.kc_expr.specs.between.Arena.{Exprs}
 use Rattle.kc_tree_model.specs.declared.fault.TreeFault.{TreeFault}
 use Rattle.kc_tree_model.specs.declared.fault.TreeKind.{TreeKind}
@@ -40,12 +41,14 @@ lists_of_nothing exprs symbols numbers texts lines groups e s n l g = record {
 }
 
 -- a new listing shows nothing
-pub nothing_shown : (l : Listing) → l.names.arena.names ≡ [] → l.names.symbols.items ≡ [] → l.names.numbers.items ≡ [] → l.lines.items ≡ [] → l.groups.items ≡ [] → RepresentsListing l []
+pub nothing_shown : (l : Listing) → l.names.arena.names ≡ [] → l.names.symbols.items ≡ [] → l.names.numbers.items ≡ [] → l.lines.items ≡ [] → l.groups.items ≡ []
+    → RepresentsListing l []
 unfolding RepresentsListing
 nothing_shown l e s n i g = lists_of_nothing l.names.arena l.names.symbols.items l.names.numbers.items l.texts.items l.lines.items l.groups.items e s n i g
 
 -- nothing was read yet, and the first file counts
-pub begun : (r : FileSource) (p : ReaderState) → RepresentsListing p.listing [] → p.stack.items ≡ [] → p.choices ≡ 0 → p.files ≡ 1 → p.bytes ≡ size_in r r.root → Describes r p []
+pub begun : (r : FileSource) (p : ReaderState) → RepresentsListing p.listing [] → p.stack.items ≡ [] → p.choices ≡ 0 → p.files ≡ 1 → p.bytes ≡ size_in r r.root
+    → Describes r p []
 unfolding Describes
 begun r p s k c f b = record { shows = s; counted = record { stack = rw k tt; choices_are = c; files_are = f; bytes_are = omega (arith, b) } }
 
@@ -65,18 +68,21 @@ unfolding of_first
 first_of r number bytes new result h n b = h n b
 
 -- the reading by the bytes of the first path
-absent_by : (r : FileSource) (o : Option (List ℕ)) → is_some o ≡ false → read_root r o ≡ record { read = []; fault = Some (record { file = None; line = 0; kind = MissingFile }) }
+absent_by : (r : FileSource) (o : Option (List ℕ)) → is_some o ≡ false
+    → read_root r o ≡ record { read = []; fault = Some (record { file = None; line = 0; kind = MissingFile }) }
 absent_by r None e = refl
 absent_by r (Some bytes) e = cc
 
-large_by : (r : FileSource) (o : Option (List ℕ)) → is_some o ≡ true → 67108864 < length {A = ℕ} (elim o [ None ↦ [] | Some bytes ↦ bytes ]) → read_root r o ≡ ended_by_fault (at_line (r.number r.root) 0) TooMany []
+large_by : (r : FileSource) (o : Option (List ℕ)) → is_some o ≡ true → MAX_TREE_BYTES < length {A = ℕ} (elim o [ None ↦ [] | Some bytes ↦ bytes ])
+    → read_root r o ≡ ended_by_fault (at_line (r.number r.root) 0) TooMany []
 large_by r None e h = cc
-large_by r (Some bytes) e h = let t : nat_lt 67108864 (length bytes) ≡ true = lt-ltb _ _ h in rw t refl
+large_by r (Some bytes) e h = let t : nat_lt MAX_TREE_BYTES (length bytes) ≡ true = lt-ltb _ _ h in rw t refl
 
-fitting_by : (r : FileSource) (o : Option (List ℕ)) → is_some o ≡ true → length {A = ℕ} (elim o [ None ↦ [] | Some bytes ↦ bytes ]) ≤ 67108864 → read_root r o ≡ of_first r
+fitting_by : (r : FileSource) (o : Option (List ℕ)) → is_some o ≡ true → length {A = ℕ} (elim o [ None ↦ [] | Some bytes ↦ bytes ]) ≤ MAX_TREE_BYTES
+    → read_root r o ≡ of_first r
 unfolding of_first
 fitting_by r None e h = cc
-fitting_by r (Some bytes) e h = let t : nat_lt 67108864 (length bytes) ≡ false = le-ltb _ _ h in rw t refl
+fitting_by r (Some bytes) e h = let t : nat_lt MAX_TREE_BYTES (length bytes) ≡ false = le-ltb _ _ h in rw t refl
 
 -- where an outcome is another one
 outcome_as : (o p : Outcome) (l : Listing × Option TreeFault) → o ≡ p → OutcomeRead p l → OutcomeRead o l
@@ -87,19 +93,25 @@ pub root_is : (f : SourceFiles) → (file_source_of f).root ≡ f.root.now
 unfolding file_source_of
 root_is f = refl
 
-pub absent_root : (f : SourceFiles) (l : Listing) (k : TreeKind) → (k ≡ OutOfMemory) ⊎ ((k ≡ MissingFile) × (is_some ((file_source_of f).bytes f.root.now) ≡ false)) → RepresentsListing l []
+pub absent_root : (f : SourceFiles) (l : Listing) (k : TreeKind)
+    → (k ≡ OutOfMemory) ⊎ ((k ≡ MissingFile) × (is_some ((file_source_of f).bytes f.root.now) ≡ false)) → RepresentsListing l []
     → OutcomeRead (read_root (file_source_of f) ((file_source_of f).bytes (file_source_of f).root)) (l, Some (record { file = None; line = 0; kind = k }))
 absent_root f l k (inl m) s = inl (rw m refl)
 absent_root f l k (inr h) s =
-    outcome_as _ _ (l, Some (record { file = None; line = 0; kind = k })) (absent_by (file_source_of f) ((file_source_of f).bytes (file_source_of f).root) (rw (root_is f) h.1)) (inr (rw h.0 refl, s))
+    outcome_as _ _ (l, Some (record { file = None; line = 0; kind = k }))
+    (absent_by (file_source_of f) ((file_source_of f).bytes (file_source_of f).root) (rw (root_is f) h.1)) (inr (rw h.0 refl, s))
 
-pub large_root : (f : SourceFiles) (l : Listing) (number : ℕ) (bytes : List ℕ) → is_some ((file_source_of f).bytes f.root.now) ≡ true → number ≡ (file_source_of f).number f.root.now → bytes ≡ bytes_in (file_source_of f) f.root.now
-    → 67108864 < length bytes → RepresentsListing l [] → OutcomeRead (read_root (file_source_of f) ((file_source_of f).bytes (file_source_of f).root)) (l, Some (fault_in number 0 TooMany))
+pub large_root : (f : SourceFiles) (l : Listing) (number : ℕ) (bytes : List ℕ) → is_some ((file_source_of f).bytes f.root.now) ≡ true
+    → number ≡ (file_source_of f).number f.root.now → bytes ≡ bytes_in (file_source_of f) f.root.now
+    → MAX_TREE_BYTES < length bytes → RepresentsListing l [] → OutcomeRead (read_root (file_source_of f) ((file_source_of f).bytes (file_source_of f).root))
+    (l, Some (fault_in number 0 TooMany))
 large_root f l number bytes there n b h s =
-    outcome_as _ _ (l, Some (fault_in number 0 TooMany)) (large_by (file_source_of f) ((file_source_of f).bytes (file_source_of f).root) (rw (root_is f) there) (rw (root_is f, sym b) h))
+    outcome_as _ _ (l, Some (fault_in number 0 TooMany)) (large_by (file_source_of f) ((file_source_of f).bytes (file_source_of f).root) (rw (root_is f) there)
+    (rw (root_is f, sym b) h))
     (inr (rw (n, root_is f) refl, s))
 
-pub fitting_root : (f : SourceFiles) (l : Listing × Option TreeFault) (bytes : List ℕ) → is_some ((file_source_of f).bytes f.root.now) ≡ true → bytes ≡ bytes_in (file_source_of f) f.root.now → length bytes ≤ 67108864
+pub fitting_root : (f : SourceFiles) (l : Listing × Option TreeFault) (bytes : List ℕ) → is_some ((file_source_of f).bytes f.root.now) ≡ true
+    → bytes ≡ bytes_in (file_source_of f) f.root.now → length bytes ≤ MAX_TREE_BYTES
     → OutcomeRead (of_first (file_source_of f)) l → OutcomeRead (read_root (file_source_of f) ((file_source_of f).bytes (file_source_of f).root)) l
 fitting_root f l bytes there b h =
     outcome_as _ _ l (fitting_by (file_source_of f) ((file_source_of f).bytes (file_source_of f).root) (rw (root_is f) there) (rw (root_is f, sym b) h))

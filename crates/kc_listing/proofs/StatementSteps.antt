@@ -3,6 +3,7 @@ use Rattle.std.proofs.Common.{◌≡◌, ◌⊎◌, inl, inr, ℕ, Bool, true, f
 use Rattle.std.proofs.lemmas.List.{append-nil}
 use Rattle.std.specs.Str.{is_utf8}
 use Rattle.std.specs.Prelude.{length, nat_lt}
+use Rattle.kc_expr.specs.declared.language.Language.{Language}
 use Rattle.kc_expr.specs.between.Arena.{Exprs, Grows}
 use Rattle.kc_expr.specs.Token.{with_front}
 use Rattle.kc_expr.specs.Token.{Lexeme, lexemes_from}
@@ -13,7 +14,7 @@ use Rattle.kc_tree_model.specs.declared.fault.TreeKind.TheVariants.{OutOfMemory,
 use Rattle.kc_tree_model.specs.Keywords.{keyword_of}
 use Rattle.kc_tree_model.specs.declared.keyword.Keyword.{Keyword}
 use Rattle.kc_tree_model.specs.declared.keyword.Keyword.TheVariants as words
-use Rattle.kc_tree_model.specs.LogicalLines.{is_help, is_help_word, begins_help}
+use Rattle.kc_tree_model.specs.LogicalLines.{is_help_or_fault, is_help, is_help_word, begins_help}
 use Rattle.kc_tree_model.specs.Statements.{Head, Attribute, Statement, head, attribute, source, path_of_head}
 use Rattle.kc_tree_model.specs.Forms.{statement_of, kind_of_fault, ◌>>=◌}
 use Rattle.kc_tree_model.specs.Placement.{is_allowed, is_left_out, is_stray_end}
@@ -21,6 +22,9 @@ use Rattle.kc_tree_model.specs.Blocks.{Group}
 use Rattle.kc_tree_model.specs.Limits.{FileSource, is_too_deep, is_too_many, too_many_by_attribute}
 use Rattle.kc_value.specs.declared.limits.TheConstants.{MAX_LINE_BYTES}
 use Rattle.kc_tree_model.specs.Reading.{unless, statement_by_keyword, statement_of_tokens, statement_by_word, statement_or_fault, statement_on_line}
+use Rattle.kc_tree_model.proofs.HelpLines.{help_alike}
+use Rattle.kc_listing.specs.declared.state.SourceFiles.{SourceFiles}
+use Rattle.kc_listing.specs.checker.StateViews.{file_source_of}
 use Rattle.kc_listing.specs.between.ListingView.{RepresentsListing}
 use Rattle.kc_listing.specs.declared.listing.Listing.{Listing}
 use Rattle.kc_listing.specs.declared.state.ReaderState.{ReaderState}
@@ -39,23 +43,27 @@ pub attribute_fits : (before : List Group) (a : Attribute) → too_many_by_attri
 attribute_fits before a e = rw e refl
 
 -- the appended group has no path
-pub head_given : (r : FileSource) (file line : ℕ) (before : List Group) (h : Head) (new : ReaderState) (put : Result (Unit {0}) TreeKind) → path_of_head h ≡ None → AppendsHead r file line before h new put
+pub head_given : (r : FileSource) (file line : ℕ) (before : List Group) (h : Head) (new : ReaderState) (put : Result (Unit {0}) TreeKind) → path_of_head h ≡ None
+    → AppendsHead r file line before h new put
     → AppendsStatement r file line before (head h) new (no_path put)
 head_given r file line before h new (Ok u) n p = (p.0, n, p.1)
 head_given r file line before h new (Err k) n p = p
 
-pub attribute_given : (r : FileSource) (file line : ℕ) (before : List Group) (a : Attribute) (new : ReaderState) (put : Result (Unit {0}) TreeKind) → AppendsAttribute r line before a new put
+pub attribute_given : (r : FileSource) (file line : ℕ) (before : List Group) (a : Attribute) (new : ReaderState) (put : Result (Unit {0}) TreeKind)
+    → AppendsAttribute r line before a new put
     → AppendsStatement r file line before (attribute a) new (no_path put)
 attribute_given r file line before a new (Ok u) p = (p.0, refl, p.1)
 attribute_given r file line before a new (Err k) p = p
 
 -- more expressions
-pub shows_grown : (l : Listing) (arena : Exprs) (before : List Group) → Grows l.names.arena arena → RepresentsListing l before → RepresentsListing (record l { names = record l.names { arena = arena } }) before
+pub shows_grown : (l : Listing) (arena : Exprs) (before : List Group) → Grows l.names.arena arena → RepresentsListing l before
+    → RepresentsListing (record l { names = record l.names { arena = arena } }) before
 unfolding RepresentsListing
 shows_grown l arena before grows h = lists_grown _ arena _ _ _ [] _ _ _ before grows (sym (append-nil l.texts.items)) h
 
 -- the tests before a form
-early : (a b c : Bool) (kind : TreeKind) (rest : Result (Option Statement) TreeKind) → cond a (Some LeftOut) (cond b (Some Misplaced) (cond c (Some StrayEnd) None)) ≡ Some kind
+early : (a b c : Bool) (kind : TreeKind) (rest : Result (Option Statement) TreeKind)
+    → cond a (Some LeftOut) (cond b (Some Misplaced) (cond c (Some StrayEnd) None)) ≡ Some kind
     → (unless a LeftOut >>= λ _. unless b Misplaced >>= λ _. unless c StrayEnd >>= λ _. rest) ≡ Err kind
 early true b c kind rest e = cc
 early false true c kind rest e = cc
@@ -70,12 +78,14 @@ late false false true rest e = cc
 late false false false rest e = refl
 
 -- the limits after it
-limited : (a b : Bool) (s : Statement) (kind : TreeKind) → cond a (Some TooDeep) (cond b (Some TooMany) None) ≡ Some kind → (unless a TooDeep >>= λ _. unless b TooMany >>= λ _. Ok (Some s)) ≡ Err kind
+limited : (a b : Bool) (s : Statement) (kind : TreeKind) → cond a (Some TooDeep) (cond b (Some TooMany) None) ≡ Some kind
+    → (unless a TooDeep >>= λ _. unless b TooMany >>= λ _. Ok (Some s)) ≡ Err kind
 limited true b s kind e = cc
 limited false true s kind e = cc
 limited false false s kind e = cc
 
-unlimited : (a b : Bool) (s : Statement) → cond a (Some TooDeep) (cond b (Some TooMany) None) ≡ None → (unless a TooDeep >>= λ _. unless b TooMany >>= λ _. Ok (Some s)) ≡ Ok (Some s)
+unlimited : (a b : Bool) (s : Statement) → cond a (Some TooDeep) (cond b (Some TooMany) None) ≡ None
+    → (unless a TooDeep >>= λ _. unless b TooMany >>= λ _. Ok (Some s)) ≡ Ok (Some s)
 unlimited true b s e = cc
 unlimited false true s e = cc
 unlimited false false s e = refl
@@ -84,20 +94,20 @@ unlimited false false s e = refl
 abbrev limited_by : List Group → Result Statement TreeKind → Result (Option Statement) TreeKind
 limited_by before given = given >>= λ s. unless (is_too_deep before s) TooDeep >>= λ _. unless (is_too_many before s) TooMany >>= λ _. Ok (Some s)
 
-module _ (before : List Group) (k : Keyword) (ts : List Lexeme) where
-  pub statement_early : (kind : TreeKind) → fault_before before k ts ≡ Some kind → statement_by_keyword before k ts ≡ Err kind
-  statement_early kind e = early (is_left_out before k ts) (not (is_allowed before k)) (is_stray_end before k) kind (limited_by before (statement_of k ts)) e
+module _ (language : Language) (before : List Group) (k : Keyword) (ts : List Lexeme) where
+  pub statement_early : (kind : TreeKind) → fault_before language before k ts ≡ Some kind → statement_by_keyword language before k ts ≡ Err kind
+  statement_early kind e = early (is_left_out language before k ts) (not (is_allowed before k)) (is_stray_end before k) kind (limited_by before (statement_of k ts)) e
 
-  statement_late : fault_before before k ts ≡ None → statement_by_keyword before k ts ≡ limited_by before (statement_of k ts)
-  statement_late e = late (is_left_out before k ts) (not (is_allowed before k)) (is_stray_end before k) (limited_by before (statement_of k ts)) e
+  statement_late : fault_before language before k ts ≡ None → statement_by_keyword language before k ts ≡ limited_by before (statement_of k ts)
+  statement_late e = late (is_left_out language before k ts) (not (is_allowed before k)) (is_stray_end before k) (limited_by before (statement_of k ts)) e
 
-  pub statement_malformed : (kind : TreeKind) → fault_before before k ts ≡ None → statement_of k ts ≡ Err kind → statement_by_keyword before k ts ≡ Err kind
+  pub statement_malformed : (kind : TreeKind) → fault_before language before k ts ≡ None → statement_of k ts ≡ Err kind → statement_by_keyword language before k ts ≡ Err kind
   statement_malformed kind e h = statement_late e ∙ ap (limited_by before) h
 
-  statement_limited : (s : Statement) (kind : TreeKind) → fault_before before k ts ≡ None → statement_of k ts ≡ Ok s → limits before s ≡ Some kind → statement_by_keyword before k ts ≡ Err kind
+  statement_limited : (s : Statement) (kind : TreeKind) → fault_before language before k ts ≡ None → statement_of k ts ≡ Ok s → limits before s ≡ Some kind → statement_by_keyword language before k ts ≡ Err kind
   statement_limited s kind e h l = statement_late e ∙ ap (limited_by before) h ∙ limited (is_too_deep before s) (is_too_many before s) s kind l
 
-  statement_well : (s : Statement) → fault_before before k ts ≡ None → statement_of k ts ≡ Ok s → limits before s ≡ None → statement_by_keyword before k ts ≡ Ok (Some s)
+  statement_well : (s : Statement) → fault_before language before k ts ≡ None → statement_of k ts ≡ Ok s → limits before s ≡ None → statement_by_keyword language before k ts ≡ Ok (Some s)
   statement_well s e h l = statement_late e ∙ ap (limited_by before) h ∙ unlimited (is_too_deep before s) (is_too_many before s) s l
 
 -- whether a help text follows
@@ -116,86 +126,91 @@ no_help_of_source k [] path h = refl
 no_help_of_source k (t ∷ ts) path h = refl
 
 -- what is given of a line whose form was read
-module _ (r : FileSource) (file line : ℕ) (before : List Group) (k : Keyword) (ts : List Lexeme) (s : Statement) (new : ReaderState) (early : fault_before before k ts ≡ None) (form : statement_of k ts ≡ Ok s) where
-  pub source_given : (path : List ℕ) → AppendsStatement r file line before s new (Ok (Some path)) → IsSourceGiven r (statement_by_keyword before k ts) (begins_with k ts) path before new
+module _ (r : FileSource) (file line : ℕ) (language : Language) (before : List Group) (k : Keyword) (ts : List Lexeme) (s : Statement) (new : ReaderState) (early : fault_before language before k ts ≡ None) (form : statement_of k ts ≡ Ok s) where
+  pub source_given : (path : List ℕ) → AppendsStatement r file line before s new (Ok (Some path)) → IsSourceGiven r (statement_by_keyword language before k ts) (begins_with k ts) path before new
   source_given path p = record {
-    says = statement_well before k ts s early form p.0 ∙ ap (λ t. Ok (Some t)) p.1;
+    says = statement_well language before k ts s early form p.0 ∙ ap (λ t. Ok (Some t)) p.1;
     follows = no_help_of_source k ts path (form ∙ ap Ok p.1);
     describes = p.2;
   }
 
-  pub next_given : is_help_word (Some k) ≡ false → AppendsStatement r file line before s new (Ok None) → IsGiven r file line (statement_by_keyword before k ts) (begins_with k ts) before false new
+  pub next_given : is_help_word (Some k) ≡ false → AppendsStatement r file line before s new (Ok None) → IsGiven r file line (statement_by_keyword language before k ts) (begins_with k ts) before false new
   next_given n p = record {
     statement = Some s;
-    says = statement_well before k ts s early form p.0;
+    says = statement_well language before k ts s early form p.0;
     without_path = p.1;
     follows = no_help k ts n;
     describes = p.2;
   }
 
-  pub help_given : is_help_word (Some k) ≡ true → AppendsStatement r file line before s new (Ok None) → IsGiven r file line (statement_by_keyword before k ts) (begins_with k ts) before true new
+  pub help_given : is_help_word (Some k) ≡ true → AppendsStatement r file line before s new (Ok None) → IsGiven r file line (statement_by_keyword language before k ts) (begins_with k ts) before true new
   help_given n p = record {
     statement = Some s;
-    says = statement_well before k ts s early form p.0;
+    says = statement_well language before k ts s early form p.0;
     without_path = p.1;
     follows = a_help k ts s n form;
     describes = p.2;
   }
 
-  pub limit_given : (kind : TreeKind) → AppendsStatement r file line before s new (Err kind) → (kind ≡ OutOfMemory) ⊎ ((statement_by_keyword before k ts ≡ Err kind) × RepresentsListing new.listing before)
+  pub limit_given : (kind : TreeKind) → AppendsStatement r file line before s new (Err kind) → (kind ≡ OutOfMemory) ⊎ ((statement_by_keyword language before k ts ≡ Err kind) × RepresentsListing new.listing before)
   limit_given kind (inl m) = inl m
-  limit_given kind (inr h) = inr (statement_limited before k ts s kind early form h.0, h.1)
+  limit_given kind (inr h) = inr (statement_limited language before k ts s kind early form h.0, h.1)
 
 -- the tokens of a line
-pub word_unknown : (before : List Group) (t : Lexeme) (ts : List Lexeme) → keyword_of t ≡ None → statement_of_tokens before (t ∷ ts) ≡ Err UnknownStatement
-word_unknown before t ts e = ap (statement_by_word before ts) e
+pub word_unknown : (language : Language) (before : List Group) (t : Lexeme) (ts : List Lexeme) → keyword_of t ≡ None → statement_of_tokens language before (t ∷ ts) ≡ Err UnknownStatement
+word_unknown language before t ts e = ap (statement_by_word language before ts) e
 
-word_known : (before : List Group) (t : Lexeme) (ts : List Lexeme) (k : Keyword) → keyword_of t ≡ Some k → statement_of_tokens before (t ∷ ts) ≡ statement_by_keyword before k ts
-word_known before t ts k e = ap (statement_by_word before ts) e
+word_known : (language : Language) (before : List Group) (t : Lexeme) (ts : List Lexeme) (k : Keyword) → keyword_of t ≡ Some k → statement_of_tokens language before (t ∷ ts) ≡ statement_by_keyword language before k ts
+word_known language before t ts k e = ap (statement_by_word language before ts) e
 
 help_known : (t : Lexeme) (ts : List Lexeme) (k : Keyword) → keyword_of t ≡ Some k → is_help (t ∷ ts) ≡ begins_with k ts
 help_known t [] k e = ap is_help_word e
 help_known t (u ∷ ts) k e = refl
 
-pub given_by_word : (r : FileSource) (file line : ℕ) (before : List Group) (t : Lexeme) (ts : List Lexeme) (k : Keyword) (new : ReaderState) (result : Result Step TreeKind) → keyword_of t ≡ Some k
-    → ReturnsStatementRead r file line (statement_by_keyword before k ts) (begins_with k ts) before new result → ReturnsStatementRead r file line (statement_of_tokens before (t ∷ ts)) (is_help (t ∷ ts)) before new result
-given_by_word r file line before t ts k new result e g = rw (word_known before t ts k e, help_known t ts k e) g
+pub given_by_word : (r : FileSource) (file line : ℕ) (language : Language) (before : List Group) (t : Lexeme) (ts : List Lexeme) (k : Keyword) (new : ReaderState) (result : Result Step TreeKind) → keyword_of t ≡ Some k
+    → ReturnsStatementRead r file line (statement_by_keyword language before k ts) (begins_with k ts) before new result → ReturnsStatementRead r file line (statement_of_tokens language before (t ∷ ts)) (is_help (t ∷ ts)) before new result
+given_by_word r file line language before t ts k new result e g = rw (word_known language before t ts k e, help_known t ts k e) g
 
 -- tokens after none
 pub behind_none : {E : Type 0} (read : Result (List Lexeme) E) → with_front [] read ≡ read
 behind_none (Ok ts) = refl
 behind_none (Err e) = refl
 
+-- the language of the files
+pub language_of_source : (f : SourceFiles) → (file_source_of f).language ≡ f.texts.now.language
+unfolding file_source_of
+language_of_source f = refl
+
 -- the line
-gives_tokens : (before : List Group) (line : ℕ) (text : List ℕ) → nat_lt MAX_LINE_BYTES (length text) ≡ false → is_utf8 text ≡ true → statement_on_line before (line_here line text) ≡ statement_or_fault before (lexemes_from 0 0 text)
+gives_tokens : (language : Language) (before : List Group) (line : ℕ) (text : List ℕ) → nat_lt MAX_LINE_BYTES (length text) ≡ false → is_utf8 text ≡ true → statement_on_line language before (line_here line text) ≡ statement_or_fault language before (lexemes_from language 0 0 text)
 unfolding statement_on_line
-gives_tokens before line text e u = rw (e, u) refl
+gives_tokens language before line text e u = rw (e, u) refl
 
 module _ (r : FileSource) (file line : ℕ) (before : List Group) (text : List ℕ) (new : ReaderState) (short : nat_lt MAX_LINE_BYTES (length text) ≡ false) (utf8 : is_utf8 text ≡ true) where
-  pub line_of_tokens : (ts : List Lexeme) (result : Result Step TreeKind) → lexemes_from 0 0 text ≡ Ok ts → ReturnsStatementRead r file line (statement_of_tokens before ts) (is_help ts) before new result → LineRead r file line text before new result
+  pub line_of_tokens : (ts : List Lexeme) (result : Result Step TreeKind) → lexemes_from r.language 0 0 text ≡ Ok ts → ReturnsStatementRead r file line (statement_of_tokens r.language before ts) (is_help ts) before new result → LineRead r file line text before new result
   line_of_tokens ts (Ok Next) e g = record {
     statement = g.statement;
-    says = gives_tokens before line text short utf8 ∙ ap (statement_or_fault before) e ∙ g.says;
+    says = gives_tokens r.language before line text short utf8 ∙ ap (statement_or_fault r.language before) e ∙ g.says;
     no_path = g.without_path;
-    begins = rw (e, begins_help) g.follows;
+    begins = sym (help_alike text r.language) ∙ ap is_help_or_fault e ∙ g.follows;
     describes = g.describes;
   }
   line_of_tokens ts (Ok Help) e g = record {
     statement = g.statement;
-    says = gives_tokens before line text short utf8 ∙ ap (statement_or_fault before) e ∙ g.says;
+    says = gives_tokens r.language before line text short utf8 ∙ ap (statement_or_fault r.language before) e ∙ g.says;
     no_path = g.without_path;
-    begins = rw (e, begins_help) g.follows;
+    begins = sym (help_alike text r.language) ∙ ap is_help_or_fault e ∙ g.follows;
     describes = g.describes;
   }
   line_of_tokens ts (Ok (Source path)) e g = record {
-    says = gives_tokens before line text short utf8 ∙ ap (statement_or_fault before) e ∙ g.says;
-    begins = rw (e, begins_help) g.follows;
+    says = gives_tokens r.language before line text short utf8 ∙ ap (statement_or_fault r.language before) e ∙ g.says;
+    begins = sym (help_alike text r.language) ∙ ap is_help_or_fault e ∙ g.follows;
     describes = g.describes;
   }
   line_of_tokens ts (Err kind) e (inl m) = inl m
-  line_of_tokens ts (Err kind) e (inr h) = inr (gives_tokens before line text short utf8 ∙ ap (statement_or_fault before) e ∙ h.0, h.1)
+  line_of_tokens ts (Err kind) e (inr h) = inr (gives_tokens r.language before line text short utf8 ∙ ap (statement_or_fault r.language before) e ∙ h.0, h.1)
 
   -- the first fault of its tokens
-  pub line_of_fault : (f : ExprFault) (kind : TreeKind) → kind ≡ kind_of_fault f.kind → (f.kind ≡ expr_kinds.OutOfMemory) ⊎ (lexemes_from 0 0 text ≡ Err f) → RepresentsListing new.listing before → LineRead r file line text before new (Err kind)
+  pub line_of_fault : (f : ExprFault) (kind : TreeKind) → kind ≡ kind_of_fault f.kind → (f.kind ≡ expr_kinds.OutOfMemory) ⊎ (lexemes_from r.language 0 0 text ≡ Err f) → RepresentsListing new.listing before → LineRead r file line text before new (Err kind)
   line_of_fault f kind e (inl m) s = inl (e ∙ ap kind_of_fault m)
-  line_of_fault f kind e (inr h) s = inr (gives_tokens before line text short utf8 ∙ ap (statement_or_fault before) h ∙ ap Err (sym e), s)
+  line_of_fault f kind e (inr h) s = inr (gives_tokens r.language before line text short utf8 ∙ ap (statement_or_fault r.language before) h ∙ ap Err (sym e), s)

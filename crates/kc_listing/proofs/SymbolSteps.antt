@@ -20,7 +20,8 @@ pub same_names : (e : Exprs) → Grows e e
 same_names e = record { names = take-length e.names; nodes = take-length e.nodes }
 
 -- the place of a name by the table
-pub place_known : (e : Exprs) (symbols numbers : List ℕ) (names : List (List ℕ)) (x : List ℕ) (id : ℕ) → HasNames e symbols numbers names → index_of_name x e.names ≡ Some id → index_of_name x names ≡ number_in_slot (get_or numbers id 0)
+pub place_known : (e : Exprs) (symbols numbers : List ℕ) (names : List (List ℕ)) (x : List ℕ) (id : ℕ) → HasNames e symbols numbers names
+    → index_of_name x e.names ≡ Some id → index_of_name x names ≡ number_in_slot (get_or numbers id 0)
 place_known e symbols numbers names x id h p = sym (h.numbered x) ∙ ap (option_and_then (λ i. number_in_slot (get_or numbers i 0))) p
 
 -- where there may be one more
@@ -41,7 +42,8 @@ module _ (e : Exprs) (symbols numbers : List ℕ) (names : List (List ℕ)) (x :
   pub reported_full : 1000000 ≤ length symbols → is_full x names ≡ true
   reported_full l = full_is x names none ∙ limit_is (length names) (length symbols) (as_many_names e symbols numbers names h) l
 
-  pub reported_new : (new : SymbolTable) (result : Result ℕ TreeKind) → length symbols < 1000000 → IfOk result (λ n. n ≡ length symbols) → OnOk result (KeepsNames new (names ++ x ∷ [])) → IfErr result (λ k. k ≡ OutOfMemory) → ReturnsSymbol x names new result
+  pub reported_new : (new : SymbolTable) (result : Result ℕ TreeKind) → length symbols < 1000000 → IfOk result (λ n. n ≡ length symbols)
+      → OnOk result (KeepsNames new (names ++ x ∷ [])) → IfErr result (λ k. k ≡ OutOfMemory) → ReturnsSymbol x names new result
   reported_new new (Ok n) l i k m = (
     full_is x names none ∙ limit_not (length names) (length symbols) (as_many_names e symbols numbers names h) l,
     rw (with_new x names none) k,

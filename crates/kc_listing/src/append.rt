@@ -93,7 +93,7 @@ pub(crate) fn push_choice_group(
     file: u32,
     line: u32,
 ) -> Result<(), TreeKind>
-    requires { read.old.choices < MAX_CHOICES }
+    requires few { read.old.choices < MAX_CHOICES }
     ensures appends { (r : FileSource) (before : List Placed) → Describes r read.old before
         → OnOk result (Describes r read.new (with_group (at_line file line) (of_head choice) before)) }
     ensures memory { IfErr result (λ k. k ≡ OutOfMemory) }

@@ -15,8 +15,8 @@ use kc_value::MAX_NAME_BYTES;
 
 /// Whether an attribute selects or implies a name that is too long.
 fn has_long_name(arena: &Arena, attribute: &Attribute) -> bool
-    requires { AttributeNodesExist arena.now attribute.now }
-    ensures { result ≡ too_many_by_attribute (attribute_in arena.now attribute.now) }
+    requires held { AttributeNodesExist arena.now attribute.now }
+    ensures value { result ≡ too_many_by_attribute (attribute_in arena.now attribute.now) }
 {
     match attribute {
         Attribute::Select(aimed) => arena.name(aimed.name).len() > MAX_NAME_BYTES,
@@ -31,8 +31,8 @@ pub(crate) fn push_attribute(
     line: u32,
     attribute: &Attribute,
 ) -> Result<(), TreeKind>
-    requires { AttributeNodesExist read.old.listing.names.arena attribute.now }
-    ensures { (r : FileSource) (before : List Placed) → Describes r read.old before
+    requires held { AttributeNodesExist read.old.listing.names.arena attribute.now }
+    ensures appends { (r : FileSource) (before : List Placed) → Describes r read.old before
         → AppendsAttribute r line before (attribute_in read.old.listing.names.arena attribute.now) read.new result }
 {
     if has_long_name(&read.listing.names.arena, attribute) {

@@ -48,8 +48,8 @@ pub(crate) fn push_if_block(
     line: u32,
     id: ExprId,
 ) -> Result<(), TreeKind>
-    requires { id < length read.old.listing.names.arena.nodes }
-    ensures { (r : FileSource) (before : List Placed) → Describes r read.old before
+    requires there { id < length read.old.listing.names.arena.nodes }
+    ensures appends { (r : FileSource) (before : List Placed) → Describes r read.old before
         → AppendsHead r file line before (condition (node_expr read.old.listing.names.arena id)) read.new result }
 {
     if is_at_block_limit(&read.stack) {

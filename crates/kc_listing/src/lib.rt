@@ -7,7 +7,6 @@ mod attributes;
 mod fault;
 mod heads;
 mod line;
-mod lines;
 mod listing;
 mod open_blocks;
 mod placement;

@@ -14,7 +14,7 @@ use super::placement::fault_before_form;
 use super::state::{ReaderState, SourceFiles, Step};
 use super::statements::push_statement;
 use super::text::text_of;
-use kc_expr::{Token, push_tokens};
+use kc_expr::{Language, Token, push_tokens};
 use kc_statements::{keyword_of, statement_of, tree_kind_of};
 use kc_tree_model::{Keyword, TreeKind};
 use std::borrow::CowSlice;
@@ -29,15 +29,16 @@ fn is_help_keyword(keyword: Keyword) -> bool
 /// Reads the tokens of a line after its keyword.
 fn read_form(
     read: &mut ReaderState,
+    language: Language,
     file: u32,
     line: u32,
     keyword: Keyword,
     tokens: &[Token<'_>],
 ) -> Result<Step, TreeKind>
     ensures { (r : FileSource) (before : List Group) → Describes r read.old before
-        → ReturnsStatementRead r file line (statement_by_keyword before keyword (lexemes_of tokens.now)) (begins_with keyword (lexemes_of tokens.now)) before read.new result }
+        → ReturnsStatementRead r file line (statement_by_keyword language before keyword (lexemes_of tokens.now)) (begins_with keyword (lexemes_of tokens.now)) before read.new result }
 {
-    if let Some(kind) = fault_before_form(read, keyword, tokens) {
+    if let Some(kind) = fault_before_form(read, language, keyword, tokens) {
         return Err(kind);
     }
     let said = match statement_of(read.alloc, &mut read.listing.names.arena, keyword, tokens) {
@@ -55,12 +56,13 @@ fn read_form(
 /// Reads the tokens of a line.
 fn read_tokens(
     read: &mut ReaderState,
+    language: Language,
     file: u32,
     line: u32,
     tokens: &[Token<'_>],
 ) -> Result<Step, TreeKind>
     ensures { (r : FileSource) (before : List Group) → Describes r read.old before
-        → ReturnsStatementRead r file line (statement_of_tokens before (lexemes_of tokens.now)) (is_help (lexemes_of tokens.now)) before read.new result }
+        → ReturnsStatementRead r file line (statement_of_tokens language before (lexemes_of tokens.now)) (is_help (lexemes_of tokens.now)) before read.new result }
 {
     let Some((first, rest)) = tokens.split_first() else {
         return Ok(Step::Next);
@@ -68,7 +70,7 @@ fn read_tokens(
     let Some(keyword) = keyword_of(first) else {
         return Err(TreeKind::UnknownStatement);
     };
-    read_form(read, file, line, keyword, rest)
+    read_form(read, language, file, line, keyword, rest)
 }
 
 /// Reads a line that isn't of a help text, with a list of tokens that is kept from line to line.
@@ -87,8 +89,9 @@ pub(crate) fn read_line<'a>(
         Err(kind) => return Err(kind),
     };
     found.clear();
-    match push_tokens(text, found) {
-        Ok(()) => read_tokens(read, file, line, found.as_slice()),
+    let language = from.texts.language();
+    match push_tokens(language, text, found) {
+        Ok(()) => read_tokens(read, language, file, line, found.as_slice()),
         Err(fault) => Err(tree_kind_of(fault.kind)),
     }
 }

@@ -11,7 +11,7 @@ ghost use Rattle.kc_listing.specs.checker.StateViews.{Describes};
 use super::listing::{Group, GroupHead};
 use super::open_blocks::{in_choice, innermost, open_block_count};
 use super::state::ReaderState;
-use kc_expr::Token;
+use kc_expr::{Language, Token};
 use kc_statements::{allows_attribute, is_left_out};
 use kc_tree_model::{Block, Keyword, OpenEntry, TreeKind};
 
@@ -107,17 +107,18 @@ fn is_stray(read: &ReaderState, keyword: Keyword) -> bool
     }
 }
 
-/// The fault of a line with this keyword that comes before those of its form, by the tokens after its first: it is
+/// The fault of a line with this keyword in this language that comes before those of its form, by the tokens after its first: it is
 /// left out, it is misplaced, or it ends no open block.
 pub(crate) fn fault_before_form(
     read: &ReaderState,
+    language: Language,
     keyword: Keyword,
     tokens: &[Token<'_>],
 ) -> Option<TreeKind>
-    ensures { (r : FileSource) (before : List Placed) → Describes r read.now before → result ≡ fault_before before keyword (lexemes_of tokens.now) }
+    ensures { (r : FileSource) (before : List Placed) → Describes r read.now before → result ≡ fault_before language before keyword (lexemes_of tokens.now) }
 {
     let entry = open_entry(&read.listing.groups);
-    if is_left_out(keyword, tokens, is_choice(entry)) {
+    if is_left_out(language, keyword, tokens, is_choice(entry)) {
         return Some(TreeKind::LeftOut);
     }
     if !is_allowed(read, keyword) {

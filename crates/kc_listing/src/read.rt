@@ -38,8 +38,8 @@ impl Listing {
 impl ReaderState {
     /// The state before a first file of this size.
     fn new(alloc: Global, seed: Seed, bytes: usize) -> ReaderState
-        requires { bytes ≤ MAX_TREE_BYTES }
-        ensures { (r : FileSource) → bytes ≡ size_in r r.root → Describes r result [] }
+        requires small { bytes ≤ MAX_TREE_BYTES }
+        ensures empty { (r : FileSource) → bytes ≡ size_in r r.root → Describes r result [] }
     {
         ReaderState {
             alloc,
@@ -58,8 +58,8 @@ fn read_first(
     from: SourceFiles<'_>,
     file: SourceFile<'_>,
 ) -> (Listing, Option<TreeFault>)
-    requires { length file.bytes.now ≤ MAX_TREE_BYTES }
-    ensures { file.entry.number ≡ (file_source_of from.entry).number (file_source_of from.entry).root → file.entry.bytes.now ≡ bytes_in (file_source_of from.entry) (file_source_of from.entry).root
+    requires small { length file.bytes.now ≤ MAX_TREE_BYTES }
+    ensures read { file.entry.number ≡ (file_source_of from.entry).number (file_source_of from.entry).root → file.entry.bytes.now ≡ bytes_in (file_source_of from.entry) (file_source_of from.entry).root
         → OutcomeRead (of_first (file_source_of from.entry)) result }
 {
     let mut read = ReaderState::new(alloc, from.texts.seed(), file.bytes.len());

@@ -10,11 +10,11 @@ ghost use Rattle.kc_listing.specs.checker.Steps.{LineRead, HelpRead, indented, S
 
 use super::fault::{fault_at, fault_or_out_of_memory, out_of_memory};
 use super::line::read_logical;
-use super::lines::{first_columns, is_of_help, logical_at, physical_at};
 use super::sources::{close_source, end_of_file, open_source};
 use super::state::{ReaderState, SourceFile, SourceFiles, Step};
 use super::text::text_of;
 use kc_expr::Token;
+use kc_lines::{first_columns, is_of_help, logical_at, physical_at};
 use kc_tree_model::TreeFault;
 use kc_value::Text;
 
@@ -28,7 +28,7 @@ fn read_indented(
     requires within { at ≤ length file.bytes.now }
     requires few { number ≤ at + 1 }
     requires small { length file.bytes.now < 2 ^ 31 }
-    ensures { HelpRead file.entry.number file.entry.bytes.now at number (indented columns file.entry.bytes.now at) result }
+    ensures read { HelpRead file.entry.number file.entry.bytes.now at number (indented columns file.entry.bytes.now at) result }
 {
     let mut begin = at;
     let mut lines = 0;
@@ -52,7 +52,7 @@ fn read_help(file: SourceFile<'_>, at: usize, number: u32) -> Result<(usize, u32
     requires within { at ≤ length file.bytes.now }
     requires few { number ≤ at + 1 }
     requires small { length file.bytes.now < 2 ^ 31 }
-    ensures { HelpRead file.entry.number file.entry.bytes.now at number (help_line_count (physical_lines (drop at file.entry.bytes.now))) result }
+    ensures read { HelpRead file.entry.number file.entry.bytes.now at number (help_line_count (physical_lines (drop at file.entry.bytes.now))) result }
 {
     let columns = first_columns(file.bytes, at);
     if columns == 0 {
@@ -122,8 +122,8 @@ pub(crate) fn read_open_file(
     depth: usize,
     file: SourceFile<'_>,
 ) -> Result<(), TreeFault>
-    requires { length file.bytes.now < 2 ^ 31 }
-    ensures { (before : List Group) → Describes (file_source_of from.entry) read.old before
+    requires small { length file.bytes.now < 2 ^ 31 }
+    ensures read { (before : List Group) → Describes (file_source_of from.entry) read.old before
         → FileOfRead (file_source_of from.entry) depth file.entry before read.new result }
 {
     if depth == 0 {

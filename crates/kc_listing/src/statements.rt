@@ -33,8 +33,8 @@ fn push_head(
     line: u32,
     head: Head<'_>,
 ) -> Result<Option<Text>, TreeKind>
-    requires { HeadNodesExist read.old.listing.names.arena head }
-    ensures { (r : FileSource) (before : List Placed) → Describes r read.old before
+    requires held { HeadNodesExist read.old.listing.names.arena head }
+    ensures appends { (r : FileSource) (before : List Placed) → Describes r read.old before
         → AppendsStatement r file line before (said_by_head (head_in read.old.listing.names.arena head.entry)) read.new result }
 {
     match head {
@@ -56,8 +56,8 @@ pub(crate) fn push_statement(
     line: u32,
     statement: Statement<'_>,
 ) -> Result<Option<Text>, TreeKind>
-    requires { StatementNodesExist read.old.listing.names.arena statement }
-    ensures { (r : FileSource) (before : List Placed) → Describes r read.old before
+    requires held { StatementNodesExist read.old.listing.names.arena statement }
+    ensures appends { (r : FileSource) (before : List Placed) → Describes r read.old before
         → AppendsStatement r file line before (statement_in read.old.listing.names.arena statement.entry) read.new result }
 {
     match statement {

@@ -1,6 +1,9 @@
 -- Questions and answers, through the map that holds them.
 use Rattle.std.proofs.Common.{◌≡◌, ℕ, zero, suc, Bool, true, false, cond, List, [], ◌∷◌, ◌++◌, length, take, map, Option, Some, None, refl, sym, ap, ◌∙◌}
-use Rattle.std.specs.Prelude.{Vec, bytes_eq, option_map}
+use Rattle.std.specs.Prelude.{Vec, bytes_eq, option_map, is_some, ◌||◌}
+use Rattle.kc_tree_model.specs.Limits.{is_in_list}
+use Rattle.kc_macros_model.specs.AnswerFiles.{Recorded}
+use Rattle.kc_macros.specs.RunStates.{questions_of, with_question}
 use Rattle.std.specs.declared.alloc.Global.{Global}
 use Rattle.std.proofs.lemmas.Slice.Eq.{bytes_eq-Decides}
 use Rattle.indexmap.specs.IndexMap.{insert_entry}
@@ -58,3 +61,26 @@ take_entries (suc n) (e ∷ es) = ap (λ xs. answer_of_entry e ∷ xs) (take_ent
 pub length_entries : (es : List Entry) → length (map answer_of_entry es) ≡ length es
 length_entries [] = refl
 length_entries (e ∷ es) = ap suc (length_entries es)
+
+-- a question is in a table where it has an entry
+pub listed_is_found : (es : Recorded) (question : List ℕ) → is_in_list question (questions_of es) ≡ is_some (keyword_in_table es question)
+listed_is_found [] question = refl
+listed_is_found (e ∷ es) question = by_test (bytes_eq e.0 question) (listed_is_found es question)
+  where
+    by_test : (b : Bool) → is_in_list question (questions_of es) ≡ is_some (keyword_in_table es question)
+        → (b || is_in_list question (questions_of es)) ≡ is_some (cond b (Some e.1) (keyword_in_table es question))
+    by_test true ih = refl
+    by_test false ih = ih
+
+pub is_some_map : {A B : Type 0} (f : A → B) (o : Option A) → is_some (option_map f o) ≡ is_some o
+is_some_map f None = refl
+is_some_map f (Some x) = refl
+
+-- the questions of a table with one more, by whether it is there
+pub noted : {A : Type 0} (es : Recorded) (question : List ℕ) (f : A → Answer) (found : Option A) (b : Bool) → option_map f found ≡ keyword_in_table es question → is_some found ≡ b
+    → with_question (questions_of es) question ≡ cond b (questions_of es) (questions_of es ++ question ∷ [])
+noted es question f found b e h = ap (λ t. cond t (questions_of es) (questions_of es ++ question ∷ [])) (listed_is_found es question ∙ ap is_some (sym e) ∙ is_some_map f found ∙ h)
+
+pub questions_of_append : (es fs : Recorded) → questions_of (es ++ fs) ≡ questions_of es ++ questions_of fs
+questions_of_append [] fs = refl
+questions_of_append (e ∷ es) fs = ap (λ qs. e.0 ∷ qs) (questions_of_append es fs)

@@ -1,2 +1,7 @@
-pub mod checker
 pub mod ReadAnswers
+pub mod Variables
+pub mod WrittenTokens
+pub mod Assigning
+pub mod RunStates
+pub mod Runs
+pub mod checker

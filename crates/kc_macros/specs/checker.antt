@@ -1,3 +1,13 @@
+pub mod Bodies
+pub mod LineTexts
+pub mod Storing
+pub mod Pieces
+pub mod Frames
+pub mod Leads
+pub mod Gathering
+pub mod BuiltIns
+pub mod Texts
+pub mod Events
 pub mod TableView
 pub mod LineView
 pub mod LinesView

@@ -24,7 +24,7 @@ pub(crate) enum AnswerLine<'a> {
 }
 
 /// A white byte: a tab, a vertical tab, a form feed, a carriage return or a space.
-fn is_white(byte: u8) -> bool
+pub(crate) fn is_white(byte: u8) -> bool
     ensures { result ≡ is_white_byte byte }
 {
     matches!(byte, 9 | 11 | 12 | 13 | 32)

@@ -2,6 +2,7 @@
 ghost use Rattle.std.specs.Prelude.{◌≡◌, ℕ, [], ◌∷◌, ◌++◌, length, take, None, OnOk, OnErr, IfOk, Vec, option_map};
 ghost use Rattle.std.specs.declared.alloc.Global.{Global};
 ghost use Rattle.kc_tree_model.specs.Keywords.{keyword_in_table};
+ghost use Rattle.kc_macros.specs.RunStates.{questions_of, with_question};
 
 use indexmap::IndexMap;
 use kc_value::Seed;
@@ -74,6 +75,20 @@ impl AnswerTable {
         let question = Vec::from_slice(self.alloc, question)?;
         let answer = copied(self.alloc, answer)?;
         self.entries.insert(question, answer)?;
+        Ok(())
+    }
+
+    /// Puts a question that isn't there last, without an answer; one that is there stays.
+    ///
+    /// # Errors
+    ///
+    /// Memory ran out.
+    pub(crate) fn note(&mut self, question: &[u8]) -> Result<(), AllocError>
+        ensures { OnOk result (questions_of self.new ≡ with_question (questions_of self.old) question.now) }
+    {
+        if self.get(question).is_none() {
+            self.insert(question, None)?;
+        }
         Ok(())
     }
 

@@ -7,37 +7,28 @@ ghost use Rattle.kc_macros.specs.ReadAnswers.{ReadsToEnd, AreRecorded, IsRefused
 use super::answer_table::AnswerTable;
 use super::recording_lines::record_lines;
 use kc_macros_model::{AnswersFault, AnswersKind};
-use kc_value::{Seed, Source};
+use kc_value::{ReadBytes, ReadEnd, Seed, Source, read_up_to};
 use std::alloc::{AllocError, Global};
 use std::marker::Model;
 
 /// The most bytes of a file of answers.
 const MAX_BYTES: usize = 67_108_864;
 
-/// How many bytes are read at once.
-const BLOCK: usize = 4096;
-
-/// Reads what a reader has left, up to the first byte too many. Returns the fault that cuts it there, if one does.
+/// Reads what a reader has left, up to the first byte too many. Returns it with the fault that cuts it there, if one does.
 fn read_whole<R: Source>(
+    alloc: Global,
     source: &mut R,
-    bytes: &mut Vec<u8>,
-) -> Result<Option<AnswersKind>, AllocError>
-    requires { bytes.old.items ≡ [] }
-    ensures read { OnOk result (Consumes (R.left source.old) (R.left source.new) bytes.new.items) }
-    ensures end { IfOk result (ReadsToEnd (R.left source.new) (R.failures source.old) (R.failures source.new) bytes.new.items) }
+) -> Result<(Vec<u8>, Option<AnswersKind>), AllocError>
+    ensures read { IfOk result (λ r. Consumes (R.left source.old) (R.left source.new) r.0.items) }
+    ensures end { IfOk result (λ r. ReadsToEnd (R.left source.new) (R.failures source.old) (R.failures source.new) r.0.items r.1) }
     ensures unfailed { OnErr result (R.failures source.new ≡ R.failures source.old) }
 {
-    let mut block = [0; BLOCK];
-    while bytes.len() <= MAX_BYTES {
-        let Ok(count) = source.read_some(&mut block) else {
-            return Ok(Some(AnswersKind::Read));
-        };
-        if count == 0 {
-            return Ok(None);
-        }
-        bytes.extend_from_slice(&block[..count])?;
+    let ReadBytes { bytes, end } = read_up_to(alloc, source, MAX_BYTES + 1, 0)?;
+    match end {
+        ReadEnd::AtEnd => Ok((bytes, None)),
+        ReadEnd::AtLimit => Ok((bytes, Some(AnswersKind::TooLarge))),
+        ReadEnd::AtFailure => Ok((bytes, Some(AnswersKind::Read))),
     }
-    Ok(Some(AnswersKind::TooLarge))
 }
 
 /// The bytes before the first byte too many.
@@ -86,7 +77,7 @@ impl Answers {
         self.table.get(question)
     }
 
-    /// Reads a file of answers to its end, at most 4,096 bytes at once, and records what it has after the files before it.
+    /// Reads a file of answers to its end, at most 8,192 bytes at once, and records what it has after the files before it.
     ///
     /// # Errors
     ///
@@ -101,8 +92,7 @@ impl Answers {
         ensures fault { IfErr result (λ f. (f.kind ≡ AnswersKind.OutOfMemory) ⊎ IsRefused (R.left source.old) (R.left source.new) (R.failures source.old) (R.failures source.new) self.old f) }
         ensures err { OnErr result (self.new ≡ self.old) }
     {
-        let mut bytes = Vec::new(self.alloc);
-        let Ok(cut) = read_whole(source, &mut bytes) else {
+        let Ok((bytes, cut)) = read_whole(self.alloc, source) else {
             return Err(AnswersFault {
                 line: 0,
                 kind: AnswersKind::OutOfMemory,

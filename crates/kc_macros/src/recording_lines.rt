@@ -7,8 +7,8 @@ ghost use Rattle.kc_macros.specs.checker.LinesView.{bytes_of, lines_view, last_l
 
 use super::answer_table::AnswerTable;
 use super::recording::{MAX_LINES, fault_of_size, fault_on_next_line, malformed_line, record_line};
+use bstr::ByteSlice;
 use kc_macros_model::{AnswersFault, AnswersKind};
-use memchr::memchr;
 
 /// The end of a file, which a fault cuts there or not, after this many lines.
 fn end_of_lines(
@@ -76,7 +76,7 @@ pub(crate) fn record_lines(
     let mut rest = bytes;
     let mut count = 0;
     let mut waiting = None;
-    while let Some(at) = memchr(b'\n', rest) {
+    while let Some(at) = rest.find_byte(b'\n') {
         waiting = record_line(table, count, waiting, &rest[..at])?;
         count += 1;
         rest = &rest[at + 1..];

@@ -1,11 +1,11 @@
 -- Worked rows, computed.
 use Rattle.std.proofs.Common.{◌≡◌, ℕ, List, [], ◌∷◌, Some, None, Result, Ok, Err, refl, true, map, drop, length}
-use Rattle.std.specs.Prelude.{codes, filter, ◌==◌, not, take_while}
+use Rattle.std.specs.Prelude.{codes, filter, ◌==◌, not, take_while, bytes_eq}
 use Rattle.std.specs.Fmt.{digits}
 use Rattle.std.specs.Str.{is_utf8, chars}
 use Rattle.std.specs.List.{starts_with}
 use Rattle.kc_expr.specs.Token.{next_token}
-use Rattle.kc_tree_model.specs.TreeFiles.{Files, file_at}
+use Rattle.std.specs.Map.{lookup}
 use Rattle.kc_tree_model.specs.Keywords.{keyword_in_table}
 use Rattle.kc_tree_model.specs.Limits.{without_repeats}
 use Rattle.kc_macros_model.specs.declared.fault.MacroKind.{MacroKind}
@@ -20,12 +20,12 @@ use Rattle.kc_macros_model.specs.Worlds.{World, Ending, returned, failed, stoppe
 use Rattle.kc_macros_model.specs.AnswerFiles.{Recorded, complete, cut_by, answers_read}
 
 -- the names in a folder, by the paths of files
-abbrev names_in : Files → List ℕ → List (List ℕ)
+abbrev names_in : List (List ℕ × List ℕ) → List ℕ → List (List ℕ)
 names_in files folder = without_repeats (map (λ (f : List ℕ × List ℕ). take_while (λ c. not (c == 47)) (drop (length folder) f.0)) (filter (λ (f : List ℕ × List ℕ). starts_with (λ a b. a == b) f.0 folder) files))
 
 -- files and answers
-abbrev world : Files → Recorded → World
-world files answers = record { answer = keyword_in_table answers; bytes = file_at files; names = names_in files }
+abbrev world : List (List ℕ × List ℕ) → Recorded → World
+world files answers = record { answer = keyword_in_table answers; bytes = λ path. lookup (bytes_eq path) files; names = names_in files }
 
 -- a tree of one file
 abbrev one_file : List ℕ → Recorded → World

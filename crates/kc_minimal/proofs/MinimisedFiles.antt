@@ -16,22 +16,25 @@ use Rattle.kc_minimal_model.specs.Loading.{Loads}
 use Rattle.kc_minimal.specs.Minimised.{IsMinimised, IsCutOff}
 
 module _ (prefix : List ℕ) (valid : is_prefix prefix ≡ true) (profile : Profile) (tree : Tree)
-    (before after : Option (List ℕ)) (f : Fragment) (read : IsReadAs prefix tree before after f) (values : List UnitValue) (text : List ℕ) (gives : UniquelySolves (length tree.units) (rule profile tree) (users_of tree f.assigns.items) values) (canonical : IsCanonicalText prefix profile tree values text) where
-  abbrev loaded : Loads prefix profile tree read.told values
+    (before after : Option (List ℕ)) (f : Fragment) (read : IsReadAs prefix tree before after f) (values : List UnitValue) (text : List ℕ)
+    (gives : UniquelySolves (length tree.units) (rule profile tree) (users_of tree f.assigns.items) values)
+    (canonical : IsCanonicalText prefix profile tree values text) where
+  abbrev loaded : Loads prefix profile tree read.known values
   loaded = record {
     accepted = read.accepted;
     reads = record {
-      utf8 = accepted_utf8 prefix tree read.told valid read.accepted;
-      sayings = read.sayings;
+      utf8 = accepted_utf8 prefix tree read.known valid read.accepted;
+      meanings = read.meanings;
       says = read.says;
       gives = subst (λ users. UniquelySolves (length tree.units) (rule profile tree) users values) read.users gives;
     };
   }
 
   -- written whole
-  pub minimised : (taken taken_after : Option (List ℕ)) → Appends taken taken_after text → IsMinimised prefix profile tree before after taken taken_after f.notices.items
+  pub minimised : (taken taken_after : Option (List ℕ)) → Appends taken taken_after text
+      → IsMinimised prefix profile tree before after taken taken_after f.notices.items
   minimised taken taken_after written = record {
-    told = read.told;
+    known = read.known;
     consumed = read.consumed;
     ended = read.ended;
     values = values;
@@ -43,10 +46,11 @@ module _ (prefix : List ℕ) (valid : is_prefix prefix ≡ true) (profile : Prof
   }
 
   -- and in part
-  pub cut_off : (taken taken_after : Option (List ℕ)) (failed failed_after written : ℕ) → written < length text → Appends taken taken_after (take written text) → (failed < 2 ^ 64 - 1 → failed < failed_after)
+  pub cut_off : (taken taken_after : Option (List ℕ)) (failed failed_after written : ℕ) → written < length text → Appends taken taken_after (take written text)
+      → (failed < 2 ^ 64 - 1 → failed < failed_after)
       → IsCutOff prefix profile tree before after taken taken_after failed failed_after written
   cut_off taken taken_after failed failed_after written part took rose = record {
-    told = read.told;
+    known = read.known;
     consumed = read.consumed;
     ended = read.ended;
     values = values;

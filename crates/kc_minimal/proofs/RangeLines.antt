@@ -8,7 +8,8 @@ use Rattle.std.proofs.lemmas.List.{append-nil, map-append}
 
 range_more : (n a : ℕ) → range_with_len a (suc n) ≡ range_with_len a n ++ (a + n) ∷ []
 range_more zero a = ap (λ b. b ∷ []) (let e : a ≡ a + 0 = omega arith in e)
-range_more (suc n) a = ap (λ l. a ∷ l) (range_more n (a + 1) ∙ ap (λ m. range_with_len (a + 1) n ++ m ∷ []) (let e : (a + 1) + n ≡ a + suc n = omega arith in e))
+range_more (suc n) a =
+    ap (λ l. a ∷ l) (range_more n (a + 1) ∙ ap (λ m. range_with_len (a + 1) n ++ m ∷ []) (let e : (a + 1) + n ≡ a + suc n = omega arith in e))
 
 -- one number more
 range_next : (n : ℕ) → range_with_len 0 (n + 1) ≡ range_with_len 0 n ++ n ∷ []
@@ -18,9 +19,12 @@ range_next n =
     ap (range_with_len 0) e ∙ range_more n 0 ∙ ap (λ m. range_with_len 0 n ++ m ∷ []) z
 
 -- one line more
-pub line_more : (p : ℕ → Bool) (f : ℕ → List ℕ) (n : ℕ) (text new : List ℕ) → text ≡ flat_map f (filter p (range_with_len 0 n)) → new ≡ text ++ cond (p n) (f n) [] → new ≡ flat_map f (filter p (range_with_len 0 (n + 1)))
+pub line_more : (p : ℕ → Bool) (f : ℕ → List ℕ) (n : ℕ) (text new : List ℕ) → text ≡ flat_map f (filter p (range_with_len 0 n))
+    → new ≡ text ++ cond (p n) (f n) [] → new ≡ flat_map f (filter p (range_with_len 0 (n + 1)))
 line_more p f n text new is more =
-    more ∙ ap (λ t. t ++ cond (p n) (f n) []) is ∙ ap (λ l. flat_map f (filter p (range_with_len 0 n)) ++ l) (one (p n) refl) ∙ sym (flat_map-append f (filter p (range_with_len 0 n)) (filter p (n ∷ []))) ∙ ap (flat_map f) (sym (filter-append p (range_with_len 0 n) (n ∷ []))) ∙ ap (λ l. flat_map f (filter p l)) (sym (range_next n)) where
+    more ∙ ap (λ t. t ++ cond (p n) (f n) []) is ∙ ap (λ l. flat_map f (filter p (range_with_len 0 n)) ++ l) (one (p n) refl)
+    ∙ sym (flat_map-append f (filter p (range_with_len 0 n)) (filter p (n ∷ []))) ∙ ap (flat_map f) (sym (filter-append p (range_with_len 0 n) (n ∷ [])))
+    ∙ ap (λ l. flat_map f (filter p l)) (sym (range_next n)) where
       one : (t : Bool) → p n ≡ t → cond (p n) (f n) [] ≡ flat_map f (filter p (n ∷ []))
       one true e = ap (λ t. cond t (f n) []) e ∙ sym (append-nil (f n)) ∙ ap (λ t. flat_map f (cond t (n ∷ []) [])) (sym e)
       one false e = ap (λ t. cond t (f n) []) e ∙ ap (λ t. flat_map f (cond t (n ∷ []) [])) (sym e)
@@ -31,6 +35,9 @@ one_given None = refl
 one_given (Some x) = refl
 
 -- one symbol more
-pub found_more : {A B : Type 0} (t : A → B) (f : ℕ → Option A) (n : ℕ) (found new : List B) → found ≡ map t (filter_map f (range_with_len 0 n)) → new ≡ found ++ map t (option_to_list (f n)) → new ≡ map t (filter_map f (range_with_len 0 (n + 1)))
+pub found_more : {A B : Type 0} (t : A → B) (f : ℕ → Option A) (n : ℕ) (found new : List B) → found ≡ map t (filter_map f (range_with_len 0 n))
+    → new ≡ found ++ map t (option_to_list (f n)) → new ≡ map t (filter_map f (range_with_len 0 (n + 1)))
 found_more t f n found new is more =
-    more ∙ ap (λ l. l ++ map t (option_to_list (f n))) is ∙ ap (λ l. map t (filter_map f (range_with_len 0 n)) ++ map t l) (one_given (f n)) ∙ sym (map-append t (filter_map f (range_with_len 0 n)) (filter_map f (n ∷ []))) ∙ ap (map t) (sym (filter_map-append f (range_with_len 0 n) (n ∷ []))) ∙ ap (λ l. map t (filter_map f l)) (sym (range_next n))
+    more ∙ ap (λ l. l ++ map t (option_to_list (f n))) is ∙ ap (λ l. map t (filter_map f (range_with_len 0 n)) ++ map t l) (one_given (f n))
+    ∙ sym (map-append t (filter_map f (range_with_len 0 n)) (filter_map f (n ∷ []))) ∙ ap (map t) (sym (filter_map-append f (range_with_len 0 n) (n ∷ [])))
+    ∙ ap (λ l. map t (filter_map f l)) (sym (range_next n))

@@ -1,3 +1,3 @@
-pub mod DifferenceViews
 pub mod Minimised
+pub mod between
 pub mod checker

@@ -17,14 +17,14 @@ use Rattle.kc_minimal_model.specs.Loading.{Loads}
 -- The bytes of a reader are minimised to a writer.
 pub record IsMinimised (prefix : List ℕ) (profile : Profile) (tree : Tree) (before after taken taken_after : Option (List ℕ)) (notices : List Notice) : Type 0 where
   -- the bytes that the reader supplied, to its end
-  pub told : List ℕ
-  pub consumed : Consumes before after told
+  pub known : List ℕ
+  pub consumed : Consumes before after known
   pub ended : IsAtEnd after
   -- they are an accepted file, which gives these values and no others
   pub values : List UnitValue
-  pub loads : Loads prefix profile tree told values
+  pub loads : Loads prefix profile tree known values
   -- the notices of its lines
-  pub noted : map notice_pair notices ≡ notices_from 1 loads.reads.sayings
+  pub noted : map notice_pair notices ≡ notices_from 1 loads.reads.meanings
   -- the writer took this text and nothing else
   pub text : List ℕ
   pub written : Appends taken taken_after text
@@ -33,11 +33,11 @@ pub record IsMinimised (prefix : List ℕ) (profile : Profile) (tree : Tree) (be
 
 -- A write failed after a part of the minimal file of an accepted file.
 pub record IsCutOff (prefix : List ℕ) (profile : Profile) (tree : Tree) (before after taken taken_after : Option (List ℕ)) (failed failed_after written : ℕ) : Type 0 where
-  pub told : List ℕ
-  pub consumed : Consumes before after told
+  pub known : List ℕ
+  pub consumed : Consumes before after known
   pub ended : IsAtEnd after
   pub values : List UnitValue
-  pub loads : Loads prefix profile tree told values
+  pub loads : Loads prefix profile tree known values
   pub part : written < length (minimal_file prefix profile tree values)
   pub took : Appends taken taken_after (take written (minimal_file prefix profile tree values))
   pub rose : failed < 2 ^ 64 - 1 → failed < failed_after

@@ -1,11 +1,11 @@
 //! The comparison of configurations.
 ghost use Rattle.std.specs.Prelude.{◌≡◌, ◌↔◌, ℕ, List, [], true, map, IfOk};
-ghost use Rattle.kc_rules.specs.SettledViews.{profile_of};
+ghost use Rattle.kc_rules.specs.between.SettledViews.{profile_of};
 ghost use Rattle.kc_dotconfig_model.specs.PrefixGrammar.{is_prefix};
 ghost use Rattle.kc_dotconfig.specs.Configured.{tree_in};
 ghost use Rattle.kc_minimal_model.specs.MinimalFile.{minimal_file};
 ghost use Rattle.kc_minimal_model.specs.Differences.{differences};
-ghost use Rattle.kc_minimal.specs.DifferenceViews.{difference_view};
+ghost use Rattle.kc_minimal.specs.between.DifferenceViews.{difference_view};
 
 use crate::differing::{Difference, differing};
 use kc_dotconfig::Config;

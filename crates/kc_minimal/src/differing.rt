@@ -2,9 +2,9 @@
 ghost use Rattle.std.specs.Prelude.{◌≡◌, ◌<◌, ◌++◌, length, map, option_to_list, IfOk, OnOk};
 ghost use Rattle.kc_expr.specs.Lookup.{symbol_value_of};
 ghost use Rattle.kc_rules_model.specs.SymbolValues.{value_of_symbol};
-ghost use Rattle.kc_rules.specs.SettledViews.{tree_of_settled, value_view};
+ghost use Rattle.kc_rules.specs.between.SettledViews.{tree_of_settled, value_view};
 ghost use Rattle.kc_minimal_model.specs.Differences.{is_same_value, difference_at, differences};
-ghost use Rattle.kc_minimal.specs.DifferenceViews.{difference_view};
+ghost use Rattle.kc_minimal.specs.between.DifferenceViews.{difference_view};
 
 use kc_expr::Looked;
 use kc_rules::{Settled, UnitValue};
@@ -49,8 +49,8 @@ fn push_if_differing(
     right: &[UnitValue],
     s: Sym,
 ) -> Result<(), AllocError>
-    requires { s < length (tree_of_settled settled.now).symbols }
-    ensures { OnOk result (found.new.items ≡ found.old.items ++ map difference_view (option_to_list (difference_at s (value_of_symbol (tree_of_settled settled.now) left.now s) (value_of_symbol (tree_of_settled settled.now) right.now s)))) }
+    requires there { s < length (tree_of_settled settled.now).symbols }
+    ensures ok { OnOk result (found.new.items ≡ found.old.items ++ map difference_view (option_to_list (difference_at s (value_of_symbol (tree_of_settled settled.now) left.now s) (value_of_symbol (tree_of_settled settled.now) right.now s)))) }
 {
     let a = settled.value_of_symbol(s, left);
     let b = settled.value_of_symbol(s, right);

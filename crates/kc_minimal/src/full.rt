@@ -4,8 +4,8 @@ ghost use Rattle.kc_expr.specs.between.Arena.{node_expr};
 ghost use Rattle.kc_tree.specs.between.Views.{entry_view, EntryFits};
 ghost use Rattle.kc_tree_model.specs.Trees.{Entry as TreeEntry, definition};
 ghost use Rattle.kc_rules_model.specs.Reports.{is_written};
-ghost use Rattle.kc_rules.specs.SettledViews.{tree_of_settled, tree_model_of};
-ghost use Rattle.kc_dotconfig_model.specs.Prefixes.{prefix_bytes};
+ghost use Rattle.kc_rules.specs.between.SettledViews.{tree_of_settled, tree_model_of};
+ghost use Rattle.kc_dotconfig_model.specs.between.Prefixes.{prefix_bytes};
 ghost use Rattle.kc_minimal_model.specs.Spelling.{ended_line};
 ghost use Rattle.kc_minimal_model.specs.FullFile.{heading, end_line, applies, full_file};
 ghost use Rattle.kc_minimal.specs.checker.Drafts.{IsDraft};
@@ -52,8 +52,8 @@ fn push_end(out: &mut Vec<u8>, title: &str) -> Result<(), AllocError>
 
 /// Whether a condition isn't `n`.
 fn applies(settled: &Settled, values: &[UnitValue], condition: ExprId) -> bool
-    requires { condition < length (tree_model_of settled.now).exprs.nodes }
-    ensures { result ≡ applies (tree_of_settled settled.now) values.now (node_expr (tree_model_of settled.now).exprs condition) }
+    requires there { condition < length (tree_model_of settled.now).exprs.nodes }
+    ensures value { result ≡ applies (tree_of_settled settled.now) values.now (node_expr (tree_model_of settled.now).exprs condition) }
 {
     !is_n(settled.condition(condition, values))
 }
@@ -62,14 +62,14 @@ fn applies(settled: &Settled, values: &[UnitValue], condition: ExprId) -> bool
 fn both_apply(settled: &Settled, values: &[UnitValue], dependency: ExprId, visible: ExprId) -> bool
     requires dependency { dependency < length (tree_model_of settled.now).exprs.nodes }
     requires visible { visible < length (tree_model_of settled.now).exprs.nodes }
-    ensures { result ≡ (applies (tree_of_settled settled.now) values.now (node_expr (tree_model_of settled.now).exprs dependency) && applies (tree_of_settled settled.now) values.now (node_expr (tree_model_of settled.now).exprs visible)) }
+    ensures value { result ≡ (applies (tree_of_settled settled.now) values.now (node_expr (tree_model_of settled.now).exprs dependency) && applies (tree_of_settled settled.now) values.now (node_expr (tree_model_of settled.now).exprs visible)) }
 {
     applies(settled, values, dependency) && applies(settled, values, visible)
 }
 
 /// Marks a symbol, and returns whether it wasn't marked.
 fn mark(defined: &mut Vec<bool>, s: Sym) -> bool
-    requires { s < length defined.old.items }
+    requires there { s < length defined.old.items }
     ensures fresh { result ≡ not (slice_index_or defined.old.items s false) }
     ensures marked { defined.new.items ≡ slice_set defined.old.items s true }
 {
@@ -88,8 +88,8 @@ fn push_spaced_line(
     values: &[UnitValue],
     s: Sym,
 ) -> Result<(), AllocError>
-    requires { s < length (tree_of_settled settled.now).symbols }
-    ensures { OnOk result (out.new.items ≡ out.old.items ++ (if gap then 10 ∷ ended_line (prefix_bytes prefix.now) (tree_of_settled settled.now) values.now s else ended_line (prefix_bytes prefix.now) (tree_of_settled settled.now) values.now s)) }
+    requires there { s < length (tree_of_settled settled.now).symbols }
+    ensures ok { OnOk result (out.new.items ≡ out.old.items ++ (if gap then 10 ∷ ended_line (prefix_bytes prefix.now) (tree_of_settled settled.now) values.now s else ended_line (prefix_bytes prefix.now) (tree_of_settled settled.now) values.now s)) }
 {
     if gap {
         out.push(b'\n')?;
@@ -101,8 +101,8 @@ fn push_spaced_line(
 
 /// Whether a symbol's line is written at this definition, if it is the first one.
 fn is_written_here(settled: &Settled, values: &[UnitValue], s: Sym, fresh: bool) -> bool
-    requires { s < length (tree_of_settled settled.now).symbols }
-    ensures { result ≡ (is_written (tree_of_settled settled.now) values.now s && fresh) }
+    requires there { s < length (tree_of_settled settled.now).symbols }
+    ensures value { result ≡ (is_written (tree_of_settled settled.now) values.now s && fresh) }
 {
     if fresh {
         settled.written(s, values)

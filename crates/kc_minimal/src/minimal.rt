@@ -1,7 +1,7 @@
 //! Minimal files.
 ghost use Rattle.std.specs.Prelude.{◌≡◌, ◌<◌, ◌++◌, [], length, IfOk, OnOk, if◌then◌else◌};
-ghost use Rattle.kc_rules.specs.SettledViews.{tree_of_settled, profile_of};
-ghost use Rattle.kc_dotconfig_model.specs.Prefixes.{prefix_bytes};
+ghost use Rattle.kc_rules.specs.between.SettledViews.{tree_of_settled, profile_of};
+ghost use Rattle.kc_dotconfig_model.specs.between.Prefixes.{prefix_bytes};
 ghost use Rattle.kc_minimal_model.specs.Spelling.{ended_line};
 ghost use Rattle.kc_minimal_model.specs.MinimalFile.{is_kept, has_line, minimal_file};
 ghost use Rattle.kc_minimal.specs.checker.Values.{FitValues, AreGivenBy};
@@ -25,7 +25,7 @@ fn is_kept(
     requires unit { u < length (tree_of_settled settled.now).units }
     requires values { FitValues (tree_of_settled settled.now) values.now }
     requires given { AreGivenBy (profile_of settled.now) (tree_of_settled settled.now) users.now values.now }
-    ensures { IfOk result (λ kept. kept ≡ is_kept (profile_of settled.now) (tree_of_settled settled.now) values.now u) }
+    ensures ok { IfOk result (λ kept. kept ≡ is_kept (profile_of settled.now) (tree_of_settled settled.now) values.now u) }
 {
     if users[u as usize].is_none() {
         return Ok(false);
@@ -47,7 +47,7 @@ fn has_line(
     requires symbol { s < length (tree_of_settled settled.now).symbols }
     requires values { FitValues (tree_of_settled settled.now) values.now }
     requires given { AreGivenBy (profile_of settled.now) (tree_of_settled settled.now) users.now values.now }
-    ensures { IfOk result (λ line. line ≡ has_line (profile_of settled.now) (tree_of_settled settled.now) values.now s) }
+    ensures ok { IfOk result (λ line. line ≡ has_line (profile_of settled.now) (tree_of_settled settled.now) values.now s) }
 {
     let symbol = settled.tree().symbol(s);
     if symbol.choice.is_some() && is_n(settled.value_of_symbol(s, values).tri) {
@@ -70,7 +70,7 @@ fn push_if_kept(
     requires symbol { s < length (tree_of_settled settled.now).symbols }
     requires values { FitValues (tree_of_settled settled.now) values.now }
     requires given { AreGivenBy (profile_of settled.now) (tree_of_settled settled.now) users.now values.now }
-    ensures { OnOk result (out.new.items ≡ out.old.items ++ (if has_line (profile_of settled.now) (tree_of_settled settled.now) values.now s then ended_line (prefix_bytes prefix.now) (tree_of_settled settled.now) values.now s else [])) }
+    ensures ok { OnOk result (out.new.items ≡ out.old.items ++ (if has_line (profile_of settled.now) (tree_of_settled settled.now) values.now s then ended_line (prefix_bytes prefix.now) (tree_of_settled settled.now) values.now s else [])) }
 {
     let line = has_line(alloc, settled, users, values, s)?;
     if line {
@@ -90,7 +90,7 @@ pub(crate) fn minimal_lines(
 ) -> Result<Vec<u8>, AllocError>
     requires values { FitValues (tree_of_settled settled.now) values.now }
     requires given { AreGivenBy (profile_of settled.now) (tree_of_settled settled.now) users.now values.now }
-    ensures { IfOk result (λ text. text.items ≡ minimal_file (prefix_bytes prefix.now) (profile_of settled.now) (tree_of_settled settled.now) values.now) }
+    ensures ok { IfOk result (λ text. text.items ≡ minimal_file (prefix_bytes prefix.now) (profile_of settled.now) (tree_of_settled settled.now) values.now) }
 {
     let mut text = Vec::new(alloc);
     for number in 0..settled.tree().symbol_count() {

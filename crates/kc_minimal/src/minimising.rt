@@ -3,8 +3,8 @@ ghost use Rattle.std.specs.Prelude.{◌≡◌, ◌≤◌, ◌+◌, List, length,
 ghost use Rattle.kc_system.specs.Solutions.{UniquelySolves};
 ghost use Rattle.kc_rules_model.specs.declared.values.UnitValue.{UnitValue as Held};
 ghost use Rattle.kc_rules_model.specs.Rule.{rule};
-ghost use Rattle.kc_rules.specs.SettledViews.{tree_of_settled, profile_of};
-ghost use Rattle.kc_dotconfig_model.specs.Prefixes.{prefix_bytes};
+ghost use Rattle.kc_rules.specs.between.SettledViews.{tree_of_settled, profile_of};
+ghost use Rattle.kc_dotconfig_model.specs.between.Prefixes.{prefix_bytes};
 ghost use Rattle.kc_dotconfig.specs.Fragments.{FitsTree, users_of};
 ghost use Rattle.kc_minimal_model.specs.CanonicalText.{IsCanonicalText};
 ghost use Rattle.kc_minimal.specs.Minimised.{IsMinimised, FailsWith};
@@ -38,8 +38,8 @@ fn minimal_of(
     prefix: &Prefix,
     fragment: &Fragment,
 ) -> Result<Vec<u8>, AllocError>
-    requires { FitsTree (tree_of_settled settled.now) fragment.now.assigns.items }
-    ensures { IfOk result (λ text. (values : List Held) × UniquelySolves (length (tree_of_settled settled.now).units) (rule (profile_of settled.now) (tree_of_settled settled.now)) (users_of (tree_of_settled settled.now) fragment.now.assigns.items) values × IsCanonicalText (prefix_bytes prefix.now) (profile_of settled.now) (tree_of_settled settled.now) values text.items) }
+    requires fits { FitsTree (tree_of_settled settled.now) fragment.now.assigns.items }
+    ensures ok { IfOk result (λ text. (values : List Held) × UniquelySolves (length (tree_of_settled settled.now).units) (rule (profile_of settled.now) (tree_of_settled settled.now)) (users_of (tree_of_settled settled.now) fragment.now.assigns.items) values × IsCanonicalText (prefix_bytes prefix.now) (profile_of settled.now) (tree_of_settled settled.now) values text.items) }
 {
     let config = Config::of(alloc, settled, fragment)?;
     minimal_text(alloc, &config, prefix)

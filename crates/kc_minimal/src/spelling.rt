@@ -3,8 +3,8 @@ ghost use Rattle.std.specs.Prelude.{◌≡◌, ◌<◌, ◌++◌, ◌∷◌, ◌
 ghost use Rattle.kc_expr.specs.Lookup.{symbol_value_of};
 ghost use Rattle.kc_rules_model.specs.Kinds.{is_n};
 ghost use Rattle.kc_value.specs.Kinds.{is_tri_kind};
-ghost use Rattle.kc_rules.specs.SettledViews.{tree_of_settled};
-ghost use Rattle.kc_dotconfig_model.specs.Prefixes.{prefix_bytes};
+ghost use Rattle.kc_rules.specs.between.SettledViews.{tree_of_settled};
+ghost use Rattle.kc_dotconfig_model.specs.between.Prefixes.{prefix_bytes};
 ghost use Rattle.kc_minimal_model.specs.Spelling.{spelled, value_line, unset_line, line_with, ended_line};
 
 use kc_dotconfig_model::Prefix;
@@ -117,8 +117,8 @@ pub(crate) fn push_symbol(
     values: &[UnitValue],
     s: Sym,
 ) -> Result<(), AllocError>
-    requires { s < length (tree_of_settled settled.now).symbols }
-    ensures { OnOk result (out.new.items ≡ out.old.items ++ ended_line (prefix_bytes prefix.now) (tree_of_settled settled.now) values.now s) }
+    requires there { s < length (tree_of_settled settled.now).symbols }
+    ensures ok { OnOk result (out.new.items ≡ out.old.items ++ ended_line (prefix_bytes prefix.now) (tree_of_settled settled.now) values.now s) }
 {
     let seen = settled.value_of_symbol(s, values);
     push_line(out, prefix, settled.tree().name(s), &seen)

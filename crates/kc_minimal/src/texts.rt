@@ -2,10 +2,10 @@
 ghost use Rattle.std.specs.Prelude.{◌≡◌, ◌≤◌, true, length, IfOk};
 ghost use Rattle.kc_system.specs.Solutions.{UniquelySolves};
 ghost use Rattle.kc_rules_model.specs.Rule.{rule};
-ghost use Rattle.kc_rules.specs.SettledViews.{profile_of};
-ghost use Rattle.kc_dotconfig_model.specs.Prefixes.{prefix_bytes};
+ghost use Rattle.kc_rules.specs.between.SettledViews.{profile_of};
+ghost use Rattle.kc_dotconfig_model.specs.between.Prefixes.{prefix_bytes};
 ghost use Rattle.kc_dotconfig_model.specs.ConfigFiles.{file_lines};
-ghost use Rattle.kc_dotconfig_model.specs.LoadFaults.{MAX_BYTES, MAX_LINES};
+ghost use Rattle.kc_value.specs.declared.limits.TheConstants.{MAX_CONFIG_BYTES, MAX_CONFIG_LINES};
 ghost use Rattle.kc_dotconfig.specs.Configured.{tree_in};
 ghost use Rattle.kc_minimal_model.specs.CanonicalText.{IsCanonicalText};
 ghost use Rattle.kc_minimal_model.specs.FullFile.{full_file};
@@ -53,7 +53,7 @@ pub fn minimal_text(
 pub fn full_text(alloc: Global, config: &Config<'_>, prefix: &Prefix) -> Result<Vec<u8>, AllocError>
     ensures text { IfOk result (λ text. text.items ≡ full_file (prefix_bytes prefix.now) (tree_in config.now) config.now.values) }
     ensures back { IfOk result (λ text. IsUnlifted (profile_of config.now.system) (tree_in config.now) config.now.values → ReadsTo (prefix_bytes prefix.now) (profile_of config.now.system) (tree_in config.now) text.items config.now.values) }
-    ensures accepted { IfOk result (λ text. IsUnlifted (profile_of config.now.system) (tree_in config.now) config.now.values → length text.items ≤ MAX_BYTES → length (file_lines text.items) ≤ MAX_LINES → has_short_lines text.items ≡ true → Loads (prefix_bytes prefix.now) (profile_of config.now.system) (tree_in config.now) text.items config.now.values) }
+    ensures accepted { IfOk result (λ text. IsUnlifted (profile_of config.now.system) (tree_in config.now) config.now.values → length text.items ≤ MAX_CONFIG_BYTES → length (file_lines text.items) ≤ MAX_CONFIG_LINES → has_short_lines text.items ≡ true → Loads (prefix_bytes prefix.now) (profile_of config.now.system) (tree_in config.now) text.items config.now.values) }
 {
     full_files_lead_back();
     read_files_are_accepted();

@@ -26,7 +26,8 @@ ink_lacks_newline = all_weaker is_ink (λ c. not (c == 10)) (λ b passes. ap not
 pub ends_in_ink : (front : List ℕ) (b : ℕ) → is_white_byte b ≡ false → without_white_end (front ++ b ∷ []) ≡ front ++ b ∷ []
 ends_in_ink front b ink =
     let turned : reverse (front ++ b ∷ []) ≡ b ∷ reverse front = reverse-append front (b ∷ []) in
-    let none : prefix_len is_white_byte (reverse (front ++ b ∷ [])) ≡ 0 = ap (prefix_len is_white_byte) turned ∙ ap (λ t. cond t (1 + prefix_len is_white_byte (reverse front)) 0) ink in
+    let none : prefix_len is_white_byte (reverse (front ++ b ∷ [])) ≡ 0 = ap (prefix_len is_white_byte) turned
+    ∙ ap (λ t. cond t (1 + prefix_len is_white_byte (reverse front)) 0) ink in
     ap (λ n. take (length (front ++ b ∷ []) - n) (front ++ b ∷ [])) none ∙ ap (λ n. take n (front ++ b ∷ [])) (omega arith) ∙ take-length (front ++ b ∷ [])
 
 last_ink : (x : ℕ) (xs : List ℕ) → list_all is_ink (x ∷ xs) ≡ true → (front : List ℕ) × (b : ℕ) × (x ∷ xs ≡ front ++ b ∷ []) × (is_ink b ≡ true)
@@ -51,4 +52,5 @@ pub first_line : (line rest : List ℕ) → lacks 10 line ≡ true → file_line
 first_line [] rest all = refl
 first_line (b ∷ line) rest all =
     let parts = and_parts (not (b == 10)) (lacks 10 line) all in
-    ap (λ t. cond t ([] ∷ file_lines (line ++ 10 ∷ rest)) (onto_first b (file_lines (line ++ 10 ∷ rest)))) (not-true (b == 10) parts.0) ∙ ap (onto_first b) (first_line line rest parts.1)
+    ap (λ t. cond t ([] ∷ file_lines (line ++ 10 ∷ rest)) (onto_first b (file_lines (line ++ 10 ∷ rest)))) (not-true (b == 10) parts.0)
+    ∙ ap (onto_first b) (first_line line rest parts.1)

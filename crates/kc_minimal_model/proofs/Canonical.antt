@@ -42,50 +42,72 @@ symbol_lines keeps prefix profile tree values =
     flat_map (ended_line prefix tree values) (filter keeps (minimal_symbols profile tree values))
 
 pub decides : (a b : UnitValue) → (a ≡ b) ⊎ (a ≢ b)
-decides a b = elim (cases_Bool (same_value a b)) [ inl same ↦ inl ((values_decided a b).0 same) | inr other ↦ inr (λ e. false≢true (sym other ∙ (values_decided a b).1 e)) ]
+decides a b =
+    elim (cases_Bool (same_value a b)) [
+      | inl same ↦ inl ((values_decided a b).0 same)
+      | inr other ↦ inr (λ e. false≢true (sym other ∙ (values_decided a b).1 e))
+    ]
 
 abbrev pub Fitting : Tree → List (Option UserValue) → Type 0
 Fitting tree users = FitsUsers (length tree.units) (λ u x. IsTrue (user_fits tree u x)) users
 
 module _ (prefix : List ℕ) (valid : is_prefix prefix ≡ true) (profile : Profile) (tree : Tree) (settled : IsOrderedTree tree) where
-  pub fits_of : (bytes : List ℕ) (sayings : List LineMeaning) → has_utf8_lines bytes ≡ true → FileMeans prefix tree bytes sayings → Fitting tree (file_assignment tree sayings)
-  fits_of bytes sayings utf8 says = file_fits prefix tree bytes sayings settled.consistent utf8 says
+  pub fits_of : (bytes : List ℕ) (meanings : List LineMeaning) → has_utf8_lines bytes ≡ true → FileMeans prefix tree bytes meanings
+      → Fitting tree (file_assignment tree meanings)
+  fits_of bytes meanings utf8 says = file_fits prefix tree bytes meanings settled.consistent utf8 says
 
   -- what a file that can be read gives
-  pub each : (bytes : List ℕ) (sayings : List LineMeaning) → has_utf8_lines bytes ≡ true → FileMeans prefix tree bytes sayings → (values : List UnitValue) × ReadsTo prefix profile tree bytes values
-  each bytes sayings utf8 says =
-      let fitting = fits_of bytes sayings utf8 says in
-      let found = solving.solution (length tree.units) (dependencies tree) (rule profile tree) (λ u x. IsTrue (user_fits tree u x)) settled.order settled.ordered (rules_frame profile tree) (file_assignment tree sayings) fitting.1 in
-      (found.0, record { utf8 = utf8; sayings = sayings; says = says; gives = solving.gives (length tree.units) (dependencies tree) (rule profile tree) (λ u x. IsTrue (user_fits tree u x)) settled.order settled.ordered (rules_frame profile tree) (file_assignment tree sayings) fitting.1 found.0 found.1 })
+  pub each : (bytes : List ℕ) (meanings : List LineMeaning) → has_utf8_lines bytes ≡ true → FileMeans prefix tree bytes meanings
+      → (values : List UnitValue) × ReadsTo prefix profile tree bytes values
+  each bytes meanings utf8 says =
+      let fitting = fits_of bytes meanings utf8 says in
+      let found = solving.solution (length tree.units) (dependencies tree) (rule profile tree) (λ u x. IsTrue (user_fits tree u x)) settled.order
+      settled.ordered (rules_frame profile tree) (file_assignment tree meanings) fitting.1 in (
+        found.0,
+        record {
+          utf8 = utf8;
+          meanings = meanings;
+          says = says;
+          gives = solving.gives (length tree.units) (dependencies tree) (rule profile tree)
+              (λ u x. IsTrue (user_fits tree u x)) settled.order settled.ordered (rules_frame profile tree) (file_assignment tree meanings) fitting.1 found.0
+              found.1;
+        },
+      )
 
   -- a file has one meaning
   same_sayings : (bytes : List ℕ) (a b : List LineMeaning) → FileMeans prefix tree bytes a → FileMeans prefix tree bytes b → a ≡ b
-  same_sayings bytes a b first second = let e = (file_read prefix tree bytes a valid).1 first in let f = (file_read prefix tree bytes b valid).1 second in cc (e, f)
+  same_sayings bytes a b first second =
+      let e = (file_read prefix tree bytes a valid).1 first in let f = (file_read prefix tree bytes b valid).1 second in cc (e, f)
 
   pub one : (bytes : List ℕ) (v w : List UnitValue) → ReadsTo prefix profile tree bytes v → ReadsTo prefix profile tree bytes w → v ≡ w
   one bytes v w a b =
-      let same = same_sayings bytes a.sayings b.sayings a.says b.says in
+      let same = same_sayings bytes a.meanings b.meanings a.says b.says in
       b.gives.only v (subst (λ s. Solves (length tree.units) (rule profile tree) (file_assignment tree s) v) same a.gives.solves)
 
   -- the minimal file of the values of any fitting assignment gives them back
-  pub reads_back : (users : List (Option UserValue)) (values : List UnitValue) → Fitting tree users → Solves (length tree.units) (rule profile tree) users values → ReadsTo prefix profile tree (minimal_file prefix profile tree values) values
+  pub reads_back : (users : List (Option UserValue)) (values : List UnitValue) → Fitting tree users → Solves (length tree.units) (rule profile tree) users values
+      → ReadsTo prefix profile tree (minimal_file prefix profile tree values) values
   reads_back users values fitting solved =
       let l = reads_as_least prefix valid profile tree settled.consistent users values fitting solved in
-      let given = least_gives (length tree.units) (dependencies tree) (rule profile tree) (λ u x. IsTrue (user_fits tree u x)) settled.order settled.ordered (rules_frame profile tree) decides as_user (rules_restore profile tree)
-      users (file_assignment tree l.sayings) values fitting solved l.least in
+      let given = least_gives (length tree.units) (dependencies tree) (rule profile tree) (λ u x. IsTrue (user_fits tree u x)) settled.order settled.ordered
+      (rules_frame profile tree) decides as_user (rules_restore profile tree)
+      users (file_assignment tree l.meanings) values fitting solved l.least in
       record {
-        utf8 = lines_are_utf8 prefix valid profile tree settled.consistent users values fitting solved (minimal_symbols profile tree values) (passes_filter (has_line profile tree values) (symbol_numbers tree));
-        sayings = l.sayings;
+        utf8 = lines_are_utf8 prefix valid profile tree settled.consistent users values fitting solved (minimal_symbols profile tree values)
+            (passes_filter (has_line profile tree values) (symbol_numbers tree));
+        meanings = l.meanings;
         says = l.says;
         gives = given.2;
       }
 
   -- the values of two fitting assignments are the same exactly if their minimal files are
-  pub same_files : (a b : List (Option UserValue)) (v w : List UnitValue) → Fitting tree a → Fitting tree b → Solves (length tree.units) (rule profile tree) a v → Solves (length tree.units) (rule profile tree) b w
+  pub same_files : (a b : List (Option UserValue)) (v w : List UnitValue) → Fitting tree a → Fitting tree b → Solves (length tree.units) (rule profile tree) a v
+      → Solves (length tree.units) (rule profile tree) b w
       → (v ≡ w) ↔ (minimal_file prefix profile tree v ≡ minimal_file prefix profile tree w)
   same_files a b v w fits_a fits_b first second = (
     λ e. ap (minimal_file prefix profile tree) e,
-    λ e. one (minimal_file prefix profile tree w) v w (subst (λ t. ReadsTo prefix profile tree t v) e (reads_back a v fits_a first)) (reads_back b w fits_b second),
+    λ e. one (minimal_file prefix profile tree w) v w (subst (λ t. ReadsTo prefix profile tree t v) e (reads_back a v fits_a first))
+        (reads_back b w fits_b second),
   )
 
 pub all_of_filter : (p q : ℕ → Bool) (xs : List ℕ) → list_all p xs ≡ true → list_all p (filter q xs) ≡ true
@@ -98,8 +120,14 @@ all_of_filter p q (x ∷ xs) all = let parts = and_parts (p x) (list_all p xs) a
 any_of_filter : (p q : ℕ → Bool) (xs : List ℕ) → list_any p (filter q xs) ≡ true → list_any p xs ≡ true
 any_of_filter p q [] any = any
 any_of_filter p q (x ∷ xs) any = go (q x) any (any_of_filter p q xs) where
-  go : (t : Bool) → list_any p (cond t (x ∷ filter q xs) (filter q xs)) ≡ true → (list_any p (filter q xs) ≡ true → list_any p xs ≡ true) → (p x || list_any p xs) ≡ true
-  go true any next = elim (or_cases (p x) (list_any p (filter q xs)) any) [ inl here ↦ or_left (p x) (list_any p xs) here | inr later ↦ or_right (p x) (list_any p xs) (next later) ]
+  go : (t : Bool) → list_any p (cond t (x ∷ filter q xs) (filter q xs)) ≡ true → (list_any p (filter q xs) ≡ true → list_any p xs ≡ true)
+      → (p x || list_any p xs) ≡ true
+  go true any next =
+      elim (or_cases (p x) (list_any p (filter q xs)) any) [
+        | inl here ↦ or_left (p x) (list_any p xs) here
+        | inr later ↦ or_right (p x) (list_any p xs)
+            (next later)
+      ]
   go false any next = or_right (p x) (list_any p xs) (next any)
 
 none_of_two : (p q r : ℕ → Bool) (xs : List ℕ) → ((x : ℕ) → q x ≡ true → r x ≡ true → p x ≡ false) → list_any p (filter q (filter r xs)) ≡ false
@@ -109,53 +137,82 @@ none_of_two p q r (x ∷ xs) fails = go (r x) (q x) refl refl (none_of_two p q r
   go false t e f rest = rest
   go true t e f rest = at_head t f where
     at_head : (t : Bool) → q x ≡ t → list_any p (filter q (x ∷ filter r xs)) ≡ false
-    at_head true f = ap (λ b. list_any p (cond b (x ∷ filter q (filter r xs)) (filter q (filter r xs)))) f ∙ ap (λ b. b || list_any p (filter q (filter r xs))) (fails x f e) ∙ rest
+    at_head true f =
+        ap (λ b. list_any p (cond b (x ∷ filter q (filter r xs)) (filter q (filter r xs)))) f ∙ ap (λ b. b || list_any p (filter q (filter r xs))) (fails x f e)
+        ∙ rest
     at_head false f = ap (λ b. list_any p (cond b (x ∷ filter q (filter r xs)) (filter q (filter r xs)))) f ∙ rest
 
 module _ (prefix : List ℕ) (valid : is_prefix prefix ≡ true) (profile : Profile) (tree : Tree) (settled : IsOrderedTree tree) (users : List (Option UserValue)) (values : List UnitValue)
     (fitting : FitsUsers (length tree.units) (λ u x. IsTrue (user_fits tree u x)) users) (solved : Solves (length tree.units) (rule profile tree) users values) (keeps : ℕ → Bool) where
   pub some_have_lines : list_all (has_line profile tree values) (filter keeps (minimal_symbols profile tree values)) ≡ true
-  some_have_lines = all_of_filter (has_line profile tree values) keeps (minimal_symbols profile tree values) (passes_filter (has_line profile tree values) (symbol_numbers tree))
+  some_have_lines =
+      all_of_filter (has_line profile tree values) keeps (minimal_symbols profile tree values)
+      (passes_filter (has_line profile tree values) (symbol_numbers tree))
 
   utf8_some : has_utf8_lines (symbol_lines keeps prefix profile tree values) ≡ true
-  utf8_some = lines_are_utf8 prefix valid profile tree settled.consistent users values fitting solved (filter keeps (minimal_symbols profile tree values)) some_have_lines
+  utf8_some =
+      lines_are_utf8 prefix valid profile tree settled.consistent users values fitting solved (filter keeps (minimal_symbols profile tree values))
+      some_have_lines
 
   says_some : FileMeans prefix tree (symbol_lines keeps prefix profile tree values) (map (λ s. meant values (unit_of tree s)) (filter keeps (minimal_symbols profile tree values)))
   says_some = lines_say prefix valid profile tree settled.consistent users values fitting solved (filter keeps (minimal_symbols profile tree values))
       some_have_lines
 
   user_after : (xs : List ℕ) (u : ℕ) → u < length tree.units → user_of (file_assignment tree (map (λ s. meant values (unit_of tree s)) xs)) u ≡ cond (list_any (λ s. unit_of tree s == u) xs) (user_meant values u) None
-  user_after xs u h = after_lines tree values u xs (empty_assignment tree) false (let len = none_length (length tree.units) in omega (arith, len)) (none_held (length tree.units) u)
+  user_after xs u h =
+      after_lines tree values u xs (empty_assignment tree) false (let len = none_length (length tree.units) in omega (arith, len))
+      (none_held (length tree.units) u)
 
   cut : IsCutTo (length tree.units) (λ u. list_any (λ s. unit_of tree s == u) (filter keeps (minimal_symbols profile tree values)))
-      (file_assignment tree (map (λ s. meant values (unit_of tree s)) (minimal_symbols profile tree values))) (file_assignment tree (map (λ s. meant values (unit_of tree s)) (filter keeps (minimal_symbols profile tree values))))
+      (file_assignment tree (map (λ s. meant values (unit_of tree s)) (minimal_symbols profile tree values)))
+      (file_assignment tree (map (λ s. meant values (unit_of tree s)) (filter keeps (minimal_symbols profile tree values))))
   cut = record {
     one_each = length_after tree values (filter keeps (minimal_symbols profile tree values)) (empty_assignment tree) ∙ none_length (length tree.units);
-    cut = λ u h. user_after (filter keeps (minimal_symbols profile tree values)) u h ∙ elim (cases_Bool (list_any (λ s. unit_of tree s == u) (filter keeps (minimal_symbols profile tree values)))) [
-      | inl some ↦
-          let there = any_of_filter (λ s. unit_of tree s == u) keeps (minimal_symbols profile tree values) some in
-          ap (λ b. cond b (user_meant values u) None) some
-          ∙ sym (ap (λ b. cond b (user_of (file_assignment tree (map (λ s. meant values (unit_of tree s)) (minimal_symbols profile tree values))) u) None) some ∙ user_after (minimal_symbols profile tree values) u h ∙ ap (λ b. cond b (user_meant values u) None) there)
-      | inr lost ↦
-          ap (λ b. cond b (user_meant values u) None) lost ∙ sym (ap (λ b. cond b (user_of (file_assignment tree (map (λ s. meant values (unit_of tree s)) (minimal_symbols profile tree values))) u) None) lost)
-    ];
+    cut =
+        λ u h. user_after (filter keeps (minimal_symbols profile tree values)) u h
+        ∙ elim (cases_Bool (list_any (λ s. unit_of tree s == u) (filter keeps (minimal_symbols profile tree values)))) [
+          | inl some ↦
+              let there = any_of_filter (λ s. unit_of tree s == u) keeps (minimal_symbols profile tree values) some in
+              ap (λ b. cond b (user_meant values u) None) some
+              ∙ sym (ap (λ b. cond b (user_of (file_assignment tree (map (λ s. meant values (unit_of tree s)) (minimal_symbols profile tree values))) u) None) some
+              ∙ user_after (minimal_symbols profile tree values) u h ∙ ap (λ b. cond b (user_meant values u) None) there)
+          | inr lost ↦
+              ap (λ b. cond b (user_meant values u) None) lost ∙ sym (ap (λ b. cond b
+              (user_of (file_assignment tree (map (λ s. meant values (unit_of tree s)) (minimal_symbols profile tree values))) u) None) lost)
+        ];
   }
 
   -- without a line, and others or not, it gives other values
-  pub needed : (s : ℕ) → has_line profile tree values s ≡ true → keeps s ≡ false → (others : List UnitValue) × ReadsTo prefix profile tree (symbol_lines keeps prefix profile tree values) others × (others ≢ values)
+  pub needed : (s : ℕ) → has_line profile tree values s ≡ true → keeps s ≡ false
+      → (others : List UnitValue) × ReadsTo prefix profile tree (symbol_lines keeps prefix profile tree values) others × (others ≢ values)
   needed s has dropped =
       let parts = and_parts (is_kept profile tree values (unit_of tree s)) (may_have_line (slice_get tree.symbols s) (value_of_symbol tree values s)) has in
       let inside = unit_inside prefix valid profile tree settled.consistent users values fitting solved s (slice_get tree.symbols s) refl parts.1 in
-      let kept : IsKept (rule profile tree) values (unit_of tree s) = λ same. false≢true (sym (others_fail profile tree users values fitting solved (unit_of tree s) same) ∙ parts.0) in
-      let fails : (t : ℕ) → keeps t ≡ true → has_line profile tree values t ≡ true → (unit_of tree t == unit_of tree s) ≡ false = λ t kept_line line. elim (cases_Bool (unit_of tree t == unit_of tree s)) [
+      let kept : IsKept (rule profile tree) values (unit_of tree s) = λ same. false≢true
+      (sym (others_fail profile tree users values fitting solved (unit_of tree s) same) ∙ parts.0) in
+      let fails : (t : ℕ) → keeps t ≡ true → has_line profile tree values t ≡ true
+      → (unit_of tree t == unit_of tree s) ≡ false = λ t kept_line line. elim (cases_Bool (unit_of tree t == unit_of tree s)) [
         | inl equal ↦
-            let same = different_units profile tree settled.consistent users values fitting solved t s line has (eqb-true (unit_of tree t) (unit_of tree s) equal) in
+            let same = different_units profile tree settled.consistent users values fitting solved t s line has
+            (eqb-true (unit_of tree t) (unit_of tree s) equal) in
             absurd (false≢true (sym dropped ∙ ap keeps (sym same) ∙ kept_line))
         | inr other ↦ other
       ] in
       let lost = none_of_two (λ t. unit_of tree t == unit_of tree s) keeps (has_line profile tree values) (symbol_numbers tree) fails in
-      let given = least_gives (length tree.units) (dependencies tree) (rule profile tree) (λ u x. IsTrue (user_fits tree u x)) settled.order settled.ordered (rules_frame profile tree) decides as_user (rules_restore profile tree)
+      let given = least_gives (length tree.units) (dependencies tree) (rule profile tree) (λ u x. IsTrue (user_fits tree u x)) settled.order settled.ordered
+      (rules_frame profile tree) decides as_user (rules_restore profile tree)
       users (file_assignment tree (map (λ t. meant values (unit_of tree t)) (minimal_symbols profile tree values))) values fitting solved
       (least_of_lines prefix valid profile tree settled.consistent users values fitting solved) in
-      let found = given.3 (λ u. list_any (λ t. unit_of tree t == u) (filter keeps (minimal_symbols profile tree values))) (file_assignment tree (map (λ t. meant values (unit_of tree t)) (filter keeps (minimal_symbols profile tree values)))) (unit_of tree s) cut inside kept lost in
-      (found.0, record { utf8 = utf8_some; sayings = map (λ t. meant values (unit_of tree t)) (filter keeps (minimal_symbols profile tree values)); says = says_some; gives = found.1 }, found.2)
+      let found = given.3 (λ u. list_any (λ t. unit_of tree t == u) (filter keeps (minimal_symbols profile tree values)))
+      (file_assignment tree (map (λ t. meant values (unit_of tree t)) (filter keeps (minimal_symbols profile tree values)))) (unit_of tree s) cut inside
+      kept lost in (
+        found.0,
+        record {
+          utf8 = utf8_some;
+          meanings = map (λ t. meant values (unit_of tree t)) (filter keeps (minimal_symbols profile tree values));
+          says =
+              says_some;
+          gives = found.1;
+        },
+        found.2,
+      )

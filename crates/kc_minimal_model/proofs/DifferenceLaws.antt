@@ -45,7 +45,8 @@ none_left f (x ∷ xs) none = ap (λ o. cons_option o (filter_map f xs)) (none x
 none_each : (f : ℕ → Option Difference) (n a s : ℕ) → a ≤ s → s < a + n → filter_map f (range_with_len a n) ≡ [] → f s ≡ None
 none_each f zero a s low high e = absurd (omega arith)
 none_each f (suc n) a s low high e = go (f a) refl e (cases_eq s a) (none_each f n (a + 1) s) where
-  go : (o : Option Difference) → f a ≡ o → cons_option o (filter_map f (range_with_len (a + 1) n)) ≡ [] → (s ≡ a) ⊎ (s ≡ a → ⊥) → (a + 1 ≤ s → s < a + 1 + n → filter_map f (range_with_len (a + 1) n) ≡ [] → f s ≡ None) → f s ≡ None
+  go : (o : Option Difference) → f a ≡ o → cons_option o (filter_map f (range_with_len (a + 1) n)) ≡ [] → (s ≡ a) ⊎ (s ≡ a → ⊥)
+      → (a + 1 ≤ s → s < a + 1 + n → filter_map f (range_with_len (a + 1) n) ≡ [] → f s ≡ None) → f s ≡ None
   go (Some d) here e where_s next = cc
   go None here e (inl same) next = ap f same ∙ here
   go None here e (inr other) next = next (omega arith) (omega arith) e
@@ -57,7 +58,9 @@ tri_same Y = refl
 
 pub same_as_itself : (s : ℕ) (o : Option SymbolValue) → difference_at s o o ≡ None
 same_as_itself s None = refl
-same_as_itself s (Some a) = ap (λ t. cond {A = Option Difference} t None (Some (record { symbol = s; left = a; right = a }))) (and_from (same_tri a.tri a.tri) (bytes_eq a.text a.text) (tri_same a.tri) ((bytes_eq-Decides a.text a.text).1 refl))
+same_as_itself s (Some a) =
+    ap (λ t. cond {A = Option Difference} t None (Some (record { symbol = s; left = a; right = a })))
+    (and_from (same_tri a.tri a.tri) (bytes_eq a.text a.text) (tri_same a.tri) ((bytes_eq-Decides a.text a.text).1 refl))
 
 pub text_kind : (kind : Kind) (text : List ℕ) → text_fits kind text ≡ true → is_tri_kind kind ≡ false
 text_kind Boolean t e = absurd (false≢true e)
@@ -77,7 +80,9 @@ tri_from a b e = let same : TriValue a ≡ TriValue b = (values_decided (TriValu
 read_same : (s : ℕ) (a b : SymbolValue) → difference_at s (Some a) (Some b) ≡ None → ReadSame a b
 read_same s a b e = go (is_same_value a b) refl e where
   go : (t : Bool) → is_same_value a b ≡ t → cond {A = Option Difference} t None (Some (record { symbol = s; left = a; right = b })) ≡ None → ReadSame a b
-  go true same e = let parts = and_parts (same_tri a.tri b.tri) (bytes_eq a.text b.text) same in record { tri = tri_from a.tri b.tri parts.0; text = (bytes_eq-Decides a.text b.text).0 parts.1 }
+  go true same e =
+      let parts = and_parts (same_tri a.tri b.tri) (bytes_eq a.text b.text) same in
+      record { tri = tri_from a.tri b.tri parts.0; text = (bytes_eq-Decides a.text b.text).0 parts.1 }
   go false same e = cc
 
 tri_if_y : (s : ℕ) (o : Option ℕ) → tri_if_selected s o ≡ Y → o ≡ Some s
@@ -89,20 +94,28 @@ tri_if_y s (Some m) e = elim (cases_Bool (m == s)) [
 
 module _ (tree : Tree) (sound : IsConsistent tree) (v w : List UnitValue) (fits_v : FitsValues (length tree.units) (λ u x. IsTrue (value_fits tree u x)) v) (fits_w : FitsValues (length tree.units) (λ u x. IsTrue (value_fits tree u x)) w)
     (none : differences tree v w ≡ []) where
-  symbol_same : (s : ℕ) (symbol : Symbol) → slice_get tree.symbols s ≡ Some symbol → ReadSame (value_in_unit tree v s symbol symbol.choice) (value_in_unit tree w s symbol symbol.choice)
+  symbol_same : (s : ℕ) (symbol : Symbol) → slice_get tree.symbols s ≡ Some symbol
+      → ReadSame (value_in_unit tree v s symbol symbol.choice) (value_in_unit tree w s symbol symbol.choice)
   symbol_same s symbol at =
       let below : s < length tree.symbols = inside tree.symbols s symbol at in
-      let nothing = none_each (λ t. difference_at t (value_of_symbol tree v t) (value_of_symbol tree w t)) (length tree.symbols) 0 s (omega arith) (omega arith) none in
-      read_same s _ _ (sym (ap (λ o. difference_at s (option_map (λ (t : Symbol). value_in_unit tree v s t t.choice) o) (option_map (λ (t : Symbol). value_in_unit tree w s t t.choice) o)) at) ∙ nothing)
+      let nothing = none_each (λ t. difference_at t (value_of_symbol tree v t) (value_of_symbol tree w t)) (length tree.symbols) 0 s (omega arith) (omega arith)
+      none in
+      read_same s _ _ (sym (ap (λ o. difference_at s (option_map (λ (t : Symbol). value_in_unit tree v s t t.choice) o)
+      (option_map (λ (t : Symbol). value_in_unit tree w s t t.choice) o)) at) ∙ nothing)
 
-  of_kind : (kind : Kind) (a b : UnitValue) (symbol : Symbol) → symbol.kind ≡ kind → symbol_value_fits (Some symbol) a ≡ true → symbol_value_fits (Some symbol) b ≡ true → (t : Bool) → is_tri_kind kind ≡ t
-      → ReadSame (cond t (tri_symbol_value kind (tri_of (Some a))) (record { kind = kind; tri = N; text = text_of (Some a) })) (cond t (tri_symbol_value kind (tri_of (Some b))) (record { kind = kind; tri = N; text = text_of (Some b) })) → a ≡ b
+  of_kind : (kind : Kind) (a b : UnitValue) (symbol : Symbol) → symbol.kind ≡ kind → symbol_value_fits (Some symbol) a ≡ true
+      → symbol_value_fits (Some symbol) b ≡ true → (t : Bool) → is_tri_kind kind ≡ t
+      → ReadSame (cond t (tri_symbol_value kind (tri_of (Some a))) (record { kind = kind; tri = N; text = text_of (Some a) }))
+      (cond t (tri_symbol_value kind (tri_of (Some b))) (record { kind = kind; tri = N; text = text_of (Some b) })) → a ≡ b
   of_kind kind (TriValue a) (TriValue b) symbol is fa fb true tri same = ap (λ t. TriValue t) same.tri
   of_kind kind (TextValue a) (TextValue b) symbol is fa fb false tri same = ap (λ t. TextValue t) same.text
   of_kind kind (TriValue a) (TriValue b) symbol is fa fb false tri same = absurd (false≢true (sym tri ∙ tri_kind kind a (sym (ap (λ k. tri_fits k a) is) ∙ fa)))
-  of_kind kind (TextValue a) (TextValue b) symbol is fa fb true tri same = absurd (false≢true (sym (text_kind kind a (sym (ap (λ k. text_fits k a) is) ∙ fa)) ∙ tri))
-  of_kind kind (TriValue a) (TextValue b) symbol is fa fb t tri same = absurd (false≢true (sym (text_kind kind b (sym (ap (λ k. text_fits k b) is) ∙ fb)) ∙ tri_kind kind a (sym (ap (λ k. tri_fits k a) is) ∙ fa)))
-  of_kind kind (TextValue a) (TriValue b) symbol is fa fb t tri same = absurd (false≢true (sym (text_kind kind a (sym (ap (λ k. text_fits k a) is) ∙ fa)) ∙ tri_kind kind b (sym (ap (λ k. tri_fits k b) is) ∙ fb)))
+  of_kind kind (TextValue a) (TextValue b) symbol is fa fb true tri same =
+      absurd (false≢true (sym (text_kind kind a (sym (ap (λ k. text_fits k a) is) ∙ fa)) ∙ tri))
+  of_kind kind (TriValue a) (TextValue b) symbol is fa fb t tri same =
+      absurd (false≢true (sym (text_kind kind b (sym (ap (λ k. text_fits k b) is) ∙ fb)) ∙ tri_kind kind a (sym (ap (λ k. tri_fits k a) is) ∙ fa)))
+  of_kind kind (TextValue a) (TriValue b) symbol is fa fb t tri same =
+      absurd (false≢true (sym (text_kind kind a (sym (ap (λ k. text_fits k a) is) ∙ fa)) ∙ tri_kind kind b (sym (ap (λ k. tri_fits k b) is) ∙ fb)))
   of_kind kind (MemberValue a) b symbol is fa fb t tri same = absurd (false≢true fa)
   of_kind kind (TriValue a) (MemberValue b) symbol is fa fb t tri same = absurd (false≢true fb)
   of_kind kind (TextValue a) (MemberValue b) symbol is fa fb t tri same = absurd (false≢true fb)
@@ -112,41 +125,55 @@ module _ (tree : Tree) (sound : IsConsistent tree) (v w : List UnitValue) (fits_
   member_value o (TextValue t) e = absurd (false≢true e)
   member_value o (MemberValue m) e = (m, refl)
 
-  unit_same : (u : ℕ) → (unit : TreeUnit) → slice_get tree.units u ≡ Some unit → (a b : UnitValue) → slice_get v u ≡ Some a → slice_get w u ≡ Some b → unit_value_fits tree (Some unit) a ≡ true → unit_value_fits tree (Some unit) b ≡ true → a ≡ b
+  unit_same : (u : ℕ) → (unit : TreeUnit) → slice_get tree.units u ≡ Some unit → (a b : UnitValue) → slice_get v u ≡ Some a → slice_get w u ≡ Some b
+      → unit_value_fits tree (Some unit) a ≡ true → unit_value_fits tree (Some unit) b ≡ true → a ≡ b
   unit_same u (of_symbol s) at a b va wb fa fb =
       let found = sound.symbol_units u s at in
       let number : unit_of tree s ≡ u = unit_is tree sound s u found.0 None found.1 found.2 at in
       let same = symbol_same s found.0 found.1 in
-      let F : List UnitValue → Option UnitValue → SymbolValue = λ values h. cond (is_tri_kind found.0.kind) (tri_symbol_value found.0.kind (tri_of h)) (record { kind = found.0.kind; tri = N; text = text_of h }) in
-      let left : value_in_unit tree v s found.0 found.0.choice ≡ F v (Some a) = ap (value_in_unit tree v s found.0) found.2 ∙ ap (F v) (ap (slice_get v) number ∙ va) in
-      let right : value_in_unit tree w s found.0 found.0.choice ≡ F w (Some b) = ap (value_in_unit tree w s found.0) found.2 ∙ ap (F w) (ap (slice_get w) number ∙ wb) in
-      of_kind found.0.kind a b found.0 refl (sym (ap (λ o. symbol_value_fits o a) found.1) ∙ fa) (sym (ap (λ o. symbol_value_fits o b) found.1) ∙ fb) (is_tri_kind found.0.kind) refl
+      let F : List UnitValue → Option UnitValue → SymbolValue = λ values h. cond (is_tri_kind found.0.kind) (tri_symbol_value found.0.kind (tri_of h))
+      (record { kind = found.0.kind; tri = N; text = text_of h }) in
+      let left : value_in_unit tree v s found.0 found.0.choice ≡ F v (Some a) = ap (value_in_unit tree v s found.0) found.2
+      ∙ ap (F v) (ap (slice_get v) number ∙ va) in
+      let right : value_in_unit tree w s found.0 found.0.choice ≡ F w (Some b) = ap (value_in_unit tree w s found.0) found.2
+      ∙ ap (F w) (ap (slice_get w) number ∙ wb) in
+      of_kind found.0.kind a b found.0 refl (sym (ap (λ o. symbol_value_fits o a) found.1) ∙ fa) (sym (ap (λ o. symbol_value_fits o b) found.1) ∙ fb)
+      (is_tri_kind found.0.kind) refl
       (subst (λ e. ReadSame e (F w (Some b))) left (subst (ReadSame (value_in_unit tree v s found.0 found.0.choice)) right same))
   unit_same u (of_choice c) at a b va wb fa fb =
       let x = member_value (slice_get tree.choices c) a fa in
       let y = member_value (slice_get tree.choices c) b fb in
-      x.1 ∙ ap (λ m. MemberValue m) (chosen x.0 y.0 (va ∙ ap Some x.1) (wb ∙ ap Some y.1) (subst (λ z. choice_value_fits (slice_get tree.choices c) z ≡ true) x.1 fa) (subst (λ z. choice_value_fits (slice_get tree.choices c) z ≡ true) y.1 fb)) ∙ sym y.1 where
+      x.1 ∙ ap (λ m. MemberValue m) (chosen x.0 y.0 (va ∙ ap Some x.1) (wb ∙ ap Some y.1)
+      (subst (λ z. choice_value_fits (slice_get tree.choices c) z ≡ true) x.1 fa)
+      (subst (λ z. choice_value_fits (slice_get tree.choices c) z ≡ true) y.1 fb)) ∙ sym y.1 where
         place : index_of_unit tree (of_choice c) ≡ u
         place = place_is tree sound u (of_choice c) at
 
-        reads : (values : List UnitValue) (m : Option ℕ) (s : ℕ) (symbol : Symbol) → slice_get values u ≡ Some (MemberValue m) → symbol.choice ≡ Some c → (value_in_unit tree values s symbol symbol.choice).tri ≡ tri_if_selected s m
-        reads values m s symbol has within = ap (λ d. (value_in_unit tree values s symbol d).tri) within ∙ ap (λ o. tri_if_selected s (member_of o)) (ap (slice_get values) place ∙ has)
+        reads : (values : List UnitValue) (m : Option ℕ) (s : ℕ) (symbol : Symbol) → slice_get values u ≡ Some (MemberValue m) → symbol.choice ≡ Some c
+            → (value_in_unit tree values s symbol symbol.choice).tri ≡ tri_if_selected s m
+        reads values m s symbol has within = ap (λ d. (value_in_unit tree values s symbol d).tri) within
+            ∙ ap (λ o. tri_if_selected s (member_of o)) (ap (slice_get values) place ∙ has)
 
-        listed : (s : ℕ) → choice_value_fits (slice_get tree.choices c) (MemberValue (Some s)) ≡ true → (symbol : Symbol) × (slice_get tree.symbols s ≡ Some symbol) × (symbol.choice ≡ Some c)
+        listed : (s : ℕ) → choice_value_fits (slice_get tree.choices c) (MemberValue (Some s)) ≡ true
+            → (symbol : Symbol) × (slice_get tree.symbols s ≡ Some symbol) × (symbol.choice ≡ Some c)
         listed s fits = let choice = sound.choice_units u c at in sound.members c s choice.0 choice.1 (sym (ap (λ o. is_member o s) choice.1) ∙ fits)
 
-        chosen : (p q : Option ℕ) → slice_get v u ≡ Some (MemberValue p) → slice_get w u ≡ Some (MemberValue q) → choice_value_fits (slice_get tree.choices c) (MemberValue p) ≡ true → choice_value_fits (slice_get tree.choices c) (MemberValue q) ≡ true → p ≡ q
+        chosen : (p q : Option ℕ) → slice_get v u ≡ Some (MemberValue p) → slice_get w u ≡ Some (MemberValue q)
+            → choice_value_fits (slice_get tree.choices c) (MemberValue p) ≡ true → choice_value_fits (slice_get tree.choices c) (MemberValue q) ≡ true → p ≡ q
         chosen None None hp hq fp fq = refl
         chosen (Some s) q hp hq fp fq =
             let member = listed s fp in
             let same = symbol_same s member.0 member.1 in
-            sym (tri_if_y s q (sym (reads w q s member.0 hq member.2) ∙ sym same.tri ∙ reads v (Some s) s member.0 hp member.2 ∙ ap (λ t. cond t Y N) (eq-eqb s s refl)))
+            sym (tri_if_y s q (sym (reads w q s member.0 hq member.2) ∙ sym same.tri ∙ reads v (Some s) s member.0 hp member.2
+            ∙ ap (λ t. cond t Y N) (eq-eqb s s refl)))
         chosen None (Some s) hp hq fp fq =
             let member = listed s fq in
             let same = symbol_same s member.0 member.1 in
-            tri_if_y s None (sym (reads v None s member.0 hp member.2) ∙ same.tri ∙ reads w (Some s) s member.0 hq member.2 ∙ ap (λ t. cond t Y N) (eq-eqb s s refl))
+            tri_if_y s None (sym (reads v None s member.0 hp member.2) ∙ same.tri ∙ reads w (Some s) s member.0 hq member.2
+            ∙ ap (λ t. cond t Y N) (eq-eqb s s refl))
 
-  at_unit : (u : ℕ) → u < length v → u < length w → (p q : Option UnitValue) → slice_get v u ≡ p → slice_get w u ≡ q → (unit : TreeUnit) → slice_get tree.units u ≡ Some unit
+  at_unit : (u : ℕ) → u < length v → u < length w → (p q : Option UnitValue) → slice_get v u ≡ p → slice_get w u ≡ q → (unit : TreeUnit)
+      → slice_get tree.units u ≡ Some unit
       → IfSome p (λ x. IsTrue (unit_value_fits tree (Some unit) x)) → IfSome q (λ x. IsTrue (unit_value_fits tree (Some unit) x)) → p ≡ q
   at_unit u hv hw None q vp wq unit at fp fq = let there = slice_get-get_or v u (TriValue N) hv in cc
   at_unit u hv hw (Some a) None vp wq unit at fp fq = let there = slice_get-get_or w u (TriValue N) hw in cc
@@ -166,5 +193,6 @@ module _ (tree : Tree) (sound : IsConsistent tree) (v w : List UnitValue) (fits_
 pub differences_are_exact : DifferencesAreExact
 differences_are_exact tree v w sound fits_v fits_w = (
   λ none. values_same tree sound v w fits_v fits_w none,
-  λ same. ap (differences tree v) (sym same) ∙ none_left (λ s. difference_at s (value_of_symbol tree v s) (value_of_symbol tree v s)) (symbol_numbers tree) (λ s. same_as_itself s (value_of_symbol tree v s)),
+  λ same. ap (differences tree v) (sym same) ∙ none_left (λ s. difference_at s (value_of_symbol tree v s) (value_of_symbol tree v s)) (symbol_numbers tree)
+      (λ s. same_as_itself s (value_of_symbol tree v s)),
 )

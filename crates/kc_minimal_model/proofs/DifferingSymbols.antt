@@ -16,7 +16,8 @@ use Rattle.kc_minimal_model.proofs.DifferenceLaws.{differences_are_exact, none_l
 found_some : {X Z : Type 0} (f : X → Option Z) (xs : List X) (z : Z) (zs : List Z) → filter_map f xs ≡ z ∷ zs → (x : X) × (y : Z) × (f x ≡ Some y)
 found_some f [] z zs e = cc
 found_some {X = X} {Z = Z} f (x ∷ xs) z zs e = go (f x) refl e (found_some f xs z zs) where
-  go : (o : Option Z) → f x ≡ o → cons_option o (filter_map f xs) ≡ z ∷ zs → (filter_map f xs ≡ z ∷ zs → (w : X) × (y : Z) × (f w ≡ Some y)) → (w : X) × (y : Z) × (f w ≡ Some y)
+  go : (o : Option Z) → f x ≡ o → cons_option o (filter_map f xs) ≡ z ∷ zs → (filter_map f xs ≡ z ∷ zs → (w : X) × (y : Z) × (f w ≡ Some y))
+      → (w : X) × (y : Z) × (f w ≡ Some y)
   go (Some y) here e next = (x, y, here)
   go None here e next = next e
 
@@ -24,12 +25,15 @@ abbrev Fits : Tree → List UnitValue → Type 0
 Fits tree values = FitsValues (length tree.units) (λ u x. IsTrue (value_fits tree u x)) values
 
 -- the same value at a symbol is no difference
-no_difference : (tree : Tree) (v w : List UnitValue) (s : ℕ) → value_of_symbol tree v s ≡ value_of_symbol tree w s → difference_at s (value_of_symbol tree v s) (value_of_symbol tree w s) ≡ None
+no_difference : (tree : Tree) (v w : List UnitValue) (s : ℕ) → value_of_symbol tree v s ≡ value_of_symbol tree w s
+    → difference_at s (value_of_symbol tree v s) (value_of_symbol tree w s) ≡ None
 no_difference tree v w s same = ap (difference_at s (value_of_symbol tree v s)) (sym same) ∙ same_as_itself s (value_of_symbol tree v s)
 
 -- values are the same where every symbol has the same
 pub same_values : (tree : Tree) (v w : List UnitValue) → IsConsistent tree → Fits tree v → Fits tree w → HaveSameValues tree v w → v ≡ w
-same_values tree v w sound fits_v fits_w same = (differences_are_exact tree v w sound fits_v fits_w).0 (none_left (λ s. difference_at s (value_of_symbol tree v s) (value_of_symbol tree w s)) (symbol_numbers tree) (λ s. no_difference tree v w s (same s)))
+same_values tree v w sound fits_v fits_w same =
+    (differences_are_exact tree v w sound fits_v fits_w).0 (none_left (λ s. difference_at s (value_of_symbol tree v s) (value_of_symbol tree w s))
+    (symbol_numbers tree) (λ s. no_difference tree v w s (same s)))
 
 -- and differ at a symbol where they aren't the same
 pub differ_somewhere : (tree : Tree) (v w : List UnitValue) → IsConsistent tree → Fits tree v → Fits tree w → v ≢ w → DifferAtASymbol tree v w

@@ -15,8 +15,8 @@ use Rattle.kc_dotconfig_model.specs.ConfigLines.{LineMeaning, assigns, notice, s
 use Rattle.kc_dotconfig_model.specs.ConfigFiles.{file_assignment, assigned_over, empty_assignment}
 use Rattle.kc_dotconfig_model.proofs.FittingFiles.{file_fits}
 use Rattle.kc_minimal_model.specs.MinimalFile.{has_line, minimal_symbols}
-use Rattle.kc_rules_model.proofs.OrderedTrees.{IsOrderedTree}
-use Rattle.kc_minimal_model.specs.CanonicalText.{HasUnitsOfLines, HasValuesOfLines, assigned_units}
+use Rattle.kc_rules_model.proofs.OrderedTrees.{IsOrderedTree, ordered_tree}
+use Rattle.kc_minimal_model.specs.CanonicalText.{HasUnitsOfLines, HasValuesOfLines, FilesAssignTheLines, assigned_units}
 use Rattle.kc_minimal_model.specs.Loading.{ReadsTo}
 use Rattle.std.specs.Cmp.{IsEquivalence}
 use Rattle.std.proofs.lemmas.Map.Made.{length-le_from_is_member}
@@ -35,23 +35,27 @@ eqb_laws = record {
   refl = λ x. eq-eqb x x refl;
   symm = λ x y. elim (cases_Bool (eqb x y)) [
     | inl equal ↦ let e = eqb-true x y equal in equal ∙ sym (eq-eqb y x (sym e))
-    | inr differ ↦ elim (cases_Bool (eqb y x)) [ inl equal ↦ let e = eqb-true y x equal in absurd (false≢true (sym differ ∙ eq-eqb x y (sym e))) | inr other ↦ differ ∙ sym other ]
+    | inr differ ↦ elim (cases_Bool (eqb y x)) [
+      | inl equal ↦ let e = eqb-true y x equal in absurd (false≢true (sym differ ∙ eq-eqb x y (sym e)))
+      | inr other ↦
+          differ ∙ sym other
+    ]
   ];
   congr = λ x y z equal. let e = eqb-true x y equal in ap (λ w. eqb w z) e;
 }
 
 -- what is assigned after some lines was assigned before, or by one of them
-by_a_line : (sayings : List LineMeaning) (held : List (Option UserValue)) (u : ℕ) → is_some (user_of (assigned_over sayings held) u) ≡ true
-    → (is_some (user_of held u) ≡ true) ⊎ (list_any (eqb u) (assigned_units sayings) ≡ true)
+by_a_line : (meanings : List LineMeaning) (held : List (Option UserValue)) (u : ℕ) → is_some (user_of (assigned_over meanings held) u) ≡ true
+    → (is_some (user_of held u) ≡ true) ⊎ (list_any (eqb u) (assigned_units meanings) ≡ true)
 by_a_line [] held u some = inl some
-by_a_line (notice kind ∷ sayings) held u some = by_a_line sayings held u some
-by_a_line (silent ∷ sayings) held u some = by_a_line sayings held u some
-by_a_line (assigns w x ∷ sayings) held u some = elim (by_a_line sayings (slice_set held w (Some x)) u some) [
+by_a_line (notice kind ∷ meanings) held u some = by_a_line meanings held u some
+by_a_line (silent ∷ meanings) held u some = by_a_line meanings held u some
+by_a_line (assigns w x ∷ meanings) held u some = elim (by_a_line meanings (slice_set held w (Some x)) u some) [
   | inl before ↦ elim (cases_eq u w) [
-    | inl same ↦ inr (or_left (eqb u w) (list_any (eqb u) (assigned_units sayings)) (eq-eqb u w same))
+    | inl same ↦ inr (or_left (eqb u w) (list_any (eqb u) (assigned_units meanings)) (eq-eqb u w same))
     | inr other ↦ inl (ap is_some (sym (get_or-set_other held w u (Some x) None other)) ∙ before)
   ]
-  | inr later ↦ inr (or_right (eqb u w) (list_any (eqb u) (assigned_units sayings)) later)
+  | inr later ↦ inr (or_right (eqb u w) (list_any (eqb u) (assigned_units meanings)) later)
 ]
 
 -- the values of a function on the numbers that pass a test, where it gives each another one
@@ -63,11 +67,16 @@ apart p f a (suc n) x below has one = go (p a) refl (apart p f (a + 1) n x (omeg
       → AllByRecursion (λ y. eqb (f x) y ≡ false) (map f (cond t (a ∷ filter p (range_with_len (a + 1) n)) (filter p (range_with_len (a + 1) n))))
   go false e rest = rest
   go true e rest = (
-    elim (cases_Bool (eqb (f x) (f a))) [ inl equal ↦ (let same = one x a has e (eqb-true (f x) (f a) equal) in absurd (omega (arith, same, below))) | inr differ ↦ differ ],
+    elim (cases_Bool (eqb (f x) (f a))) [
+      | inl equal ↦ (let same = one x a has e (eqb-true (f x) (f a) equal) in absurd (omega (arith, same, below)))
+      | inr
+          differ ↦ differ
+    ],
     rest,
   )
 
-distinct : (p : ℕ → Bool) (f : ℕ → ℕ) (a n : ℕ) → ((s t : ℕ) → p s ≡ true → p t ≡ true → f s ≡ f t → s ≡ t) → IsDistinct eqb (map f (filter p (range_with_len a n)))
+distinct : (p : ℕ → Bool) (f : ℕ → ℕ) (a n : ℕ) → ((s t : ℕ) → p s ≡ true → p t ≡ true → f s ≡ f t → s ≡ t)
+    → IsDistinct eqb (map f (filter p (range_with_len a n)))
 unfolding IsDistinct
 distinct p f a zero one = tt
 distinct p f a (suc n) one = go (p a) refl (distinct p f (a + 1) n one) where
@@ -80,40 +89,51 @@ distinct p f a (suc n) one = go (p a) refl (distinct p f (a + 1) n one) where
 comes_from : (p : ℕ → Bool) (f : ℕ → ℕ) (q : ℕ) (xs : List ℕ) → list_any (eqb q) (map f (filter p xs)) ≡ true → (s : ℕ) × (p s ≡ true) × (q ≡ f s)
 comes_from p f q [] any = absurd (false≢true any)
 comes_from p f q (x ∷ xs) any = go (p x) refl any (comes_from p f q xs) where
-  go : (t : Bool) → p x ≡ t → list_any (eqb q) (map f (cond t (x ∷ filter p xs) (filter p xs))) ≡ true → (list_any (eqb q) (map f (filter p xs)) ≡ true → (s : ℕ) × (p s ≡ true) × (q ≡ f s)) → (s : ℕ) × (p s ≡ true) × (q ≡ f s)
+  go : (t : Bool) → p x ≡ t → list_any (eqb q) (map f (cond t (x ∷ filter p xs) (filter p xs))) ≡ true
+      → (list_any (eqb q) (map f (filter p xs)) ≡ true → (s : ℕ) × (p s ≡ true) × (q ≡ f s)) → (s : ℕ) × (p s ≡ true) × (q ≡ f s)
   go false e any next = next any
-  go true e any next = elim (or_cases (eqb q (f x)) (list_any (eqb q) (map f (filter p xs))) any) [ inl here ↦ (x, e, eqb-true q (f x) here) | inr later ↦ next later ]
+  go true e any next =
+      elim (or_cases (eqb q (f x)) (list_any (eqb q) (map f (filter p xs))) any) [ inl here ↦ (x, e, eqb-true q (f x) here) | inr later ↦ next later ]
 
 module _ (prefix : List ℕ) (profile : Profile) (tree : Tree) (settled : IsOrderedTree tree) (bytes : List ℕ) (values : List UnitValue) (reads : ReadsTo prefix profile tree bytes values) where
-  fitting : FitsUsers (length tree.units) (λ u x. IsTrue (user_fits tree u x)) (file_assignment tree reads.sayings)
-  fitting = file_fits prefix tree bytes reads.sayings settled.consistent reads.utf8 reads.says
+  fitting : FitsUsers (length tree.units) (λ u x. IsTrue (user_fits tree u x)) (file_assignment tree reads.meanings)
+  fitting = file_fits prefix tree bytes reads.meanings settled.consistent reads.utf8 reads.says
 
-  held_each : (s : ℕ) → has_line profile tree values s ≡ true → is_some (user_of (file_assignment tree reads.sayings) (unit_of tree s)) ≡ true
+  held_each : (s : ℕ) → has_line profile tree values s ≡ true → is_some (user_of (file_assignment tree reads.meanings) (unit_of tree s)) ≡ true
   held_each s has =
-      let held = file_assignment tree reads.sayings in
+      let held = file_assignment tree reads.meanings in
       let keeps : ℕ → Bool = λ u. is_some (user_of held u) in
       let cut : IsCutTo (length tree.units) keeps held held = record { one_each = fitting.0; cut = λ u h. kept_if_some (user_of held u) } in
       (needs_units profile tree held values settled fitting reads.gives.solves held keeps cut).0 reads.gives s has
 
   -- it assigns to the unit of each line
-  pub assigns_each : HasUnitsOfLines profile tree values (λ u. list_any (eqb u) (assigned_units reads.sayings))
-  assigns_each s has = elim (by_a_line reads.sayings (empty_assignment tree) (unit_of tree s) (held_each s has)) [
+  pub assigns_each : HasUnitsOfLines profile tree values (λ u. list_any (eqb u) (assigned_units reads.meanings))
+  assigns_each s has = elim (by_a_line reads.meanings (empty_assignment tree) (unit_of tree s) (held_each s has)) [
     | inl before ↦ absurd (false≢true (sym (ap is_some (none_held (length tree.units) (unit_of tree s))) ∙ before))
     | inr line ↦ line
   ]
 
   -- the members, strings and numbers of the lines
-  pub assigns_values : HasValuesOfLines profile tree values (file_assignment tree reads.sayings)
-  assigns_values = needs_values profile tree (file_assignment tree reads.sayings) values settled fitting reads.gives.solves
+  pub assigns_values : HasValuesOfLines profile tree values (file_assignment tree reads.meanings)
+  assigns_values = needs_values profile tree (file_assignment tree reads.meanings) values settled fitting reads.gives.solves
 
   -- at least as many lines that assign as the minimal file has lines
-  pub assigns_as_many : length (minimal_symbols profile tree values) ≤ length (assigned_units reads.sayings)
+  pub assigns_as_many : length (minimal_symbols profile tree values) ≤ length (assigned_units reads.meanings)
   assigns_as_many =
       let p = has_line profile tree values in
       let f = unit_of tree in
-      let one = different_units profile tree settled.consistent (file_assignment tree reads.sayings) values fitting reads.gives.solves in
-      let listed : (q : ℕ) → list_any (eqb q) (map f (filter p (symbol_numbers tree))) ≡ true → list_any (eqb q) (assigned_units reads.sayings) ≡ true =
-      λ q any. let s = comes_from p f q (symbol_numbers tree) any in ap (λ u. list_any (eqb u) (assigned_units reads.sayings)) s.2 ∙ assigns_each s.0 s.1 in
-      let long = length-le_from_is_member eqb_laws (map f (filter p (symbol_numbers tree))) (assigned_units reads.sayings) (distinct p f 0 (length tree.symbols) one) listed in
+      let one = different_units profile tree settled.consistent (file_assignment tree reads.meanings) values fitting reads.gives.solves in
+      let listed : (q : ℕ) → list_any (eqb q) (map f (filter p (symbol_numbers tree))) ≡ true → list_any (eqb q) (assigned_units reads.meanings) ≡ true =
+      λ q any. let s = comes_from p f q (symbol_numbers tree) any in ap (λ u. list_any (eqb u) (assigned_units reads.meanings)) s.2 ∙ assigns_each s.0 s.1 in
+      let long = length-le_from_is_member eqb_laws (map f (filter p (symbol_numbers tree))) (assigned_units reads.meanings)
+      (distinct p f 0 (length tree.symbols) one) listed in
       let same = length-map (filter p (symbol_numbers tree)) f in
       omega (arith, long, same)
+
+pub files_assign : FilesAssignTheLines
+files_assign prefix profile tree file values settled reads =
+    let ordered = ordered_tree tree settled in record {
+      each = assigns_each prefix profile tree ordered file values reads;
+      each_value = assigns_values prefix profile tree ordered file values reads;
+      as_many = assigns_as_many prefix profile tree ordered file values reads;
+    }

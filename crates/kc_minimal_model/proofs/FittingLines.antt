@@ -14,7 +14,7 @@ use Rattle.kc_rules_model.specs.Kinds.{is_n}
 use Rattle.kc_value.specs.Kinds.{is_tri_kind}
 use Rattle.kc_rules_model.specs.SymbolValues.{tri_symbol_value}
 use Rattle.kc_dotconfig_model.specs.PrefixGrammar.{is_prefix}
-use Rattle.kc_dotconfig_model.specs.LoadFaults.{MAX_LINE_BYTES}
+use Rattle.kc_value.specs.declared.limits.TheConstants.{MAX_PREFIX_BYTES, MAX_LINE_BYTES}
 use Rattle.kc_minimal_model.specs.Spelling.{spelled, value_line, unset_line, line_with}
 use Rattle.kc_value.proofs.UnquotedUtf8.{ascii_then, ascii_alone}
 use Rattle.kc_dotconfig_model.proofs.TrimmedLines.{low_utf8, name_utf8}
@@ -23,11 +23,14 @@ use Rattle.kc_dotconfig_model.proofs.TrimmedLines.{low_utf8, name_utf8}
 abbrev pub IsFitLine : List ℕ → Type 0
 IsFitLine line = (length line ≤ MAX_LINE_BYTES) × IsUtf8 line
 
--- a prefix is UTF-8 of at most 32 bytes
-pub prefix_fits : (prefix : List ℕ) → is_prefix prefix ≡ true → (length prefix ≤ 32) × IsUtf8 prefix
+-- a prefix is UTF-8 of at most `MAX_PREFIX_BYTES` bytes
+pub prefix_fits : (prefix : List ℕ) → is_prefix prefix ≡ true → (length prefix ≤ MAX_PREFIX_BYTES) × IsUtf8 prefix
 prefix_fits prefix valid =
-    let parts = and_parts (nat_lt 0 (length prefix) && nat_le (length prefix) 32) (list_all is_name_byte prefix) valid in
-    (leb-true (length prefix) 32 (and_parts (nat_lt 0 (length prefix)) (nat_le (length prefix) 32) parts.0).1, name_utf8 prefix parts.1)
+    let parts = and_parts (nat_lt 0 (length prefix) && nat_le (length prefix) MAX_PREFIX_BYTES) (list_all is_name_byte prefix) valid in (
+      leb-true (length prefix) MAX_PREFIX_BYTES (and_parts (nat_lt 0 (length prefix)) (nat_le (length prefix) MAX_PREFIX_BYTES) parts.0).1,
+      name_utf8 prefix
+          parts.1,
+    )
 
 -- the letter of a tristate is one byte
 letter_fits : (t : Tri) → (length (letter t) ≤ 1) × IsUtf8 (letter t)
@@ -49,22 +52,35 @@ module _ (prefix : List ℕ) (valid : is_prefix prefix ≡ true) (name : List �
   unset_fits =
       let p = prefix_fits prefix valid in
       let few = p.0 in (
-        omega (arith, short, few, length-append (codes "# ") (prefix ++ (name ++ codes " is not set")), length-append prefix (name ++ codes " is not set"), length-append name (codes " is not set")),
-        IsUtf8-append (codes "# ") (prefix ++ (name ++ codes " is not set")) (low_utf8 (codes "# ") refl) (IsUtf8-append prefix (name ++ codes " is not set") p.1 (IsUtf8-append name (codes " is not set") (name_utf8 name word) (low_utf8 (codes " is not set") refl))),
+        omega (
+          arith,
+          short,
+          few,
+          length-append (codes "# ") (prefix ++ (name ++ codes " is not set")),
+          length-append prefix (name ++ codes " is not set"),
+          length-append name (codes " is not set"),
+        ),
+        IsUtf8-append (codes "# ") (prefix ++ (name ++ codes " is not set")) (low_utf8 (codes "# ") refl)
+            (IsUtf8-append prefix (name ++ codes " is not set") p.1 (IsUtf8-append name (codes " is not set") (name_utf8 name word)
+            (low_utf8 (codes " is not set") refl))),
       )
 
-  either_fits : (b : Bool) (text : List ℕ) → length prefix + length name + 1 + length text ≤ MAX_LINE_BYTES → IsUtf8 text → IsFitLine (cond b (unset_line prefix name) (value_line prefix name text))
+  either_fits : (b : Bool) (text : List ℕ) → length prefix + length name + 1 + length text ≤ MAX_LINE_BYTES → IsUtf8 text
+      → IsFitLine (cond b (unset_line prefix name) (value_line prefix name text))
   either_fits true text small u = unset_fits
   either_fits false text small u = value_fits text small u
 
   -- the line of a bool or tristate
   pub tri_fits_line : (kind : Kind) (t : Tri) → is_tri_kind kind ≡ true → IsFitLine (line_with prefix name (tri_symbol_value kind t))
-  tri_fits_line Boolean t small = let p = (prefix_fits prefix valid).0 in let l = letter_fits t in let one = l.0 in either_fits (is_n t) (letter t) (omega (arith, p, one, short)) l.1
-  tri_fits_line Tristate t small = let p = (prefix_fits prefix valid).0 in let l = letter_fits t in let one = l.0 in either_fits (is_n t) (letter t) (omega (arith, p, one, short)) l.1
+  tri_fits_line Boolean t small =
+      let p = (prefix_fits prefix valid).0 in let l = letter_fits t in let one = l.0 in either_fits (is_n t) (letter t) (omega (arith, p, one, short)) l.1
+  tri_fits_line Tristate t small =
+      let p = (prefix_fits prefix valid).0 in let l = letter_fits t in let one = l.0 in either_fits (is_n t) (letter t) (omega (arith, p, one, short)) l.1
   tri_fits_line Text t small = absurd (false≢true small)
   tri_fits_line Int t small = absurd (false≢true small)
   tri_fits_line Hex t small = absurd (false≢true small)
 
   -- the line of a text
-  pub text_fits_line : (kind : Kind) (text : List ℕ) → length prefix + length name + 1 + length (spelled kind text) ≤ MAX_LINE_BYTES → IsUtf8 (spelled kind text) → IsFitLine (line_with prefix name (record { kind = kind; tri = N; text = text }))
+  pub text_fits_line : (kind : Kind) (text : List ℕ) → length prefix + length name + 1 + length (spelled kind text) ≤ MAX_LINE_BYTES → IsUtf8 (spelled kind text)
+      → IsFitLine (line_with prefix name (record { kind = kind; tri = N; text = text }))
   text_fits_line kind text small u = either_fits (is_tri_kind kind && is_n N) (spelled kind text) small u

@@ -22,11 +22,12 @@ use Rattle.kc_dotconfig_model.specs.ConfigLines.{LineMeaning, assigns, notice, s
 use Rattle.kc_dotconfig_model.specs.ConfigFiles.{FileMeans, file_lines, has_utf8_lines}
 use Rattle.kc_minimal_model.specs.Spelling.{symbol_line, ended_line}
 use Rattle.kc_minimal_model.specs.MinimalFile.{has_line}
-use Rattle.kc_minimal_model.specs.FullFile.{heading_title, heading, end_line, applies, entry_texts}
+use Rattle.kc_minimal_model.specs.FullFile.{heading_title, heading, end_line, applies, defines}
+use Rattle.kc_minimal_model.specs.between.EntryTexts.{entry_texts}
 use Rattle.kc_rules_model.proofs.OrderedTrees.{IsOrderedTree}
 use Rattle.kc_minimal_model.proofs.Bytes.{first_line, all_of_both}
 use Rattle.kc_minimal_model.proofs.HeadingLines.{blank_says, hash_says, heading_says, end_says}
-use Rattle.kc_minimal_model.proofs.KeptLines.{line_reads, read_as_assignment, meant, user_meant, saying_of_user}
+use Rattle.kc_minimal_model.proofs.KeptLines.{line_reads, read_as_assignment, meant, user_meant, meaning_of_user}
 use Rattle.kc_minimal_model.proofs.LineReads.{IsLine}
 use Rattle.kc_minimal_model.proofs.OwnLines.{IsOwn, own_line}
 
@@ -36,25 +37,18 @@ is_for u (assigns w x) = nat_eq w u
 is_for u (notice kind) = false
 is_for u silent = false
 
--- whether an entry defines this symbol
-abbrev pub is_definition : ℕ → Entry → Bool
-is_definition s (definition t) = nat_eq s t
-is_definition s (choice_begins c) = false
-is_definition s (menu_begins title dependency visible) = false
-is_definition s (menu_ends title dependency visible) = false
-is_definition s (comment title dependency) = false
-
 -- bytes whose lines assign each unit its own value or nothing, with a line for each of these symbols
-pub record IsTold (prefix : List ℕ) (tree : Tree) (values : List UnitValue) (covered : ℕ → Type 0) (bytes : List ℕ) : Type 0 where
-  pub sayings : List LineMeaning
-  pub says : FileMeans prefix tree bytes sayings
+pub record HasOwnLines (prefix : List ℕ) (tree : Tree) (values : List UnitValue) (covered : ℕ → Type 0) (bytes : List ℕ) : Type 0 where
+  pub meanings : List LineMeaning
+  pub says : FileMeans prefix tree bytes meanings
   pub utf8 : has_utf8_lines bytes ≡ true
-  pub own : AllByRecursion (IsOwn values) sayings
-  pub covers : (s : ℕ) → covered s → list_any (is_for (unit_of tree s)) sayings ≡ true
+  pub own : AllByRecursion (IsOwn values) meanings
+  pub covers : (s : ℕ) → covered s → list_any (is_for (unit_of tree s)) meanings ≡ true
 
 one_line : (title : List ℕ) → has_newline title ≡ false → lacks 10 title ≡ true
 one_line [] e = refl
-one_line (b ∷ title) e = let parts = or_parts (b == 10) (has_newline title) e in and_from (not (b == 10)) (lacks 10 title) (ap not parts.0) (one_line title parts.1)
+one_line (b ∷ title) e =
+    let parts = or_parts (b == 10) (has_newline title) e in and_from (not (b == 10)) (lacks 10 title) (ap not parts.0) (one_line title parts.1)
 
 -- each title is one line of UTF-8
 abbrev HasPlainTitles : List Entry → Type 0
@@ -72,26 +66,29 @@ plain_title title e =
 
 module _ (prefix : List ℕ) (valid : is_prefix prefix ≡ true) (tree : Tree) (values : List UnitValue) where
   -- one more line
-  told_line : (C D : ℕ → Type 0) (line rest : List ℕ) (saying : LineMeaning) → lacks 10 line ≡ true → IsUtf8 line → Means prefix tree (without_white_end line) saying → IsOwn values saying → IsTold prefix tree values C rest
-      → ((s : ℕ) → D s → (is_for (unit_of tree s) saying ≡ true) ⊎ C s) → IsTold prefix tree values D (line ++ 10 ∷ rest)
-  told_line C D line rest saying one utf8 says own t covers = record {
-    sayings = saying ∷ t.sayings;
-    says = subst (λ ls. AllZip (λ l x. Means prefix tree (without_white_end l) x) ls (saying ∷ t.sayings)) (sym (first_line line rest one)) (says, t.says);
-    utf8 = ap (list_all is_utf8) (first_line line rest one) ∙ and_from (is_utf8 line) (list_all is_utf8 (file_lines rest)) (is_utf8-from_IsUtf8 line utf8) t.utf8;
+  own_lines_line : (C D : ℕ → Type 0) (line rest : List ℕ) (meaning : LineMeaning) → lacks 10 line ≡ true → IsUtf8 line
+      → Means prefix tree (without_white_end line) meaning → IsOwn values meaning → HasOwnLines prefix tree values C rest
+      → ((s : ℕ) → D s → (is_for (unit_of tree s) meaning ≡ true) ⊎ C s) → HasOwnLines prefix tree values D (line ++ 10 ∷ rest)
+  own_lines_line C D line rest meaning one utf8 says own t covers = record {
+    meanings = meaning ∷ t.meanings;
+    says = subst (λ ls. AllZip (λ l x. Means prefix tree (without_white_end l) x) ls (meaning ∷ t.meanings)) (sym (first_line line rest one)) (says, t.says);
+    utf8 = ap (list_all is_utf8) (first_line line rest one) ∙ and_from (is_utf8 line) (list_all is_utf8 (file_lines rest)) (is_utf8-from_IsUtf8 line utf8)
+        t.utf8;
     own = (own, t.own);
     covers = λ s d. elim (covers s d) [
-      | inl here ↦ or_left (is_for (unit_of tree s) saying) (list_any (is_for (unit_of tree s)) t.sayings) here
-      | inr later ↦ or_right (is_for (unit_of tree s) saying) (list_any (is_for (unit_of tree s)) t.sayings) (t.covers s later)
+      | inl here ↦ or_left (is_for (unit_of tree s) meaning) (list_any (is_for (unit_of tree s)) t.meanings) here
+      | inr later ↦ or_right (is_for (unit_of tree s) meaning) (list_any (is_for (unit_of tree s)) t.meanings) (t.covers s later)
     ];
   }
 
-  -- one more line that says nothing
-  silent_line : (C : ℕ → Type 0) (line rest : List ℕ) → lacks 10 line ≡ true → IsUtf8 line → Means prefix tree (without_white_end line) silent → IsTold prefix tree values C rest → IsTold prefix tree values C (line ++ 10 ∷ rest)
-  silent_line C line rest one utf8 says t = told_line C C line rest silent one utf8 says tt t (λ s c. inr c)
+  -- one more line without an assignment
+  silent_line : (C : ℕ → Type 0) (line rest : List ℕ) → lacks 10 line ≡ true → IsUtf8 line → Means prefix tree (without_white_end line) silent
+      → HasOwnLines prefix tree values C rest → HasOwnLines prefix tree values C (line ++ 10 ∷ rest)
+  silent_line C line rest one utf8 says t = own_lines_line C C line rest silent one utf8 says tt t (λ s c. inr c)
 
   -- of fewer symbols
-  told_fewer : (C D : ℕ → Type 0) (bytes : List ℕ) → ((s : ℕ) → D s → C s) → IsTold prefix tree values C bytes → IsTold prefix tree values D bytes
-  told_fewer C D bytes fewer t = record { sayings = t.sayings; says = t.says; utf8 = t.utf8; own = t.own; covers = λ s d. t.covers s (fewer s d) }
+  own_lines_fewer : (C D : ℕ → Type 0) (bytes : List ℕ) → ((s : ℕ) → D s → C s) → HasOwnLines prefix tree values C bytes → HasOwnLines prefix tree values D bytes
+  own_lines_fewer C D bytes fewer t = record { meanings = t.meanings; says = t.says; utf8 = t.utf8; own = t.own; covers = λ s d. t.covers s (fewer s d) }
 
   title_lacks : (title : List ℕ) → lacks 10 title ≡ true → lacks 10 (heading_title prefix title) ≡ true
   title_lacks title one = go (starts_with nat_eq title prefix) where
@@ -109,121 +106,172 @@ module _ (prefix : List ℕ) (valid : is_prefix prefix ≡ true) (tree : Tree) (
   hash_utf8 = ascii_alone 35 (omega arith)
 
   -- a heading
-  told_heading : (C : ℕ → Type 0) (title rest : List ℕ) → IsTitle title → IsTold prefix tree values C rest → IsTold prefix tree values C (heading prefix title ++ rest)
-  told_heading C title rest good t =
+  own_lines_heading : (C : ℕ → Type 0) (title rest : List ℕ) → IsTitle title → HasOwnLines prefix tree values C rest
+      → HasOwnLines prefix tree values C (heading prefix title ++ rest)
+  own_lines_heading C title rest good t =
       let name = heading_title prefix title in
       let last = silent_line C (35 ∷ []) rest refl hash_utf8 (hash_says prefix tree) t in
-      let third = silent_line C (35 ∷ 32 ∷ name) (35 ∷ 10 ∷ rest) (title_lacks title good.one) (ascii_then 35 (32 ∷ name) (omega arith) (ascii_then 32 name (omega arith) (title_utf8 title good.utf8))) (heading_says prefix tree title valid) last in
+      let third = silent_line C (35 ∷ 32 ∷ name) (35 ∷ 10 ∷ rest) (title_lacks title good.one)
+      (ascii_then 35 (32 ∷ name) (omega arith) (ascii_then 32 name (omega arith) (title_utf8 title good.utf8))) (heading_says prefix tree title valid)
+      last in
       let second = silent_line C (35 ∷ []) ((35 ∷ 32 ∷ name) ++ 10 ∷ 35 ∷ 10 ∷ rest) refl hash_utf8 (hash_says prefix tree) third in
       let first = silent_line C [] (35 ∷ 10 ∷ ((35 ∷ 32 ∷ name) ++ 10 ∷ 35 ∷ 10 ∷ rest)) refl IsUtf8-nil (blank_says prefix tree) second in
-      let same : heading prefix title ++ rest ≡ 10 ∷ 35 ∷ 10 ∷ 35 ∷ 32 ∷ (name ++ 10 ∷ 35 ∷ 10 ∷ rest) = ap (λ l. 10 ∷ 35 ∷ 10 ∷ 35 ∷ 32 ∷ l) (append_assoc name (10 ∷ 35 ∷ 10 ∷ []) rest) in
-      subst (IsTold prefix tree values C) (sym same) first
+      let same : heading prefix title ++ rest ≡ 10 ∷ 35 ∷ 10 ∷ 35 ∷ 32 ∷ (name ++ 10 ∷ 35 ∷ 10 ∷ rest) = ap (λ l. 10 ∷ 35 ∷ 10 ∷ 35 ∷ 32 ∷ l)
+      (append_assoc name (10 ∷ 35 ∷ 10 ∷ []) rest) in
+      subst (HasOwnLines prefix tree values C) (sym same) first
 
   -- an end line
-  told_end : (C : ℕ → Type 0) (title rest : List ℕ) → IsTitle title → IsTold prefix tree values C rest → IsTold prefix tree values C (end_line title ++ rest)
-  told_end C title rest good t =
-      let line = silent_line C (codes "# end of " ++ title) rest (all_of_both (λ c. not (c == 10)) (codes "# end of ") title refl good.one) (IsUtf8-append (codes "# end of ") title (low_utf8 (codes "# end of ") refl) good.utf8) (end_says prefix tree title valid) t in
+  own_lines_end : (C : ℕ → Type 0) (title rest : List ℕ) → IsTitle title → HasOwnLines prefix tree values C rest
+      → HasOwnLines prefix tree values C (end_line title ++ rest)
+  own_lines_end C title rest good t =
+      let line = silent_line C (codes "# end of " ++ title) rest (all_of_both (λ c. not (c == 10)) (codes "# end of ") title refl good.one)
+      (IsUtf8-append (codes "# end of ") title (low_utf8 (codes "# end of ") refl) good.utf8) (end_says prefix tree title valid) t in
       let same : end_line title ++ rest ≡ (codes "# end of " ++ title) ++ 10 ∷ rest = ap (λ l. codes "# end of " ++ l) (append_assoc title (10 ∷ []) rest) in
-      subst (IsTold prefix tree values C) (sym same) line
+      subst (HasOwnLines prefix tree values C) (sym same) line
 
 module _ (prefix : List ℕ) (valid : is_prefix prefix ≡ true) (profile : Profile) (tree : Tree) (settled : IsOrderedTree tree) (users : List (Option UserValue)) (values : List UnitValue)
     (fitting : FitsUsers (length tree.units) (λ u x. IsTrue (user_fits tree u x)) users) (solved : Solves (length tree.units) (rule profile tree) users values)
     (fits : FitsValues (length tree.units) (λ u v. IsTrue (value_fits tree u v)) values) where
   -- a symbol that is defined by these entries for the first time, is written, and has a line in the minimal file
   abbrev pub IsToCome : List ℕ → List Entry → ℕ → Type 0
-  IsToCome seen entries s = (list_any (is_definition s) entries ≡ true) × (list_any (nat_eq s) seen ≡ false) × (is_written tree values s ≡ true) × (has_line profile tree values s ≡ true)
+  IsToCome seen entries s =
+      (list_any (defines s) entries ≡ true) × (list_any (nat_eq s) seen ≡ false) × (is_written tree values s ≡ true)
+      × (has_line profile tree values s ≡ true)
 
-  -- what the line of a symbol says
-  record SymbolTold (s : ℕ) : Type 0 where
-    saying : LineMeaning
-    reads : IsLine prefix tree (symbol_line prefix tree values s) saying
-    own : IsOwn values saying
-    assigning : has_line profile tree values s ≡ true → is_for (unit_of tree s) saying ≡ true
+  -- the meaning of the line of a symbol
+  record SymbolHasOwnLine (s : ℕ) : Type 0 where
+    meaning : LineMeaning
+    reads : IsLine prefix tree (symbol_line prefix tree values s) meaning
+    own : IsOwn values meaning
+    assigning : has_line profile tree values s ≡ true → is_for (unit_of tree s) meaning ≡ true
 
-  own_meant : (u : ℕ) (o : Option UserValue) → user_meant values u ≡ o → IsOwn values (saying_of_user u o)
+  own_meant : (u : ℕ) (o : Option UserValue) → user_meant values u ≡ o → IsOwn values (meaning_of_user u o)
   own_meant u None e = tt
   own_meant u (Some x) e = e
 
-  for_meant : (u : ℕ) (o : Option UserValue) → (x : UserValue) → o ≡ Some x → is_for u (saying_of_user u o) ≡ true
+  for_meant : (u : ℕ) (o : Option UserValue) → (x : UserValue) → o ≡ Some x → is_for u (meaning_of_user u o) ≡ true
   for_meant u None x e = cc
   for_meant u (Some y) x e = eq-eqb u u refl
 
-  symbol_told : (s : ℕ) (symbol : Symbol) → slice_get tree.symbols s ≡ Some symbol → SymbolTold s
-  symbol_told s symbol at = elim (cases_Bool (has_line profile tree values s)) [
+  symbol_own_line : (s : ℕ) (symbol : Symbol) → slice_get tree.symbols s ≡ Some symbol → SymbolHasOwnLine s
+  symbol_own_line s symbol at = elim (cases_Bool (has_line profile tree values s)) [
     | inl has ↦
         let r = read_as_assignment prefix valid profile tree settled.consistent users values fitting solved s has in
         let u = unit_of tree s in
         let some : user_meant values u ≡ Some r.user = ap (option_and_then as_user) r.has ∙ r.meant in
         record {
-          saying = meant values u;
+          meaning = meant values u;
           reads = line_reads prefix valid profile tree settled.consistent users values fitting solved s has;
           own = own_meant u (user_meant values u) refl;
           assigning = λ e. for_meant u (user_meant values u) r.user some;
         }
     | inr none ↦
         let line = own_line prefix valid tree settled.consistent values fits s symbol at in
-        record { saying = line.saying; reads = line.reads; own = line.own; assigning = λ e. absurd (false≢true (sym none ∙ e)) }
+        record { meaning = line.meaning; reads = line.reads; own = line.own; assigning = λ e. absurd (false≢true (sym none ∙ e)) }
   ]
 
   -- the line of a symbol, and those after it
-  told_symbol : (s : ℕ) (symbol : Symbol) → slice_get tree.symbols s ≡ Some symbol → (seen : List ℕ) (gap : Bool) (entries : List Entry) (rest : List ℕ) → IsTold prefix tree values (IsToCome (s ∷ seen) entries) rest
-      → IsTold prefix tree values (IsToCome seen (definition s ∷ entries)) (cond gap (10 ∷ ended_line prefix tree values s) (ended_line prefix tree values s) ++ rest)
-  told_symbol s symbol at seen gap entries rest t =
-      let line = symbol_told s symbol at in
-      let next = told_line prefix valid tree values (IsToCome (s ∷ seen) entries) (IsToCome seen (definition s ∷ entries)) (symbol_line prefix tree values s) rest line.saying line.reads.one line.reads.utf8 (subst (λ l. Means prefix tree l line.saying) (sym line.reads.whole) line.reads.says) line.own t (covered line) in
-      let ended = subst (IsTold prefix tree values (IsToCome seen (definition s ∷ entries))) (sym (append_assoc (symbol_line prefix tree values s) (10 ∷ []) rest)) next in
+  own_lines_symbol : (s : ℕ) (symbol : Symbol) → slice_get tree.symbols s ≡ Some symbol → (seen : List ℕ) (gap : Bool) (entries : List Entry) (rest : List ℕ)
+      → HasOwnLines prefix tree values (IsToCome (s ∷ seen) entries) rest
+      → HasOwnLines prefix tree values (IsToCome seen (definition s ∷ entries))
+      (cond gap (10 ∷ ended_line prefix tree values s) (ended_line prefix tree values s) ++ rest)
+  own_lines_symbol s symbol at seen gap entries rest t =
+      let line = symbol_own_line s symbol at in
+      let next = own_lines_line prefix valid tree values (IsToCome (s ∷ seen) entries) (IsToCome seen (definition s ∷ entries))
+      (symbol_line prefix tree values s) rest line.meaning line.reads.one line.reads.utf8
+      (subst (λ l. Means prefix tree l line.meaning) (sym line.reads.whole) line.reads.says) line.own t (covered line) in
+      let ended = subst (HasOwnLines prefix tree values (IsToCome seen (definition s ∷ entries)))
+      (sym (append_assoc (symbol_line prefix tree values s) (10 ∷ []) rest)) next in
       go gap ended where
-        covered : (line : SymbolTold s) (w : ℕ) → IsToCome seen (definition s ∷ entries) w → (is_for (unit_of tree w) line.saying ≡ true) ⊎ IsToCome (s ∷ seen) entries w
+        covered : (line : SymbolHasOwnLine s) (w : ℕ) → IsToCome seen (definition s ∷ entries) w
+            → (is_for (unit_of tree w) line.meaning ≡ true) ⊎ IsToCome (s ∷ seen) entries w
         covered line w c = elim (cases_Bool (nat_eq w s)) [
-          | inl same ↦ inl (subst (λ k. is_for (unit_of tree k) line.saying ≡ true) (sym (eqb-true w s same)) (line.assigning (subst (λ k. has_line profile tree values k ≡ true) (eqb-true w s same) c.3)))
-          | inr other ↦ inr (ap (λ b. b || list_any (is_definition w) entries) (sym other) ∙ c.0, ap (λ b. b || list_any (nat_eq w) seen) other ∙ c.1, c.2, c.3)
+          | inl same ↦ inl (subst (λ k. is_for (unit_of tree k) line.meaning ≡ true) (sym (eqb-true w s same))
+              (line.assigning (subst (λ k. has_line profile tree values k ≡ true) (eqb-true w s same) c.3)))
+          | inr other ↦ inr (ap (λ b. b || list_any (defines w) entries) (sym other) ∙ c.0, ap (λ b. b || list_any (nat_eq w) seen) other ∙ c.1, c.2, c.3)
         ]
 
-        go : (g : Bool) → IsTold prefix tree values (IsToCome seen (definition s ∷ entries)) (ended_line prefix tree values s ++ rest) → IsTold prefix tree values (IsToCome seen (definition s ∷ entries)) (cond g (10 ∷ ended_line prefix tree values s) (ended_line prefix tree values s) ++ rest)
-        go true ended = silent_line prefix valid tree values (IsToCome seen (definition s ∷ entries)) [] (ended_line prefix tree values s ++ rest) refl IsUtf8-nil (blank_says prefix tree) ended
+        go : (g : Bool) → HasOwnLines prefix tree values (IsToCome seen (definition s ∷ entries)) (ended_line prefix tree values s ++ rest)
+            → HasOwnLines prefix tree values (IsToCome seen (definition s ∷ entries)) (cond g (10 ∷ ended_line prefix tree values s) (ended_line prefix tree values s) ++ rest)
+        go true ended = silent_line prefix valid tree values (IsToCome seen (definition s ∷ entries)) [] (ended_line prefix tree values s ++ rest) refl
+            IsUtf8-nil (blank_says prefix tree) ended
         go false ended = ended
 
-  written_there : (s : ℕ) (o : Option Symbol) → slice_get tree.symbols s ≡ o → unwrap_or (option_map (is_written_symbol tree values) o) false ≡ true → (symbol : Symbol) × (slice_get tree.symbols s ≡ Some symbol)
+  written_there : (s : ℕ) (o : Option Symbol) → slice_get tree.symbols s ≡ o → unwrap_or (option_map (is_written_symbol tree values) o) false ≡ true
+      → (symbol : Symbol) × (slice_get tree.symbols s ≡ Some symbol)
   written_there s None at e = absurd (false≢true e)
   written_there s (Some symbol) at e = (symbol, at)
 
   -- what all entries write
-  pub told : (entries : List Entry) (seen : List ℕ) (gap : Bool) → HasPlainTitles entries → IsTold prefix tree values (IsToCome seen entries) (entry_texts prefix tree values seen gap entries)
-  told [] seen gap plain = record { sayings = []; says = tt; utf8 = refl; own = tt; covers = λ s c. absurd (false≢true c.0) }
-  told (definition s ∷ entries) seen gap plain = go (is_written tree values s && not (list_any (nat_eq s) seen)) refl (told entries (s ∷ seen) false (λ k entry title at is. plain (suc k) entry title at is)) (told entries (s ∷ seen) gap (λ k entry title at is. plain (suc k) entry title at is)) where
-    go : (t : Bool) → (is_written tree values s && not (list_any (nat_eq s) seen)) ≡ t → IsTold prefix tree values (IsToCome (s ∷ seen) entries) (entry_texts prefix tree values (s ∷ seen) false entries) → IsTold prefix tree values (IsToCome (s ∷ seen) entries) (entry_texts prefix tree values (s ∷ seen) gap entries)
-        → IsTold prefix tree values (IsToCome seen (definition s ∷ entries)) (cond t (cond gap (10 ∷ ended_line prefix tree values s) (ended_line prefix tree values s) ++ entry_texts prefix tree values (s ∷ seen) false entries) (entry_texts prefix tree values (s ∷ seen) gap entries))
-    go true e one two =
-        let there = written_there s (slice_get tree.symbols s) refl (and_parts (is_written tree values s) (not (list_any (nat_eq s) seen)) e).0 in
-        told_symbol s there.0 there.1 seen gap entries (entry_texts prefix tree values (s ∷ seen) false entries) one
-    go false e one two = told_fewer prefix valid tree values (IsToCome (s ∷ seen) entries) (IsToCome seen (definition s ∷ entries)) (entry_texts prefix tree values (s ∷ seen) gap entries) fewer two where
-      fewer : (w : ℕ) → IsToCome seen (definition s ∷ entries) w → IsToCome (s ∷ seen) entries w
-      fewer w c = elim (cases_Bool (nat_eq w s)) [
-        | inl same ↦
-            let is = eqb-true w s same in
-            let both : (is_written tree values s && not (list_any (nat_eq s) seen)) ≡ true = subst (λ k. (is_written tree values k && not (list_any (nat_eq k) seen)) ≡ true) is (and_from (is_written tree values w) (not (list_any (nat_eq w) seen)) c.2 (ap not c.1)) in
-            absurd (false≢true (sym e ∙ both))
-        | inr other ↦ (ap (λ b. b || list_any (is_definition w) entries) (sym other) ∙ c.0, ap (λ b. b || list_any (nat_eq w) seen) other ∙ c.1, c.2, c.3)
-      ]
-  told (choice_begins c ∷ entries) seen gap plain = told_fewer prefix valid tree values (IsToCome seen entries) (IsToCome seen (choice_begins c ∷ entries)) (entry_texts prefix tree values seen gap entries) (λ s d. (d.0, d.1, d.2, d.3)) (told entries seen gap (λ k entry title at is. plain (suc k) entry title at is))
-  told (menu_begins title dependency visible ∷ entries) seen gap plain =
-      go (applies tree values dependency && applies tree values visible) (told entries seen false (λ k entry title at is. plain (suc k) entry title at is)) (told entries seen gap (λ k entry title at is. plain (suc k) entry title at is)) where
-        go : (t : Bool) → IsTold prefix tree values (IsToCome seen entries) (entry_texts prefix tree values seen false entries) → IsTold prefix tree values (IsToCome seen entries) (entry_texts prefix tree values seen gap entries)
-            → IsTold prefix tree values (IsToCome seen (menu_begins title dependency visible ∷ entries)) (cond t (heading prefix title ++ entry_texts prefix tree values seen false entries) (entry_texts prefix tree values seen gap entries))
-        go true one two = told_fewer prefix valid tree values (IsToCome seen entries) (IsToCome seen (menu_begins title dependency visible ∷ entries)) (heading prefix title ++ entry_texts prefix tree values seen false entries) (λ s d. (d.0, d.1, d.2, d.3))
-            (told_heading prefix valid tree values (IsToCome seen entries) title (entry_texts prefix tree values seen false entries) (plain_title title (plain 0 (menu_begins title dependency visible) title refl refl)) one)
-        go false one two = told_fewer prefix valid tree values (IsToCome seen entries) (IsToCome seen (menu_begins title dependency visible ∷ entries)) (entry_texts prefix tree values seen gap entries) (λ s d. (d.0, d.1, d.2, d.3)) two
-  told (menu_ends title dependency visible ∷ entries) seen gap plain =
-      go (applies tree values dependency && applies tree values visible) (told entries seen true (λ k entry title at is. plain (suc k) entry title at is)) (told entries seen gap (λ k entry title at is. plain (suc k) entry title at is)) where
-        go : (t : Bool) → IsTold prefix tree values (IsToCome seen entries) (entry_texts prefix tree values seen true entries) → IsTold prefix tree values (IsToCome seen entries) (entry_texts prefix tree values seen gap entries)
-            → IsTold prefix tree values (IsToCome seen (menu_ends title dependency visible ∷ entries)) (cond t (end_line title ++ entry_texts prefix tree values seen true entries) (entry_texts prefix tree values seen gap entries))
-        go true one two = told_fewer prefix valid tree values (IsToCome seen entries) (IsToCome seen (menu_ends title dependency visible ∷ entries)) (end_line title ++ entry_texts prefix tree values seen true entries) (λ s d. (d.0, d.1, d.2, d.3))
-            (told_end prefix valid tree values (IsToCome seen entries) title (entry_texts prefix tree values seen true entries) (plain_title title (plain 0 (menu_ends title dependency visible) title refl refl)) one)
-        go false one two = told_fewer prefix valid tree values (IsToCome seen entries) (IsToCome seen (menu_ends title dependency visible ∷ entries)) (entry_texts prefix tree values seen gap entries) (λ s d. (d.0, d.1, d.2, d.3)) two
-  told (comment title dependency ∷ entries) seen gap plain =
-      go (applies tree values dependency) (told entries seen false (λ k entry title at is. plain (suc k) entry title at is)) (told entries seen gap (λ k entry title at is. plain (suc k) entry title at is)) where
-        go : (t : Bool) → IsTold prefix tree values (IsToCome seen entries) (entry_texts prefix tree values seen false entries) → IsTold prefix tree values (IsToCome seen entries) (entry_texts prefix tree values seen gap entries)
-            → IsTold prefix tree values (IsToCome seen (comment title dependency ∷ entries)) (cond t (heading prefix title ++ entry_texts prefix tree values seen false entries) (entry_texts prefix tree values seen gap entries))
-        go true one two = told_fewer prefix valid tree values (IsToCome seen entries) (IsToCome seen (comment title dependency ∷ entries)) (heading prefix title ++ entry_texts prefix tree values seen false entries) (λ s d. (d.0, d.1, d.2, d.3))
-            (told_heading prefix valid tree values (IsToCome seen entries) title (entry_texts prefix tree values seen false entries) (plain_title title (plain 0 (comment title dependency) title refl refl)) one)
-        go false one two = told_fewer prefix valid tree values (IsToCome seen entries) (IsToCome seen (comment title dependency ∷ entries)) (entry_texts prefix tree values seen gap entries) (λ s d. (d.0, d.1, d.2, d.3)) two
+  pub own_lines : (entries : List Entry) (seen : List ℕ) (gap : Bool) → HasPlainTitles entries
+      → HasOwnLines prefix tree values (IsToCome seen entries) (entry_texts prefix tree values seen gap entries)
+  own_lines [] seen gap plain = record { meanings = []; says = tt; utf8 = refl; own = tt; covers = λ s c. absurd (false≢true c.0) }
+  own_lines (definition s ∷ entries) seen gap plain =
+      go (is_written tree values s && not (list_any (nat_eq s) seen)) refl
+      (own_lines entries (s ∷ seen) false (λ k entry title at is. plain (suc k) entry title at is))
+      (own_lines entries (s ∷ seen) gap (λ k entry title at is. plain (suc k) entry title at is)) where
+        go : (t : Bool) → (is_written tree values s && not (list_any (nat_eq s) seen)) ≡ t
+            → HasOwnLines prefix tree values (IsToCome (s ∷ seen) entries) (entry_texts prefix tree values (s ∷ seen) false entries)
+            → HasOwnLines prefix tree values (IsToCome (s ∷ seen) entries) (entry_texts prefix tree values (s ∷ seen) gap entries)
+            → HasOwnLines prefix tree values (IsToCome seen (definition s ∷ entries))
+            (cond t (cond gap (10 ∷ ended_line prefix tree values s) (ended_line prefix tree values s) ++ entry_texts prefix tree values (s ∷ seen) false
+            entries) (entry_texts prefix tree values (s ∷ seen) gap entries))
+        go true e one two =
+            let there = written_there s (slice_get tree.symbols s) refl (and_parts (is_written tree values s) (not (list_any (nat_eq s) seen)) e).0 in
+            own_lines_symbol s there.0 there.1 seen gap entries (entry_texts prefix tree values (s ∷ seen) false entries) one
+        go false e one two =
+            own_lines_fewer prefix valid tree values (IsToCome (s ∷ seen) entries) (IsToCome seen (definition s ∷ entries))
+            (entry_texts prefix tree values (s ∷ seen) gap entries) fewer two where
+              fewer : (w : ℕ) → IsToCome seen (definition s ∷ entries) w → IsToCome (s ∷ seen) entries w
+              fewer w c = elim (cases_Bool (nat_eq w s)) [
+                | inl same ↦
+                    let is = eqb-true w s same in
+                    let both : (is_written tree values s && not (list_any (nat_eq s) seen)) ≡ true = subst
+                    (λ k. (is_written tree values k && not (list_any (nat_eq k) seen)) ≡ true) is
+                    (and_from (is_written tree values w) (not (list_any (nat_eq w) seen)) c.2 (ap not c.1)) in
+                    absurd (false≢true (sym e ∙ both))
+                | inr other ↦ (ap (λ b. b || list_any (defines w) entries) (sym other) ∙ c.0, ap (λ b. b || list_any (nat_eq w) seen) other ∙ c.1, c.2, c.3)
+              ]
+  own_lines (choice_begins c ∷ entries) seen gap plain =
+      own_lines_fewer prefix valid tree values (IsToCome seen entries) (IsToCome seen (choice_begins c ∷ entries))
+      (entry_texts prefix tree values seen gap entries) (λ s d. (d.0, d.1, d.2, d.3))
+      (own_lines entries seen gap (λ k entry title at is. plain (suc k) entry title at is))
+  own_lines (menu_begins title dependency visible ∷ entries) seen gap plain =
+      go (applies tree values dependency && applies tree values visible) (own_lines entries seen false (λ k entry title at is. plain (suc k) entry title at is))
+      (own_lines entries seen gap (λ k entry title at is. plain (suc k) entry title at is)) where
+        go : (t : Bool) → HasOwnLines prefix tree values (IsToCome seen entries) (entry_texts prefix tree values seen false entries)
+            → HasOwnLines prefix tree values (IsToCome seen entries) (entry_texts prefix tree values seen gap entries)
+            → HasOwnLines prefix tree values (IsToCome seen (menu_begins title dependency visible ∷ entries))
+            (cond t (heading prefix title ++ entry_texts prefix tree values seen false entries) (entry_texts prefix tree values seen gap entries))
+        go true one two = own_lines_fewer prefix valid tree values (IsToCome seen entries) (IsToCome seen (menu_begins title dependency visible ∷ entries))
+            (heading prefix title ++ entry_texts prefix tree values seen false entries) (λ s d. (d.0, d.1, d.2, d.3))
+            (own_lines_heading prefix valid tree values (IsToCome seen entries) title (entry_texts prefix tree values seen false entries)
+            (plain_title title (plain 0 (menu_begins title dependency visible) title refl refl)) one)
+        go false one two = own_lines_fewer prefix valid tree values (IsToCome seen entries) (IsToCome seen (menu_begins title dependency visible ∷ entries))
+            (entry_texts prefix tree values seen gap entries) (λ s d. (d.0, d.1, d.2, d.3)) two
+  own_lines (menu_ends title dependency visible ∷ entries) seen gap plain =
+      go (applies tree values dependency && applies tree values visible) (own_lines entries seen true (λ k entry title at is. plain (suc k) entry title at is))
+      (own_lines entries seen gap (λ k entry title at is. plain (suc k) entry title at is)) where
+        go : (t : Bool) → HasOwnLines prefix tree values (IsToCome seen entries) (entry_texts prefix tree values seen true entries)
+            → HasOwnLines prefix tree values (IsToCome seen entries) (entry_texts prefix tree values seen gap entries)
+            → HasOwnLines prefix tree values (IsToCome seen (menu_ends title dependency visible ∷ entries))
+            (cond t (end_line title ++ entry_texts prefix tree values seen true entries) (entry_texts prefix tree values seen gap entries))
+        go true one two = own_lines_fewer prefix valid tree values (IsToCome seen entries) (IsToCome seen (menu_ends title dependency visible ∷ entries))
+            (end_line title ++ entry_texts prefix tree values seen true entries) (λ s d. (d.0, d.1, d.2, d.3))
+            (own_lines_end prefix valid tree values (IsToCome seen entries) title (entry_texts prefix tree values seen true entries)
+            (plain_title title (plain 0 (menu_ends title dependency visible) title refl refl)) one)
+        go false one two = own_lines_fewer prefix valid tree values (IsToCome seen entries) (IsToCome seen (menu_ends title dependency visible ∷ entries))
+            (entry_texts prefix tree values seen gap entries) (λ s d. (d.0, d.1, d.2, d.3)) two
+  own_lines (comment title dependency ∷ entries) seen gap plain =
+      go (applies tree values dependency) (own_lines entries seen false (λ k entry title at is. plain (suc k) entry title at is))
+      (own_lines entries seen gap (λ k entry title at is. plain (suc k) entry title at is)) where
+        go : (t : Bool) → HasOwnLines prefix tree values (IsToCome seen entries) (entry_texts prefix tree values seen false entries)
+            → HasOwnLines prefix tree values (IsToCome seen entries) (entry_texts prefix tree values seen gap entries)
+            → HasOwnLines prefix tree values (IsToCome seen (comment title dependency ∷ entries))
+            (cond t (heading prefix title ++ entry_texts prefix tree values seen false entries) (entry_texts prefix tree values seen gap entries))
+        go true one two = own_lines_fewer prefix valid tree values (IsToCome seen entries) (IsToCome seen (comment title dependency ∷ entries))
+            (heading prefix title ++ entry_texts prefix tree values seen false entries) (λ s d. (d.0, d.1, d.2, d.3))
+            (own_lines_heading prefix valid tree values (IsToCome seen entries) title (entry_texts prefix tree values seen false entries)
+            (plain_title title (plain 0 (comment title dependency) title refl refl)) one)
+        go false one two = own_lines_fewer prefix valid tree values (IsToCome seen entries) (IsToCome seen (comment title dependency ∷ entries))
+            (entry_texts prefix tree values seen gap entries) (λ s d. (d.0, d.1, d.2, d.3)) two

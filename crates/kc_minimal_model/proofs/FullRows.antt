@@ -14,7 +14,9 @@ picks s = MemberValue (Some s)
 
 -- config A / bool "a" / default y / config B / bool "b" / depends on A / config C / bool / default B
 abbrev tree_three : Tree
-tree_three = three_symbols (plain (codes "A") Boolean (always ∷ []) (otherwise always ∷ [])) (record (plain (codes "B") Boolean (name (codes "A") ∷ []) []) { direct = name (codes "A") ∷ [] })
+tree_three =
+    three_symbols (plain (codes "A") Boolean (always ∷ []) (otherwise always ∷ []))
+    (record (plain (codes "B") Boolean (name (codes "A") ∷ []) []) { direct = name (codes "A") ∷ [] })
     (plain (codes "C") Boolean [] (otherwise (name (codes "B")) ∷ []))
 
 plain_symbols : (full_file (codes "CONFIG_") tree_three (y ∷ y ∷ y ∷ []) ≡ codes "CONFIG_A=y\nCONFIG_B=y\nCONFIG_C=y\n") × (full_file (codes "CONFIG_") tree_a (n ∷ []) ≡ codes "# CONFIG_A is not set\n")
@@ -45,10 +47,12 @@ hidden_menu : full_file (codes "CONFIG_") tree_hidden (y ∷ []) ≡ codes "CONF
 unfolding symbol_line
 hidden_menu = refl
 
--- a title that begins with the prefix stands after two spaces
+-- a title that begins with the prefix comes after two spaces
 titles : (full_file (codes "CONFIG_") (tree_titled (codes "CONFIG_A is not set")) (y ∷ []) ≡ codes "\n#\n#  CONFIG_A is not set\n#\nCONFIG_A=y\n# end of CONFIG_A is not set\n")
-    × (full_file (codes "end") (tree_titled (codes "CONFIG_A is not set")) (y ∷ []) ≡ codes "\n#\n# CONFIG_A is not set\n#\nendA=y\n# end of CONFIG_A is not set\n")
-    × (full_file (codes "BOARD_") (tree_titled (codes "BOARD_A is not set")) (y ∷ []) ≡ codes "\n#\n#  BOARD_A is not set\n#\nBOARD_A=y\n# end of BOARD_A is not set\n")
+    × (full_file (codes "end") (tree_titled (codes "CONFIG_A is not set")) (y ∷ []) ≡ codes
+    "\n#\n# CONFIG_A is not set\n#\nendA=y\n# end of CONFIG_A is not set\n")
+    × (full_file (codes "BOARD_") (tree_titled (codes "BOARD_A is not set")) (y ∷ []) ≡ codes
+    "\n#\n#  BOARD_A is not set\n#\nBOARD_A=y\n# end of BOARD_A is not set\n")
 unfolding symbol_line
 titles = (refl, refl, refl)
 

@@ -29,7 +29,8 @@ module _ (profile : Profile) (tree : Tree) (users : List (Option UserValue)) (va
       let without = rule profile tree u None values in
       let held = rule profile tree u (user_of users u) values in
       let has : slice_get values u ≡ Some held = solved.holds u inside in
-      let differs : held ≢ without = λ same. false≢true (ap not (sym ((values_decided held without).1 same)) ∙ sym (ap (λ o. not (value_is o without)) has) ∙ kept) in
+      let differs : held ≢ without = λ same. false≢true (ap not (sym ((values_decided held without).1 same)) ∙ sym (ap (λ o. not (value_is o without)) has)
+      ∙ kept) in
       let again = (rules_restore profile tree).restored u (user_of users u) values inside solved.one_each (fitting.1 u inside) differs in
       record { held = held; again = again.0; has = has; assigned = again.1; fits = again.2 }
 

@@ -31,7 +31,7 @@ use Rattle.kc_minimal_model.specs.MinimalFileLaws.{IsReadAsLeast}
 use Rattle.kc_minimal_model.proofs.Bytes.{first_line}
 use Rattle.kc_tree_model.proofs.Lookups.{inside, place_is, unit_is}
 use Rattle.kc_minimal_model.proofs.KeptUnits.{KeptUnit, kept_unit, kept_passes, others_fail}
-use Rattle.kc_minimal_model.proofs.KeptLines.{line_reads, meant, user_meant, saying_of_user, value_of_member}
+use Rattle.kc_minimal_model.proofs.KeptLines.{line_reads, meant, user_meant, meaning_of_user, value_of_member}
 
 -- what passes among some numbers
 pub passes_filter : (p : ℕ → Bool) (xs : List ℕ) → list_all p (filter p xs) ≡ true
@@ -56,7 +56,8 @@ one_of_filter p q (suc n) a s low high kept passes = elim (cases_eq s a) [
       (or_left (p a) (list_any p (filter q (range_with_len (a + 1) n))) (ap p (sym same) ∙ passes))
   | inr other ↦ onto (q a) (one_of_filter p q n (a + 1) s (omega arith) (omega arith) kept passes)
 ] where
-  onto : (t : Bool) → list_any p (filter q (range_with_len (a + 1) n)) ≡ true → list_any p (cond t (a ∷ filter q (range_with_len (a + 1) n)) (filter q (range_with_len (a + 1) n))) ≡ true
+  onto : (t : Bool) → list_any p (filter q (range_with_len (a + 1) n)) ≡ true
+      → list_any p (cond t (a ∷ filter q (range_with_len (a + 1) n)) (filter q (range_with_len (a + 1) n))) ≡ true
   onto true has = or_right (p a) (list_any p (filter q (range_with_len (a + 1) n))) has
   onto false has = has
 
@@ -86,8 +87,9 @@ or_assoc true b c = refl
 or_assoc false b c = refl
 
 -- after one line, a unit has its user value where the line or one before it is of the unit
-after_line : (X : Option UserValue) (w u : ℕ) (o : Option UserValue) (users : List (Option UserValue)) (before : Bool) → (w ≡ u → o ≡ X) → u < length users → user_of users u ≡ cond before X None
-    → user_of (assigned (saying_of_user w o) users) u ≡ cond (before || (w == u)) X None
+after_line : (X : Option UserValue) (w u : ℕ) (o : Option UserValue) (users : List (Option UserValue)) (before : Bool) → (w ≡ u → o ≡ X) → u < length users
+    → user_of users u ≡ cond before X None
+    → user_of (assigned (meaning_of_user w o) users) u ≡ cond (before || (w == u)) X None
 after_line X w u None users before same h e = elim (cases_Bool (w == u)) [
   | inl here ↦ e ∙ either_none before X (sym (same (eqb-true w u here))) ∙ sym (either_none (before || (w == u)) X (sym (same (eqb-true w u here))))
   | inr other ↦ e ∙ sym (ap (λ b. cond (before || b) X None) other ∙ ap (λ b. cond b X None) (or_false before))
@@ -98,20 +100,23 @@ after_line X w u (Some x) users before same h e = elim (cases_Bool (w == u)) [
       subst (λ k. get_or (slice_set users k (Some x)) u None ≡ Some x) (sym equal) (get_or-set_same users u (Some x) None h)
       ∙ same equal ∙ sym (ap (λ b. cond (before || b) X None) here ∙ ap (λ b. cond b X None) (or_true before))
   | inr other ↦
-      get_or-set_other users w u (Some x) None (λ equal. eqb-false w u other (sym equal)) ∙ e ∙ sym (ap (λ b. cond (before || b) X None) other ∙ ap (λ b. cond b X None) (or_false before))
+      get_or-set_other users w u (Some x) None (λ equal. eqb-false w u other (sym equal)) ∙ e
+      ∙ sym (ap (λ b. cond (before || b) X None) other ∙ ap (λ b. cond b X None) (or_false before))
 ]
 
-same_length : (w : ℕ) (o : Option UserValue) (users : List (Option UserValue)) → length (assigned (saying_of_user w o) users) ≡ length users
+same_length : (w : ℕ) (o : Option UserValue) (users : List (Option UserValue)) → length (assigned (meaning_of_user w o) users) ≡ length users
 same_length w None users = refl
 same_length w (Some x) users = length-set users w (Some x)
 
 module _ (tree : Tree) (values : List UnitValue) where
   -- the meanings of the lines of some symbols
-  abbrev pub meanings : List ℕ → List LineMeaning
-  meanings xs = map (λ s. meant values (unit_of tree s)) xs
+  abbrev pub meanings_of : List ℕ → List LineMeaning
+  meanings_of xs = map (λ s. meant values (unit_of tree s)) xs
 
-  pub after_lines : (u : ℕ) (xs : List ℕ) (users : List (Option UserValue)) (before : Bool) → u < length users → user_of users u ≡ cond before (user_meant values u) None
-      → user_of (assigned_over (map (λ s. meant values (unit_of tree s)) xs) users) u ≡ cond (before || list_any (λ s. unit_of tree s == u) xs) (user_meant values u) None
+  pub after_lines : (u : ℕ) (xs : List ℕ) (users : List (Option UserValue)) (before : Bool) → u < length users
+      → user_of users u ≡ cond before (user_meant values u) None
+      → user_of (assigned_over (map (λ s. meant values (unit_of tree s)) xs) users) u ≡ cond (before || list_any (λ s. unit_of tree s == u) xs)
+      (user_meant values u) None
   after_lines u [] users before h e = e ∙ sym (ap (λ b. cond b (user_meant values u) None) (or_false before))
   after_lines u (s ∷ xs) users before h e =
       let w = unit_of tree s in
@@ -122,13 +127,15 @@ module _ (tree : Tree) (values : List UnitValue) where
 
   pub length_after : (xs : List ℕ) (users : List (Option UserValue)) → length (assigned_over (map (λ s. meant values (unit_of tree s)) xs) users) ≡ length users
   length_after [] users = refl
-  length_after (s ∷ xs) users = length_after xs (assigned (meant values (unit_of tree s)) users) ∙ same_length (unit_of tree s) (user_meant values (unit_of tree s)) users
+  length_after (s ∷ xs) users =
+      length_after xs (assigned (meant values (unit_of tree s)) users) ∙ same_length (unit_of tree s) (user_meant values (unit_of tree s)) users
 
 module _ (prefix : List ℕ) (valid : is_prefix prefix ≡ true) (profile : Profile) (tree : Tree) (sound : IsConsistent tree) (users : List (Option UserValue)) (values : List UnitValue)
     (fitting : FitsUsers (length tree.units) (λ u x. IsTrue (user_fits tree u x)) users) (solved : Solves (length tree.units) (rule profile tree) users values) where
   -- the lines of some symbols that have one
   pub lines_say : (xs : List ℕ) → list_all (has_line profile tree values) xs ≡ true
-      → AllZip (λ line saying. Means prefix tree (without_white_end line) saying) (file_lines (flat_map (ended_line prefix tree values) xs)) (map (λ s. meant values (unit_of tree s)) xs)
+      → AllZip (λ line meaning. Means prefix tree (without_white_end line) meaning) (file_lines (flat_map (ended_line prefix tree values) xs))
+      (map (λ s. meant values (unit_of tree s)) xs)
   lines_say [] all = tt
   lines_say (s ∷ xs) all =
       let rest = flat_map (ended_line prefix tree values) xs in
@@ -136,7 +143,8 @@ module _ (prefix : List ℕ) (valid : is_prefix prefix ≡ true) (profile : Prof
       let line = line_reads prefix valid profile tree sound users values fitting solved s parts.0 in
       let cut : file_lines (ended_line prefix tree values s ++ rest) ≡ symbol_line prefix tree values s ∷ file_lines rest =
       ap file_lines (append_assoc (symbol_line prefix tree values s) (10 ∷ []) rest) ∙ first_line (symbol_line prefix tree values s) rest line.one in
-      subst (λ lines. AllZip (λ l saying. Means prefix tree (without_white_end l) saying) lines (meant values (unit_of tree s) ∷ map (λ t. meant values (unit_of tree t)) xs)) (sym cut)
+      subst (λ lines. AllZip (λ l meaning. Means prefix tree (without_white_end l) meaning) lines
+      (meant values (unit_of tree s) ∷ map (λ t. meant values (unit_of tree t)) xs)) (sym cut)
       (subst (λ l. Means prefix tree l (meant values (unit_of tree s))) (sym line.whole) line.says, lines_say xs parts.1)
 
   -- a symbol whose line is of the unit
@@ -146,13 +154,16 @@ module _ (prefix : List ℕ) (valid : is_prefix prefix ≡ true) (profile : Prof
   speaks_at u kept k (of_symbol s) at =
       let found = sound.symbol_units u s at in
       let number : unit_of tree s ≡ u = unit_is tree sound s u found.0 None found.1 found.2 at in
-      let may : may_have_line (slice_get tree.symbols s) (option_map (λ (symbol : Symbol). value_in_unit tree values s symbol symbol.choice) (slice_get tree.symbols s)) ≡ true =
-      ap (λ o. may_have_line o (option_map (λ (symbol : Symbol). value_in_unit tree values s symbol symbol.choice) o)) found.1 ∙ ap (λ c. is_line_of_its_unit c (value_in_unit tree values s found.0 found.0.choice)) found.2 in
+      let may : may_have_line (slice_get tree.symbols s) (option_map (λ (symbol : Symbol). value_in_unit tree values s symbol symbol.choice)
+      (slice_get tree.symbols s)) ≡ true =
+      ap (λ o. may_have_line o (option_map (λ (symbol : Symbol). value_in_unit tree values s symbol symbol.choice) o)) found.1
+      ∙ ap (λ c. is_line_of_its_unit c (value_in_unit tree values s found.0 found.0.choice)) found.2 in
       let below : s < length tree.symbols = inside tree.symbols s found.0 found.1 in
       one_of_filter (λ t. unit_of tree t == u) (has_line profile tree values) (length tree.symbols) 0 s (omega arith) (omega arith)
       (and_from (is_kept profile tree values (unit_of tree s)) _ (ap (is_kept profile tree values) number ∙ kept) may) (eq-eqb (unit_of tree s) u number)
   speaks_at u kept k (of_choice c) at = by_member k.again k.assigned (sym (ap (λ o. unit_user_fits tree o k.again) at) ∙ k.fits) where
-    by_member : (again : UserValue) → as_user k.held ≡ Some again → choice_user_fits (slice_get tree.choices c) again ≡ true → list_any (λ s. unit_of tree s == u) (minimal_symbols profile tree values) ≡ true
+    by_member : (again : UserValue) → as_user k.held ≡ Some again → choice_user_fits (slice_get tree.choices c) again ≡ true
+        → list_any (λ s. unit_of tree s == u) (minimal_symbols profile tree values) ≡ true
     by_member (TriUser t) again fits = absurd (false≢true fits)
     by_member (TextUser t) again fits = absurd (false≢true fits)
     by_member (MemberUser m) gives fits =
@@ -160,8 +171,10 @@ module _ (prefix : List ℕ) (valid : is_prefix prefix ≡ true) (profile : Prof
         let found = sound.members c m choice.0 choice.1 (sym (ap (λ o. is_member o m) choice.1) ∙ fits) in
         let number : unit_of tree m ≡ u = unit_is tree sound m u found.0 (Some c) found.1 found.2 at in
         let tri : tri_if_selected m (member_of (slice_get values (index_of_unit tree (of_choice c)))) ≡ Y =
-        ap (λ o. tri_if_selected m (member_of o)) (ap (slice_get values) (place_is tree sound u (of_choice c) at) ∙ k.has ∙ ap Some (value_of_member k.held m gives)) ∙ ap (λ b. cond b Y N) (eq-eqb m m refl) in
-        let may : may_have_line (slice_get tree.symbols m) (option_map (λ (symbol : Symbol). value_in_unit tree values m symbol symbol.choice) (slice_get tree.symbols m)) ≡ true =
+        ap (λ o. tri_if_selected m (member_of o)) (ap (slice_get values) (place_is tree sound u (of_choice c) at) ∙ k.has
+        ∙ ap Some (value_of_member k.held m gives)) ∙ ap (λ b. cond b Y N) (eq-eqb m m refl) in
+        let may : may_have_line (slice_get tree.symbols m) (option_map (λ (symbol : Symbol). value_in_unit tree values m symbol symbol.choice)
+        (slice_get tree.symbols m)) ≡ true =
         ap (λ o. may_have_line o (option_map (λ (symbol : Symbol). value_in_unit tree values m symbol symbol.choice) o)) found.1
         ∙ ap (λ c. is_line_of_its_unit c (value_in_unit tree values m found.0 c)) found.2 ∙ ap (λ t. not (is_n t)) tri in
         let below : m < length tree.symbols = inside tree.symbols m found.0 found.1 in
@@ -171,9 +184,12 @@ module _ (prefix : List ℕ) (valid : is_prefix prefix ≡ true) (profile : Prof
   pub unit_there : (u : ℕ) → u < length tree.units → (unit : TreeUnit) × (slice_get tree.units u ≡ Some unit)
   unit_there u h = (get_or tree.units u (of_symbol 0), slice_get-get_or tree.units u (of_symbol 0) h)
 
-  pub file_user : (u : ℕ) → u < length tree.units → user_of (file_assignment tree (map (λ s. meant values (unit_of tree s)) (minimal_symbols profile tree values))) u
+  pub file_user : (u : ℕ) → u < length tree.units
+      → user_of (file_assignment tree (map (λ s. meant values (unit_of tree s)) (minimal_symbols profile tree values))) u
       ≡ cond (list_any (λ s. unit_of tree s == u) (minimal_symbols profile tree values)) (user_meant values u) None
-  file_user u h = after_lines tree values u (minimal_symbols profile tree values) (empty_assignment tree) false (let len = none_length (length tree.units) in omega (arith, len)) (none_held (length tree.units) u)
+  file_user u h =
+      after_lines tree values u (minimal_symbols profile tree values) (empty_assignment tree) false
+      (let len = none_length (length tree.units) in omega (arith, len)) (none_held (length tree.units) u)
 
   -- what the lines of the minimal file assign
   pub least_of_lines : IsLeastAssignment (length tree.units) (rule profile tree) as_user values (file_assignment tree (map (λ s. meant values (unit_of tree s)) (minimal_symbols profile tree values)))
@@ -188,16 +204,18 @@ module _ (prefix : List ℕ) (valid : is_prefix prefix ≡ true) (profile : Prof
         let fails : (s : ℕ) → has_line profile tree values s ≡ true → (unit_of tree s == u) ≡ false = λ s has. elim (cases_Bool (unit_of tree s == u)) [
           | inl here ↦
               let kept = (and_parts (is_kept profile tree values (unit_of tree s)) _ has).0 in
-              absurd (false≢true (sym (others_fail profile tree users values fitting solved u same) ∙ ap (is_kept profile tree values) (sym (eqb-true (unit_of tree s) u here)) ∙ kept))
+              absurd (false≢true (sym (others_fail profile tree users values fitting solved u same)
+              ∙ ap (is_kept profile tree values) (sym (eqb-true (unit_of tree s) u here)) ∙ kept))
           | inr other ↦ other
         ] in
-        file_user u h ∙ ap (λ b. cond b (user_meant values u) None) (none_of_filter (λ s. unit_of tree s == u) (has_line profile tree values) (symbol_numbers tree) fails);
+        file_user u h ∙ ap (λ b. cond b (user_meant values u) None) (none_of_filter (λ s. unit_of tree s == u) (has_line profile tree values)
+        (symbol_numbers tree) fails);
   }
 
   -- the minimal file is read as the least assignment
   pub reads_as_least : IsReadAsLeast prefix profile tree values
   reads_as_least = record {
-    sayings = map (λ s. meant values (unit_of tree s)) (minimal_symbols profile tree values);
+    meanings = map (λ s. meant values (unit_of tree s)) (minimal_symbols profile tree values);
     says = lines_say (minimal_symbols profile tree values) (passes_filter (has_line profile tree values) (symbol_numbers tree));
     least = least_of_lines;
   }

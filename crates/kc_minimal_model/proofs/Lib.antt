@@ -14,6 +14,7 @@ pub mod MinimalAccepted
 pub mod OwnValues
 pub mod HeadingLines
 pub mod OwnLines
+pub mod EntryTexts
 pub mod FullLines
 pub mod FullBack
 pub mod FilesAssign

@@ -28,7 +28,8 @@ at_numbers_of_map : {X Y : Type 0} (f : X → Y) (keeps : ℕ → Bool) (k : ℕ
 at_numbers_of_map f keeps k [] = refl
 at_numbers_of_map {X = X} {Y = Y} f keeps k (x ∷ xs) = go (keeps k) (at_numbers_of_map f keeps (k + 1) xs) where
   go : (t : Bool) → at_numbers keeps (k + 1) (map f xs) ≡ map f (at_numbers keeps (k + 1) xs)
-      → cond t (f x ∷ at_numbers keeps (k + 1) (map f xs)) (at_numbers keeps (k + 1) (map f xs)) ≡ map f (cond t (x ∷ at_numbers keeps (k + 1) xs) (at_numbers keeps (k + 1) xs))
+      → cond t (f x ∷ at_numbers keeps (k + 1) (map f xs)) (at_numbers keeps (k + 1) (map f xs)) ≡ map f
+      (cond t (x ∷ at_numbers keeps (k + 1) xs) (at_numbers keeps (k + 1) xs))
   go true rest = ap (λ l. f x ∷ l) rest
   go false rest = rest
 
@@ -43,7 +44,8 @@ apart a b h = elim (cases_Bool (a == b)) [ inl same ↦ (let e = eqb-true a b sa
 above : (p : ℕ → Bool) (a n j x : ℕ) → slice_get (filter p (range_with_len a n)) j ≡ Some x → a ≤ x
 above p a zero j x at = cc
 above p a (suc n) j x at = go (p a) j at (above p (a + 1) n) where
-  go : (t : Bool) (j : ℕ) → slice_get (cond t (a ∷ filter p (range_with_len (a + 1) n)) (filter p (range_with_len (a + 1) n))) j ≡ Some x → ((k y : ℕ) → slice_get (filter p (range_with_len (a + 1) n)) k ≡ Some y → a + 1 ≤ y) → a ≤ x
+  go : (t : Bool) (j : ℕ) → slice_get (cond t (a ∷ filter p (range_with_len (a + 1) n)) (filter p (range_with_len (a + 1) n))) j ≡ Some x
+      → ((k y : ℕ) → slice_get (filter p (range_with_len (a + 1) n)) k ≡ Some y → a + 1 ≤ y) → a ≤ x
   go true zero at next = let same : a ≡ x = cc in omega (arith, same)
   go true (suc j) at next = let later = next j x at in omega (arith, later)
   go false j at next = let later = next j x at in omega (arith, later)
@@ -59,26 +61,33 @@ same_filter f g (x ∷ xs) same =
     ap (λ b. cond b (x ∷ filter f xs) (filter f xs)) (same 0 x refl) ∙ ap (λ l. cond (g x) (x ∷ l) l) (same_filter f g xs (λ j y at. same (suc j) y at))
 
 -- the elements at some numbers are those whose number passes
-at_numbers_filtered : (keeps p : ℕ → Bool) (k a n : ℕ) → at_numbers keeps k (filter p (range_with_len a n)) ≡ filter (keeps_number_of keeps k (filter p (range_with_len a n))) (filter p (range_with_len a n))
+at_numbers_filtered : (keeps p : ℕ → Bool) (k a n : ℕ)
+    → at_numbers keeps k (filter p (range_with_len a n)) ≡ filter (keeps_number_of keeps k (filter p (range_with_len a n))) (filter p (range_with_len a n))
 at_numbers_filtered keeps p k a zero = refl
 at_numbers_filtered keeps p k a (suc n) = go (p a) (λ h. at_numbers_filtered keeps p h (a + 1) n) where
-  go : (t : Bool) → ((h : ℕ) → at_numbers keeps h (filter p (range_with_len (a + 1) n)) ≡ filter (keeps_number_of keeps h (filter p (range_with_len (a + 1) n))) (filter p (range_with_len (a + 1) n)))
+  go : (t : Bool)
+      → ((h : ℕ) → at_numbers keeps h (filter p (range_with_len (a + 1) n)) ≡ filter (keeps_number_of keeps h (filter p (range_with_len (a + 1) n))) (filter p (range_with_len (a + 1) n)))
       → at_numbers keeps k (cond t (a ∷ filter p (range_with_len (a + 1) n)) (filter p (range_with_len (a + 1) n)))
-      ≡ filter (keeps_number_of keeps k (cond t (a ∷ filter p (range_with_len (a + 1) n)) (filter p (range_with_len (a + 1) n)))) (cond t (a ∷ filter p (range_with_len (a + 1) n)) (filter p (range_with_len (a + 1) n)))
+      ≡ filter (keeps_number_of keeps k (cond t (a ∷ filter p (range_with_len (a + 1) n)) (filter p (range_with_len (a + 1) n))))
+      (cond t (a ∷ filter p (range_with_len (a + 1) n)) (filter p (range_with_len (a + 1) n)))
   go false next = next k
   go true next =
       let rest = filter p (range_with_len (a + 1) n) in
       let later : ℕ → Bool = keeps_number_of keeps (k + 1) rest in
       let all : ℕ → Bool = λ t. cond (t == a) (keeps k) (later t) in
-      let same = same_filter later all rest (λ j x at. sym (ap (λ b. cond b (keeps k) (later x)) (apart x a (let least = above p (a + 1) n j x at in omega (arith, least))))) in
-      ap (λ l. cond (keeps k) (a ∷ l) l) (next (k + 1) ∙ same) ∙ ap (λ b. cond (cond b (keeps k) (later a)) (a ∷ filter all rest) (filter all rest)) (sym (eq-eqb a a refl))
+      let same = same_filter later all rest (λ j x at. sym (ap (λ b. cond b (keeps k) (later x))
+      (apart x a (let least = above p (a + 1) n j x at in omega (arith, least))))) in
+      ap (λ l. cond (keeps k) (a ∷ l) l) (next (k + 1) ∙ same) ∙ ap (λ b. cond (cond b (keeps k) (later a)) (a ∷ filter all rest) (filter all rest))
+      (sym (eq-eqb a a refl))
 
 -- the number of an element passes exactly if its element does
-number_kept : (keeps p : ℕ → Bool) (k a n j s : ℕ) → slice_get (filter p (range_with_len a n)) j ≡ Some s → keeps_number_of keeps k (filter p (range_with_len a n)) s ≡ keeps (k + j)
+number_kept : (keeps p : ℕ → Bool) (k a n j s : ℕ) → slice_get (filter p (range_with_len a n)) j ≡ Some s
+    → keeps_number_of keeps k (filter p (range_with_len a n)) s ≡ keeps (k + j)
 number_kept keeps p k a zero j s at = cc
 number_kept keeps p k a (suc n) j s at = go (p a) j at (λ h. number_kept keeps p h (a + 1) n) where
   go : (t : Bool) (j : ℕ) → slice_get (cond t (a ∷ filter p (range_with_len (a + 1) n)) (filter p (range_with_len (a + 1) n))) j ≡ Some s
-      → ((h i x : ℕ) → slice_get (filter p (range_with_len (a + 1) n)) i ≡ Some x → keeps_number_of keeps h (filter p (range_with_len (a + 1) n)) x ≡ keeps (h + i))
+      → ((h i x : ℕ) → slice_get (filter p (range_with_len (a + 1) n)) i ≡ Some x
+      → keeps_number_of keeps h (filter p (range_with_len (a + 1) n)) x ≡ keeps (h + i))
       → keeps_number_of keeps k (cond t (a ∷ filter p (range_with_len (a + 1) n)) (filter p (range_with_len (a + 1) n))) s ≡ keeps (k + j)
   go true zero at next =
       let same : a ≡ s = cc in
@@ -87,7 +96,8 @@ number_kept keeps p k a (suc n) j s at = go (p a) j at (λ h. number_kept keeps 
   go true (suc j) at next =
       let least = above p (a + 1) n j s at in
       let number : (k + 1) + j ≡ k + suc j = omega arith in
-      ap (λ b. cond b (keeps k) (keeps_number_of keeps (k + 1) (filter p (range_with_len (a + 1) n)) s)) (apart s a (omega (arith, least))) ∙ next (k + 1) j s at ∙ ap keeps number
+      ap (λ b. cond b (keeps k) (keeps_number_of keeps (k + 1) (filter p (range_with_len (a + 1) n)) s)) (apart s a (omega (arith, least)))
+      ∙ next (k + 1) j s at ∙ ap keeps number
   go false j at next = next k j s at
 
 module _ (prefix : List ℕ) (valid : is_prefix prefix ≡ true) (profile : Profile) (tree : Tree) (sound : IsConsistent tree) (users : List (Option UserValue)) (values : List UnitValue)
@@ -101,12 +111,15 @@ module _ (prefix : List ℕ) (valid : is_prefix prefix ≡ true) (profile : Prof
       let xs = minimal_symbols profile tree values in
       let ended : List ℕ → List ℕ = λ line. line ++ 10 ∷ [] in
       ap (λ ls. flat_map ended (at_numbers keeps 0 ls)) (minimal_file_lines prefix valid profile tree sound users values fitting solved)
-      ∙ ap (flat_map ended) (at_numbers_of_map (symbol_line prefix tree values) keeps 0 xs) ∙ flat_of_map ended (symbol_line prefix tree values) (at_numbers keeps 0 xs)
+      ∙ ap (flat_map ended) (at_numbers_of_map (symbol_line prefix tree values) keeps 0 xs)
+      ∙ flat_of_map ended (symbol_line prefix tree values) (at_numbers keeps 0 xs)
       ∙ ap (flat_map (ended_line prefix tree values)) (at_numbers_filtered keeps (has_line profile tree values) 0 0 (length tree.symbols))
 
   -- the number of lines
   pub line_count : length (file_lines (minimal_file prefix profile tree values)) ≡ length (minimal_symbols profile tree values)
-  line_count = ap length (minimal_file_lines prefix valid profile tree sound users values fitting solved) ∙ length-map (minimal_symbols profile tree values) (symbol_line prefix tree values)
+  line_count =
+      ap length (minimal_file_lines prefix valid profile tree sound users values fitting solved)
+      ∙ length-map (minimal_symbols profile tree values) (symbol_line prefix tree values)
 
   -- the symbol of a line that isn't kept
   pub symbol_dropped : (keeps : ℕ → Bool) (k : ℕ) → k < length (file_lines (minimal_file prefix profile tree values)) → keeps k ≡ false
@@ -115,6 +128,8 @@ module _ (prefix : List ℕ) (valid : is_prefix prefix ≡ true) (profile : Prof
       let count = line_count in
       let found = get-some (minimal_symbols profile tree values) k (omega (arith, count, below)) in (
         found.0,
-        passes_at (has_line profile tree values) (minimal_symbols profile tree values) k found.0 (passes_filter (has_line profile tree values) (symbol_numbers tree)) found.1,
-        number_kept keeps (has_line profile tree values) 0 0 (length tree.symbols) k found.0 found.1 ∙ ap keeps (let zero_more : 0 + k ≡ k = omega arith in zero_more) ∙ dropped,
+        passes_at (has_line profile tree values) (minimal_symbols profile tree values) k found.0
+            (passes_filter (has_line profile tree values) (symbol_numbers tree)) found.1,
+        number_kept keeps (has_line profile tree values) 0 0 (length tree.symbols) k found.0 found.1
+            ∙ ap keeps (let zero_more : 0 + k ≡ k = omega arith in zero_more) ∙ dropped,
       )

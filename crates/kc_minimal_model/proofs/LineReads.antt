@@ -32,11 +32,12 @@ use Rattle.kc_tree_model.proofs.Lookups.{found_by_name}
 body_of : (text : List ℕ) → IsBody 34 (flat_map escaped_byte text) text
 body_of [] = none
 body_of (c ∷ text) = go (c == 34 || (c == 92)) refl (body_of text) where
-  go : (t : Bool) → (c == 34 || (c == 92)) ≡ t → IsBody 34 (flat_map escaped_byte text) text → IsBody 34 (cond t (92 ∷ c ∷ []) (c ∷ []) ++ flat_map escaped_byte text) (c ∷ text)
+  go : (t : Bool) → (c == 34 || (c == 92)) ≡ t → IsBody 34 (flat_map escaped_byte text) text
+      → IsBody 34 (cond t (92 ∷ c ∷ []) (c ∷ []) ++ flat_map escaped_byte text) (c ∷ text)
   go true e rest = pair rest
   go false e rest = let both = or_parts (c == 34) (c == 92) e in plain both.0 both.1 rest
 
--- the quoted spelling of a text stands for it
+-- the quoted spelling of a text represents it
 pub quoted_means : (text : List ℕ) → IsQuoted (quoted text) text
 quoted_means text = (flat_map escaped_byte text, refl, body_of text)
 
@@ -50,8 +51,8 @@ escaped_lacks (c ∷ text) e =
       go false = and_from (not (c == 10)) true (ap not (or_parts (c == 10) (has_newline text) e).0) refl
 
 -- what is asked of a written line
-pub record IsLine (prefix : List ℕ) (tree : Tree) (line : List ℕ) (saying : LineMeaning) : Type 0 where
-  pub says : Means prefix tree line saying
+pub record IsLine (prefix : List ℕ) (tree : Tree) (line : List ℕ) (meaning : LineMeaning) : Type 0 where
+  pub says : Means prefix tree line meaning
   pub whole : without_white_end line ≡ line
   pub one : lacks 10 line ≡ true
   pub utf8 : IsUtf8 line
@@ -73,15 +74,17 @@ module _ (prefix : List ℕ) (valid : is_prefix prefix ≡ true) (tree : Tree) (
   split_value_line : (text : List ℕ) → value_line prefix symbol.name text ≡ (prefix ++ (symbol.name ++ 61 ∷ [])) ++ text
   split_value_line text = simp append_assoc
 
-  says_value : (text : List ℕ) (saying : LineMeaning) → ValueMeans tree s symbol text saying → Means prefix tree (value_line prefix symbol.name text) saying
-  says_value text saying says =
-      value (value_line prefix symbol.name text) symbol.name text s symbol saying ((sound.words s symbol at).0, name_lacks 61 refl symbol.name (sound.words s symbol at).1, refl)
+  says_value : (text : List ℕ) (meaning : LineMeaning) → ValueMeans tree s symbol text meaning → Means prefix tree (value_line prefix symbol.name text) meaning
+  says_value text meaning says =
+      value (value_line prefix symbol.name text) symbol.name text s symbol meaning
+      ((sound.words s symbol at).0, name_lacks 61 refl symbol.name (sound.words s symbol at).1, refl)
       (found_by_name tree sound s symbol at) at says
 
   -- a value line whose text is of ink
-  pub ink_line : (text : List ℕ) (saying : LineMeaning) → IsInk text → ValueMeans tree s symbol text saying → IsLine prefix tree (value_line prefix symbol.name text) saying
-  ink_line text saying ink says = record {
-    says = says_value text saying says;
+  pub ink_line : (text : List ℕ) (meaning : LineMeaning) → IsInk text → ValueMeans tree s symbol text meaning
+      → IsLine prefix tree (value_line prefix symbol.name text) meaning
+  ink_line text meaning ink says = record {
+    says = says_value text meaning says;
     whole = ap without_white_end (split_value_line text) ∙ keeps_text (prefix ++ (symbol.name ++ 61 ∷ [])) text ink.some ink.ink ∙ sym (split_value_line text);
     one = one_value_line text (all_weaker is_ink (λ c. not (c == 10)) ink_newline text ink.ink);
     utf8 = utf8_value_line text (low_utf8 text ink.low);
@@ -90,12 +93,13 @@ module _ (prefix : List ℕ) (valid : is_prefix prefix ≡ true) (tree : Tree) (
     ink_newline b e = ap not (or_parts _ (b == 10) (not-true _ e)).1
 
   -- the line of a string
-  pub string_line : (text : List ℕ) (saying : LineMeaning) → has_newline text ≡ false → IsUtf8 text → ValueMeans tree s symbol (quoted text) saying → IsLine prefix tree (value_line prefix symbol.name (quoted text)) saying
-  string_line text saying one utf8 says =
+  pub string_line : (text : List ℕ) (meaning : LineMeaning) → has_newline text ≡ false → IsUtf8 text → ValueMeans tree s symbol (quoted text) meaning
+      → IsLine prefix tree (value_line prefix symbol.name (quoted text)) meaning
+  string_line text meaning one utf8 says =
       let front = prefix ++ (symbol.name ++ (61 ∷ 34 ∷ flat_map escaped_byte text)) in
       let same : value_line prefix symbol.name (quoted text) ≡ front ++ 34 ∷ [] = simp append_assoc in
       record {
-        says = says_value (quoted text) saying says;
+        says = says_value (quoted text) meaning says;
         whole = ap without_white_end same ∙ ends_in_ink front 34 refl ∙ sym same;
         one = one_value_line (quoted text) (all_of_both (λ c. not (c == 10)) (flat_map escaped_byte text) (34 ∷ []) (escaped_lacks text one) refl);
         utf8 = utf8_value_line (quoted text) (quoted_utf8 text utf8);
@@ -107,7 +111,8 @@ module _ (prefix : List ℕ) (valid : is_prefix prefix ≡ true) (tree : Tree) (
       let front = codes "# " ++ (prefix ++ (symbol.name ++ codes " is not ")) in
       let same : unset_line prefix symbol.name ≡ front ++ codes "set" = simp append_assoc in
       record {
-        says = unset (unset_line prefix symbol.name) symbol.name s symbol ((sound.words s symbol at).0, name_lacks 32 refl symbol.name (sound.words s symbol at).1, refl) (found_by_name tree sound s symbol at) at;
+        says = unset (unset_line prefix symbol.name) symbol.name s symbol
+            ((sound.words s symbol at).0, name_lacks 32 refl symbol.name (sound.words s symbol at).1, refl) (found_by_name tree sound s symbol at) at;
         whole = ap without_white_end same ∙ keeps_text front (codes "set") (omega arith) refl ∙ sym same;
         one = all_of_both (λ c. not (c == 10)) (codes "# ") (prefix ++ (symbol.name ++ codes " is not set")) refl
             (all_of_both (λ c. not (c == 10)) prefix (symbol.name ++ codes " is not set") (name_lacks 10 refl prefix (prefix_bytes prefix valid))
@@ -123,15 +128,21 @@ module _ (prefix : List ℕ) (valid : is_prefix prefix ≡ true) (tree : Tree) (
   abbrev of_text : Kind → List ℕ → SymbolValue
   of_text kind text = record { kind = kind; tri = N; text = text }
 
-  letter_line : (t : Tri) → symbol.choice ≡ None → tri_of_text symbol.kind (letter t) ≡ Some t → IsInk (letter t) → IsLine prefix tree (value_line prefix symbol.name (letter t)) (assigns (unit_of tree s) (TriUser t))
+  letter_line : (t : Tri) → symbol.choice ≡ None → tri_of_text symbol.kind (letter t) ≡ Some t → IsInk (letter t)
+      → IsLine prefix tree (value_line prefix symbol.name (letter t)) (assigns (unit_of tree s) (TriUser t))
   letter_line t out meant ink = ink_line (letter t) (assigns (unit_of tree s) (TriUser t)) ink (says_tri (letter t) t out meant)
 
   -- the line of a bool or tristate outside choices
-  pub tri_line : (kind : Kind) (t : Tri) → symbol.kind ≡ kind → symbol.choice ≡ None → tri_fits kind t ≡ true → IsLine prefix tree (line_with prefix symbol.name (of_tri kind t)) (assigns (unit_of tree s) (TriUser t))
-  tri_line Boolean N is out fits = subst (IsLine prefix tree (unset_line prefix symbol.name)) (ap (unset_meaning tree s symbol) out ∙ ap (λ k. cond (is_tri_kind k) (assigns (unit_of tree s) (TriUser N)) silent) is) not_set_line
+  pub tri_line : (kind : Kind) (t : Tri) → symbol.kind ≡ kind → symbol.choice ≡ None → tri_fits kind t ≡ true
+      → IsLine prefix tree (line_with prefix symbol.name (of_tri kind t)) (assigns (unit_of tree s) (TriUser t))
+  tri_line Boolean N is out fits =
+      subst (IsLine prefix tree (unset_line prefix symbol.name)) (ap (unset_meaning tree s symbol) out
+      ∙ ap (λ k. cond (is_tri_kind k) (assigns (unit_of tree s) (TriUser N)) silent) is) not_set_line
   tri_line Boolean M is out fits = absurd (false≢true fits)
   tri_line Boolean Y is out fits = letter_line Y out (ap (λ k. tri_of_text k (letter Y)) is) (record { some = omega arith; ink = refl; low = refl })
-  tri_line Tristate N is out fits = subst (IsLine prefix tree (unset_line prefix symbol.name)) (ap (unset_meaning tree s symbol) out ∙ ap (λ k. cond (is_tri_kind k) (assigns (unit_of tree s) (TriUser N)) silent) is) not_set_line
+  tri_line Tristate N is out fits =
+      subst (IsLine prefix tree (unset_line prefix symbol.name)) (ap (unset_meaning tree s symbol) out
+      ∙ ap (λ k. cond (is_tri_kind k) (assigns (unit_of tree s) (TriUser N)) silent) is) not_set_line
   tri_line Tristate M is out fits = letter_line M out (ap (λ k. tri_of_text k (letter M)) is) (record { some = omega arith; ink = refl; low = refl })
   tri_line Tristate Y is out fits = letter_line Y out (ap (λ k. tri_of_text k (letter Y)) is) (record { some = omega arith; ink = refl; low = refl })
   tri_line Text t is out fits = absurd (false≢true fits)
@@ -139,15 +150,22 @@ module _ (prefix : List ℕ) (valid : is_prefix prefix ≡ true) (tree : Tree) (
   tri_line Hex t is out fits = absurd (false≢true fits)
 
   -- the line of a string, int or hex
-  pub text_line : (kind : Kind) (text : List ℕ) → symbol.kind ≡ kind → user_text_fits kind text ≡ true → IsLine prefix tree (line_with prefix symbol.name (of_text kind text)) (assigns (unit_of tree s) (TextUser text))
+  pub text_line : (kind : Kind) (text : List ℕ) → symbol.kind ≡ kind → user_text_fits kind text ≡ true
+      → IsLine prefix tree (line_with prefix symbol.name (of_text kind text)) (assigns (unit_of tree s) (TextUser text))
   text_line Boolean text is fits = absurd (false≢true fits)
   text_line Tristate text is fits = absurd (false≢true fits)
   text_line Text text is fits =
       let parts = and_parts (not (has_newline text)) (is_utf8 text) fits in
-      string_line text (assigns (unit_of tree s) (TextUser text)) (not-true (has_newline text) parts.0) (IsUtf8-from_is_utf8 text parts.1) (says_quoted (quoted text) text is (quoted_means text))
-  text_line Int text is fits = ink_line text (assigns (unit_of tree s) (TextUser text)) (number_ink Int text fits) (number text (ap (λ k. is_some (number_of_text k text)) is ∙ fits))
-  text_line Hex text is fits = ink_line text (assigns (unit_of tree s) (TextUser text)) (number_ink Hex text fits) (number text (ap (λ k. is_some (number_of_text k text)) is ∙ fits))
+      string_line text (assigns (unit_of tree s) (TextUser text)) (not-true (has_newline text) parts.0) (IsUtf8-from_is_utf8 text parts.1)
+      (says_quoted (quoted text) text is (quoted_means text))
+  text_line Int text is fits =
+      ink_line text (assigns (unit_of tree s) (TextUser text)) (number_ink Int text fits) (number text (ap (λ k. is_some (number_of_text k text)) is ∙ fits))
+  text_line Hex text is fits =
+      ink_line text (assigns (unit_of tree s) (TextUser text)) (number_ink Hex text fits) (number text (ap (λ k. is_some (number_of_text k text)) is ∙ fits))
 
   -- the line of a selected member
-  pub member_line : (c : ℕ) → symbol.choice ≡ Some c → symbol.kind ≡ Boolean → IsLine prefix tree (line_with prefix symbol.name (of_tri Boolean Y)) (assigns (unit_of tree s) (MemberUser s))
-  member_line c within is = ink_line (letter Y) (assigns (unit_of tree s) (MemberUser s)) (record { some = omega arith; ink = refl; low = refl }) (chosen c (letter Y) within (ap (λ k. tri_of_text k (letter Y)) is))
+  pub member_line : (c : ℕ) → symbol.choice ≡ Some c → symbol.kind ≡ Boolean
+      → IsLine prefix tree (line_with prefix symbol.name (of_tri Boolean Y)) (assigns (unit_of tree s) (MemberUser s))
+  member_line c within is =
+      ink_line (letter Y) (assigns (unit_of tree s) (MemberUser s)) (record { some = omega arith; ink = refl; low = refl })
+      (chosen c (letter Y) within (ap (λ k. tri_of_text k (letter Y)) is))

@@ -25,23 +25,33 @@ module _ (profile : Profile) (tree : Tree) (sound : IsConsistent tree) (users : 
     (fitting : FitsUsers (length tree.units) (λ u x. IsTrue (user_fits tree u x)) users) (solved : Solves (length tree.units) (rule profile tree) users values) where
   -- a symbol's unit is its own, or it is the selected member of its unit's choice
   abbrev SpeaksOf : ℕ → Type 0
-  SpeaksOf s = (slice_get tree.units (unit_of tree s) ≡ Some (of_symbol s)) ⊎ ((c : ℕ) × (slice_get tree.units (unit_of tree s) ≡ Some (of_choice c)) × (user_meant values (unit_of tree s) ≡ Some (MemberUser s)))
+  SpeaksOf s =
+      (slice_get tree.units (unit_of tree s) ≡ Some (of_symbol s)) ⊎ ((c : ℕ) × (slice_get tree.units (unit_of tree s) ≡ Some (of_choice c))
+      × (user_meant values (unit_of tree s) ≡ Some (MemberUser s)))
 
-  of_member : (s c : ℕ) (symbol : Symbol) → slice_get tree.symbols s ≡ Some symbol → symbol.choice ≡ Some c → is_kept profile tree values (unit_of tree s) ≡ true → not (is_n (value_in_unit tree values s symbol (Some c)).tri) ≡ true
+  of_member : (s c : ℕ) (symbol : Symbol) → slice_get tree.symbols s ≡ Some symbol → symbol.choice ≡ Some c → is_kept profile tree values (unit_of tree s) ≡ true
+      → not (is_n (value_in_unit tree values s symbol (Some c)).tri) ≡ true
       → (c : ℕ) × (slice_get tree.units (unit_of tree s) ≡ Some (of_choice c)) × (user_meant values (unit_of tree s) ≡ Some (MemberUser s))
   unfolding user_fits
   of_member s c symbol at within kept chosen =
       let own = sound.units_of_members s c symbol at within in
-      let here : slice_get tree.units (unit_of tree s) ≡ Some (of_choice c) = ap (slice_get tree.units) (unit_is tree sound s own.0 symbol (Some c) at within own.1) ∙ own.1 in
+      let here : slice_get tree.units (unit_of tree s) ≡ Some (of_choice c) = ap (slice_get tree.units)
+      (unit_is tree sound s own.0 symbol (Some c) at within own.1) ∙ own.1 in
       let k = kept_unit profile tree users values fitting solved (unit_of tree s) (inside tree.units (unit_of tree s) (of_choice c) here) kept in
-      let fits : choice_user_fits (slice_get tree.choices c) k.again ≡ true = sym (ap (λ o. unit_user_fits tree o k.again) here) ∙ k.fits in
-      (c, here, ap (option_and_then as_user) k.has ∙ k.assigned ∙ by_member k.held k.has k.again k.assigned fits (place_is tree sound (unit_of tree s) (of_choice c) here)) where
-        by_member : (held : UnitValue) → slice_get values (unit_of tree s) ≡ Some held → (again : UserValue) → as_user held ≡ Some again → choice_user_fits (slice_get tree.choices c) again ≡ true
+      let fits : choice_user_fits (slice_get tree.choices c) k.again ≡ true = sym (ap (λ o. unit_user_fits tree o k.again) here) ∙ k.fits in (
+        c,
+        here,
+        ap (option_and_then as_user) k.has ∙ k.assigned ∙ by_member k.held k.has k.again k.assigned fits
+            (place_is tree sound (unit_of tree s) (of_choice c) here),
+      ) where
+        by_member : (held : UnitValue) → slice_get values (unit_of tree s) ≡ Some held → (again : UserValue) → as_user held ≡ Some again
+            → choice_user_fits (slice_get tree.choices c) again ≡ true
             → index_of_unit tree (of_choice c) ≡ unit_of tree s → Some again ≡ Some (MemberUser s)
         by_member held has (TriUser t) gives fits place = absurd (false≢true fits)
         by_member held has (TextUser t) gives fits place = absurd (false≢true fits)
         by_member held has (MemberUser m) gives fits place =
-            let tri : (value_in_unit tree values s symbol (Some c)).tri ≡ cond (m == s) Y N = ap (λ o. tri_if_selected s (member_of o)) (ap (slice_get values) place ∙ has ∙ ap Some (value_of_member held m gives)) in
+            let tri : (value_in_unit tree values s symbol (Some c)).tri ≡ cond (m == s) Y N = ap (λ o. tri_if_selected s (member_of o))
+            (ap (slice_get values) place ∙ has ∙ ap Some (value_of_member held m gives)) in
             elim (cases_Bool (m == s)) [
               | inl same ↦ ap (λ x. Some (MemberUser x)) (eqb-true m s same)
               | inr other ↦ absurd (false≢true (sym (ap (λ t. not (is_n t)) (tri ∙ ap (λ b. cond b Y N) other)) ∙ chosen))
@@ -51,11 +61,14 @@ module _ (profile : Profile) (tree : Tree) (sound : IsConsistent tree) (users : 
   speaks_of s has =
       let parts = and_parts (is_kept profile tree values (unit_of tree s)) (may_have_line (slice_get tree.symbols s) (value_of_symbol tree values s)) has in
       at_symbol (slice_get tree.symbols s) refl parts.0 parts.1 where
-        at_choice : (symbol : Symbol) → slice_get tree.symbols s ≡ Some symbol → (c : Option ℕ) → symbol.choice ≡ c → is_kept profile tree values (unit_of tree s) ≡ true → is_line_of_its_unit c (value_in_unit tree values s symbol c) ≡ true → SpeaksOf s
-        at_choice symbol at None out kept may = let own = sound.own_units s symbol at out in inl (ap (slice_get tree.units) (unit_is tree sound s own.0 symbol None at out own.1) ∙ own.1)
+        at_choice : (symbol : Symbol) → slice_get tree.symbols s ≡ Some symbol → (c : Option ℕ) → symbol.choice ≡ c
+            → is_kept profile tree values (unit_of tree s) ≡ true → is_line_of_its_unit c (value_in_unit tree values s symbol c) ≡ true → SpeaksOf s
+        at_choice symbol at None out kept may = let own = sound.own_units s symbol at out in inl
+            (ap (slice_get tree.units) (unit_is tree sound s own.0 symbol None at out own.1) ∙ own.1)
         at_choice symbol at (Some c) within kept may = inr (of_member s c symbol at within kept may)
 
-        at_symbol : (o : Option Symbol) → slice_get tree.symbols s ≡ o → is_kept profile tree values (unit_of tree s) ≡ true → may_have_line o (option_map (λ (symbol : Symbol). value_in_unit tree values s symbol symbol.choice) o) ≡ true → SpeaksOf s
+        at_symbol : (o : Option Symbol) → slice_get tree.symbols s ≡ o → is_kept profile tree values (unit_of tree s) ≡ true
+            → may_have_line o (option_map (λ (symbol : Symbol). value_in_unit tree values s symbol symbol.choice) o) ≡ true → SpeaksOf s
         at_symbol None at kept may = absurd (false≢true may)
         at_symbol (Some symbol) at kept may = at_choice symbol at symbol.choice refl kept may
 

@@ -29,7 +29,8 @@ use Rattle.kc_tree_model.proofs.Lookups.{inside, unit_is}
 use Rattle.kc_dotconfig_model.specs.PrefixGrammar.{is_prefix}
 use Rattle.kc_dotconfig_model.specs.ConfigLines.{without_white_end}
 use Rattle.kc_dotconfig_model.specs.ConfigFiles.{file_lines, file_assignment, empty_assignment}
-use Rattle.kc_dotconfig_model.specs.LoadFaults.{MAX_LINES, MAX_LINE_BYTES, IsAccepted}
+use Rattle.kc_value.specs.declared.limits.TheConstants.{MAX_CONFIG_LINES, MAX_LINE_BYTES}
+use Rattle.kc_dotconfig_model.specs.LoadFaults.{IsAccepted}
 use Rattle.kc_dotconfig_model.proofs.FittingFiles.{file_fits}
 use Rattle.kc_minimal_model.specs.Spelling.{spelled, symbol_line, line_of_value, line_with}
 use Rattle.kc_minimal_model.specs.MinimalFile.{is_kept, has_line, may_have_line, minimal_symbols}
@@ -63,7 +64,8 @@ number_spelled Text text e = absurd (false≢true e)
 number_spelled Int text e = refl
 number_spelled Hex text e = refl
 
-spelled_no_longer : (kind : Kind) (symbol : Symbol) (text means : List ℕ) → symbol.kind ≡ kind → TextStands symbol text means → IsUtf8 text → (length (spelled kind means) ≤ length text) × IsUtf8 (spelled kind means)
+spelled_no_longer : (kind : Kind) (symbol : Symbol) (text means : List ℕ) → symbol.kind ≡ kind → TextStands symbol text means → IsUtf8 text
+    → (length (spelled kind means) ≤ length text) × IsUtf8 (spelled kind means)
 spelled_no_longer kind symbol text means is (inl q) u =
     let same : spelled kind means ≡ quoted means = ap (λ k. spelled k means) (sym is ∙ q.1) in
     subst (λ l. (length l ≤ length text) × IsUtf8 l) (sym same) (quoted_no_longer text means q.0, quoted_utf8 means (unquoted_utf8 text means q.0 u))
@@ -71,7 +73,8 @@ spelled_no_longer kind symbol text means is (inr n) u =
     let same : spelled kind means ≡ text = ap (spelled kind) (sym n.0) ∙ number_spelled kind text (ap (λ k. is_some (number_of_text k text)) (sym is) ∙ n.1) in
     subst (λ l. (length l ≤ length text) × IsUtf8 l) (sym same) (omega arith, u)
 
-text_held : (symbol : Symbol) (held : UnitValue) (again : UserValue) → is_tri_kind symbol.kind ≡ false → as_user held ≡ Some again → symbol_user_fits (Some symbol) again ≡ true → (text : List ℕ) × (held ≡ TextValue text)
+text_held : (symbol : Symbol) (held : UnitValue) (again : UserValue) → is_tri_kind symbol.kind ≡ false → as_user held ≡ Some again
+    → symbol_user_fits (Some symbol) again ≡ true → (text : List ℕ) × (held ≡ TextValue text)
 text_held symbol held (TriUser t) large e fits = absurd (false≢true (sym large ∙ tri_kind symbol.kind t fits))
 text_held symbol held (TextUser text) large e fits = (text, value_of_text held text e)
 text_held symbol held (MemberUser m) large e fits = absurd (false≢true fits)
@@ -79,25 +82,27 @@ text_held symbol held (MemberUser m) large e fits = absurd (false≢true fits)
 module _ (prefix : List ℕ) (profile : Profile) (tree : Tree) (bytes : List ℕ) (values : List UnitValue) (valid : is_prefix prefix ≡ true) (settled : IsOrderedTree tree)
     (accepted : IsAccepted prefix tree bytes) (reads : ReadsTo prefix profile tree bytes values) where
   abbrev held_users : List (Option UserValue)
-  held_users = file_assignment tree reads.sayings
+  held_users = file_assignment tree reads.meanings
 
-  fitting : FitsUsers (length tree.units) (λ u x. IsTrue (user_fits tree u x)) (file_assignment tree reads.sayings)
-  fitting = file_fits prefix tree bytes reads.sayings settled.consistent reads.utf8 reads.says
+  fitting : FitsUsers (length tree.units) (λ u x. IsTrue (user_fits tree u x)) (file_assignment tree reads.meanings)
+  fitting = file_fits prefix tree bytes reads.meanings settled.consistent reads.utf8 reads.says
 
   -- a text that the file assigns to a symbol is on a short line
-  text_is_short : (s : ℕ) (symbol : Symbol) (text : List ℕ) → slice_get tree.symbols s ≡ Some symbol → symbol.choice ≡ None → unit_of tree s < length tree.units → user_of (file_assignment tree reads.sayings) (unit_of tree s) ≡ Some (TextUser text)
+  text_is_short : (s : ℕ) (symbol : Symbol) (text : List ℕ) → slice_get tree.symbols s ≡ Some symbol → symbol.choice ≡ None → unit_of tree s < length tree.units
+      → user_of (file_assignment tree reads.meanings) (unit_of tree s) ≡ Some (TextUser text)
       → (length prefix + length symbol.name + 1 + length (spelled symbol.kind text) ≤ MAX_LINE_BYTES) × IsUtf8 (spelled symbol.kind text)
   text_is_short s symbol text at out below has =
       let u = unit_of tree s in
       let all = none_length (length tree.units) in
-      elim (assigning_line prefix tree (file_lines bytes) reads.sayings (empty_assignment tree) u (TextUser text) reads.says (omega arith) has) [
+      elim (assigning_line prefix tree (file_lines bytes) reads.meanings (empty_assignment tree) u (TextUser text) reads.says (omega arith) has) [
         | inl before ↦ (let none = none_held (length tree.units) u in absurd (some_not_none (sym before ∙ none)))
         | inr l ↦ on_line l
       ] where
         some_not_none : Some (TextUser text) ≡ None → ⊥
         some_not_none e = cc
 
-        on_line : HasAssigningLine prefix tree (file_lines bytes) (unit_of tree s) (TextUser text) → (length prefix + length symbol.name + 1 + length (spelled symbol.kind text) ≤ MAX_LINE_BYTES) × IsUtf8 (spelled symbol.kind text)
+        on_line : HasAssigningLine prefix tree (file_lines bytes) (unit_of tree s) (TextUser text)
+            → (length prefix + length symbol.name + 1 + length (spelled symbol.kind text) ≤ MAX_LINE_BYTES) × IsUtf8 (spelled symbol.kind text)
         on_line l =
             let fits = accepted_line prefix tree bytes valid accepted l.number l.line l.at in
             let t = text_line prefix tree (without_white_end l.line) (unit_of tree s) text l.says in
@@ -107,55 +112,83 @@ module _ (prefix : List ℕ) (profile : Profile) (tree : Tree) (bytes : List ℕ
             let name : t.name ≡ symbol.name = named_so tree t.name t.s t.symbol t.named t.at ∙ ap (λ (x : Symbol). x.name) one in
             let words = (settled.consistent.words s symbol at).1 in
             let whole : without_white_end l.line ≡ prefix ++ (symbol.name ++ (61 ∷ t.text)) = t.whole ∙ ap (λ n. prefix ++ (n ++ (61 ∷ t.text))) name in
-            let after_prefix = utf8_after (without_white_end l.line) prefix (symbol.name ++ (61 ∷ t.text)) (trimmed_utf8 l.line fits.utf8) (prefix_fits prefix valid).1 whole in
+            let after_prefix = utf8_after (without_white_end l.line) prefix (symbol.name ++ (61 ∷ t.text)) (trimmed_utf8 l.line fits.utf8)
+            (prefix_fits prefix valid).1 whole in
             let after_name = utf8_after (symbol.name ++ (61 ∷ t.text)) symbol.name (61 ∷ t.text) after_prefix (name_utf8 symbol.name words) refl in
             let u = utf8_after (61 ∷ t.text) (61 ∷ []) t.text after_name (ascii_alone 61 (omega arith)) refl in
             let end = spelled_no_longer symbol.kind t.symbol t.text text (ap (λ (x : Symbol). x.kind) one) t.says u in
             let size = ap length whole in
             let line_size = fits.short in
-            let less = end.0 in
-            (omega (arith, line_size, less, size, trimmed_no_longer l.line, length-append prefix (symbol.name ++ (61 ∷ t.text)), length-append symbol.name (61 ∷ t.text)), end.1) where
+            let less = end.0 in (
+              omega (
+                arith,
+                line_size,
+                less,
+                size,
+                trimmed_no_longer l.line,
+                length-append prefix (symbol.name ++ (61 ∷ t.text)),
+                length-append symbol.name
+                    (61 ∷ t.text),
+              ),
+              end.1,
+            ) where
               only : {a b : Symbol} → Some a ≡ Some b → a ≡ b
               only e = cc
 
-              outside : (r : ℕ) (other : Symbol) (written : List ℕ) → slice_get tree.symbols r ≡ Some other → TextStands other written text → (c : Option ℕ) → other.choice ≡ c → other.choice ≡ None
+              outside : (r : ℕ) (other : Symbol) (written : List ℕ) → slice_get tree.symbols r ≡ Some other → TextStands other written text → (c : Option ℕ)
+                  → other.choice ≡ c → other.choice ≡ None
               outside r other written there stands None e = e
               outside r other written there stands (Some c) e = absurd (not_bool other written text stands (settled.consistent.bool_members r c other there e))
 
-  outside_line : (s : ℕ) (symbol : Symbol) → slice_get tree.symbols s ≡ Some symbol → symbol.choice ≡ None → has_line profile tree values s ≡ true → is_kept profile tree values (unit_of tree s) ≡ true
+  outside_line : (s : ℕ) (symbol : Symbol) → slice_get tree.symbols s ≡ Some symbol → symbol.choice ≡ None → has_line profile tree values s ≡ true
+      → is_kept profile tree values (unit_of tree s) ≡ true
       → IsFitLine (line_with prefix symbol.name (value_in_unit tree values s symbol None))
   unfolding user_fits
   outside_line s symbol at out has kept =
       let word = (settled.consistent.words s symbol at).1 in
       let short = settled.consistent.short_names s symbol at in
       let own = settled.consistent.own_units s symbol at out in
-      let here : slice_get tree.units (unit_of tree s) ≡ Some (of_symbol s) = ap (slice_get tree.units) (unit_is tree settled.consistent s own.0 symbol None at out own.1) ∙ own.1 in
+      let here : slice_get tree.units (unit_of tree s) ≡ Some (of_symbol s) = ap (slice_get tree.units)
+      (unit_is tree settled.consistent s own.0 symbol None at out own.1) ∙ own.1 in
       let below = inside tree.units (unit_of tree s) (of_symbol s) here in
-      let k = kept_unit profile tree (file_assignment tree reads.sayings) values fitting reads.gives.solves (unit_of tree s) below kept in
-      let fits : symbol_user_fits (Some symbol) k.again ≡ true = sym (ap (λ o. unit_user_fits tree o k.again) here ∙ ap (λ o. symbol_user_fits o k.again) at) ∙ k.fits in
-      let F : Option UnitValue → Bool → SymbolValue = λ h b. cond b (tri_symbol_value symbol.kind (tri_of h)) (record { kind = symbol.kind; tri = N; text = text_of h }) in
+      let k = kept_unit profile tree (file_assignment tree reads.meanings) values fitting reads.gives.solves (unit_of tree s) below kept in
+      let fits : symbol_user_fits (Some symbol) k.again ≡ true = sym (ap (λ o. unit_user_fits tree o k.again) here ∙ ap (λ o. symbol_user_fits o k.again) at)
+      ∙ k.fits in
+      let F : Option UnitValue → Bool → SymbolValue = λ h b. cond b (tri_symbol_value symbol.kind (tri_of h))
+      (record { kind = symbol.kind; tri = N; text = text_of h }) in
       elim (cases_Bool (is_tri_kind symbol.kind)) [
         | inl small ↦
-            let seen : value_in_unit tree values s symbol None ≡ tri_symbol_value symbol.kind (tri_of (slice_get values (unit_of tree s))) = ap (F (slice_get values (unit_of tree s))) small in
-            subst (λ e. IsFitLine (line_with prefix symbol.name e)) (sym seen) (tri_fits_line prefix valid symbol.name short word symbol.kind (tri_of (slice_get values (unit_of tree s))) small)
+            let seen : value_in_unit tree values s symbol None ≡ tri_symbol_value symbol.kind (tri_of (slice_get values (unit_of tree s))) = ap
+            (F (slice_get values (unit_of tree s))) small in
+            subst (λ e. IsFitLine (line_with prefix symbol.name e)) (sym seen)
+            (tri_fits_line prefix valid symbol.name short word symbol.kind (tri_of (slice_get values (unit_of tree s))) small)
         | inr large ↦
             let t = text_held symbol k.held k.again large k.assigned fits in
             let holds : slice_get values (unit_of tree s) ≡ Some (TextValue t.0) = k.has ∙ ap Some t.1 in
-            let seen : value_in_unit tree values s symbol None ≡ record { kind = symbol.kind; tri = N; text = t.0 } = ap (λ h. F h (is_tri_kind symbol.kind)) holds ∙ ap (F (Some (TextValue t.0))) large in
-            let assigned = needs_values profile tree (file_assignment tree reads.sayings) values settled fitting reads.gives.solves s (TextValue t.0) has holds refl in
+            let seen : value_in_unit tree values s symbol None ≡ record { kind = symbol.kind; tri = N; text = t.0 } = ap (λ h. F h (is_tri_kind symbol.kind))
+            holds ∙ ap (F (Some (TextValue t.0))) large in
+            let assigned = needs_values profile tree (file_assignment tree reads.meanings) values settled fitting reads.gives.solves s (TextValue t.0) has holds
+            refl in
             let good = text_is_short s symbol t.0 at out below assigned in
-            subst (λ e. IsFitLine (line_with prefix symbol.name e)) (sym seen) (text_fits_line prefix valid symbol.name short word symbol.kind t.0 good.0 good.1)
+            subst (λ e. IsFitLine (line_with prefix symbol.name e)) (sym seen)
+            (text_fits_line prefix valid symbol.name short word symbol.kind t.0 good.0 good.1)
       ]
 
-  member_line : (s c : ℕ) (symbol : Symbol) → slice_get tree.symbols s ≡ Some symbol → symbol.choice ≡ Some c → IsFitLine (line_with prefix symbol.name (value_in_unit tree values s symbol (Some c)))
+  member_line : (s c : ℕ) (symbol : Symbol) → slice_get tree.symbols s ≡ Some symbol → symbol.choice ≡ Some c
+      → IsFitLine (line_with prefix symbol.name (value_in_unit tree values s symbol (Some c)))
   member_line s c symbol at within =
-      tri_fits_line prefix valid symbol.name (settled.consistent.short_names s symbol at) (settled.consistent.words s symbol at).1 symbol.kind (tri_if_selected s (member_of (slice_get values (index_of_unit tree (of_choice c))))) (ap is_tri_kind (settled.consistent.bool_members s c symbol at within))
+      tri_fits_line prefix valid symbol.name (settled.consistent.short_names s symbol at) (settled.consistent.words s symbol at).1 symbol.kind
+      (tri_if_selected s (member_of (slice_get values (index_of_unit tree (of_choice c)))))
+      (ap is_tri_kind (settled.consistent.bool_members s c symbol at within))
 
-  at_choice : (s : ℕ) (symbol : Symbol) → slice_get tree.symbols s ≡ Some symbol → (c : Option ℕ) → symbol.choice ≡ c → has_line profile tree values s ≡ true → is_kept profile tree values (unit_of tree s) ≡ true → IsFitLine (line_with prefix symbol.name (value_in_unit tree values s symbol c))
+  at_choice : (s : ℕ) (symbol : Symbol) → slice_get tree.symbols s ≡ Some symbol → (c : Option ℕ) → symbol.choice ≡ c → has_line profile tree values s ≡ true
+      → is_kept profile tree values (unit_of tree s) ≡ true → IsFitLine (line_with prefix symbol.name (value_in_unit tree values s symbol c))
   at_choice s symbol at None out has kept = outside_line s symbol at out has kept
   at_choice s symbol at (Some c) within has kept = member_line s c symbol at within
 
-  at_symbol : (s : ℕ) (o : Option Symbol) → slice_get tree.symbols s ≡ o → has_line profile tree values s ≡ true → is_kept profile tree values (unit_of tree s) ≡ true → may_have_line o (option_map (λ (symbol : Symbol). value_in_unit tree values s symbol symbol.choice) o) ≡ true
+  at_symbol : (s : ℕ) (o : Option Symbol) → slice_get tree.symbols s ≡ o → has_line profile tree values s ≡ true
+      → is_kept profile tree values (unit_of tree s) ≡ true
+      → may_have_line o (option_map (λ (symbol : Symbol). value_in_unit tree values s symbol symbol.choice) o) ≡ true
       → IsFitLine (line_of_value prefix o (option_map (λ (symbol : Symbol). value_in_unit tree values s symbol symbol.choice) o))
   at_symbol s None at has kept may = absurd (false≢true may)
   at_symbol s (Some symbol) at has kept may = at_choice s symbol at symbol.choice refl has kept
@@ -170,17 +203,21 @@ module _ (prefix : List ℕ) (profile : Profile) (tree : Tree) (bytes : List ℕ
 -- each of some lines is short
 short_each : (p q : ℕ → Bool) (xs : List ℕ) → ((s : ℕ) → p s ≡ true → q s ≡ true) → list_all p xs ≡ true → list_all q xs ≡ true
 short_each p q [] each all = refl
-short_each p q (x ∷ xs) each all = let parts = and_parts (p x) (list_all p xs) all in and_from (q x) (list_all q xs) (each x parts.0) (short_each p q xs each parts.1)
+short_each p q (x ∷ xs) each all =
+    let parts = and_parts (p x) (list_all p xs) all in and_from (q x) (list_all q xs) (each x parts.0) (short_each p q xs each parts.1)
 
 -- so no line of the minimal file is too long
-pub lines_are_short : (prefix : List ℕ) (profile : Profile) (tree : Tree) (bytes : List ℕ) (values : List UnitValue) → (valid : is_prefix prefix ≡ true) → IsOrderedTree tree → IsAccepted prefix tree bytes → ReadsTo prefix profile tree bytes values
+pub lines_are_short : (prefix : List ℕ) (profile : Profile) (tree : Tree) (bytes : List ℕ) (values : List UnitValue) → (valid : is_prefix prefix ≡ true)
+    → IsOrderedTree tree → IsAccepted prefix tree bytes → ReadsTo prefix profile tree bytes values
     → list_all (λ s. nat_le (length (symbol_line prefix tree values s)) MAX_LINE_BYTES) (minimal_symbols profile tree values) ≡ true
 lines_are_short prefix profile tree bytes values valid settled accepted reads =
     short_each (has_line profile tree values) (λ s. nat_le (length (symbol_line prefix tree values s)) MAX_LINE_BYTES) (minimal_symbols profile tree values)
-    (λ s has. le-leb (length (symbol_line prefix tree values s)) MAX_LINE_BYTES (symbol_line_fits prefix profile tree bytes values valid settled accepted reads s has).0) (passes_filter (has_line profile tree values) (symbol_numbers tree))
+    (λ s has. le-leb (length (symbol_line prefix tree values s)) MAX_LINE_BYTES
+    (symbol_line_fits prefix profile tree bytes values valid settled accepted reads s has).0)
+    (passes_filter (has_line profile tree values) (symbol_numbers tree))
 
 -- a minimal file has no more lines than the tree has symbols
-pub few_lines : (profile : Profile) (tree : Tree) (values : List UnitValue) → IsConsistent tree → length (minimal_symbols profile tree values) ≤ MAX_LINES
+pub few_lines : (profile : Profile) (tree : Tree) (values : List UnitValue) → IsConsistent tree → length (minimal_symbols profile tree values) ≤ MAX_CONFIG_LINES
 few_lines profile tree values sound =
     let c = filter_shorter (has_line profile tree values) (symbol_numbers tree) in
     let d = length-range_with_len 0 (length tree.symbols) in
@@ -191,10 +228,12 @@ few_lines profile tree values sound =
 pub minimal_files_accepted : MinimalFilesAreAccepted
 minimal_files_accepted prefix profile tree bytes values valid settled loads small =
     let ordered = ordered_tree tree settled in
-    let users = file_assignment tree loads.reads.sayings in
-    let fits = file_fits prefix tree bytes loads.reads.sayings settled.consistent loads.reads.utf8 loads.reads.says in
+    let users = file_assignment tree loads.reads.meanings in
+    let fits = file_fits prefix tree bytes loads.reads.meanings settled.consistent loads.reads.utf8 loads.reads.says in
     record {
-      accepted = accepted_symbols prefix valid profile tree settled.consistent users values fits loads.reads.gives.solves (minimal_symbols profile tree values) (passes_filter (has_line profile tree values) (symbol_numbers tree))
+      accepted =
+          accepted_symbols prefix valid profile tree settled.consistent users values fits loads.reads.gives.solves (minimal_symbols profile tree values)
+          (passes_filter (has_line profile tree values) (symbol_numbers tree))
           (lines_are_short prefix profile tree bytes values valid ordered loads.accepted loads.reads) (few_lines profile tree values settled.consistent) small;
       reads = reads_back prefix valid profile tree ordered users values fits loads.reads.gives.solves;
     }

@@ -25,7 +25,8 @@ use Rattle.kc_minimal_model.proofs.LeastFile.{passes_filter}
 module _ (prefix : List ℕ) (valid : is_prefix prefix ≡ true) (profile : Profile) (tree : Tree) (sound : IsConsistent tree) (users : List (Option UserValue)) (values : List UnitValue)
     (fitting : FitsUsers (length tree.units) (λ u x. IsTrue (user_fits tree u x)) users) (solved : Solves (length tree.units) (rule profile tree) users values) where
   -- the ended lines of symbols that have one are cut into these lines
-  pub lines_of_symbols : (xs : List ℕ) → list_all (has_line profile tree values) xs ≡ true → file_lines (flat_map (ended_line prefix tree values) xs) ≡ map (symbol_line prefix tree values) xs
+  pub lines_of_symbols : (xs : List ℕ) → list_all (has_line profile tree values) xs ≡ true
+      → file_lines (flat_map (ended_line prefix tree values) xs) ≡ map (symbol_line prefix tree values) xs
   lines_of_symbols [] all = refl
   lines_of_symbols (s ∷ xs) all =
       let rest = flat_map (ended_line prefix tree values) xs in
@@ -40,7 +41,8 @@ module _ (prefix : List ℕ) (valid : is_prefix prefix ≡ true) (profile : Prof
   utf8_of_symbols (s ∷ xs) all =
       let parts = and_parts (has_line profile tree values s) (list_all (has_line profile tree values) xs) all in
       let line = line_reads prefix valid profile tree sound users values fitting solved s parts.0 in
-      and_from (is_utf8 (symbol_line prefix tree values s)) (list_all is_utf8 (map (symbol_line prefix tree values) xs)) (is_utf8-from_IsUtf8 (symbol_line prefix tree values s) line.utf8) (utf8_of_symbols xs parts.1)
+      and_from (is_utf8 (symbol_line prefix tree values s)) (list_all is_utf8 (map (symbol_line prefix tree values) xs))
+      (is_utf8-from_IsUtf8 (symbol_line prefix tree values s) line.utf8) (utf8_of_symbols xs parts.1)
 
   pub lines_are_utf8 : (xs : List ℕ) → list_all (has_line profile tree values) xs ≡ true → has_utf8_lines (flat_map (ended_line prefix tree values) xs) ≡ true
   lines_are_utf8 xs all = ap (list_all is_utf8) (lines_of_symbols xs all) ∙ utf8_of_symbols xs all

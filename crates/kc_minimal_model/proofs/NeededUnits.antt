@@ -31,7 +31,8 @@ use Rattle.kc_minimal_model.proofs.Canonical.{decides}
 pub any_found : (p q : ℕ → Bool) (xs : List ℕ) → list_any p (filter q xs) ≡ true → (s : ℕ) × (q s ≡ true) × (p s ≡ true)
 any_found p q [] any = absurd (false≢true any)
 any_found p q (x ∷ xs) any = go (q x) refl any (any_found p q xs) where
-  go : (t : Bool) → q x ≡ t → list_any p (cond t (x ∷ filter q xs) (filter q xs)) ≡ true → (list_any p (filter q xs) ≡ true → (s : ℕ) × (q s ≡ true) × (p s ≡ true)) → (s : ℕ) × (q s ≡ true) × (p s ≡ true)
+  go : (t : Bool) → q x ≡ t → list_any p (cond t (x ∷ filter q xs) (filter q xs)) ≡ true
+      → (list_any p (filter q xs) ≡ true → (s : ℕ) × (q s ≡ true) × (p s ≡ true)) → (s : ℕ) × (q s ≡ true) × (p s ≡ true)
   go true e any next = elim (or_cases (p x) (list_any p (filter q xs)) any) [ inl here ↦ (x, e, here) | inr later ↦ next later ]
   go false e any next = next any
 
@@ -59,14 +60,16 @@ module _ (profile : Profile) (tree : Tree) (users : List (Option UserValue)) (va
       let test = kept_passes profile tree users values fitting solved u inside kept in
       let unit = unit_there plain valid profile tree settled.consistent users values fitting solved u inside in
       let k = kept_unit profile tree users values fitting solved u inside test in
-      let found = any_found (λ s. unit_of tree s == u) (has_line profile tree values) (symbol_numbers tree) (speaks_at plain valid profile tree settled.consistent users values fitting solved u test k unit.0 unit.1) in
+      let found = any_found (λ s. unit_of tree s == u) (has_line profile tree values) (symbol_numbers tree)
+      (speaks_at plain valid profile tree settled.consistent users values fitting solved u test k unit.0 unit.1) in
       (found.0, found.1, eqb-true (unit_of tree found.0) u found.2)
 
   -- cut down to some units, the assignment gives the values exactly if the unit of each line is among these
   pub needs_units : (fewer : List (Option UserValue)) (keeps : ℕ → Bool) → IsCutTo (length tree.units) keeps users fewer
       → UniquelySolves (length tree.units) (rule profile tree) fewer values ↔ HasUnitsOfLines profile tree values keeps
   needs_units fewer keeps is_cut =
-      let by_units = cut_gives (length tree.units) (dependencies tree) (rule profile tree) (λ u x. IsTrue (user_fits tree u x)) settled.order settled.ordered (rules_frame profile tree) decides users fewer values keeps fitting solved is_cut in (
+      let by_units = cut_gives (length tree.units) (dependencies tree) (rule profile tree) (λ u x. IsTrue (user_fits tree u x)) settled.order settled.ordered
+      (rules_frame profile tree) decides users fewer values keeps fitting solved is_cut in (
         (λ gives s has. let kept = line_kept s has in by_units.0 gives (unit_of tree s) kept.0 kept.1),
         λ lines. by_units.1 (λ u inside kept. let line = kept_line u inside kept in ap keeps (sym line.2) ∙ lines line.0 line.1),
       )
@@ -78,4 +81,5 @@ module _ (profile : Profile) (tree : Tree) (users : List (Option UserValue)) (va
       let u = unit_of tree s in
       let result = rule profile tree u (user_of users u) values in
       let value_is : value ≡ result = let e = solved.holds u kept.0 in cc (e, holds) in
-      texts_assigned profile tree u (user_of users u) values (λ e. kept.1 (solved.holds u kept.0 ∙ ap Some e)) (ap is_tri_value (sym value_is) ∙ text) ∙ ap as_user (sym value_is)
+      texts_assigned profile tree u (user_of users u) values (λ e. kept.1 (solved.holds u kept.0 ∙ ap Some e)) (ap is_tri_value (sym value_is) ∙ text)
+      ∙ ap as_user (sym value_is)

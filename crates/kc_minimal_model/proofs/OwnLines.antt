@@ -1,4 +1,4 @@
--- The line of each symbol says nothing, or assigns its unit the value that it has.
+-- The line of each symbol assigns nothing, or assigns its unit the value that it has.
 use Rattle.std.proofs.Common.{◌≡◌, inl, inr, ℕ, Bool, true, not, ◌||◌, ◌==◌, cond, IsTrue, IfSome, List, [], ◌∷◌, ◌++◌, Option, Some, None, length, refl, sym, ap, ◌∙◌, subst, arith, append_assoc}
 use Rattle.std.specs.Prelude.{slice_get, is_some}
 use Rattle.std.specs.Option.{option_map, option_and_then}
@@ -38,11 +38,11 @@ IsOwn values (assigns u x) = user_meant values u ≡ Some x
 IsOwn values (notice kind) = ⊥
 IsOwn values silent = Unit {0}
 
--- a written line that says so
+-- a written line that is such an assignment
 pub record IsOwnLine (prefix : List ℕ) (tree : Tree) (values : List UnitValue) (line : List ℕ) : Type 0 where
-  pub saying : LineMeaning
-  pub reads : IsLine prefix tree line saying
-  pub own : IsOwn values saying
+  pub meaning : LineMeaning
+  pub reads : IsLine prefix tree line meaning
+  pub own : IsOwn values meaning
 
 no_bytes : (text : List ℕ) → (length text == 0) ≡ true → text ≡ []
 no_bytes [] e = refl
@@ -50,37 +50,51 @@ no_bytes (b ∷ text) e = let zero_long = eqb-true (length (b ∷ text)) 0 e in 
 
 module _ (prefix : List ℕ) (valid : is_prefix prefix ≡ true) (tree : Tree) (sound : IsConsistent tree) (values : List UnitValue) (fits : FitsValues (length tree.units) (λ u v. IsTrue (value_fits tree u v)) values) where
   -- the line of an int or hex without a number
-  empty_line : (s : ℕ) (symbol : Symbol) → slice_get tree.symbols s ≡ Some symbol → ValueMeans tree s symbol [] silent → IsLine prefix tree (value_line prefix symbol.name []) silent
+  empty_line : (s : ℕ) (symbol : Symbol) → slice_get tree.symbols s ≡ Some symbol → ValueMeans tree s symbol [] silent
+      → IsLine prefix tree (value_line prefix symbol.name []) silent
   empty_line s symbol at says =
       let words = sound.words s symbol at in
       let bytes = (and_parts _ (list_all is_name_byte prefix) valid).1 in
       let same : value_line prefix symbol.name [] ≡ (prefix ++ symbol.name) ++ 61 ∷ [] = sym (append_assoc prefix symbol.name (61 ∷ [])) in
       record {
-        says = value (value_line prefix symbol.name []) symbol.name [] s symbol silent (words.0, name_lacks 61 refl symbol.name words.1, refl) (found_by_name tree sound s symbol at) at says;
+        says = value (value_line prefix symbol.name []) symbol.name [] s symbol silent (words.0, name_lacks 61 refl symbol.name words.1, refl)
+            (found_by_name tree sound s symbol at) at says;
         whole = ap without_white_end same ∙ ends_in_ink (prefix ++ symbol.name) 61 refl ∙ sym same;
-        one = all_of_both (λ c. not (c == 10)) prefix (symbol.name ++ (61 ∷ [])) (name_lacks 10 refl prefix bytes) (all_of_both (λ c. not (c == 10)) symbol.name (61 ∷ []) (name_lacks 10 refl symbol.name words.1) refl);
+        one = all_of_both (λ c. not (c == 10)) prefix (symbol.name ++ (61 ∷ [])) (name_lacks 10 refl prefix bytes)
+            (all_of_both (λ c. not (c == 10)) symbol.name (61 ∷ []) (name_lacks 10 refl symbol.name words.1) refl);
         utf8 = utf8_value_line prefix valid tree sound s symbol at [] IsUtf8-nil;
       }
 
   abbrev of_text : Kind → List ℕ → SymbolValue
   of_text kind text = record { kind = kind; tri = N; text = text }
 
-  text_says : (s : ℕ) (symbol : Symbol) → slice_get tree.symbols s ≡ Some symbol → (text : List ℕ) → user_meant values (unit_of tree s) ≡ Some (TextUser text) → user_text_fits symbol.kind text ≡ true
+  text_says : (s : ℕ) (symbol : Symbol) → slice_get tree.symbols s ≡ Some symbol → (text : List ℕ) → user_meant values (unit_of tree s) ≡ Some (TextUser text)
+      → user_text_fits symbol.kind text ≡ true
       → IsOwnLine prefix tree values (line_with prefix symbol.name (of_text symbol.kind text))
-  text_says s symbol at text held good = record { saying = assigns (unit_of tree s) (TextUser text); reads = text_line prefix valid tree sound s symbol at symbol.kind text refl good; own = held }
+  text_says s symbol at text held good =
+      record {
+        meaning = assigns (unit_of tree s) (TextUser text);
+        reads = text_line prefix valid tree sound s symbol at symbol.kind text refl good;
+        own = held;
+      }
 
-  number_says : (s : ℕ) (symbol : Symbol) → slice_get tree.symbols s ≡ Some symbol → (text : List ℕ) → user_meant values (unit_of tree s) ≡ Some (TextUser text) → (kind : Kind) → symbol.kind ≡ kind
-      → ((length text == 0) || is_some (number_of_text kind text)) ≡ true → (is_some (number_of_text kind text) ≡ true → user_text_fits kind text ≡ true) → (value_line prefix symbol.name [] ≡ line_with prefix symbol.name (of_text kind [])) → ValueMeans tree s symbol [] silent
+  number_says : (s : ℕ) (symbol : Symbol) → slice_get tree.symbols s ≡ Some symbol → (text : List ℕ) → user_meant values (unit_of tree s) ≡ Some (TextUser text)
+      → (kind : Kind) → symbol.kind ≡ kind
+      → ((length text == 0) || is_some (number_of_text kind text)) ≡ true → (is_some (number_of_text kind text) ≡ true → user_text_fits kind text ≡ true)
+      → (value_line prefix symbol.name [] ≡ line_with prefix symbol.name (of_text kind [])) → ValueMeans tree s symbol [] silent
       → IsOwnLine prefix tree values (line_with prefix symbol.name (of_text symbol.kind text))
   number_says s symbol at text held kind is good number form says = elim (or_cases (length text == 0) (is_some (number_of_text kind text)) good) [
     | inl none ↦
-        let line : IsLine prefix tree (line_with prefix symbol.name (of_text kind [])) silent = subst (λ l. IsLine prefix tree l silent) form (empty_line s symbol at says) in
-        let at_kind : IsLine prefix tree (line_with prefix symbol.name (of_text symbol.kind [])) silent = subst (λ k. IsLine prefix tree (line_with prefix symbol.name (of_text k [])) silent) (sym is) line in
-        record { saying = silent; reads = subst (λ t. IsLine prefix tree (line_with prefix symbol.name (of_text symbol.kind t)) silent) (sym (no_bytes text none)) at_kind; own = tt }
+        let line : IsLine prefix tree (line_with prefix symbol.name (of_text kind [])) silent = subst (λ l. IsLine prefix tree l silent) form
+        (empty_line s symbol at says) in
+        let at_kind : IsLine prefix tree (line_with prefix symbol.name (of_text symbol.kind [])) silent = subst
+        (λ k. IsLine prefix tree (line_with prefix symbol.name (of_text k [])) silent) (sym is) line in
+        record { meaning = silent; reads = subst (λ t. IsLine prefix tree (line_with prefix symbol.name (of_text symbol.kind t)) silent) (sym (no_bytes text none)) at_kind; own = tt }
     | inr some ↦ text_says s symbol at text held (ap (λ k. user_text_fits k text) is ∙ number some)
   ]
 
-  text_of_kind : (s : ℕ) (symbol : Symbol) → slice_get tree.symbols s ≡ Some symbol → (text : List ℕ) → user_meant values (unit_of tree s) ≡ Some (TextUser text) → (kind : Kind) → symbol.kind ≡ kind → text_fits kind text ≡ true
+  text_of_kind : (s : ℕ) (symbol : Symbol) → slice_get tree.symbols s ≡ Some symbol → (text : List ℕ) → user_meant values (unit_of tree s) ≡ Some (TextUser text)
+      → (kind : Kind) → symbol.kind ≡ kind → text_fits kind text ≡ true
       → IsOwnLine prefix tree values (line_with prefix symbol.name (of_text symbol.kind text))
   text_of_kind s symbol at text held Boolean is good = absurd (false≢true good)
   text_of_kind s symbol at text held Tristate is good = absurd (false≢true good)
@@ -88,38 +102,55 @@ module _ (prefix : List ℕ) (valid : is_prefix prefix ≡ true) (tree : Tree) (
   text_of_kind s symbol at text held Int is good = number_says s symbol at text held Int is good (λ e. e) refl (no_int is)
   text_of_kind s symbol at text held Hex is good = number_says s symbol at text held Hex is good (λ e. e) refl (no_hex is)
 
-  by_held : (s : ℕ) (symbol : Symbol) → slice_get tree.symbols s ≡ Some symbol → symbol.choice ≡ None → (held : UnitValue) → slice_get values (unit_of tree s) ≡ Some held → symbol_value_fits (Some symbol) held ≡ true
+  by_held : (s : ℕ) (symbol : Symbol) → slice_get tree.symbols s ≡ Some symbol → symbol.choice ≡ None → (held : UnitValue)
+      → slice_get values (unit_of tree s) ≡ Some held → symbol_value_fits (Some symbol) held ≡ true
       → IsOwnLine prefix tree values (line_with prefix symbol.name (value_in_unit tree values s symbol None))
   by_held s symbol at out (TriValue t) has good =
-      let F : Option UnitValue → Bool → SymbolValue = λ h b. cond b (tri_symbol_value symbol.kind (tri_of h)) (record { kind = symbol.kind; tri = N; text = text_of h }) in
-      let seen : value_in_unit tree values s symbol None ≡ tri_symbol_value symbol.kind t = ap (λ h. F h (is_tri_kind symbol.kind)) has ∙ ap (F (Some (TriValue t))) (tri_kind symbol.kind t good) in
+      let F : Option UnitValue → Bool → SymbolValue = λ h b. cond b (tri_symbol_value symbol.kind (tri_of h))
+      (record { kind = symbol.kind; tri = N; text = text_of h }) in
+      let seen : value_in_unit tree values s symbol None ≡ tri_symbol_value symbol.kind t = ap (λ h. F h (is_tri_kind symbol.kind)) has
+      ∙ ap (F (Some (TriValue t))) (tri_kind symbol.kind t good) in
       subst (λ e. IsOwnLine prefix tree values (line_with prefix symbol.name e)) (sym seen)
-      (record { saying = assigns (unit_of tree s) (TriUser t); reads = tri_line prefix valid tree sound s symbol at symbol.kind t refl out good; own = ap (option_and_then as_user) has })
+      (record {
+        meaning = assigns (unit_of tree s) (TriUser t);
+        reads = tri_line prefix valid tree sound s symbol at symbol.kind t refl out good;
+        own = ap
+            (option_and_then as_user) has;
+      })
   by_held s symbol at out (TextValue text) has good =
-      let F : Option UnitValue → Bool → SymbolValue = λ h b. cond b (tri_symbol_value symbol.kind (tri_of h)) (record { kind = symbol.kind; tri = N; text = text_of h }) in
-      let seen : value_in_unit tree values s symbol None ≡ record { kind = symbol.kind; tri = N; text = text } = ap (λ h. F h (is_tri_kind symbol.kind)) has ∙ ap (F (Some (TextValue text))) (text_kind symbol.kind text good) in
-      subst (λ e. IsOwnLine prefix tree values (line_with prefix symbol.name e)) (sym seen) (text_of_kind s symbol at text (ap (option_and_then as_user) has) symbol.kind refl good)
+      let F : Option UnitValue → Bool → SymbolValue = λ h b. cond b (tri_symbol_value symbol.kind (tri_of h))
+      (record { kind = symbol.kind; tri = N; text = text_of h }) in
+      let seen : value_in_unit tree values s symbol None ≡ record { kind = symbol.kind; tri = N; text = text } = ap (λ h. F h (is_tri_kind symbol.kind)) has
+      ∙ ap (F (Some (TextValue text))) (text_kind symbol.kind text good) in
+      subst (λ e. IsOwnLine prefix tree values (line_with prefix symbol.name e)) (sym seen)
+      (text_of_kind s symbol at text (ap (option_and_then as_user) has) symbol.kind refl good)
   by_held s symbol at out (MemberValue m) has good = absurd (false≢true good)
 
-  outside : (s : ℕ) (symbol : Symbol) → slice_get tree.symbols s ≡ Some symbol → symbol.choice ≡ None → IsOwnLine prefix tree values (line_with prefix symbol.name (value_in_unit tree values s symbol None))
+  outside : (s : ℕ) (symbol : Symbol) → slice_get tree.symbols s ≡ Some symbol → symbol.choice ≡ None
+      → IsOwnLine prefix tree values (line_with prefix symbol.name (value_in_unit tree values s symbol None))
   unfolding value_fits
   outside s symbol at out =
       let own = sound.own_units s symbol at out in
-      let here : slice_get tree.units (unit_of tree s) ≡ Some (of_symbol s) = ap (slice_get tree.units) (unit_is tree sound s own.0 symbol None at out own.1) ∙ own.1 in
+      let here : slice_get tree.units (unit_of tree s) ≡ Some (of_symbol s) = ap (slice_get tree.units) (unit_is tree sound s own.0 symbol None at out own.1)
+      ∙ own.1 in
       let below = inside tree.units (unit_of tree s) (of_symbol s) here in
       let len = fits.0 in
       let held = get-some values (unit_of tree s) (omega (arith, below, len)) in
-      let good : value_fits tree (unit_of tree s) held.0 ≡ true = subst (λ o. IfSome o (λ v. IsTrue (value_fits tree (unit_of tree s) v))) held.1 (fits.1 (unit_of tree s) below) in
+      let good : value_fits tree (unit_of tree s) held.0 ≡ true = subst (λ o. IfSome o (λ v. IsTrue (value_fits tree (unit_of tree s) v))) held.1
+      (fits.1 (unit_of tree s) below) in
       by_held s symbol at out held.0 held.1 (sym (ap (λ o. unit_value_fits tree o held.0) here ∙ ap (λ o. symbol_value_fits o held.0) at) ∙ good)
 
   -- a member that isn't selected
-  n_line : (s c : ℕ) (symbol : Symbol) → slice_get tree.symbols s ≡ Some symbol → symbol.choice ≡ Some c → (t : Tri) → t ≡ N → IsOwnLine prefix tree values (line_with prefix symbol.name (tri_symbol_value symbol.kind t))
+  n_line : (s c : ℕ) (symbol : Symbol) → slice_get tree.symbols s ≡ Some symbol → symbol.choice ≡ Some c → (t : Tri) → t ≡ N
+      → IsOwnLine prefix tree values (line_with prefix symbol.name (tri_symbol_value symbol.kind t))
   n_line s c symbol at within t is =
       let kind = sound.bool_members s c symbol at within in
-      let line : IsLine prefix tree (line_with prefix symbol.name (tri_symbol_value Boolean N)) silent = subst (IsLine prefix tree (unset_line prefix symbol.name)) (ap (unset_meaning tree s symbol) within) (not_set_line prefix valid tree sound s symbol at) in
-      record { saying = silent; own = tt; reads = subst (λ k. IsLine prefix tree (line_with prefix symbol.name (tri_symbol_value k t)) silent) (sym kind) (subst (λ x. IsLine prefix tree (line_with prefix symbol.name (tri_symbol_value Boolean x)) silent) (sym is) line) }
+      let line : IsLine prefix tree (line_with prefix symbol.name (tri_symbol_value Boolean N)) silent = subst
+      (IsLine prefix tree (unset_line prefix symbol.name)) (ap (unset_meaning tree s symbol) within) (not_set_line prefix valid tree sound s symbol at) in
+      record { meaning = silent; own = tt; reads = subst (λ k. IsLine prefix tree (line_with prefix symbol.name (tri_symbol_value k t)) silent) (sym kind) (subst (λ x. IsLine prefix tree (line_with prefix symbol.name (tri_symbol_value Boolean x)) silent) (sym is) line) }
 
-  member_by_held : (s c : ℕ) (symbol : Symbol) → slice_get tree.symbols s ≡ Some symbol → symbol.choice ≡ Some c → (o : Option UnitValue) → slice_get values (unit_of tree s) ≡ o
+  member_by_held : (s c : ℕ) (symbol : Symbol) → slice_get tree.symbols s ≡ Some symbol → symbol.choice ≡ Some c → (o : Option UnitValue)
+      → slice_get values (unit_of tree s) ≡ o
       → IsOwnLine prefix tree values (line_with prefix symbol.name (tri_symbol_value symbol.kind (tri_if_selected s (member_of o))))
   member_by_held s c symbol at within None has = n_line s c symbol at within N refl
   member_by_held s c symbol at within (Some (TriValue t)) has = n_line s c symbol at within N refl
@@ -131,26 +162,32 @@ module _ (prefix : List ℕ) (valid : is_prefix prefix ≡ true) (tree : Tree) (
         let line = member_line prefix valid tree sound s symbol at c within kind in
         let tri : cond (m == s) Y N ≡ Y = ap (λ b. cond b Y N) same in
         record {
-          saying = assigns (unit_of tree s) (MemberUser s);
-          reads = subst (λ k. IsLine prefix tree (line_with prefix symbol.name (tri_symbol_value k (cond (m == s) Y N))) (assigns (unit_of tree s) (MemberUser s))) (sym kind)
-              (subst (λ t. IsLine prefix tree (line_with prefix symbol.name (tri_symbol_value Boolean t)) (assigns (unit_of tree s) (MemberUser s))) (sym tri) line);
+          meaning = assigns (unit_of tree s) (MemberUser s);
+          reads = subst (λ k. IsLine prefix tree (line_with prefix symbol.name (tri_symbol_value k (cond (m == s) Y N)))
+              (assigns (unit_of tree s) (MemberUser s))) (sym kind)
+              (subst (λ t. IsLine prefix tree (line_with prefix symbol.name (tri_symbol_value Boolean t)) (assigns (unit_of tree s) (MemberUser s))) (sym tri)
+              line);
           own = ap (option_and_then as_user) has ∙ ap (λ n. Some (MemberUser n)) (eqb-true m s same);
         }
     | inr other ↦ n_line s c symbol at within (cond (m == s) Y N) (ap (λ b. cond b Y N) other)
   ]
 
-  within_choice : (s c : ℕ) (symbol : Symbol) → slice_get tree.symbols s ≡ Some symbol → symbol.choice ≡ Some c → IsOwnLine prefix tree values (line_with prefix symbol.name (value_in_unit tree values s symbol (Some c)))
+  within_choice : (s c : ℕ) (symbol : Symbol) → slice_get tree.symbols s ≡ Some symbol → symbol.choice ≡ Some c
+      → IsOwnLine prefix tree values (line_with prefix symbol.name (value_in_unit tree values s symbol (Some c)))
   within_choice s c symbol at within =
       let own = sound.units_of_members s c symbol at within in
-      let here : slice_get tree.units (unit_of tree s) ≡ Some (of_choice c) = ap (slice_get tree.units) (unit_is tree sound s own.0 symbol (Some c) at within own.1) ∙ own.1 in
+      let here : slice_get tree.units (unit_of tree s) ≡ Some (of_choice c) = ap (slice_get tree.units)
+      (unit_is tree sound s own.0 symbol (Some c) at within own.1) ∙ own.1 in
       let place = place_is tree sound (unit_of tree s) (of_choice c) here in
       member_by_held s c symbol at within (slice_get values (index_of_unit tree (of_choice c))) (ap (slice_get values) (sym place))
 
-  at_choice : (s : ℕ) (symbol : Symbol) → slice_get tree.symbols s ≡ Some symbol → (c : Option ℕ) → symbol.choice ≡ c → IsOwnLine prefix tree values (line_with prefix symbol.name (value_in_unit tree values s symbol c))
+  at_choice : (s : ℕ) (symbol : Symbol) → slice_get tree.symbols s ≡ Some symbol → (c : Option ℕ) → symbol.choice ≡ c
+      → IsOwnLine prefix tree values (line_with prefix symbol.name (value_in_unit tree values s symbol c))
   at_choice s symbol at None out = outside s symbol at out
   at_choice s symbol at (Some c) within = within_choice s c symbol at within
 
-  at_symbol : (s : ℕ) (symbol : Symbol) (o : Option Symbol) → slice_get tree.symbols s ≡ o → o ≡ Some symbol → IsOwnLine prefix tree values (line_of_value prefix o (option_map (λ (x : Symbol). value_in_unit tree values s x x.choice) o))
+  at_symbol : (s : ℕ) (symbol : Symbol) (o : Option Symbol) → slice_get tree.symbols s ≡ o → o ≡ Some symbol
+      → IsOwnLine prefix tree values (line_of_value prefix o (option_map (λ (x : Symbol). value_in_unit tree values s x x.choice) o))
   at_symbol s symbol None at is = cc
   at_symbol s symbol (Some x) at is = at_choice s x at x.choice refl
 

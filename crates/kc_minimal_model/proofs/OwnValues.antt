@@ -1,6 +1,6 @@
 -- A value that isn't lifted, as its own user value, gives itself again: the values' half of the way back of full files.
 use Rattle.std.proofs.Common.{◌≡◌, ◌⊎◌, inl, inr, ℕ, ◌<◌, Bool, true, false, not, ◌&&◌, ◌||◌, cond, IsTrue, List, [], Option, Some, None, length, slice_get, refl, sym, ◌∙◌, ap, subst, unwrap_or, pos}
-use Rattle.std.specs.Option.{option_and_then}
+use Rattle.std.specs.Option.{option_and_then, option_or}
 use Rattle.std.proofs.lemmas.Bool.{cases_Bool, false≢true}
 use Rattle.kc_value.specs.declared.tri.Tri.{Tri}
 use Rattle.kc_value.specs.declared.tri.Tri.TheVariants.{N, M, Y}
@@ -20,14 +20,15 @@ use Rattle.kc_rules_model.specs.declared.values.UserValue.TheVariants.{Tri as Tr
 use Rattle.kc_rules_model.specs.Kinds.{is_n, largest}
 use Rattle.kc_value.specs.Tri.{y_for_m}
 use Rattle.kc_value.specs.Kinds.{is_bool, is_tristate}
-use Rattle.kc_rules_model.specs.Rule.{rule, rule_of_unit, rule_of_symbol, rule_of_choice, symbol_rule, tri_rule, string_rule, number_rule, choice_rule, as_user, is_visible, visibility, conditions, modules_value, unassigned_value, selected, leaves_no_m, default_text, number_default, is_within, active_range, or_else, is_shown, is_visible_member, assigned_text}
+use Rattle.kc_rules_model.specs.Rule.{rule, rule_of_unit, rule_of_symbol, rule_of_choice, symbol_rule, tri_rule, string_rule, number_rule, choice_rule, as_user, is_visible, visibility, conditions, modules_value, unassigned_value, selected, leaves_no_m, default_text, number_default, is_within, active_range, is_shown, is_visible_member, assigned_text}
 use Rattle.kc_rules_model.specs.Reports.{IsLifted}
 use Rattle.kc_rules_model.specs.checker.RestoreLaw.{rules_restore, promoted_if}
 use Rattle.kc_rules_model.specs.Shapes.{user_fits, unit_user_fits, symbol_user_fits, user_text_fits}
 use Rattle.kc_minimal_model.proofs.Canonical.{decides}
 
 -- a bool: l and p as in `tri_rule`, t what is promoted to the visibility
-bool_table : (l : Bool) (t un s : Tri) → promoted_if l (y_for_m (tri_or (cond (not (is_n (y_for_m t))) (tri_and (promoted_if l (y_for_m (tri_or un s))) (y_for_m t)) un) s)) ≡ promoted_if l (y_for_m (tri_or un s))
+bool_table : (l : Bool) (t un s : Tri)
+    → promoted_if l (y_for_m (tri_or (cond (not (is_n (y_for_m t))) (tri_and (promoted_if l (y_for_m (tri_or un s))) (y_for_m t)) un) s)) ≡ promoted_if l (y_for_m (tri_or un s))
 bool_table true N N N = refl
 bool_table true N N M = refl
 bool_table true N N Y = refl
@@ -92,14 +93,16 @@ text_own : (seen : Bool) (t d : List ℕ) → d ≡ t → unwrap_or (cond seen (
 text_own true t d e = refl
 text_own false t d e = e
 
-number_own : (seen : Bool) (within : List ℕ → Bool) (t d : List ℕ) → d ≡ t → unwrap_or (option_and_then (λ x. cond (within x) (Some x) None) (cond seen (Some t) None)) d ≡ t
+number_own : (seen : Bool) (within : List ℕ → Bool) (t d : List ℕ) → d ≡ t
+    → unwrap_or (option_and_then (λ x. cond (within x) (Some x) None) (cond seen (Some t) None)) d ≡ t
 number_own false within t d e = e
 number_own true within t d e = go (within t) where
   go : (b : Bool) → unwrap_or (cond b (Some t) None) d ≡ t
   go true = refl
   go false = e
 
-member_own : (shown seen : Bool) (s : ℕ) (other : Option ℕ) → cond shown (or_else None other) None ≡ Some s → cond shown (or_else (cond seen (Some s) None) other) None ≡ Some s
+member_own : (shown seen : Bool) (s : ℕ) (other : Option ℕ) → cond shown (option_or None other) None ≡ Some s
+    → cond shown (option_or (cond seen (Some s) None) other) None ≡ Some s
 member_own true true s other e = refl
 member_own true false s other e = e
 member_own false seen s other e = e
@@ -108,7 +111,8 @@ no_text : (seen : Bool) (d : List ℕ) → unwrap_or (cond {A = Option (List ℕ
 no_text true d = refl
 no_text false d = refl
 
-no_number : (seen : Bool) (within : List ℕ → Bool) (d : List ℕ) → unwrap_or (option_and_then (λ (x : List ℕ). cond (within x) (Some x) None) (cond {A = Option (List ℕ)} seen None None)) d ≡ d
+no_number : (seen : Bool) (within : List ℕ → Bool) (d : List ℕ)
+    → unwrap_or (option_and_then (λ (x : List ℕ). cond (within x) (Some x) None) (cond {A = Option (List ℕ)} seen None None)) d ≡ d
 no_number true within d = refl
 no_number false within d = refl
 
@@ -128,7 +132,9 @@ module _ (profile : Profile) (tree : Tree) (values : List UnitValue) where
       let mine : Some (TriUser (promoted_if l (promoted_if b (tri_or un s)))) ≡ Some y = h in
       let again : TriUser (promoted_if l (promoted_if b (tri_or un s))) ≡ y = cc in
       subst (λ z. TriValue (tri_rule profile tree symbol (Some z) values) ≡ TriValue (tri_rule profile tree symbol None values)) again
-      (ap TriValue (subst (λ p. promoted_if l (promoted_if p (tri_or (cond (not (is_n (promoted_if p t))) (tri_and (promoted_if l (promoted_if p (tri_or un s))) (promoted_if p t)) un) s)) ≡ promoted_if l (promoted_if p (tri_or un s))) (sym yes_bool) (bool_table l t un s)))
+      (ap TriValue (subst (λ p. promoted_if l (promoted_if p (tri_or (cond (not (is_n (promoted_if p t)))
+      (tri_and (promoted_if l (promoted_if p (tri_or un s))) (promoted_if p t)) un) s)) ≡ promoted_if l (promoted_if p (tri_or un s))) (sym yes_bool)
+      (bool_table l t un s)))
 
   own_string : (symbol : Symbol) → Own (λ x. TextValue (string_rule tree symbol x values))
   own_string symbol y h =
@@ -143,7 +149,8 @@ module _ (profile : Profile) (tree : Tree) (values : List UnitValue) where
   own_number symbol y h =
       let d = number_default tree values symbol in
       let seen = is_visible tree values symbol in
-      let within : List ℕ → Bool = λ text. is_within tree values symbol.kind (active_range tree values symbol) (unwrap_or (number_of_text symbol.kind text) (pos 0)) in
+      let within : List ℕ → Bool = λ text. is_within tree values symbol.kind (active_range tree values symbol)
+      (unwrap_or (number_of_text symbol.kind text) (pos 0)) in
       let none : number_rule tree symbol None values ≡ d = no_number seen within d in
       let again : TextUser (number_rule tree symbol None values) ≡ y = cc in
       subst (λ z. TextValue (number_rule tree symbol (Some z) values) ≡ TextValue (number_rule tree symbol None values)) again
@@ -151,7 +158,8 @@ module _ (profile : Profile) (tree : Tree) (values : List UnitValue) where
 
   own_choice : (choice : Choice) → Own (λ x. MemberValue (choice_rule tree choice x values))
   own_choice choice y h = go (choice_rule tree choice None values) refl h where
-    go : (o : Option ℕ) → choice_rule tree choice None values ≡ o → as_user (MemberValue o) ≡ Some y → MemberValue (choice_rule tree choice (Some y) values) ≡ MemberValue (choice_rule tree choice None values)
+    go : (o : Option ℕ) → choice_rule tree choice None values ≡ o → as_user (MemberValue o) ≡ Some y
+        → MemberValue (choice_rule tree choice (Some y) values) ≡ MemberValue (choice_rule tree choice None values)
     go None e h = cc
     go (Some m) e h =
         let again : MemberUser m ≡ y = cc in
@@ -159,17 +167,20 @@ module _ (profile : Profile) (tree : Tree) (values : List UnitValue) where
         (ap MemberValue (member_own (is_shown tree values choice) (is_visible_member tree values m) m _ e ∙ sym e))
 
   -- a tristate that isn't visible
-  hidden_tri : (symbol : Symbol) → is_n (visibility tree values symbol) ≡ true → (x : Option UserValue) → TriValue (tri_rule profile tree symbol x values) ≡ TriValue (tri_rule profile tree symbol None values)
+  hidden_tri : (symbol : Symbol) → is_n (visibility tree values symbol) ≡ true → (x : Option UserValue)
+      → TriValue (tri_rule profile tree symbol x values) ≡ TriValue (tri_rule profile tree symbol None values)
   hidden_tri symbol e None = refl
   hidden_tri symbol e (Some (TextUser t)) = refl
   hidden_tri symbol e (Some (MemberUser m)) = refl
   hidden_tri symbol e (Some (TriUser a)) =
       let b = is_bool symbol.kind || (is_tristate symbol.kind && is_n (modules_value tree values)) in
       let l = leaves_no_m profile tree values symbol in
-      ap (λ c. TriValue (promoted_if l (promoted_if b (tri_or c (selected tree values symbol))))) (unseen (visibility tree values symbol) (unassigned_value profile tree values symbol) a e)
+      ap (λ c. TriValue (promoted_if l (promoted_if b (tri_or c (selected tree values symbol)))))
+      (unseen (visibility tree values symbol) (unassigned_value profile tree values symbol) a e)
 
   own_symbol : (symbol : Symbol) (kind : Kind) → symbol.kind ≡ kind
-      → (kind ≡ Tristate → is_visible tree values symbol ≡ true → Own (λ x. symbol_rule kind profile tree symbol x values)) → Own (λ x. symbol_rule kind profile tree symbol x values)
+      → (kind ≡ Tristate → is_visible tree values symbol ≡ true → Own (λ x. symbol_rule kind profile tree symbol x values))
+      → Own (λ x. symbol_rule kind profile tree symbol x values)
   own_symbol symbol Boolean e lifted = own_bool symbol e
   own_symbol symbol Text e lifted = own_string symbol
   own_symbol symbol Int e lifted = own_number symbol
@@ -181,7 +192,9 @@ module _ (profile : Profile) (tree : Tree) (values : List UnitValue) where
 
   -- of a visible tristate alone it may be otherwise
   abbrev NotLifted : Option TreeUnit → Type 0
-  NotLifted unit = (s : ℕ) (symbol : Symbol) → unit ≡ Some (of_symbol s) → slice_get tree.symbols s ≡ Some symbol → symbol.kind ≡ Tristate → is_visible tree values symbol ≡ true
+  NotLifted unit =
+      (s : ℕ) (symbol : Symbol) → unit ≡ Some (of_symbol s) → slice_get tree.symbols s ≡ Some symbol → symbol.kind ≡ Tristate
+      → is_visible tree values symbol ≡ true
       → Own (λ x. rule_of_unit profile tree unit x values)
 
   own_symbol_at : (s : ℕ) (o : Option Symbol) → slice_get tree.symbols s ≡ o → NotLifted (Some (of_symbol s)) → Own (λ x. rule_of_symbol profile tree o x values)
@@ -222,19 +235,33 @@ own_values profile tree users values fitting solved u held inside has not_lifted
           let mine : as_user held ≡ Some z = ap as_user default ∙ h in
           elim (decides (rule profile tree u (as_user held) values) held) [
             | inl same ↦ ap (λ p. rule profile tree u p values) (sym mine) ∙ same ∙ default
-            | inr differs ↦ absurd (not_lifted (record { s = s; symbol = symbol; value = held; of_unit = unit; is_symbol = there; tristate = ap is_tristate kind; visible = seen; has = has; differs = differs }))
+            | inr differs ↦ absurd (not_lifted (record {
+              s = s;
+              symbol = symbol;
+              value = held;
+              of_unit = unit;
+              is_symbol = there;
+              tristate = ap is_tristate
+                  kind;
+              visible = seen;
+              has = has;
+              differs = differs;
+            }))
           ] in
           ap (λ p. rule profile tree u p values) e ∙ own_unit profile tree values (slice_get tree.units u) free y (ap as_user (sym default) ∙ e) ∙ sym default
 
-hidden_number : (tree : Tree) (values : List UnitValue) (symbol : Symbol) (x : Option UserValue) → is_visible tree values symbol ≡ false → TextValue (number_rule tree symbol x values) ≡ TextValue (number_rule tree symbol None values)
+hidden_number : (tree : Tree) (values : List UnitValue) (symbol : Symbol) (x : Option UserValue) → is_visible tree values symbol ≡ false
+    → TextValue (number_rule tree symbol x values) ≡ TextValue (number_rule tree symbol None values)
 hidden_number tree values symbol x e =
     let d = number_default tree values symbol in
-    let within : List ℕ → Bool = λ text. is_within tree values symbol.kind (active_range tree values symbol) (unwrap_or (number_of_text symbol.kind text) (pos 0)) in
+    let within : List ℕ → Bool = λ text. is_within tree values symbol.kind (active_range tree values symbol)
+    (unwrap_or (number_of_text symbol.kind text) (pos 0)) in
     ap (λ b. TextValue (unwrap_or (option_and_then (λ t. cond (within t) (Some t) None) (cond b (assigned_text x) None)) d)) e
     ∙ sym (ap (λ b. TextValue (unwrap_or (option_and_then (λ t. cond (within t) (Some t) None) (cond b (assigned_text None) None)) d)) e)
 
 -- A user value of a symbol that isn't visible counts for nothing.
-hidden_symbol : (profile : Profile) (tree : Tree) (values : List UnitValue) (symbol : Symbol) (kind : Kind) (x : Option UserValue) → is_visible tree values symbol ≡ false
+hidden_symbol : (profile : Profile) (tree : Tree) (values : List UnitValue) (symbol : Symbol) (kind : Kind) (x : Option UserValue)
+    → is_visible tree values symbol ≡ false
     → symbol_rule kind profile tree symbol x values ≡ symbol_rule kind profile tree symbol None values
 hidden_symbol profile tree values symbol Boolean x e = hidden_tri profile tree values symbol (hidden_is (is_n (visibility tree values symbol)) e) x where
   hidden_is : (b : Bool) → not b ≡ false → b ≡ true
@@ -255,13 +282,15 @@ pub hidden_values : (profile : Profile) (tree : Tree) (values : List UnitValue) 
     → rule profile tree u x values ≡ rule profile tree u None values
 unfolding rule
 hidden_values profile tree values u s symbol x unit there hidden =
-    ap (λ o. rule_of_unit profile tree o x values) unit ∙ ap (λ o. rule_of_symbol profile tree o x values) there ∙ hidden_symbol profile tree values symbol symbol.kind x hidden
+    ap (λ o. rule_of_unit profile tree o x values) unit ∙ ap (λ o. rule_of_symbol profile tree o x values) there
+    ∙ hidden_symbol profile tree values symbol symbol.kind x hidden
     ∙ sym (ap (λ o. rule_of_unit profile tree o None values) unit ∙ ap (λ o. rule_of_symbol profile tree o None values) there)
 
 -- A number's empty value is what it has without a user value.
 pub empty_numbers : (profile : Profile) (tree : Tree) (users : List (Option UserValue)) (values : List UnitValue)
     → FitsUsers (length tree.units) (λ u x. IsTrue (user_fits tree u x)) users → Solves (length tree.units) (rule profile tree) users values
-    → (u s : ℕ) (symbol : Symbol) → u < length tree.units → slice_get tree.units u ≡ Some (of_symbol s) → slice_get tree.symbols s ≡ Some symbol → (symbol.kind ≡ Int) ⊎ (symbol.kind ≡ Hex)
+    → (u s : ℕ) (symbol : Symbol) → u < length tree.units → slice_get tree.units u ≡ Some (of_symbol s) → slice_get tree.symbols s ≡ Some symbol
+    → (symbol.kind ≡ Int) ⊎ (symbol.kind ≡ Hex)
     → slice_get values u ≡ Some (TextValue []) → rule profile tree u None values ≡ TextValue []
 unfolding user_fits int_text hex_text
 empty_numbers profile tree users values fitting solved u s symbol inside unit there number has =
@@ -272,7 +301,12 @@ empty_numbers profile tree users values fitting solved u s symbol inside unit th
       | inr differs ↦
           let again = (rules_restore profile tree).restored u x values inside solved.one_each (fitting.1 u inside) differs in
           let mine : TextUser [] ≡ again.0 = let e = ap as_user is ∙ again.1 in cc in
-          let fits : unit_user_fits tree (Some (of_symbol s)) (TextUser []) ≡ true = ap (λ o. unit_user_fits tree o (TextUser [])) (sym unit) ∙ ap (λ y. user_fits tree u y) mine ∙ again.2 in
+          let fits : unit_user_fits tree (Some (of_symbol s)) (TextUser []) ≡ true = ap (λ o. unit_user_fits tree o (TextUser [])) (sym unit)
+          ∙ ap (λ y. user_fits tree u y) mine ∙ again.2 in
           let wrong : user_text_fits symbol.kind [] ≡ true = ap (λ o. symbol_user_fits o (TextUser [])) (sym there) ∙ fits in
-          elim number [ inl k ↦ absurd (false≢true (sym (ap (λ c. user_text_fits c []) k) ∙ wrong)) | inr k ↦ absurd (false≢true (sym (ap (λ c. user_text_fits c []) k) ∙ wrong)) ]
+          elim number [
+            | inl k ↦ absurd (false≢true (sym (ap (λ c. user_text_fits c []) k) ∙ wrong))
+            | inr k ↦ absurd
+                (false≢true (sym (ap (λ c. user_text_fits c []) k) ∙ wrong))
+          ]
     ]

@@ -10,7 +10,7 @@ use Rattle.kc_tree_model.specs.Limits.{source_fault}
 use Rattle.kc_tree_model.specs.Reading.{statement_on_line, reading}
 use Rattle.kc_tree_model.specs.Contents.{tree_of_groups, tree_of_files}
 use Rattle.kc_tree_model.specs.TreeFaults.{tree_faults, first_tree_fault}
-use Rattle.kc_tree_model.specs.TreeFiles.{Files}
+use Rattle.kc_tree_model.specs.TreeFiles.{Files, strict_files}
 use Rattle.kc_tree_model.specs.Trees.{Tree}
 use Rattle.kc_tree_model.proofs.Consistency.Consistent.{tree_is_consistent}
 use Rattle.kc_system.specs.Dependencies.{HasNoCycle}
@@ -29,7 +29,7 @@ use Rattle.kc_minimal_model.proofs.Accepting.{accepted_within}
 use Rattle.kc_minimal_model.proofs.Headlines.{compared}
 
 abbrev files : Files
-files = (codes "K", codes "config A\n\tbool \"a\"\n") ∷ []
+files = strict_files ((codes "K", codes "config A\n\tbool \"a\"\n") ∷ [])
 
 abbrev tree : Tree
 tree = tree_of_files files (codes "K")
@@ -70,9 +70,9 @@ plain = codes "CONFIG_"
 abbrev file : List ℕ
 file = codes "CONFIG_A=y\n"
 
-said : file_meanings plain tree file ≡ Some (assigns 0 (TriUser Y) ∷ [])
+meaning : file_meanings plain tree file ≡ Some (assigns 0 (TriUser Y) ∷ [])
 unfolding line_meaning next_token is_utf8 chars read_expr lines_of source_fault statement_on_line reading lib.Utf8.encode tree_of_groups tree_of_files
-said = refl
+meaning = refl
 
 is_text : has_utf8_lines file ≡ true
 unfolding is_utf8 chars lib.Utf8.encode
@@ -82,7 +82,8 @@ file_accepted : IsAccepted plain tree file
 file_accepted =
     let size : length file ≡ 11 = refl in
     let count : length (file_lines file) ≡ 1 = refl in
-    accepted_within plain tree file (assigns 0 (TriUser Y) ∷ []) is_text ((file_read plain tree file (assigns 0 (TriUser Y) ∷ []) refl).0 said) (omega (arith, size)) (omega (arith, count)) refl
+    accepted_within plain tree file (assigns 0 (TriUser Y) ∷ []) is_text ((file_read plain tree file (assigns 0 (TriUser Y) ∷ []) refl).0 meaning)
+    (omega (arith, size)) (omega (arith, count)) refl
 
 nothing_accepted : IsAccepted plain tree []
 nothing_accepted = accepted_within plain tree [] [] refl tt (omega arith) (omega arith) refl

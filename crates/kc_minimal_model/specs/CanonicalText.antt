@@ -15,8 +15,9 @@ use Rattle.kc_rules_model.specs.SettledTrees.{IsSettledTree}
 use Rattle.kc_dotconfig_model.specs.PrefixGrammar.{is_prefix}
 use Rattle.kc_dotconfig_model.specs.ConfigLines.{LineMeaning, assigns, notice, silent}
 use Rattle.kc_dotconfig_model.specs.ConfigFiles.{file_lines, file_assignment}
-use Rattle.kc_dotconfig_model.specs.LoadFaults.{MAX_BYTES, IsAccepted}
-use Rattle.kc_minimal_model.specs.MinimalFile.{has_line, minimal_file}
+use Rattle.kc_value.specs.declared.limits.TheConstants.{MAX_CONFIG_BYTES}
+use Rattle.kc_dotconfig_model.specs.LoadFaults.{IsAccepted}
+use Rattle.kc_minimal_model.specs.MinimalFile.{has_line, minimal_symbols, minimal_file}
 use Rattle.kc_minimal_model.specs.Loading.{ReadsTo, Loads, HaveSameValues, DifferAtASymbol, has_short_lines}
 
 -- the elements of a list whose numbers pass a test, where the first one has the number `k`
@@ -41,9 +42,21 @@ HasValuesOfLines profile tree values users = (s : ℕ) (value : UnitValue) → h
 -- the units to which lines assign, one for each line that assigns
 abbrev pub assigned_units : List LineMeaning → List ℕ
 assigned_units [] = []
-assigned_units (assigns u x ∷ sayings) = u ∷ assigned_units sayings
-assigned_units (notice kind ∷ sayings) = assigned_units sayings
-assigned_units (silent ∷ sayings) = assigned_units sayings
+assigned_units (assigns u x ∷ meanings) = u ∷ assigned_units meanings
+assigned_units (notice kind ∷ meanings) = assigned_units meanings
+assigned_units (silent ∷ meanings) = assigned_units meanings
+
+-- lines assign no less than the minimal file of these values: to the unit of each of its lines, the values of its lines, by
+-- at least as many lines
+pub record AssignsTheLines (profile : Profile) (tree : Tree) (values : List UnitValue) (meanings : List LineMeaning) : Type 0 where
+  pub each : HasUnitsOfLines profile tree values (λ u. list_any (eqb u) (assigned_units meanings))
+  pub each_value : HasValuesOfLines profile tree values (file_assignment tree meanings)
+  pub as_many : length (minimal_symbols profile tree values) ≤ length (assigned_units meanings)
+
+-- every file that gives values assigns no less than their minimal file, whatever bytes are before the names
+abbrev pub FilesAssignTheLines : Type 0
+FilesAssignTheLines = (prefix : List ℕ) (profile : Profile) (tree : Tree) (file : List ℕ) (values : List UnitValue)
+    → IsSettledTree tree → (reads : ReadsTo prefix profile tree file values) → AssignsTheLines profile tree values reads.meanings
 
 -- A text is the canonical file of values, over one tree, in one profile and with one prefix.
 pub record IsCanonicalText (prefix : List ℕ) (profile : Profile) (tree : Tree) (values : List UnitValue) (text : List ℕ) : Type 0 where
@@ -71,14 +84,14 @@ pub record IsCanonicalText (prefix : List ℕ) (profile : Profile) (tree : Tree)
       → Solves (length tree.units) (rule profile tree) users values → HasValuesOfLines profile tree values users
   -- a file that gives the values assigns to the unit of each line, the values of the lines, by at least as many lines
   pub assigns_each : (file : List ℕ) → (reads : ReadsTo prefix profile tree file values)
-      → HasUnitsOfLines profile tree values (λ u. list_any (eqb u) (assigned_units reads.sayings))
+      → HasUnitsOfLines profile tree values (λ u. list_any (eqb u) (assigned_units reads.meanings))
   pub assigns_values : (file : List ℕ) → (reads : ReadsTo prefix profile tree file values)
-      → HasValuesOfLines profile tree values (file_assignment tree reads.sayings)
+      → HasValuesOfLines profile tree values (file_assignment tree reads.meanings)
   pub assigns_as_many : (file : List ℕ) → (reads : ReadsTo prefix profile tree file values)
-      → length (file_lines text) ≤ length (assigned_units reads.sayings)
+      → length (file_lines text) ≤ length (assigned_units reads.meanings)
   -- within the limits the text is accepted, and so are some of its lines alone
-  pub accepted : length text ≤ MAX_BYTES → has_short_lines text ≡ true → IsAccepted prefix tree text
-  pub part_accepted : length text ≤ MAX_BYTES → has_short_lines text ≡ true → (keeps : ℕ → Bool)
+  pub accepted : length text ≤ MAX_CONFIG_BYTES → has_short_lines text ≡ true → IsAccepted prefix tree text
+  pub part_accepted : length text ≤ MAX_CONFIG_BYTES → has_short_lines text ≡ true → (keeps : ℕ → Bool)
       → IsAccepted prefix tree (with_lines keeps text)
   -- where an accepted file gives the values, no line of the text is too long
   pub short : (file : List ℕ) → Loads prefix profile tree file values → has_short_lines text ≡ true

@@ -5,7 +5,8 @@ use Rattle.kc_rules_model.specs.declared.profile.Profile.{Profile}
 use Rattle.kc_rules_model.specs.declared.values.UnitValue.{UnitValue}
 use Rattle.kc_rules_model.specs.SettledTrees.{IsSettledTree}
 use Rattle.kc_dotconfig_model.specs.PrefixGrammar.{is_prefix}
-use Rattle.kc_dotconfig_model.specs.LoadFaults.{MAX_BYTES, MAX_LINES, IsAccepted}
+use Rattle.kc_value.specs.declared.limits.TheConstants.{MAX_CONFIG_BYTES, MAX_CONFIG_LINES}
+use Rattle.kc_dotconfig_model.specs.LoadFaults.{IsAccepted}
 use Rattle.kc_dotconfig_model.specs.ConfigFiles.{file_lines}
 use Rattle.kc_minimal_model.specs.Spelling.{symbol_line}
 use Rattle.kc_minimal_model.specs.MinimalFileLaws.{ForSolutions}
@@ -21,12 +22,12 @@ MinimalFileLines = (prefix : List ℕ) → is_prefix prefix ≡ true
 -- a file that can be read is accepted if it is within the limits
 abbrev pub ReadFilesAreAccepted : Type 0
 ReadFilesAreAccepted = (prefix : List ℕ) (profile : Profile) (tree : Tree) (bytes : List ℕ) (values : List UnitValue)
-    → ReadsTo prefix profile tree bytes values → length bytes ≤ MAX_BYTES → length (file_lines bytes) ≤ MAX_LINES
+    → ReadsTo prefix profile tree bytes values → length bytes ≤ MAX_CONFIG_BYTES → length (file_lines bytes) ≤ MAX_CONFIG_LINES
     → has_short_lines bytes ≡ true → IsAccepted prefix tree bytes
 
 -- a minimal file of an accepted file passes no limit but the size
 abbrev pub MinimalFilesAreAccepted : Type 0
 MinimalFilesAreAccepted = (prefix : List ℕ) (profile : Profile) (tree : Tree) (bytes : List ℕ) (values : List UnitValue)
     → is_prefix prefix ≡ true → IsSettledTree tree → Loads prefix profile tree bytes values
-    → length (minimal_file prefix profile tree values) ≤ MAX_BYTES
+    → length (minimal_file prefix profile tree values) ≤ MAX_CONFIG_BYTES
     → Loads prefix profile tree (minimal_file prefix profile tree values) values

@@ -1,4 +1,4 @@
--- The full file of a valuation: the pieces of its entries, joined.
+-- The full file of a valuation: the texts of its entries, in their order.
 use Rattle.std.specs.Prelude.{ℕ, Bool, true, false, not, ◌&&◌, List, [], ◌∷◌, ◌++◌, nat_eq, codes, if◌then◌else◌}
 use Rattle.std.specs.List.{list_any, starts_with}
 use Rattle.kc_expr.specs.Expr.{Expr}
@@ -25,29 +25,54 @@ end_line title = codes "# end of " ++ (title ++ 10 ∷ [])
 abbrev pub applies : Tree → List UnitValue → Expr → Bool
 applies tree values e = not (is_n (condition tree values e))
 
--- The text of the entries. `seen` are the symbols that were defined before; with `gap` an end line came last, and no
--- heading or symbol since. A symbol is written at its first definition.
-abbrev pub entry_texts : List ℕ → Tree → List UnitValue → List ℕ → Bool → List Entry → List ℕ
-entry_texts prefix tree values seen gap [] = []
-entry_texts prefix tree values seen gap (definition s ∷ entries) =
-    if is_written tree values s && not (list_any (nat_eq s) seen)
-    then (if gap then 10 ∷ ended_line prefix tree values s else ended_line prefix tree values s)
-    ++ entry_texts prefix tree values (s ∷ seen) false entries
-    else entry_texts prefix tree values (s ∷ seen) gap entries
-entry_texts prefix tree values seen gap (choice_begins c ∷ entries) = entry_texts prefix tree values seen gap entries
-entry_texts prefix tree values seen gap (menu_begins title dependency visible ∷ entries) =
-    if applies tree values dependency && applies tree values visible
-    then heading prefix title ++ entry_texts prefix tree values seen false entries
-    else entry_texts prefix tree values seen gap entries
-entry_texts prefix tree values seen gap (menu_ends title dependency visible ∷ entries) =
-    if applies tree values dependency && applies tree values visible
-    then end_line title ++ entry_texts prefix tree values seen true entries
-    else entry_texts prefix tree values seen gap entries
-entry_texts prefix tree values seen gap (comment title dependency ∷ entries) =
-    if applies tree values dependency
-    then heading prefix title ++ entry_texts prefix tree values seen false entries
-    else entry_texts prefix tree values seen gap entries
+-- whether an entry defines a symbol
+abbrev pub defines : ℕ → Entry → Bool
+defines s (definition t) = nat_eq s t
+defines s e = false
+
+-- whether an entry is written, with the entries before it, the newest first: a symbol at its first definition alone, a
+-- heading and a menu's end where the conditions apply (Kconfiglib's `write_config`)
+abbrev pub is_entry_written : Tree → List UnitValue → (before : List Entry) → Entry → Bool
+is_entry_written tree values before (definition s) = is_written tree values s && not (list_any (defines s) before)
+is_entry_written tree values before (choice_begins c) = false
+is_entry_written tree values before (menu_begins title dependency visible) = applies tree values dependency && applies tree values visible
+is_entry_written tree values before (menu_ends title dependency visible) = applies tree values dependency && applies tree values visible
+is_entry_written tree values before (comment title dependency) = applies tree values dependency
+
+-- the text of an entry that is written
+abbrev pub entry_text : List ℕ → Tree → List UnitValue → Entry → List ℕ
+entry_text prefix tree values (definition s) = ended_line prefix tree values s
+entry_text prefix tree values (choice_begins c) = []
+entry_text prefix tree values (menu_begins title dependency visible) = heading prefix title
+entry_text prefix tree values (menu_ends title dependency visible) = end_line title
+entry_text prefix tree values (comment title dependency) = heading prefix title
+
+abbrev pub is_symbol : Entry → Bool
+is_symbol (definition s) = true
+is_symbol e = false
+
+abbrev pub is_menu_end : Entry → Bool
+is_menu_end (menu_ends title dependency visible) = true
+is_menu_end e = false
+
+-- whether the last entry that is written, of these with the newest first, is a menu's end
+abbrev pub ends_with_menu : Tree → List UnitValue → List Entry → Bool
+ends_with_menu tree values [] = false
+ends_with_menu tree values (e ∷ before) = if is_entry_written tree values before e then is_menu_end e else ends_with_menu tree values before
+
+-- an empty line comes before a symbol that follows the end of a menu
+abbrev pub empty_line_before : Tree → List UnitValue → (before : List Entry) → Entry → List ℕ
+empty_line_before tree values before e = if is_symbol e && ends_with_menu tree values before then 10 ∷ [] else []
+
+-- what an entry adds, with the entries before it
+abbrev pub text_added : List ℕ → Tree → List UnitValue → (before : List Entry) → Entry → List ℕ
+text_added prefix tree values before e = if is_entry_written tree values before e then empty_line_before tree values before e ++ entry_text prefix tree values e else []
+
+-- what entries add, in their order, with the entries before them
+abbrev pub texts_added : List ℕ → Tree → List UnitValue → (before : List Entry) → List Entry → List ℕ
+texts_added prefix tree values before [] = []
+texts_added prefix tree values before (e ∷ entries) = text_added prefix tree values before e ++ texts_added prefix tree values (e ∷ before) entries
 
 -- the full file (Kconfiglib's `write_config`)
 abbrev pub full_file : List ℕ → Tree → List UnitValue → List ℕ
-full_file prefix tree values = entry_texts prefix tree values [] false tree.entries
+full_file prefix tree values = texts_added prefix tree values [] tree.entries

@@ -8,3 +8,4 @@ pub mod FileLimits
 pub mod CanonicalText
 pub mod FullFilesBack
 pub mod Headline
+pub mod between

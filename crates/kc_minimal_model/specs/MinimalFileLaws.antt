@@ -18,9 +18,9 @@ use Rattle.kc_minimal_model.specs.MinimalFile.{minimal_file, has_line}
 
 -- each line of the file is read, and what the lines assign is the least assignment of the values
 pub record IsReadAsLeast (prefix : List ℕ) (profile : Profile) (tree : Tree) (values : List UnitValue) : Type 0 where
-  pub sayings : List LineMeaning
-  pub says : FileMeans prefix tree (minimal_file prefix profile tree values) sayings
-  pub least : IsLeastAssignment (length tree.units) (rule profile tree) as_user values (file_assignment tree sayings)
+  pub meanings : List LineMeaning
+  pub says : FileMeans prefix tree (minimal_file prefix profile tree values) meanings
+  pub least : IsLeastAssignment (length tree.units) (rule profile tree) as_user values (file_assignment tree meanings)
 
 -- a symbol's line is read as the assignment of its unit's value to its unit
 pub record IsReadAsItsAssignment (prefix : List ℕ) (tree : Tree) (values : List UnitValue) (s : ℕ) : Type 0 where

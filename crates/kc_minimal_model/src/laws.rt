@@ -1,5 +1,5 @@
 //! Laws of the files.
-ghost use Rattle.kc_minimal_model.specs.CanonicalText.{MinimalTextsAreCanonical};
+ghost use Rattle.kc_minimal_model.specs.CanonicalText.{FilesAssignTheLines, MinimalTextsAreCanonical};
 ghost use Rattle.kc_minimal_model.specs.FileLimits.{MinimalFileLines, MinimalFilesAreAccepted, ReadFilesAreAccepted};
 ghost use Rattle.kc_minimal_model.specs.FullFilesBack.{FullFilesLeadBack};
 ghost use Rattle.kc_minimal_model.specs.Headline.{DifferencesDecideMinimalFiles, Headline, MinimalFilesAreCanonical};
@@ -23,6 +23,13 @@ pub fn minimal_file_has_its_lines()
 /// A minimal file is read, and what its lines assign is the least assignment of the values.
 pub fn minimal_files_assign_least()
     ensures { MinimalFilesAssignLeast }
+{}
+
+/// Every file that gives the values of a minimal file assigns to each of its units, the same member
+/// to choices and the same text to strings and numbers, by at least as many lines. The prefix may
+/// be any bytes.
+pub fn files_assign_the_lines()
+    ensures { FilesAssignTheLines }
 {}
 
 /// The minimal file of the values of any fitting assignment is canonical: a file gives every

@@ -25,11 +25,13 @@ no_text Text e = is_utf8-from_IsUtf8 [] ([], (refl, refl))
 no_text Int e = refl
 no_text Hex e = refl
 
-pub blank_tri : (tree : Tree) (u s : ℕ) (symbol : Symbol) → slice_get tree.units u ≡ Some (of_symbol s) → slice_get tree.symbols s ≡ Some symbol → is_tri_kind symbol.kind ≡ true → IsTrue (value_fits tree u (TriValue N))
+pub blank_tri : (tree : Tree) (u s : ℕ) (symbol : Symbol) → slice_get tree.units u ≡ Some (of_symbol s) → slice_get tree.symbols s ≡ Some symbol
+    → is_tri_kind symbol.kind ≡ true → IsTrue (value_fits tree u (TriValue N))
 unfolding value_fits
 blank_tri tree u s symbol e f k = ap (λ o. unit_value_fits tree o (TriValue N)) e ∙ ap (λ o. symbol_value_fits o (TriValue N)) f ∙ no_tri symbol.kind k
 
-pub blank_text : (tree : Tree) (u s : ℕ) (symbol : Symbol) → slice_get tree.units u ≡ Some (of_symbol s) → slice_get tree.symbols s ≡ Some symbol → is_tri_kind symbol.kind ≡ false → IsTrue (value_fits tree u (TextValue []))
+pub blank_text : (tree : Tree) (u s : ℕ) (symbol : Symbol) → slice_get tree.units u ≡ Some (of_symbol s) → slice_get tree.symbols s ≡ Some symbol
+    → is_tri_kind symbol.kind ≡ false → IsTrue (value_fits tree u (TextValue []))
 unfolding value_fits
 blank_text tree u s symbol e f k = ap (λ o. unit_value_fits tree o (TextValue [])) e ∙ ap (λ o. symbol_value_fits o (TextValue [])) f ∙ no_text symbol.kind k
 

@@ -94,7 +94,9 @@ linked tree u starts links units nextStarts nextLinks l e eLinks eStarts =
     let whole : List ℕ = starts ++ length (links ++ units) ∷ [] in
     let many : length (links ++ units) ≡ length links + length units = length-append links units in
     let places : length (starts ++ length (links ++ units) ∷ []) ≡ u + 1 + 1 = length-append starts (length (links ++ units) ∷ []) ∙ ap (λ k. k + 1) l.places in
-    let end : slice_index (starts ++ length (links ++ units) ∷ []) (u + 1) ≡ length (links ++ units) = subst (λ k. slice_index (starts ++ length (links ++ units) ∷ []) k ≡ length (links ++ units)) l.places (get_or-append_seam starts (length (links ++ units)) [] 0) in
+    let end : slice_index (starts ++ length (links ++ units) ∷ []) (u + 1) ≡ length (links ++ units) = subst
+    (λ k. slice_index (starts ++ length (links ++ units) ∷ []) k ≡ length (links ++ units)) l.places
+    (get_or-append_seam starts (length (links ++ units)) [] 0) in
     subst (λ s. LinksBelow tree (u + 1) s nextLinks) (sym eStarts) (subst (λ k. LinksBelow tree (u + 1) whole k) (sym eLinks) (record {
       places = places;
       last = end;
@@ -107,12 +109,15 @@ linked tree u starts links units nextStarts nextLinks l e eLinks eStarts =
     before k h = let p = l.places in earlier starts (length (links ++ units) ∷ []) k (omega arith)
 
     last_place : slice_index (starts ++ length (links ++ units) ∷ []) (u + 1) ≡ length (links ++ units)
-    last_place = subst (λ k. slice_index (starts ++ length (links ++ units) ∷ []) k ≡ length (links ++ units)) l.places (get_or-append_seam starts (length (links ++ units)) [] 0)
+    last_place =
+        subst (λ k. slice_index (starts ++ length (links ++ units) ∷ []) k ≡ length (links ++ units)) l.places
+        (get_or-append_seam starts (length (links ++ units)) [] 0)
 
     within : (k : ℕ) → k < u + 1 → slice_index (starts ++ length (links ++ units) ∷ []) (k + 1) ≤ length (links ++ units)
     within k h = elim (cases_lt k u) [
       | inl less ↦ let w = l.within k less in let b = before (k + 1) (omega arith) in let m = length-append links units in omega arith
-      | inr last ↦ let same : k ≡ u = omega arith in subst (λ j. slice_index (starts ++ length (links ++ units) ∷ []) (j + 1) ≤ length (links ++ units)) (sym same) (let p = last_place in omega arith)
+      | inr last ↦ let same : k ≡ u = omega arith in subst (λ j. slice_index (starts ++ length (links ++ units) ∷ []) (j + 1) ≤ length (links ++ units))
+          (sym same) (let p = last_place in omega arith)
     ]
 
     rises : (k : ℕ) → k < u + 1 → slice_index (starts ++ length (links ++ units) ∷ []) k ≤ slice_index (starts ++ length (links ++ units) ∷ []) (k + 1)
@@ -124,19 +129,26 @@ linked tree u starts links units nextStarts nextLinks l e eLinks eStarts =
           (let b = before u (omega arith) in let p = last_place in let q = l.last in let m = length-append links units in omega arith)
     ]
 
-    rows : (k : ℕ) → k < u + 1 → take (slice_index (starts ++ length (links ++ units) ∷ []) (k + 1) - slice_index (starts ++ length (links ++ units) ∷ []) k) (drop (slice_index (starts ++ length (links ++ units) ∷ []) k) (links ++ units)) ≡ dependencies tree k
+    rows : (k : ℕ) → k < u + 1
+        → take (slice_index (starts ++ length (links ++ units) ∷ []) (k + 1) - slice_index (starts ++ length (links ++ units) ∷ []) k) (drop (slice_index (starts ++ length (links ++ units) ∷ []) k) (links ++ units)) ≡ dependencies tree k
     rows k h = elim (cases_lt k u) [
       | inl less ↦ old_row k less (before k h) (before (k + 1) (omega arith))
-      | inr last ↦ let same : k ≡ u = omega arith in subst (λ j. take (slice_index (starts ++ length (links ++ units) ∷ []) (j + 1) - slice_index (starts ++ length (links ++ units) ∷ []) j) (drop (slice_index (starts ++ length (links ++ units) ∷ []) j) (links ++ units)) ≡ dependencies tree j) (sym same) new_row
+      | inr last ↦ let same : k ≡ u = omega arith in subst (λ j. take (slice_index (starts ++ length (links ++ units) ∷ []) (j + 1) - slice_index
+          (starts ++ length (links ++ units) ∷ []) j) (drop (slice_index (starts ++ length (links ++ units) ∷ []) j) (links ++ units)) ≡ dependencies tree j)
+          (sym same) new_row
     ]
       where
-        old_row : (k : ℕ) → k < u → slice_index (starts ++ length (links ++ units) ∷ []) k ≡ slice_index starts k → slice_index (starts ++ length (links ++ units) ∷ []) (k + 1) ≡ slice_index starts (k + 1)
-            → take (slice_index (starts ++ length (links ++ units) ∷ []) (k + 1) - slice_index (starts ++ length (links ++ units) ∷ []) k) (drop (slice_index (starts ++ length (links ++ units) ∷ []) k) (links ++ units)) ≡ dependencies tree k
+        old_row : (k : ℕ) → k < u → slice_index (starts ++ length (links ++ units) ∷ []) k ≡ slice_index starts k
+            → slice_index (starts ++ length (links ++ units) ∷ []) (k + 1) ≡ slice_index starts (k + 1)
+            → take (slice_index (starts ++ length (links ++ units) ∷ []) (k + 1) - slice_index (starts ++ length (links ++ units) ∷ []) k)
+            (drop (slice_index (starts ++ length (links ++ units) ∷ []) k) (links ++ units)) ≡ dependencies tree k
         old_row k less b c =
             let r = l.rises k less in
             let w = l.within k less in
-            let room : slice_index starts (k + 1) - slice_index starts k ≤ length (drop (slice_index starts k) links) = omega (arith, length-drop (slice_index starts k) links) in
-            ap (λ i. take (i - slice_index (starts ++ length (links ++ units) ∷ []) k) (drop (slice_index (starts ++ length (links ++ units) ∷ []) k) (links ++ units))) c
+            let room : slice_index starts (k + 1) - slice_index starts k ≤ length (drop (slice_index starts k) links) = omega
+            (arith, length-drop (slice_index starts k) links) in
+            ap (λ i. take (i - slice_index (starts ++ length (links ++ units) ∷ []) k)
+            (drop (slice_index (starts ++ length (links ++ units) ∷ []) k) (links ++ units))) c
             ∙ ap (λ i. take (slice_index starts (k + 1) - i) (drop i (links ++ units))) b
             ∙ ap (take (slice_index starts (k + 1) - slice_index starts k)) (drop-append-le (slice_index starts k) links units (omega arith))
             ∙ take-append-le (slice_index starts (k + 1) - slice_index starts k) (drop (slice_index starts k) links) units room
@@ -146,7 +158,8 @@ linked tree u starts links units nextStarts nextLinks l e eLinks eStarts =
         new_row =
             let b : slice_index (starts ++ length (links ++ units) ∷ []) u ≡ length links = before u (omega arith) ∙ l.last in
             let size : length (links ++ units) - length links ≡ length units = omega (arith, length-append links units) in
-            ap (λ i. take (i - slice_index (starts ++ length (links ++ units) ∷ []) u) (drop (slice_index (starts ++ length (links ++ units) ∷ []) u) (links ++ units))) last_place
+            ap (λ i. take (i - slice_index (starts ++ length (links ++ units) ∷ []) u)
+            (drop (slice_index (starts ++ length (links ++ units) ∷ []) u) (links ++ units))) last_place
             ∙ ap (λ i. take (length (links ++ units) - i) (drop i (links ++ units))) b
             ∙ ap (λ i. take i (drop (length links) (links ++ units))) size
             ∙ ap (take (length units)) (drop-append_seam links units)

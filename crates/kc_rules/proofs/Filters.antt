@@ -12,7 +12,8 @@ one_kept p n = refl
 filter_behind : (p : ℕ → Bool) (xs : List ℕ) (n : ℕ) → filter p (xs ++ n ∷ []) ≡ filter p xs ++ cond (p n) (n ∷ []) []
 filter_behind p [] n = one_kept p n
 filter_behind p (x ∷ xs) n = by_test (p x) (filter_behind p xs n) where
-  by_test : (t : Bool) → filter p (xs ++ n ∷ []) ≡ filter p xs ++ cond (p n) (n ∷ []) [] → cond t (x ∷ filter p (xs ++ n ∷ [])) (filter p (xs ++ n ∷ [])) ≡ cond t (x ∷ filter p xs) (filter p xs) ++ cond (p n) (n ∷ []) []
+  by_test : (t : Bool) → filter p (xs ++ n ∷ []) ≡ filter p xs ++ cond (p n) (n ∷ []) []
+      → cond t (x ∷ filter p (xs ++ n ∷ [])) (filter p (xs ++ n ∷ [])) ≡ cond t (x ∷ filter p xs) (filter p xs) ++ cond (p n) (n ∷ []) []
   by_test true e = ap (λ ys. x ∷ ys) e
   by_test false e = e
 
@@ -21,12 +22,14 @@ range_behind a zero = ap (λ k. k ∷ []) (omega arith)
 range_behind a (suc n) = ap (λ ys. a ∷ ys) (range_behind (a + 1) n ∙ ap (λ k. range_with_len (a + 1) n ++ k ∷ []) (omega arith))
 
 -- one more number
-pub filter_more : (p : ℕ → Bool) (n s : ℕ) (t : Bool) (old new : List ℕ) → s ≡ n → t ≡ p s → old ≡ filter p (range_with_len 0 n) → new ≡ old ++ cond t (s ∷ []) [] → new ≡ filter p (range_with_len 0 (n + 1))
+pub filter_more : (p : ℕ → Bool) (n s : ℕ) (t : Bool) (old new : List ℕ) → s ≡ n → t ≡ p s → old ≡ filter p (range_with_len 0 n)
+    → new ≡ old ++ cond t (s ∷ []) [] → new ≡ filter p (range_with_len 0 (n + 1))
 filter_more p n s t old new es et eo en =
     en ∙ ap (λ ys. ys ++ cond t (s ∷ []) []) eo
     ∙ ap (λ u. filter p (range_with_len 0 n) ++ cond u (s ∷ []) []) et
     ∙ ap (λ k. filter p (range_with_len 0 n) ++ cond (p k) (k ∷ []) []) es
-    ∙ sym (ap (λ k. filter p (range_with_len 0 k)) next ∙ ap (filter p) (range_behind 0 n ∙ ap (λ k. range_with_len 0 n ++ k ∷ []) zero_plus) ∙ filter_behind p (range_with_len 0 n) n)
+    ∙ sym (ap (λ k. filter p (range_with_len 0 k)) next ∙ ap (filter p) (range_behind 0 n ∙ ap (λ k. range_with_len 0 n ++ k ∷ []) zero_plus)
+    ∙ filter_behind p (range_with_len 0 n) n)
   where
     next : n + 1 ≡ suc n
     next = omega arith

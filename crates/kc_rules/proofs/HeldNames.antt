@@ -29,4 +29,6 @@ module _ (tree : Tree) (values : List UnitValue) (names : List (List ℕ)) (held
   all_names x = at_place x (index_of_name x names) refl
 
   pub values_agree : (e : Expr) → value (environment_of names (symbol_value_at tree values names)) e ≡ condition tree values e
-  values_agree e = value_agrees (environment_of names (symbol_value_at tree values names)) (environment tree values) e (every (λ x. environment_of names (symbol_value_at tree values names) x ≡ environment tree values x) all_names (names_in e))
+  values_agree e =
+      value_agrees (environment_of names (symbol_value_at tree values names)) (environment tree values) e
+      (every (λ x. environment_of names (symbol_value_at tree values names) x ≡ environment tree values x) all_names (names_in e))

@@ -14,9 +14,11 @@ use Rattle.kc_expr.specs.between.Visits.{mentions}
 use Rattle.kc_rules.specs.checker.Links.{is_at, has, AreUnits}
 
 -- one more element
-pub any_pushed : {X : Type 0} (m : X → Bool) (xs : List X) (i : ℕ) (x : X) (start old new : Bool) → i < length xs → x ≡ get_or xs i x → new ≡ (old || m x) → old ≡ (start || list_any m (take i xs)) → new ≡ (start || list_any m (take (i + 1) xs))
+pub any_pushed : {X : Type 0} (m : X → Bool) (xs : List X) (i : ℕ) (x : X) (start old new : Bool) → i < length xs → x ≡ get_or xs i x → new ≡ (old || m x)
+    → old ≡ (start || list_any m (take i xs)) → new ≡ (start || list_any m (take (i + 1) xs))
 any_pushed m xs i x start old new h e a b =
-    a ∙ ap (λ t. t || m x) b ∙ or_assoc start (list_any m (take i xs)) (m x) ∙ ap (λ t. start || t) (ap (λ y. list_any m (take i xs) || m y) e ∙ sym (list_any_more m xs i x h))
+    a ∙ ap (λ t. t || m x) b ∙ or_assoc start (list_any m (take i xs)) (m x)
+    ∙ ap (λ t. start || t) (ap (λ y. list_any m (take i xs) || m y) e ∙ sym (list_any_more m xs i x h))
 
 pub any_same : {X : Type 0} (p q : X → Bool) → ((x : X) → p x ≡ q x) → (xs : List X) → list_any p xs ≡ list_any q xs
 any_same p q f [] = refl
@@ -60,4 +62,6 @@ pub has_pushed : (old new : List ℕ) (u d : ℕ) → new ≡ old ++ u ∷ [] �
 has_pushed old new u d e = ap (λ us. has us d) e ∙ list_any-append (λ m. m == d) old (u ∷ []) ∙ ap (λ t. has old d || t) (sym (nothing_more (u == d)))
 
 pub units_pushed : (tree : Tree) (old new : List ℕ) (u : ℕ) → new ≡ old ++ u ∷ [] → u < length tree.units → AreUnits tree old → AreUnits tree new
-units_pushed tree old new u e below all = subst (λ us. AreUnits tree us) (sym e) (All-append (λ w. w < length tree.units) old (u ∷ []) all (All-cons (λ w. w < length tree.units) u [] below (All-nil (λ w. w < length tree.units))))
+units_pushed tree old new u e below all =
+    subst (λ us. AreUnits tree us) (sym e) (All-append (λ w. w < length tree.units) old (u ∷ []) all
+    (All-cons (λ w. w < length tree.units) u [] below (All-nil (λ w. w < length tree.units))))

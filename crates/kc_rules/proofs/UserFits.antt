@@ -24,7 +24,8 @@ of_kind symbol (TriUser t) = refl
 of_kind symbol (TextUser text) = refl
 of_kind symbol (MemberUser s) = refl
 
-pub fits_symbol : (tree : Tree) (u s : ℕ) (symbol : Symbol) (x : UserValue) → slice_get tree.units u ≡ Some (of_symbol s) → slice_get tree.symbols s ≡ Some symbol → kind_user_fits symbol.kind x ≡ user_fits tree u x
+pub fits_symbol : (tree : Tree) (u s : ℕ) (symbol : Symbol) (x : UserValue) → slice_get tree.units u ≡ Some (of_symbol s)
+    → slice_get tree.symbols s ≡ Some symbol → kind_user_fits symbol.kind x ≡ user_fits tree u x
 unfolding user_fits
 fits_symbol tree u s symbol x e f = of_kind symbol x ∙ sym (ap (λ o. unit_user_fits tree o x) e ∙ ap (λ o. symbol_user_fits o x) f)
 
@@ -33,6 +34,7 @@ of_members choice (TriUser t) = refl
 of_members choice (TextUser text) = refl
 of_members choice (MemberUser s) = refl
 
-pub fits_choice : (tree : Tree) (u c : ℕ) (choice : Choice) (x : UserValue) → slice_get tree.units u ≡ Some (of_choice c) → slice_get tree.choices c ≡ Some choice → member_user_fits choice.members x ≡ user_fits tree u x
+pub fits_choice : (tree : Tree) (u c : ℕ) (choice : Choice) (x : UserValue) → slice_get tree.units u ≡ Some (of_choice c)
+    → slice_get tree.choices c ≡ Some choice → member_user_fits choice.members x ≡ user_fits tree u x
 unfolding user_fits
 fits_choice tree u c choice x e f = of_members choice x ∙ sym (ap (λ o. unit_user_fits tree o x) e ∙ ap (λ o. choice_user_fits o x) f)

@@ -1,4 +1,3 @@
-pub mod SettledViews
-pub mod Metered
 pub mod SettleFaults
+pub mod between
 pub mod checker

@@ -1,7 +1,7 @@
 //! The rule of choices.
 ghost use Rattle.std.specs.Prelude.{◌≡◌, ◌<◌, ◌&&◌, not, length, map, find, IfSome};
 ghost use Rattle.kc_tree.specs.between.Views.{choice_view, member_default_view, ChoiceFits};
-ghost use Rattle.kc_rules.specs.checker.StoredRules.{AreMemberDefaults, AreMembers, default_member_of, is_open, choice_rule_of};
+ghost use Rattle.kc_rules.specs.checker.StoredRules.{AreMemberDefaults, AreMembers, default_member_of, is_open, selection_without_user_of, choice_rule_of};
 ghost use Rattle.kc_rules_model.specs.Rule.{is_shown, is_visible_member};
 ghost use Rattle.kc_rules.specs.checker.ValuationView.{valuation_tree, valuation_exprs, valuation_values};
 
@@ -12,8 +12,8 @@ use kc_tree::{Choice, MemberDefault, Sym};
 
 /// Whether the prompt's condition isn't `n`; without a prompt never.
 fn is_shown(under: &Valuation<'_>, choice: &Choice<'_>) -> bool
-    requires { ChoiceFits (valuation_exprs under.now) (length (valuation_tree under.now).symbols) choice.now }
-    ensures { result ≡ is_shown (valuation_tree under.now) (valuation_values under.now) (choice_view (valuation_exprs under.now) choice.now) }
+    requires fits { ChoiceFits (valuation_exprs under.now) (length (valuation_tree under.now).symbols) choice.now }
+    ensures value { result ≡ is_shown (valuation_tree under.now) (valuation_values under.now) (choice_view (valuation_exprs under.now) choice.now) }
 {
     match choice.prompt {
         None => false,
@@ -23,8 +23,8 @@ fn is_shown(under: &Valuation<'_>, choice: &Choice<'_>) -> bool
 
 /// Whether a member is visible.
 fn is_member_visible(under: &Valuation<'_>, s: Sym) -> bool
-    requires { s < length (valuation_tree under.now).symbols }
-    ensures { result ≡ is_visible_member (valuation_tree under.now) (valuation_values under.now) s }
+    requires there { s < length (valuation_tree under.now).symbols }
+    ensures value { result ≡ is_visible_member (valuation_tree under.now) (valuation_values under.now) s }
 {
     is_visible(under, &under.rules.tree.symbol(s))
 }
@@ -33,15 +33,15 @@ fn is_member_visible(under: &Valuation<'_>, s: Sym) -> bool
 fn is_default_open(under: &Valuation<'_>, default: MemberDefault) -> bool
     requires member { default.member < length (valuation_tree under.now).symbols }
     requires condition { default.condition < length (valuation_exprs under.now).nodes }
-    ensures { result ≡ is_open (valuation_tree under.now) (valuation_values under.now) (member_default_view (valuation_exprs under.now) default) }
+    ensures value { result ≡ is_open (valuation_tree under.now) (valuation_values under.now) (member_default_view (valuation_exprs under.now) default) }
 {
     !is_n(under.condition(default.condition)) && is_member_visible(under, default.member)
 }
 
 /// The first default whose condition isn't `n` and whose member is visible.
 fn default_member(under: &Valuation<'_>, defaults: &[MemberDefault]) -> Option<Sym>
-    requires { AreMemberDefaults (valuation_exprs under.now) (valuation_tree under.now) defaults.now }
-    ensures { result ≡ default_member_of (valuation_tree under.now) (valuation_values under.now) (map (member_default_view (valuation_exprs under.now)) defaults.now) }
+    requires fits { AreMemberDefaults (valuation_exprs under.now) (valuation_tree under.now) defaults.now }
+    ensures value { result ≡ default_member_of (valuation_tree under.now) (valuation_values under.now) (map (member_default_view (valuation_exprs under.now)) defaults.now) }
 {
     for default in defaults {
         if is_default_open(under, *default) {
@@ -53,8 +53,8 @@ fn default_member(under: &Valuation<'_>, defaults: &[MemberDefault]) -> Option<S
 
 /// The first visible member.
 fn first_member(under: &Valuation<'_>, members: &[Sym]) -> Option<Sym>
-    requires { AreMembers (valuation_tree under.now) members.now }
-    ensures { result ≡ find (is_visible_member (valuation_tree under.now) (valuation_values under.now)) members.now }
+    requires fits { AreMembers (valuation_tree under.now) members.now }
+    ensures value { result ≡ find (is_visible_member (valuation_tree under.now) (valuation_values under.now)) members.now }
 {
     for s in members {
         if is_member_visible(under, *s) {
@@ -62,6 +62,20 @@ fn first_member(under: &Valuation<'_>, members: &[Sym]) -> Option<Sym>
         }
     }
     None
+}
+
+/// The selection of a choice without a user's: the first default's member or the first, of an optional choice none.
+fn selection_without_user(under: &Valuation<'_>, choice: &Choice<'_>) -> Option<Sym>
+    requires { ChoiceFits (valuation_exprs under.now) (length (valuation_tree under.now).symbols) choice.now }
+    ensures { result ≡ selection_without_user_of (valuation_tree under.now) (choice_view (valuation_exprs under.now) choice.now) (valuation_values under.now) }
+{
+    if choice.optional {
+        return None;
+    }
+    if let Some(s) = default_member(under, choice.defaults) {
+        return Some(s);
+    }
+    first_member(under, choice.members)
 }
 
 /// The selection of a choice.
@@ -72,7 +86,7 @@ pub(crate) fn choice_rule(
 ) -> Option<Sym>
     requires fits { ChoiceFits (valuation_exprs under.now) (length (valuation_tree under.now).symbols) choice.now }
     requires user { IfSome user (λ s. s < length (valuation_tree under.now).symbols) }
-    ensures { result ≡ choice_rule_of (valuation_tree under.now) (choice_view (valuation_exprs under.now) choice.now) user (valuation_values under.now) }
+    ensures value { result ≡ choice_rule_of (valuation_tree under.now) (choice_view (valuation_exprs under.now) choice.now) user (valuation_values under.now) }
 {
     if !is_shown(under, choice) {
         return None;
@@ -82,8 +96,5 @@ pub(crate) fn choice_rule(
             return Some(s);
         }
     }
-    if let Some(s) = default_member(under, choice.defaults) {
-        return Some(s);
-    }
-    first_member(under, choice.members)
+    selection_without_user(under, choice)
 }

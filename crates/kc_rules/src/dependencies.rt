@@ -23,7 +23,7 @@ fn push_reverse_dependencies(
     all: &[ReverseDependency],
     units: &mut Vec<u32>,
 ) -> Result<(), AllocError>
-    requires { AreReverseDependencies tree.now.exprs tree.now.tree all.now }
+    requires fits { AreReverseDependencies tree.now.exprs tree.now.tree all.now }
     ensures units { (d : ℕ) → OnOk result (has units.new.items d ≡ (has units.old.items d || depends_on_reverse tree.now.tree d all.now)) }
     ensures below { AreUnits tree.now.tree units.old.items → OnOk result (AreUnits tree.now.tree units.new.items) }
 {
@@ -36,7 +36,7 @@ fn push_reverse_dependencies(
 /// Appends the unit of a symbol, if there is one.
 #[tactic(auto, using(crate::proofs::Pushes::nothing_more))]
 fn push_unit(tree: &Tree, symbol: &Option<Sym>, units: &mut Vec<u32>) -> Result<(), AllocError>
-    requires { IfSome symbol.now (λ s. s < length tree.now.tree.symbols) }
+    requires there { IfSome symbol.now (λ s. s < length tree.now.tree.symbols) }
     ensures units { (d : ℕ) → OnOk result (has units.new.items d ≡ (has units.old.items d || is_at d (option_map (unit_of tree.now.tree) symbol.now))) }
     ensures below { AreUnits tree.now.tree units.old.items → OnOk result (AreUnits tree.now.tree units.new.items) }
 {
@@ -51,7 +51,7 @@ fn push_unit(tree: &Tree, symbol: &Option<Sym>, units: &mut Vec<u32>) -> Result<
 
 /// Appends the unit of a name, if it is defined.
 fn push_named(tree: &Tree, name: NameId, units: &mut Vec<u32>) -> Result<(), AllocError>
-    requires { IsConsistent tree.now.tree }
+    requires consistent { IsConsistent tree.now.tree }
     ensures units { (d : ℕ) → OnOk result (has units.new.items d ≡ (has units.old.items d || is_of tree.now.tree d (slice_index_or tree.now.exprs.names name []))) }
     ensures below { AreUnits tree.now.tree units.old.items → OnOk result (AreUnits tree.now.tree units.new.items) }
 {
@@ -61,7 +61,7 @@ fn push_named(tree: &Tree, name: NameId, units: &mut Vec<u32>) -> Result<(), All
 
 /// Appends the units of the defined names.
 fn push_units(tree: &Tree, names: &[NameId], units: &mut Vec<u32>) -> Result<(), AllocError>
-    requires { IsConsistent tree.now.tree }
+    requires consistent { IsConsistent tree.now.tree }
     ensures units { (d : ℕ) → OnOk result (has units.new.items d ≡ (has units.old.items d || list_any (λ i. is_of tree.now.tree d (slice_index_or tree.now.exprs.names i [])) names.now)) }
     ensures below { AreUnits tree.now.tree units.old.items → OnOk result (AreUnits tree.now.tree units.new.items) }
 {
@@ -79,7 +79,7 @@ fn push_modules(
     kind: Kind,
     units: &mut Vec<u32>,
 ) -> Result<(), AllocError>
-    requires { IfSome modules.now (λ s. s < length tree.now.tree.symbols) }
+    requires there { IfSome modules.now (λ s. s < length tree.now.tree.symbols) }
     ensures units { (d : ℕ) → OnOk result (has units.new.items d ≡ (has units.old.items d || by_modules tree.now.tree d kind modules.now)) }
     ensures below { AreUnits tree.now.tree units.old.items → OnOk result (AreUnits tree.now.tree units.new.items) }
 {

@@ -50,8 +50,8 @@ fn symbol_rule(
     symbol: &Symbol<'_>,
     user: Option<&UserValue>,
 ) -> Result<UnitValue, AllocError>
-    requires { SymbolFits (valuation_exprs under.now) (length (valuation_tree under.now).symbols) symbol.now }
-    ensures { IfOk result (λ value. value ≡ symbol_rule (symbol_view (valuation_exprs under.now) symbol.now).kind profile (valuation_tree under.now) (symbol_view (valuation_exprs under.now) symbol.now) (option_copied user.entry) (valuation_values under.now)) }
+    requires fits { SymbolFits (valuation_exprs under.now) (length (valuation_tree under.now).symbols) symbol.now }
+    ensures ok { IfOk result (λ value. value ≡ symbol_rule (symbol_view (valuation_exprs under.now) symbol.now).kind profile (valuation_tree under.now) (symbol_view (valuation_exprs under.now) symbol.now) (option_copied user.entry) (valuation_values under.now)) }
 {
     match symbol.kind {
         Kind::Bool => Ok(UnitValue::Tri(tri_rule(under, profile, symbol, assigned_tri(user)))),
@@ -72,7 +72,7 @@ pub(crate) fn value_of(
 ) -> Result<UnitValue, AllocError>
     requires unit { u < length rules.now.tree.tree.units }
     requires user { IfSome (option_copied user) (λ x. IsTrue (user_fits rules.now.tree.tree u x)) }
-    ensures { IfOk result (λ value. value ≡ rule rules.now.profile rules.now.tree.tree u (option_copied user.entry) values.now) }
+    ensures ok { IfOk result (λ value. value ≡ rule rules.now.profile rules.now.tree.tree u (option_copied user.entry) values.now) }
 {
     let under = &Valuation { rules, values };
     match rules.tree.unit(u) {

@@ -5,7 +5,7 @@ ghost use Rattle.kc_expr.specs.Lookup.{symbol_value_of};
 ghost use Rattle.kc_rules_model.specs.SymbolValues.{value_of_symbol, condition};
 ghost use Rattle.kc_rules_model.specs.Dependencies.{dependencies};
 ghost use Rattle.kc_rules_model.specs.SettledTrees.{IsSettledTree};
-ghost use Rattle.kc_rules.specs.SettledViews.{tree_model_of, tree_of_settled, profile_of, value_view, value_of_ref};
+ghost use Rattle.kc_rules.specs.between.SettledViews.{tree_model_of, tree_of_settled, profile_of, value_view, value_of_ref};
 ghost use Rattle.kc_system.specs.Dependencies.{IsOrder};
 
 use super::rules::Settled;
@@ -42,8 +42,8 @@ impl Settled {
 
     /// The value of a symbol, given the values of the units: its type, its tristate value and its text.
     pub fn value_of_symbol<'a>(&'a self, s: Sym, values: &'a [UnitValue]) -> Looked<'a>
-        requires { s < length (tree_of_settled self.now).symbols }
-        ensures { value_of_symbol (tree_of_settled self.now) values.now s ≡ Some (symbol_value_of result) }
+        requires there { s < length (tree_of_settled self.now).symbols }
+        ensures value { value_of_symbol (tree_of_settled self.now) values.now s ≡ Some (symbol_value_of result) }
     {
         let under = Valuation {
             rules: &self.rules,
@@ -55,8 +55,8 @@ impl Settled {
     /// The value of a symbol under values of the units: of a bool or tristate a tristate, else a text. A member of a
     /// choice is `y` if it is the choice's value, else `n` ("Choices").
     pub fn symbol_value<'a>(&'a self, s: Sym, values: &'a [UnitValue]) -> ValueRef<'a>
-        requires { s < length (tree_of_settled self.now).symbols }
-        ensures { option_map value_view (value_of_symbol (tree_of_settled self.now) values.now s) ≡ Some (value_of_ref result) }
+        requires there { s < length (tree_of_settled self.now).symbols }
+        ensures value { option_map value_view (value_of_symbol (tree_of_settled self.now) values.now s) ≡ Some (value_of_ref result) }
     {
         let seen = self.value_of_symbol(s, values);
         match seen.kind {
@@ -70,8 +70,8 @@ impl Settled {
 
     /// The value of an expression of the tree's arena under values of the units ("Menu dependencies").
     pub fn condition(&self, id: ExprId, values: &[UnitValue]) -> Tri
-        requires { id < length (tree_model_of self.now).exprs.nodes }
-        ensures { result ≡ condition (tree_of_settled self.now) values.now (node_expr (tree_model_of self.now).exprs id) }
+        requires there { id < length (tree_model_of self.now).exprs.nodes }
+        ensures value { result ≡ condition (tree_of_settled self.now) values.now (node_expr (tree_model_of self.now).exprs id) }
     {
         let under = Valuation {
             rules: &self.rules,

@@ -2,12 +2,12 @@
 ghost use Rattle.std.specs.Prelude.{◌≡◌, ◌<◌, ◌++◌, ◌∷◌, [], length, nat_lt, IfOk, OnOk, if◌then◌else◌};
 ghost use Rattle.kc_value.specs.Tri.{rank};
 ghost use Rattle.kc_tree.specs.between.Views.{SymbolFits, symbol_view};
-ghost use Rattle.kc_rules_model.specs.Reports.{has_default, is_written_symbol, is_written, is_unmet_symbol, is_unmet, unmet};
-ghost use Rattle.kc_rules.specs.SettledViews.{tree_of_settled};
+ghost use Rattle.kc_rules_model.specs.Reports.{has_default, is_unselected, is_written_symbol, is_written, is_unmet_symbol, is_unmet, unmet};
+ghost use Rattle.kc_rules.specs.between.SettledViews.{tree_of_settled};
 ghost use Rattle.kc_rules.specs.checker.ValuationView.{valuation_tree, valuation_exprs, valuation_values};
 
 use super::rules::Settled;
-use super::symbol_values::is_n;
+use super::symbol_values::{has_no_member, is_n};
 use super::text_rules::active_default;
 use super::tristate_rules::{default_value, is_visible, largest, reverse_limit};
 use super::valuation::Valuation;
@@ -18,8 +18,8 @@ use std::alloc::{AllocError, Global};
 
 /// Whether a bool or tristate has a default that isn't `n`, or another symbol a default that counts.
 fn has_default(under: &Valuation<'_>, symbol: &Symbol<'_>) -> bool
-    requires { SymbolFits (valuation_exprs under.now) (length (valuation_tree under.now).symbols) symbol.now }
-    ensures { result ≡ has_default (valuation_tree under.now) (valuation_values under.now) (symbol_view (valuation_exprs under.now) symbol.now) }
+    requires fits { SymbolFits (valuation_exprs under.now) (length (valuation_tree under.now).symbols) symbol.now }
+    ensures value { result ≡ has_default (valuation_tree under.now) (valuation_values under.now) (symbol_view (valuation_exprs under.now) symbol.now) }
 {
     match symbol.kind {
         Kind::Bool => !is_n(default_value(under, symbol.defaults)),
@@ -30,12 +30,26 @@ fn has_default(under: &Valuation<'_>, symbol: &Symbol<'_>) -> bool
     }
 }
 
+/// Whether this choice, if it is one, is optional and has no selection.
+fn is_unselected(under: &Valuation<'_>, choice: Option<u32>) -> bool
+    ensures { result ≡ is_unselected (valuation_tree under.now) (valuation_values under.now) choice }
+{
+    let Some(c) = choice else {
+        return false;
+    };
+    if c >= under.rules.tree.choice_count() {
+        return false;
+    }
+    let choice = under.rules.tree.choice(c);
+    choice.optional && has_no_member(under.values.get(choice.unit as usize))
+}
+
 /// Whether a full file has the symbol.
 fn is_symbol_written(under: &Valuation<'_>, symbol: &Symbol<'_>) -> bool
-    requires { SymbolFits (valuation_exprs under.now) (length (valuation_tree under.now).symbols) symbol.now }
-    ensures { result ≡ is_written_symbol (valuation_tree under.now) (valuation_values under.now) (symbol_view (valuation_exprs under.now) symbol.now) }
+    requires fits { SymbolFits (valuation_exprs under.now) (length (valuation_tree under.now).symbols) symbol.now }
+    ensures value { result ≡ is_written_symbol (valuation_tree under.now) (valuation_values under.now) (symbol_view (valuation_exprs under.now) symbol.now) }
 {
-    if is_visible(under, symbol) {
+    if is_visible(under, symbol) && !is_unselected(under, symbol.choice) {
         return true;
     }
     if symbol.choice.is_some() {
@@ -65,8 +79,8 @@ fn is_below(a: Tri, b: Tri) -> bool
 
 /// Whether a symbol outside choices is selected above its direct dependency.
 fn is_symbol_unmet(under: &Valuation<'_>, symbol: &Symbol<'_>) -> bool
-    requires { SymbolFits (valuation_exprs under.now) (length (valuation_tree under.now).symbols) symbol.now }
-    ensures { result ≡ is_unmet_symbol (valuation_tree under.now) (valuation_values under.now) (symbol_view (valuation_exprs under.now) symbol.now) }
+    requires fits { SymbolFits (valuation_exprs under.now) (length (valuation_tree under.now).symbols) symbol.now }
+    ensures value { result ≡ is_unmet_symbol (valuation_tree under.now) (valuation_values under.now) (symbol_view (valuation_exprs under.now) symbol.now) }
 {
     if symbol.choice.is_some() {
         return false;
@@ -79,8 +93,8 @@ fn is_symbol_unmet(under: &Valuation<'_>, symbol: &Symbol<'_>) -> bool
 
 /// Whether a symbol is outside choices and selected above its direct dependency, by its number.
 fn is_unmet(under: &Valuation<'_>, s: Sym) -> bool
-    requires { s < length (valuation_tree under.now).symbols }
-    ensures { result ≡ is_unmet (valuation_tree under.now) (valuation_values under.now) s }
+    requires there { s < length (valuation_tree under.now).symbols }
+    ensures value { result ≡ is_unmet (valuation_tree under.now) (valuation_values under.now) s }
 {
     is_symbol_unmet(under, &under.rules.tree.symbol(s))
 }
@@ -102,8 +116,8 @@ impl Settled {
     /// Whether a full file has the symbol: each that is visible, and outside choices each that has a default, is
     /// selected, or is implied where its direct dependency isn't `n`. Takes no memory.
     pub fn written(&self, s: Sym, values: &[UnitValue]) -> bool
-        requires { s < length (tree_of_settled self.now).symbols }
-        ensures { result ≡ is_written (tree_of_settled self.now) values.now s }
+        requires there { s < length (tree_of_settled self.now).symbols }
+        ensures value { result ≡ is_written (tree_of_settled self.now) values.now s }
     {
         let under = Valuation {
             rules: &self.rules,

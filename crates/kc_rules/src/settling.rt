@@ -4,7 +4,7 @@ ghost use Rattle.kc_system.specs.Dependencies.{HasNoCycle};
 ghost use Rattle.kc_system.specs.Faults.{ReportsCycle};
 ghost use Rattle.kc_rules_model.specs.Dependencies.{dependencies};
 ghost use Rattle.kc_rules_model.specs.SettledTrees.{IsSettledTree};
-ghost use Rattle.kc_rules.specs.SettledViews.{tree_model_of, profile_of};
+ghost use Rattle.kc_rules.specs.between.SettledViews.{tree_model_of, profile_of};
 ghost use Rattle.kc_rules.specs.SettleFaults.{ReportsTreeCycle};
 
 use super::dependencies::{Links, links_of};

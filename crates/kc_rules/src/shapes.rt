@@ -3,7 +3,7 @@ ghost use Rattle.std.specs.Prelude.{◌≡◌, ◌<◌, ◌==◌, length};
 ghost use Rattle.std.specs.List.{list_any};
 ghost use Rattle.kc_tree_model.specs.TreeLookup.{has_newline};
 ghost use Rattle.kc_rules_model.specs.Shapes.{tri_fits, user_text_fits, user_fits};
-ghost use Rattle.kc_rules.specs.SettledViews.{tree_of_settled};
+ghost use Rattle.kc_rules.specs.between.SettledViews.{tree_of_settled};
 ghost use Rattle.kc_rules.specs.checker.Fits.{kind_user_fits, member_user_fits};
 
 use super::rules::Settled;
@@ -91,8 +91,8 @@ impl Settled {
     /// Whether a user value has the shape of a unit: a bool isn't `m`, the text of an int or hex is a number of its
     /// type, that of a string has no newline, and a choice has a member of its own. Takes no memory.
     pub fn user_fits(&self, u: u32, value: &UserValue) -> bool
-        requires { u < length (tree_of_settled self.now).units }
-        ensures { result ≡ user_fits (tree_of_settled self.now) u value.now }
+        requires there { u < length (tree_of_settled self.now).units }
+        ensures value { result ≡ user_fits (tree_of_settled self.now) u value.now }
     {
         match self.rules.tree.unit(u) {
             Unit::Symbol(s) => is_kind_fit(self.rules.tree.symbol(s).kind, value),

@@ -9,7 +9,7 @@ pub struct Steps {
 }
 
 impl Steps {
-    ghost use Rattle.kc_rules.specs.Metered.{counted};
+    ghost use Rattle.kc_rules.specs.between.Metered.{counted};
 
     /// None counted.
     pub fn new() -> Steps

@@ -1,5 +1,5 @@
 //! Values of symbols and expressions.
-ghost use Rattle.std.specs.Prelude.{◌≡◌, ◌<◌, length, Some, option_map};
+ghost use Rattle.std.specs.Prelude.{◌≡◌, ◌<◌, length, Some, is_none, option_map};
 ghost use Rattle.std.specs.Option.{option_copied};
 ghost use Rattle.kc_expr.specs.between.Arena.{node_expr};
 ghost use Rattle.kc_expr.specs.Expr.{letter, symbol_tri};
@@ -73,6 +73,13 @@ fn tri_if_member(held: Option<&UnitValue>, s: Sym) -> Tri
     }
 }
 
+/// Whether a unit's value is no member.
+pub(crate) fn has_no_member(held: Option<&UnitValue>) -> bool
+    ensures { result ≡ is_none (member_of (option_copied held.entry)) }
+{
+    !matches!(held, Some(UnitValue::Member(Some(_))))
+}
+
 /// A tristate, and its letter.
 fn tri_value_ref(kind: Kind, tri: Tri) -> Looked<'static>
     ensures { symbol_value_of result ≡ tri_symbol_value kind tri }
@@ -87,8 +94,8 @@ fn tri_value_ref(kind: Kind, tri: Tri) -> Looked<'static>
 impl<'a> Valuation<'a> {
     /// The value of a symbol.
     pub(crate) fn symbol(&self, s: Sym) -> Looked<'a>
-        requires { s < length (valuation_tree self.now).symbols }
-        ensures { value_of_symbol (valuation_tree self.now) (valuation_values self.now) s ≡ Some (symbol_value_of result) }
+        requires there { s < length (valuation_tree self.now).symbols }
+        ensures value { value_of_symbol (valuation_tree self.now) (valuation_values self.now) s ≡ Some (symbol_value_of result) }
     {
         let symbol = self.rules.tree.symbol(s);
         let held = self.values.get(symbol.unit as usize);
@@ -107,8 +114,8 @@ impl<'a> Valuation<'a> {
 
     /// The value of a symbol as a tristate, `n` where it has another type.
     pub(crate) fn tristate(&self, s: Sym) -> Tri
-        requires { s < length (valuation_tree self.now).symbols }
-        ensures { result ≡ symbol_tri (value_of_symbol (valuation_tree self.now) (valuation_values self.now) s) }
+        requires there { s < length (valuation_tree self.now).symbols }
+        ensures value { result ≡ symbol_tri (value_of_symbol (valuation_tree self.now) (valuation_values self.now) s) }
     {
         let seen = self.symbol(s);
         match seen.kind {
@@ -129,16 +136,16 @@ impl<'a> Valuation<'a> {
 
     /// The value of an expression.
     pub(crate) fn condition(&self, id: ExprId) -> Tri
-        requires { id < length (valuation_exprs self.now).nodes }
-        ensures { result ≡ condition (valuation_tree self.now) (valuation_values self.now) (node_expr (valuation_exprs self.now) id) }
+        requires there { id < length (valuation_exprs self.now).nodes }
+        ensures value { result ≡ condition (valuation_tree self.now) (valuation_values self.now) (node_expr (valuation_exprs self.now) id) }
     {
         self.rules.tree.arena().value(id, self)
     }
 
     /// The text that an operand represents, and none for another expression.
     pub(crate) fn operand_text(&self, id: ExprId) -> &str
-        requires { id < length (valuation_exprs self.now).nodes }
-        ensures { result.now ≡ expression_text (valuation_tree self.now) (valuation_values self.now) (node_expr (valuation_exprs self.now) id) }
+        requires there { id < length (valuation_exprs self.now).nodes }
+        ensures value { result.now ≡ expression_text (valuation_tree self.now) (valuation_values self.now) (node_expr (valuation_exprs self.now) id) }
     {
         let arena = self.rules.tree.arena();
         match &arena.operand(id) {

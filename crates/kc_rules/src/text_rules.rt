@@ -19,7 +19,7 @@ use std::alloc::{AllocError, Global};
 
 /// The value of the first default whose condition isn't `n`.
 pub(crate) fn active_default(under: &Valuation<'_>, defaults: &[Default]) -> Option<ExprId>
-    requires { AreDefaults (valuation_exprs under.now) defaults.now }
+    requires fits { AreDefaults (valuation_exprs under.now) defaults.now }
     ensures value { option_map (node_expr (valuation_exprs under.now)) result ≡ active_value_of (valuation_tree under.now) (valuation_values under.now) (map (default_view (valuation_exprs under.now)) defaults.now) }
     ensures there { IfSome result (λ i. i < length (valuation_exprs under.now).nodes) }
 {
@@ -33,8 +33,8 @@ pub(crate) fn active_default(under: &Valuation<'_>, defaults: &[Default]) -> Opt
 
 /// The text of the active default, empty without one.
 fn default_text<'a>(under: &'a Valuation<'a>, symbol: &Symbol<'_>) -> &'a str
-    requires { SymbolFits (valuation_exprs under.now) (length (valuation_tree under.now).symbols) symbol.now }
-    ensures { result.now ≡ default_text (valuation_tree under.now) (valuation_values under.now) (symbol_view (valuation_exprs under.now) symbol.now) }
+    requires fits { SymbolFits (valuation_exprs under.now) (length (valuation_tree under.now).symbols) symbol.now }
+    ensures value { result.now ≡ default_text (valuation_tree under.now) (valuation_values under.now) (symbol_view (valuation_exprs under.now) symbol.now) }
 {
     match active_default(under, symbol.defaults) {
         None => "",
@@ -49,8 +49,8 @@ pub(crate) fn string_rule(
     symbol: &Symbol<'_>,
     user: Option<&str>,
 ) -> Result<Text, AllocError>
-    requires { SymbolFits (valuation_exprs under.now) (length (valuation_tree under.now).symbols) symbol.now }
-    ensures { IfOk result (λ text. text ≡ string_rule_of (valuation_tree under.now) (valuation_values under.now) (symbol_view (valuation_exprs under.now) symbol.now) (option_copied user.entry)) }
+    requires fits { SymbolFits (valuation_exprs under.now) (length (valuation_tree under.now).symbols) symbol.now }
+    ensures ok { IfOk result (λ text. text ≡ string_rule_of (valuation_tree under.now) (valuation_values under.now) (symbol_view (valuation_exprs under.now) symbol.now) (option_copied user.entry)) }
 {
     match user {
         Some(text) => {
@@ -88,7 +88,7 @@ fn bound(under: &Valuation<'_>, kind: Kind, id: ExprId) -> i128
 
 /// The first range whose condition isn't `n`.
 fn active_range(under: &Valuation<'_>, ranges: &[Range]) -> Option<Range>
-    requires { AreRanges (valuation_exprs under.now) ranges.now }
+    requires fits { AreRanges (valuation_exprs under.now) ranges.now }
     ensures range { option_map (range_view (valuation_exprs under.now)) result ≡ active_range_of (valuation_tree under.now) (valuation_values under.now) (map (range_view (valuation_exprs under.now)) ranges.now) }
     ensures there { IfSome result (λ r. (r.low < length (valuation_exprs under.now).nodes) × (r.high < length (valuation_exprs under.now).nodes)) }
 {
@@ -104,7 +104,7 @@ fn active_range(under: &Valuation<'_>, ranges: &[Range]) -> Option<Range>
 fn is_within(under: &Valuation<'_>, kind: Kind, range: &Option<Range>, number: i128) -> bool
     requires there { IfSome range.now (λ r. (r.low < length (valuation_exprs under.now).nodes) × (r.high < length (valuation_exprs under.now).nodes)) }
     requires number { IsNumber kind }
-    ensures { result ≡ is_within (valuation_tree under.now) (valuation_values under.now) kind (option_map (range_view (valuation_exprs under.now)) range.now) number }
+    ensures value { result ≡ is_within (valuation_tree under.now) (valuation_values under.now) kind (option_map (range_view (valuation_exprs under.now)) range.now) number }
 {
     match range {
         None => true,
@@ -116,7 +116,7 @@ fn is_within(under: &Valuation<'_>, kind: Kind, range: &Option<Range>, number: i
 fn is_text_within(under: &Valuation<'_>, kind: Kind, range: &Option<Range>, text: &str) -> bool
     requires there { IfSome range.now (λ r. (r.low < length (valuation_exprs under.now).nodes) × (r.high < length (valuation_exprs under.now).nodes)) }
     requires number { IsNumber kind }
-    ensures { result ≡ is_within (valuation_tree under.now) (valuation_values under.now) kind (option_map (range_view (valuation_exprs under.now)) range.now) (unwrap_or (number_of_text kind text.now) (pos 0)) }
+    ensures value { result ≡ is_within (valuation_tree under.now) (valuation_values under.now) kind (option_map (range_view (valuation_exprs under.now)) range.now) (unwrap_or (number_of_text kind text.now) (pos 0)) }
 {
     match number_of(kind, text) {
         None => is_within(under, kind, range, 0),
@@ -135,7 +135,7 @@ fn clamped(
 ) -> Result<Text, AllocError>
     requires there { IfSome range.now (λ r. (r.low < length (valuation_exprs under.now).nodes) × (r.high < length (valuation_exprs under.now).nodes)) }
     requires number { IsNumber kind }
-    ensures { IfOk result (λ t. t ≡ clamped (valuation_tree under.now) (valuation_values under.now) kind (option_map (range_view (valuation_exprs under.now)) range.now) number text.now) }
+    ensures ok { IfOk result (λ t. t ≡ clamped (valuation_tree under.now) (valuation_values under.now) kind (option_map (range_view (valuation_exprs under.now)) range.now) number text.now) }
 {
     match range {
         None => Text::copied(alloc, text),
@@ -164,7 +164,7 @@ fn number_default(
     requires there { IfSome range.now (λ r. (r.low < length (valuation_exprs under.now).nodes) × (r.high < length (valuation_exprs under.now).nodes)) }
     requires range { option_map (range_view (valuation_exprs under.now)) range.now ≡ active_range_of (valuation_tree under.now) (valuation_values under.now) (map (range_view (valuation_exprs under.now)) symbol.now.ranges.now) }
     requires number { IsNumber symbol.now.kind }
-    ensures { IfOk result (λ text. text ≡ number_default (valuation_tree under.now) (valuation_values under.now) (symbol_view (valuation_exprs under.now) symbol.now)) }
+    ensures ok { IfOk result (λ text. text ≡ number_default (valuation_tree under.now) (valuation_values under.now) (symbol_view (valuation_exprs under.now) symbol.now)) }
 {
     let text = default_text(under, symbol);
     match number_of(symbol.kind, text) {
@@ -182,7 +182,7 @@ pub(crate) fn number_rule(
 ) -> Result<Text, AllocError>
     requires fits { SymbolFits (valuation_exprs under.now) (length (valuation_tree under.now).symbols) symbol.now }
     requires number { IsNumber symbol.now.kind }
-    ensures { IfOk result (λ text. text ≡ number_rule_of (valuation_tree under.now) (valuation_values under.now) (symbol_view (valuation_exprs under.now) symbol.now) (option_copied user.entry)) }
+    ensures ok { IfOk result (λ text. text ≡ number_rule_of (valuation_tree under.now) (valuation_values under.now) (symbol_view (valuation_exprs under.now) symbol.now) (option_copied user.entry)) }
 {
     let range = active_range(under, symbol.ranges);
     match user {

@@ -19,8 +19,8 @@ use kc_value::{Kind, Tri};
 /// The largest value of some expressions, `n` without any.
 #[inline(always)]
 pub(crate) fn largest(under: &Valuation<'_>, ids: &[ExprId]) -> Tri
-    requires { AreNodes (valuation_exprs under.now) ids.now }
-    ensures { result ≡ largest (conditions (valuation_tree under.now) (valuation_values under.now) (map (node_expr (valuation_exprs under.now)) ids.now)) }
+    requires fits { AreNodes (valuation_exprs under.now) ids.now }
+    ensures value { result ≡ largest (conditions (valuation_tree under.now) (valuation_values under.now) (map (node_expr (valuation_exprs under.now)) ids.now)) }
 {
     let mut most = Tri::N;
     for id in ids {
@@ -34,7 +34,7 @@ pub(crate) fn largest(under: &Valuation<'_>, ids: &[ExprId]) -> Tri
 fn reverse_value(under: &Valuation<'_>, force: ReverseDependency) -> Tri
     requires by { force.by < length (valuation_tree under.now).symbols }
     requires condition { force.condition < length (valuation_exprs under.now).nodes }
-    ensures { result ≡ reverse_dependency_value (valuation_tree under.now) (valuation_values under.now) (kept_force (valuation_exprs under.now) force) }
+    ensures value { result ≡ reverse_dependency_value (valuation_tree under.now) (valuation_values under.now) (kept_force (valuation_exprs under.now) force) }
 {
     let by = under.tristate(force.by);
     match by {
@@ -46,8 +46,8 @@ fn reverse_value(under: &Valuation<'_>, force: ReverseDependency) -> Tri
 /// The largest of the values that selects or implies demand.
 #[inline(always)]
 pub(crate) fn reverse_limit(under: &Valuation<'_>, all: &[ReverseDependency]) -> Tri
-    requires { AreReverseDependencies (valuation_exprs under.now) (valuation_tree under.now) all.now }
-    ensures { result ≡ largest (reverse_dependency_limit (valuation_tree under.now) (valuation_values under.now) (map (kept_force (valuation_exprs under.now)) all.now)) }
+    requires fits { AreReverseDependencies (valuation_exprs under.now) (valuation_tree under.now) all.now }
+    ensures value { result ≡ largest (reverse_dependency_limit (valuation_tree under.now) (valuation_values under.now) (map (kept_force (valuation_exprs under.now)) all.now)) }
 {
     let mut most = Tri::N;
     for force in all {
@@ -88,16 +88,16 @@ pub(crate) fn promoted(under: &Valuation<'_>, kind: Kind, value: Tri) -> Tri
 
 /// The largest of the prompts' conditions, promoted.
 pub(crate) fn visibility(under: &Valuation<'_>, symbol: &Symbol<'_>) -> Tri
-    requires { SymbolFits (valuation_exprs under.now) (length (valuation_tree under.now).symbols) symbol.now }
-    ensures { result ≡ visibility (valuation_tree under.now) (valuation_values under.now) (symbol_view (valuation_exprs under.now) symbol.now) }
+    requires fits { SymbolFits (valuation_exprs under.now) (length (valuation_tree under.now).symbols) symbol.now }
+    ensures value { result ≡ visibility (valuation_tree under.now) (valuation_values under.now) (symbol_view (valuation_exprs under.now) symbol.now) }
 {
     promoted(under, symbol.kind, largest(under, symbol.prompts))
 }
 
 /// Whether some prompt's condition isn't `n`.
 pub(crate) fn is_visible(under: &Valuation<'_>, symbol: &Symbol<'_>) -> bool
-    requires { SymbolFits (valuation_exprs under.now) (length (valuation_tree under.now).symbols) symbol.now }
-    ensures { result ≡ is_visible (valuation_tree under.now) (valuation_values under.now) (symbol_view (valuation_exprs under.now) symbol.now) }
+    requires fits { SymbolFits (valuation_exprs under.now) (length (valuation_tree under.now).symbols) symbol.now }
+    ensures value { result ≡ is_visible (valuation_tree under.now) (valuation_values under.now) (symbol_view (valuation_exprs under.now) symbol.now) }
 {
     !is_n(largest(under, symbol.prompts))
 }
@@ -105,8 +105,8 @@ pub(crate) fn is_visible(under: &Valuation<'_>, symbol: &Symbol<'_>) -> bool
 /// The value of the first default whose condition isn't `n`, up to the condition.
 #[inline(always)]
 pub(crate) fn default_value(under: &Valuation<'_>, defaults: &[Default]) -> Tri
-    requires { AreDefaults (valuation_exprs under.now) defaults.now }
-    ensures { result ≡ default_tri (valuation_tree under.now) (valuation_values under.now) (active_default_of (valuation_tree under.now) (valuation_values under.now) (map (default_view (valuation_exprs under.now)) defaults.now)) }
+    requires fits { AreDefaults (valuation_exprs under.now) defaults.now }
+    ensures value { result ≡ default_tri (valuation_tree under.now) (valuation_values under.now) (active_default_of (valuation_tree under.now) (valuation_values under.now) (map (default_view (valuation_exprs under.now)) defaults.now)) }
 {
     for default in defaults {
         let condition = under.condition(default.condition);
@@ -119,8 +119,8 @@ pub(crate) fn default_value(under: &Valuation<'_>, defaults: &[Default]) -> Tri
 
 /// The implied value where the direct dependency isn't `n`.
 pub(crate) fn implied_effect(under: &Valuation<'_>, symbol: &Symbol<'_>) -> Tri
-    requires { SymbolFits (valuation_exprs under.now) (length (valuation_tree under.now).symbols) symbol.now }
-    ensures { result ≡ implied_effect (valuation_tree under.now) (valuation_values under.now) (symbol_view (valuation_exprs under.now) symbol.now) }
+    requires fits { SymbolFits (valuation_exprs under.now) (length (valuation_tree under.now).symbols) symbol.now }
+    ensures value { result ≡ implied_effect (valuation_tree under.now) (valuation_values under.now) (symbol_view (valuation_exprs under.now) symbol.now) }
 {
     let implied = reverse_limit(under, symbol.impliers);
     if is_n(implied) || is_n(largest(under, symbol.direct)) {
@@ -132,8 +132,8 @@ pub(crate) fn implied_effect(under: &Valuation<'_>, symbol: &Symbol<'_>) -> Tri
 
 /// The value without a user value that counts.
 pub(crate) fn unassigned_value(under: &Valuation<'_>, profile: Profile, symbol: &Symbol<'_>) -> Tri
-    requires { SymbolFits (valuation_exprs under.now) (length (valuation_tree under.now).symbols) symbol.now }
-    ensures { result ≡ unassigned_value profile (valuation_tree under.now) (valuation_values under.now) (symbol_view (valuation_exprs under.now) symbol.now) }
+    requires fits { SymbolFits (valuation_exprs under.now) (length (valuation_tree under.now).symbols) symbol.now }
+    ensures value { result ≡ unassigned_value profile (valuation_tree under.now) (valuation_values under.now) (symbol_view (valuation_exprs under.now) symbol.now) }
 {
     let default = default_value(under, symbol.defaults);
     match profile {
@@ -151,8 +151,8 @@ pub(crate) fn unassigned_value(under: &Valuation<'_>, profile: Profile, symbol: 
 
 /// The value before what is selected.
 fn base(under: &Valuation<'_>, profile: Profile, symbol: &Symbol<'_>, user: Option<Tri>) -> Tri
-    requires { SymbolFits (valuation_exprs under.now) (length (valuation_tree under.now).symbols) symbol.now }
-    ensures { result ≡ base profile (valuation_tree under.now) (valuation_values under.now) (symbol_view (valuation_exprs under.now) symbol.now) user }
+    requires fits { SymbolFits (valuation_exprs under.now) (length (valuation_tree under.now).symbols) symbol.now }
+    ensures value { result ≡ base profile (valuation_tree under.now) (valuation_values under.now) (symbol_view (valuation_exprs under.now) symbol.now) user }
 {
     if let Some(assigned) = user {
         let visibility = visibility(under, symbol);
@@ -165,8 +165,8 @@ fn base(under: &Valuation<'_>, profile: Profile, symbol: &Symbol<'_>, user: Opti
 
 /// In the classic profile an implied `y` leaves no `m`.
 fn without_m(under: &Valuation<'_>, profile: Profile, symbol: &Symbol<'_>, value: Tri) -> Tri
-    requires { SymbolFits (valuation_exprs under.now) (length (valuation_tree under.now).symbols) symbol.now }
-    ensures { result ≡ (if leaves_no_m profile (valuation_tree under.now) (valuation_values under.now) (symbol_view (valuation_exprs under.now) symbol.now) then y_for_m value else value) }
+    requires fits { SymbolFits (valuation_exprs under.now) (length (valuation_tree under.now).symbols) symbol.now }
+    ensures value { result ≡ (if leaves_no_m profile (valuation_tree under.now) (valuation_values under.now) (symbol_view (valuation_exprs under.now) symbol.now) then y_for_m value else value) }
 {
     match profile {
         Profile::Present => value,
@@ -187,8 +187,8 @@ pub(crate) fn tri_rule(
     symbol: &Symbol<'_>,
     user: Option<Tri>,
 ) -> Tri
-    requires { SymbolFits (valuation_exprs under.now) (length (valuation_tree under.now).symbols) symbol.now }
-    ensures { result ≡ tri_rule_of profile (valuation_tree under.now) (valuation_values under.now) (symbol_view (valuation_exprs under.now) symbol.now) user }
+    requires fits { SymbolFits (valuation_exprs under.now) (length (valuation_tree under.now).symbols) symbol.now }
+    ensures value { result ≡ tri_rule_of profile (valuation_tree under.now) (valuation_values under.now) (symbol_view (valuation_exprs under.now) symbol.now) user }
 {
     let base = base(under, profile, symbol, user);
     let selected = reverse_limit(under, symbol.selectors);

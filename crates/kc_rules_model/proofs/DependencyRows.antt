@@ -1,5 +1,5 @@
 -- Dependencies, and cycles among them.
-use Rattle.std.proofs.Common.{◌≡◌, [], ◌∷◌, Some, refl}
+use Rattle.std.proofs.Common.{◌≡◌, false, [], ◌∷◌, Some, refl}
 use Rattle.std.specs.Prelude.{codes}
 use Rattle.kc_value.specs.declared.value.Kind.TheVariants.{Bool as Boolean, Tristate}
 use Rattle.kc_expr.specs.Expr.{shown, both}
@@ -22,7 +22,9 @@ dependencies_along_a_chain = (refl, refl, refl)
 
 -- config A / bool "a" / depends on B / config B / bool / default A
 abbrev tree_a_b : Tree
-tree_a_b = two_symbols (record (plain (codes "A") Boolean (name (codes "B") ∷ []) []) { direct = name (codes "B") ∷ [] }) (plain (codes "B") Boolean [] (otherwise (name (codes "A")) ∷ []))
+tree_a_b =
+    two_symbols (record (plain (codes "A") Boolean (name (codes "B") ∷ []) []) { direct = name (codes "B") ∷ [] })
+    (plain (codes "B") Boolean [] (otherwise (name (codes "A")) ∷ []))
 
 cycle_of_two : (dependencies tree_a_b 0 ≡ 1 ∷ []) × (dependencies tree_a_b 1 ≡ 0 ∷ [])
 unfolding dependencies
@@ -35,7 +37,9 @@ cycle_of_one = refl
 
 -- config MODULES / bool "mods" / depends on D / config D / tristate "d"
 abbrev tree_modules_d : Tree
-tree_modules_d = two_symbols (record (plain (codes "MODULES") Boolean (name (codes "D") ∷ []) []) { direct = name (codes "D") ∷ [] }) (plain (codes "D") Tristate (always ∷ []) [])
+tree_modules_d =
+    two_symbols (record (plain (codes "MODULES") Boolean (name (codes "D") ∷ []) []) { direct = name (codes "D") ∷ [] })
+    (plain (codes "D") Tristate (always ∷ []) [])
 
 cycle_by_modules : (dependencies tree_modules_d 0 ≡ 1 ∷ []) × (dependencies tree_modules_d 1 ≡ 0 ∷ [])
 unfolding dependencies
@@ -45,7 +49,7 @@ cycle_by_modules = (refl, refl)
 abbrev tree_choice_cycle : Tree
 tree_choice_cycle = record {
   symbols = member (codes "A") (shown always) ∷ member (codes "B") (both (name (codes "A")) (shown always)) ∷ [];
-  choices = record { file = 0; line = 1; members = 0 ∷ 1 ∷ []; prompt = Some always; defaults = [] } ∷ [];
+  choices = record { file = 0; line = 1; members = 0 ∷ 1 ∷ []; prompt = Some always; defaults = []; optional = false } ∷ [];
   entries = choice_begins 0 ∷ definition 0 ∷ definition 1 ∷ [];
   units = of_choice 0 ∷ [];
 }

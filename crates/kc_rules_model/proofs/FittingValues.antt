@@ -1,7 +1,7 @@
 -- The value that a rule gives fits its unit, over a consistent tree.
 use Rattle.std.proofs.Common.{◌≡◌, inl, inr, ℕ, zero, ◌<◌, Bool, true, false, not, ◌&&◌, ◌||◌, ◌==◌, cond, IsTrue, IfSome, List, [], ◌∷◌, Option, Some, None, ℤ, pos, find, length, unwrap_or, int_lt, refl, sym, ◌∙◌, ap, arith}
 use Rattle.std.specs.Prelude.{slice_get, is_some, nat_lt}
-use Rattle.std.specs.Option.{option_map, option_and_then}
+use Rattle.std.specs.Option.{option_map, option_and_then, option_or}
 use Rattle.std.specs.List.{list_any, list_all}
 use Rattle.std.proofs.lemmas.Bool.{eq-eqb, false≢true, and_parts, and_from, or_cases, or_left, or_right, eqb-true, ltb-true}
 use Rattle.std.proofs.lemmas.Str.{IsUtf8-nil, is_utf8-from_IsUtf8}
@@ -28,7 +28,7 @@ use Rattle.kc_rules_model.specs.declared.values.UserValue.TheVariants.{Tri as Tr
 use Rattle.kc_rules_model.specs.Kinds.{is_n}
 use Rattle.kc_value.specs.Kinds.{is_tri_kind, is_tristate}
 use Rattle.kc_rules_model.specs.SymbolValues.{value_in_unit, tri_symbol_value, value_of_symbol, environment, condition, tri_of, text_of}
-use Rattle.kc_rules_model.specs.Rule.{rule, rule_of_unit, rule_of_symbol, rule_of_choice, symbol_rule, string_rule, number_rule, choice_rule, expression_text, default_text, number_default, clamped, bound, active_range, active_default, is_within, is_visible, is_visible_member, is_shown, assigned_text, assigned_member, or_else, modules_value, leaves_no_m}
+use Rattle.kc_rules_model.specs.Rule.{rule, rule_of_unit, rule_of_symbol, rule_of_choice, symbol_rule, string_rule, number_rule, choice_rule, expression_text, default_text, number_default, clamped, bound, active_range, active_default, is_within, is_visible, is_visible_member, is_shown, assigned_text, assigned_member, modules_value, leaves_no_m}
 use Rattle.kc_rules_model.specs.Shapes.{user_fits, value_fits, unit_user_fits, unit_value_fits, symbol_user_fits, symbol_value_fits, choice_user_fits, choice_value_fits, user_text_fits, text_fits, is_line}
 use Rattle.kc_rules_model.specs.checker.RestoreLaw.{fits_promoted}
 use Rattle.kc_rules_model.specs.RuleLaws.{RulesFit}
@@ -40,7 +40,8 @@ use Rattle.kc_rules_model.proofs.PrintableBounds.{int_bound, hex_bound}
 -- bytes below 128 are UTF-8
 low_utf8 : (text : List ℕ) → list_all (λ b. nat_lt b 128) text ≡ true → IsUtf8 text
 low_utf8 [] all = IsUtf8-nil
-low_utf8 (b ∷ text) all = let parts = and_parts (nat_lt b 128) (list_all (λ c. nat_lt c 128) text) all in ascii_then b text (ltb-true b 128 parts.0) (low_utf8 text parts.1)
+low_utf8 (b ∷ text) all =
+    let parts = and_parts (nat_lt b 128) (list_all (λ c. nat_lt c 128) text) all in ascii_then b text (ltb-true b 128 parts.0) (low_utf8 text parts.1)
 
 low_line : (text : List ℕ) → has_newline text ≡ false → list_all (λ b. nat_lt b 128) text ≡ true → is_line text ≡ true
 low_line text one low = and_from (not (has_newline text)) (is_utf8 text) (ap not one) (is_utf8-from_IsUtf8 text (low_utf8 text low))
@@ -81,7 +82,8 @@ found_passes p q (y ∷ xs) x all e = let parts = and_parts (q y) (list_all q xs
   go false here e next = next e
 
 -- a bound can be printed
-bound_printable : (kind : Kind) (text : List ℕ) (o : Option ℤ) → is_tri_kind kind ≡ false → (kind ≡ Text → ⊥) → number_of_text kind text ≡ o → IsPrintable kind (unwrap_or o (pos 0))
+bound_printable : (kind : Kind) (text : List ℕ) (o : Option ℤ) → is_tri_kind kind ≡ false → (kind ≡ Text → ⊥) → number_of_text kind text ≡ o
+    → IsPrintable kind (unwrap_or o (pos 0))
 bound_printable Boolean text o large other e = absurd (false≢true (sym large))
 bound_printable Tristate text o large other e = absurd (false≢true (sym large))
 bound_printable Text text o large other e = absurd (other refl)
@@ -89,29 +91,37 @@ bound_printable Int text o large other e = int_bound text o e
 bound_printable Hex text o large other e = hex_bound text o e
 
 module _ (tree : Tree) (sound : IsConsistent tree) (values : List UnitValue) (fitting : FitsValues (length tree.units) (λ u v. IsTrue (value_fits tree u v)) values) where
-  held_one_line : (s : ℕ) (symbol : Symbol) → slice_get tree.symbols s ≡ Some symbol → symbol.choice ≡ None → is_line (text_of (slice_get values (unit_of tree s))) ≡ true
+  held_one_line : (s : ℕ) (symbol : Symbol) → slice_get tree.symbols s ≡ Some symbol → symbol.choice ≡ None
+      → is_line (text_of (slice_get values (unit_of tree s))) ≡ true
   unfolding value_fits
   held_one_line s symbol at out =
       let own = sound.own_units s symbol at out in
-      let here : slice_get tree.units (unit_of tree s) ≡ Some (of_symbol s) = ap (slice_get tree.units) (unit_is tree sound s own.0 symbol None at out own.1) ∙ own.1 in
+      let here : slice_get tree.units (unit_of tree s) ≡ Some (of_symbol s) = ap (slice_get tree.units) (unit_is tree sound s own.0 symbol None at out own.1)
+      ∙ own.1 in
       go (slice_get values (unit_of tree s)) (fitting.1 (unit_of tree s) (inside tree.units (unit_of tree s) (of_symbol s) here)) here where
-        go : (o : Option UnitValue) → IfSome o (λ v. IsTrue (unit_value_fits tree (slice_get tree.units (unit_of tree s)) v)) → slice_get tree.units (unit_of tree s) ≡ Some (of_symbol s) → is_line (text_of o) ≡ true
+        go : (o : Option UnitValue) → IfSome o (λ v. IsTrue (unit_value_fits tree (slice_get tree.units (unit_of tree s)) v))
+            → slice_get tree.units (unit_of tree s) ≡ Some (of_symbol s) → is_line (text_of o) ≡ true
         go None fits here = no_text
         go (Some (TriValue t)) fits here = no_text
         go (Some (MemberValue m)) fits here = no_text
-        go (Some (TextValue text)) fits here = text_one_line symbol.kind text (sym (ap (λ o. unit_value_fits tree o (TextValue text)) here ∙ ap (λ o. symbol_value_fits o (TextValue text)) at) ∙ fits)
+        go (Some (TextValue text)) fits here = text_one_line symbol.kind text
+            (sym (ap (λ o. unit_value_fits tree o (TextValue text)) here ∙ ap (λ o. symbol_value_fits o (TextValue text)) at) ∙ fits)
 
-  seen_one_line : (s : ℕ) (symbol : Symbol) → slice_get tree.symbols s ≡ Some symbol → (c : Option ℕ) → symbol.choice ≡ c → is_line (value_in_unit tree values s symbol c).text ≡ true
+  seen_one_line : (s : ℕ) (symbol : Symbol) → slice_get tree.symbols s ≡ Some symbol → (c : Option ℕ) → symbol.choice ≡ c
+      → is_line (value_in_unit tree values s symbol c).text ≡ true
   seen_one_line s symbol at (Some c) e = letter_one_line _
   seen_one_line s symbol at None e = go (is_tri_kind symbol.kind) where
-    go : (t : Bool) → is_line (cond {A = SymbolValue} t (tri_symbol_value symbol.kind (tri_of (slice_get values (unit_of tree s)))) (record { kind = symbol.kind; tri = N; text = text_of (slice_get values (unit_of tree s)) })).text ≡ true
+    go : (t : Bool)
+        → is_line (cond {A = SymbolValue} t (tri_symbol_value symbol.kind (tri_of (slice_get values (unit_of tree s)))) (record { kind = symbol.kind; tri = N; text = text_of (slice_get values (unit_of tree s)) })).text ≡ true
     go true = letter_one_line _
     go false = held_one_line s symbol at e
 
-  name_one_line : (name : List ℕ) (o : Option ℕ) → is_line name ≡ true → is_line (symbol_text name (option_and_then (λ s. value_of_symbol tree values s) o)) ≡ true
+  name_one_line : (name : List ℕ) (o : Option ℕ) → is_line name ≡ true
+      → is_line (symbol_text name (option_and_then (λ s. value_of_symbol tree values s) o)) ≡ true
   name_one_line name None e = e
   name_one_line name (Some s) e = go (slice_get tree.symbols s) refl where
-    go : (o : Option Symbol) → slice_get tree.symbols s ≡ o → is_line (symbol_text name (option_map (λ (symbol : Symbol). value_in_unit tree values s symbol symbol.choice) o)) ≡ true
+    go : (o : Option Symbol) → slice_get tree.symbols s ≡ o
+        → is_line (symbol_text name (option_map (λ (symbol : Symbol). value_in_unit tree values s symbol symbol.choice) o)) ≡ true
     go None at = e
     go (Some symbol) at = seen_one_line s symbol at symbol.choice refl
 
@@ -127,48 +137,71 @@ module _ (tree : Tree) (sound : IsConsistent tree) (values : List UnitValue) (fi
 
   default_one_line : (s : ℕ) (symbol : Symbol) → slice_get tree.symbols s ≡ Some symbol → is_line (default_text tree values symbol) ≡ true
   default_one_line s symbol at = go (active_default tree values symbol) refl where
-    go : (o : Option Default) → active_default tree values symbol ≡ o → is_line (unwrap_or (option_map (λ (d : Default). expression_text tree values d.value) o) []) ≡ true
+    go : (o : Option Default) → active_default tree values symbol ≡ o
+        → is_line (unwrap_or (option_map (λ (d : Default). expression_text tree values d.value) o) []) ≡ true
     go None e = no_text
     go (Some d) e =
-        let one = found_passes (λ (d : Default). not (is_n (condition tree values d.condition))) (λ (d : Default). not (has_newline (own_text d.value))) symbol.defaults d (sound.one_line s symbol at) e in
-        let utf8 = found_passes (λ (d : Default). not (is_n (condition tree values d.condition))) (λ (d : Default). is_utf8 (own_text d.value)) symbol.defaults d (sound.own_utf8 s symbol at) e in
+        let one = found_passes (λ (d : Default). not (is_n (condition tree values d.condition))) (λ (d : Default). not (has_newline (own_text d.value)))
+        symbol.defaults d (sound.one_line s symbol at) e in
+        let utf8 = found_passes (λ (d : Default). not (is_n (condition tree values d.condition))) (λ (d : Default). is_utf8 (own_text d.value)) symbol.defaults
+        d (sound.own_utf8 s symbol at) e in
         expression_one_line d.value (and_from (not (has_newline (own_text d.value))) (is_utf8 (own_text d.value)) one utf8)
 
-  string_fits : (s : ℕ) (symbol : Symbol) → slice_get tree.symbols s ≡ Some symbol → symbol.kind ≡ Text → (x : Option UserValue) → IfSome x (λ y. IsTrue (symbol_user_fits (Some symbol) y)) → is_line (string_rule tree symbol x values) ≡ true
+  string_fits : (s : ℕ) (symbol : Symbol) → slice_get tree.symbols s ≡ Some symbol → symbol.kind ≡ Text → (x : Option UserValue)
+      → IfSome x (λ y. IsTrue (symbol_user_fits (Some symbol) y)) → is_line (string_rule tree symbol x values) ≡ true
   string_fits s symbol at is x fits = go (is_visible tree values symbol) x fits where
     none_line : (t : Bool) → is_line (unwrap_or (cond t None None) (default_text tree values symbol)) ≡ true
     none_line true = default_one_line s symbol at
     none_line false = default_one_line s symbol at
 
-    go : (t : Bool) (x : Option UserValue) → IfSome x (λ y. IsTrue (symbol_user_fits (Some symbol) y)) → is_line (unwrap_or (cond t (assigned_text x) None) (default_text tree values symbol)) ≡ true
+    go : (t : Bool) (x : Option UserValue) → IfSome x (λ y. IsTrue (symbol_user_fits (Some symbol) y))
+        → is_line (unwrap_or (cond t (assigned_text x) None) (default_text tree values symbol)) ≡ true
     go t None fits = none_line t
     go t (Some (TriUser a)) fits = none_line t
     go t (Some (MemberUser m)) fits = none_line t
     go false (Some (TextUser text)) fits = default_one_line s symbol at
     go true (Some (TextUser text)) fits = sym (ap (λ k. user_text_fits k text) is) ∙ fits
 
-  spelled_fits : (kind : Kind) (z : ℤ) → IsPrintable kind z → (length (number_spelling kind z) == 0 || is_some (number_of_text kind (number_spelling kind z))) ≡ true
-  spelled_fits kind z printable = or_right (length (number_spelling kind z) == 0) (is_some (number_of_text kind (number_spelling kind z))) (ap is_some (spelling_read_back kind z printable))
+  spelled_fits : (kind : Kind) (z : ℤ) → IsPrintable kind z
+      → (length (number_spelling kind z) == 0 || is_some (number_of_text kind (number_spelling kind z))) ≡ true
+  spelled_fits kind z printable =
+      or_right (length (number_spelling kind z) == 0) (is_some (number_of_text kind (number_spelling kind z)))
+      (ap is_some (spelling_read_back kind z printable))
 
-  limited_fits : (kind : Kind) → is_tri_kind kind ≡ false → (kind ≡ Text → ⊥) → (o : Option Range) (n : ℤ) (text : List ℕ) → (length text == 0 || is_some (number_of_text kind text)) ≡ true
+  limited_fits : (kind : Kind) → is_tri_kind kind ≡ false → (kind ≡ Text → ⊥) → (o : Option Range) (n : ℤ) (text : List ℕ)
+      → (length text == 0 || is_some (number_of_text kind text)) ≡ true
       → (length (clamped tree values kind o n text) == 0 || is_some (number_of_text kind (clamped tree values kind o n text))) ≡ true
   limited_fits kind large other None n text fits = fits
   limited_fits kind large other (Some r) n text fits = go (int_lt n (bound tree values kind r.low)) (int_lt (bound tree values kind r.high) n) where
-    go : (a b : Bool) → (length (cond a (number_spelling kind (bound tree values kind r.low)) (cond b (number_spelling kind (bound tree values kind r.high)) text)) == 0
-        || is_some (number_of_text kind (cond a (number_spelling kind (bound tree values kind r.low)) (cond b (number_spelling kind (bound tree values kind r.high)) text)))) ≡ true
-    go true b = spelled_fits kind _ (bound_printable kind (operand_text (environment tree values) r.low) (number_of_text kind (operand_text (environment tree values) r.low)) large other refl)
-    go false true = spelled_fits kind _ (bound_printable kind (operand_text (environment tree values) r.high) (number_of_text kind (operand_text (environment tree values) r.high)) large other refl)
+    go : (a b : Bool)
+        → (length (cond a (number_spelling kind (bound tree values kind r.low)) (cond b (number_spelling kind (bound tree values kind r.high)) text)) == 0
+        || is_some (number_of_text kind (cond a (number_spelling kind (bound tree values kind r.low))
+        (cond b (number_spelling kind (bound tree values kind r.high)) text)))) ≡ true
+    go true b =
+        spelled_fits kind _ (bound_printable kind (operand_text (environment tree values) r.low)
+        (number_of_text kind (operand_text (environment tree values) r.low)) large other refl)
+    go false true =
+        spelled_fits kind _ (bound_printable kind (operand_text (environment tree values) r.high)
+        (number_of_text kind (operand_text (environment tree values) r.high)) large other refl)
     go false false = fits
 
-  default_fits : (symbol : Symbol) → is_tri_kind symbol.kind ≡ false → (symbol.kind ≡ Text → ⊥) → (length (number_default tree values symbol) == 0 || is_some (number_of_text symbol.kind (number_default tree values symbol))) ≡ true
+  default_fits : (symbol : Symbol) → is_tri_kind symbol.kind ≡ false → (symbol.kind ≡ Text → ⊥)
+      → (length (number_default tree values symbol) == 0 || is_some (number_of_text symbol.kind (number_default tree values symbol))) ≡ true
   default_fits symbol large other = go (is_some (number_of_text symbol.kind (default_text tree values symbol))) refl where
     go : (t : Bool) → is_some (number_of_text symbol.kind (default_text tree values symbol)) ≡ t
-        → (length (cond t (clamped tree values symbol.kind (active_range tree values symbol) (unwrap_or (number_of_text symbol.kind (default_text tree values symbol)) (pos 0)) (default_text tree values symbol)) (clamped tree values symbol.kind (active_range tree values symbol) (pos 0) [])) == 0
-        || is_some (number_of_text symbol.kind (cond t (clamped tree values symbol.kind (active_range tree values symbol) (unwrap_or (number_of_text symbol.kind (default_text tree values symbol)) (pos 0)) (default_text tree values symbol)) (clamped tree values symbol.kind (active_range tree values symbol) (pos 0) [])))) ≡ true
-    go true e = limited_fits symbol.kind large other (active_range tree values symbol) _ (default_text tree values symbol) (or_right (length (default_text tree values symbol) == 0) _ e)
+        → (length (cond t (clamped tree values symbol.kind (active_range tree values symbol)
+        (unwrap_or (number_of_text symbol.kind (default_text tree values symbol)) (pos 0)) (default_text tree values symbol))
+        (clamped tree values symbol.kind (active_range tree values symbol) (pos 0) [])) == 0
+        || is_some (number_of_text symbol.kind (cond t (clamped tree values symbol.kind (active_range tree values symbol)
+        (unwrap_or (number_of_text symbol.kind (default_text tree values symbol)) (pos 0)) (default_text tree values symbol))
+        (clamped tree values symbol.kind (active_range tree values symbol) (pos 0) [])))) ≡ true
+    go true e =
+        limited_fits symbol.kind large other (active_range tree values symbol) _ (default_text tree values symbol)
+        (or_right (length (default_text tree values symbol) == 0) _ e)
     go false e = limited_fits symbol.kind large other (active_range tree values symbol) (pos 0) [] refl
 
-  number_fits : (symbol : Symbol) → is_tri_kind symbol.kind ≡ false → (symbol.kind ≡ Text → ⊥) → (x : Option UserValue) → IfSome x (λ y. IsTrue (symbol_user_fits (Some symbol) y))
+  number_fits : (symbol : Symbol) → is_tri_kind symbol.kind ≡ false → (symbol.kind ≡ Text → ⊥) → (x : Option UserValue)
+      → IfSome x (λ y. IsTrue (symbol_user_fits (Some symbol) y))
       → (length (number_rule tree symbol x values) == 0 || is_some (number_of_text symbol.kind (number_rule tree symbol x values))) ≡ true
   number_fits symbol large other x fits = go (is_visible tree values symbol) x fits where
     user_number : (kind : Kind) (text : List ℕ) → is_tri_kind kind ≡ false → (kind ≡ Text → ⊥) → user_text_fits kind text ≡ true → is_some (number_of_text kind text) ≡ true
@@ -178,69 +211,94 @@ module _ (tree : Tree) (sound : IsConsistent tree) (values : List UnitValue) (fi
     user_number Int text large other e = e
     user_number Hex text large other e = e
 
-    go : (t : Bool) (x : Option UserValue) → IfSome x (λ y. IsTrue (symbol_user_fits (Some symbol) y)) → (length (unwrap_or (option_and_then (λ text. cond (is_within tree values symbol.kind (active_range tree values symbol) (unwrap_or (number_of_text symbol.kind text) (pos 0))) (Some text) None) (cond t (assigned_text x) None)) (number_default tree values symbol)) == 0
-        || is_some (number_of_text symbol.kind (unwrap_or (option_and_then (λ text. cond (is_within tree values symbol.kind (active_range tree values symbol) (unwrap_or (number_of_text symbol.kind text) (pos 0))) (Some text) None) (cond t (assigned_text x) None)) (number_default tree values symbol)))) ≡ true
+    go : (t : Bool) (x : Option UserValue) → IfSome x (λ y. IsTrue (symbol_user_fits (Some symbol) y))
+        → (length (unwrap_or (option_and_then (λ text. cond (is_within tree values symbol.kind (active_range tree values symbol) (unwrap_or (number_of_text symbol.kind text) (pos 0))) (Some text) None) (cond t (assigned_text x) None)) (number_default tree values symbol)) == 0
+        || is_some (number_of_text symbol.kind (unwrap_or (option_and_then
+        (λ text. cond (is_within tree values symbol.kind (active_range tree values symbol) (unwrap_or (number_of_text symbol.kind text) (pos 0)))
+        (Some text) None) (cond t (assigned_text x) None)) (number_default tree values symbol)))) ≡ true
     go false x fits = default_fits symbol large other
     go true None fits = default_fits symbol large other
     go true (Some (TriUser a)) fits = default_fits symbol large other
     go true (Some (MemberUser m)) fits = default_fits symbol large other
-    go true (Some (TextUser text)) fits = kept (is_within tree values symbol.kind (active_range tree values symbol) (unwrap_or (number_of_text symbol.kind text) (pos 0))) where
-      kept : (b : Bool) → (length (unwrap_or (cond b (Some text) None) (number_default tree values symbol)) == 0 || is_some (number_of_text symbol.kind (unwrap_or (cond b (Some text) None) (number_default tree values symbol)))) ≡ true
-      kept true = or_right (length text == 0) _ (user_number symbol.kind text large other fits)
-      kept false = default_fits symbol large other
+    go true (Some (TextUser text)) fits =
+        kept (is_within tree values symbol.kind (active_range tree values symbol) (unwrap_or (number_of_text symbol.kind text) (pos 0))) where
+          kept : (b : Bool)
+              → (length (unwrap_or (cond b (Some text) None) (number_default tree values symbol)) == 0 || is_some (number_of_text symbol.kind (unwrap_or (cond b (Some text) None) (number_default tree values symbol)))) ≡ true
+          kept true = or_right (length text == 0) _ (user_number symbol.kind text large other fits)
+          kept false = default_fits symbol large other
 
   found_in : (p : ℕ → Bool) (xs : List ℕ) (m : ℕ) → find p xs ≡ Some m → list_any (λ k. k == m) xs ≡ true
   found_in p [] m e = cc
   found_in p (x ∷ xs) m e = go (p x) e (found_in p xs m) where
-    go : (t : Bool) → cond t (Some x) (find p xs) ≡ Some m → (find p xs ≡ Some m → list_any (λ k. k == m) xs ≡ true) → (x == m || list_any (λ k. k == m) xs) ≡ true
+    go : (t : Bool) → cond t (Some x) (find p xs) ≡ Some m → (find p xs ≡ Some m → list_any (λ k. k == m) xs ≡ true)
+        → (x == m || list_any (λ k. k == m) xs) ≡ true
     go true e next = let same : x ≡ m = cc in or_left (x == m) (list_any (λ k. k == m) xs) (eq-eqb x m same)
     go false e next = or_right (x == m) (list_any (λ k. k == m) xs) (next e)
 
-  choice_fits : (c : ℕ) (choice : Choice) → slice_get tree.choices c ≡ Some choice → (x : Option UserValue) → IfSome x (λ y. IsTrue (choice_user_fits (Some choice) y)) → choice_value_fits (Some choice) (MemberValue (choice_rule tree choice x values)) ≡ true
+  choice_fits : (c : ℕ) (choice : Choice) → slice_get tree.choices c ≡ Some choice → (x : Option UserValue)
+      → IfSome x (λ y. IsTrue (choice_user_fits (Some choice) y)) → choice_value_fits (Some choice) (MemberValue (choice_rule tree choice x values)) ≡ true
   choice_fits c choice at x fits = shown_or_not (is_shown tree values choice) where
     by_first : (o : Option ℕ) → find (is_visible_member tree values) choice.members ≡ o → choice_value_fits (Some choice) (MemberValue o) ≡ true
     by_first None e = refl
     by_first (Some m) e = found_in (is_visible_member tree values) choice.members m e
 
-    by_default : (o : Option MemberDefault) → find (λ (d : MemberDefault). not (is_n (condition tree values d.condition)) && is_visible_member tree values d.member) choice.defaults ≡ o
-        → choice_value_fits (Some choice) (MemberValue (or_else (option_map (λ (d : MemberDefault). d.member) o) (find (is_visible_member tree values) choice.members))) ≡ true
+    by_default : (o : Option MemberDefault)
+        → find (λ (d : MemberDefault). not (is_n (condition tree values d.condition)) && is_visible_member tree values d.member) choice.defaults ≡ o
+        → choice_value_fits (Some choice) (MemberValue (option_or (option_map (λ (d : MemberDefault). d.member) o)
+        (find (is_visible_member tree values) choice.members))) ≡ true
     by_default None e = by_first (find (is_visible_member tree values) choice.members) refl
-    by_default (Some d) e = found_passes _ (λ (d : MemberDefault). list_any (λ m. m == d.member) choice.members) choice.defaults d (sound.default_members c choice at) e
+    by_default (Some d) e =
+        found_passes _ (λ (d : MemberDefault). list_any (λ m. m == d.member) choice.members) choice.defaults d (sound.default_members c choice at) e
 
-    others : choice_value_fits (Some choice) (MemberValue (or_else (option_map (λ (d : MemberDefault). d.member) (find (λ (d : MemberDefault). not (is_n (condition tree values d.condition)) && is_visible_member tree values d.member) choice.defaults)) (find (is_visible_member tree values) choice.members))) ≡ true
-    others = by_default (find (λ (d : MemberDefault). not (is_n (condition tree values d.condition)) && is_visible_member tree values d.member) choice.defaults) refl
+    others : (t : Bool) → choice_value_fits (Some choice) (MemberValue (cond t None (option_or (option_map (λ (d : MemberDefault). d.member) (find (λ (d : MemberDefault). not (is_n (condition tree values d.condition)) && is_visible_member tree values d.member) choice.defaults)) (find (is_visible_member tree values) choice.members)))) ≡ true
+    others true = refl
+    others false = by_default (find (λ (d : MemberDefault). not (is_n (condition tree values d.condition)) && is_visible_member tree values d.member) choice.defaults) refl
 
     by_user : (x : Option UserValue) → IfSome x (λ y. IsTrue (choice_user_fits (Some choice) y))
-        → choice_value_fits (Some choice) (MemberValue (or_else (option_and_then (λ s. cond (is_visible_member tree values s) (Some s) None) (assigned_member x)) (or_else (option_map (λ (d : MemberDefault). d.member) (find (λ (d : MemberDefault). not (is_n (condition tree values d.condition)) && is_visible_member tree values d.member) choice.defaults)) (find (is_visible_member tree values) choice.members)))) ≡ true
-    by_user None fits = others
-    by_user (Some (TriUser t)) fits = others
-    by_user (Some (TextUser t)) fits = others
+        → choice_value_fits (Some choice) (MemberValue (option_or (option_and_then (λ s. cond (is_visible_member tree values s) (Some s) None) (assigned_member x)) (cond choice.optional None (option_or (option_map (λ (d : MemberDefault). d.member) (find (λ (d : MemberDefault). not (is_n (condition tree values d.condition)) && is_visible_member tree values d.member) choice.defaults)) (find (is_visible_member tree values) choice.members))))) ≡ true
+    by_user None fits = others choice.optional
+    by_user (Some (TriUser t)) fits = others choice.optional
+    by_user (Some (TextUser t)) fits = others choice.optional
     by_user (Some (MemberUser s)) fits = seen (is_visible_member tree values s) where
-      seen : (t : Bool) → choice_value_fits (Some choice) (MemberValue (or_else (cond t (Some s) None) (or_else (option_map (λ (d : MemberDefault). d.member) (find (λ (d : MemberDefault). not (is_n (condition tree values d.condition)) && is_visible_member tree values d.member) choice.defaults)) (find (is_visible_member tree values) choice.members)))) ≡ true
+      seen : (t : Bool) → choice_value_fits (Some choice) (MemberValue (option_or (cond t (Some s) None) (cond choice.optional None (option_or (option_map (λ (d : MemberDefault). d.member) (find (λ (d : MemberDefault). not (is_n (condition tree values d.condition)) && is_visible_member tree values d.member) choice.defaults)) (find (is_visible_member tree values) choice.members))))) ≡ true
       seen true = fits
-      seen false = others
+      seen false = others choice.optional
 
-    shown_or_not : (t : Bool) → choice_value_fits (Some choice) (MemberValue (cond t (or_else (option_and_then (λ s. cond (is_visible_member tree values s) (Some s) None) (assigned_member x)) (or_else (option_map (λ (d : MemberDefault). d.member) (find (λ (d : MemberDefault). not (is_n (condition tree values d.condition)) && is_visible_member tree values d.member) choice.defaults)) (find (is_visible_member tree values) choice.members))) None)) ≡ true
+    shown_or_not : (t : Bool) → choice_value_fits (Some choice) (MemberValue (cond t (option_or (option_and_then (λ s. cond (is_visible_member tree values s) (Some s) None) (assigned_member x)) (cond choice.optional None (option_or (option_map (λ (d : MemberDefault). d.member) (find (λ (d : MemberDefault). not (is_n (condition tree values d.condition)) && is_visible_member tree values d.member) choice.defaults)) (find (is_visible_member tree values) choice.members)))) None)) ≡ true
     shown_or_not true = by_user x fits
     shown_or_not false = refl
 
-  symbol_fits : (profile : Profile) (s : ℕ) (symbol : Symbol) → slice_get tree.symbols s ≡ Some symbol → (kind : Kind) → symbol.kind ≡ kind → (x : Option UserValue) → IfSome x (λ y. IsTrue (symbol_user_fits (Some symbol) y))
+  symbol_fits : (profile : Profile) (s : ℕ) (symbol : Symbol) → slice_get tree.symbols s ≡ Some symbol → (kind : Kind) → symbol.kind ≡ kind
+      → (x : Option UserValue) → IfSome x (λ y. IsTrue (symbol_user_fits (Some symbol) y))
       → symbol_value_fits (Some symbol) (symbol_rule kind profile tree symbol x values) ≡ true
-  symbol_fits profile s symbol at Boolean is x fits = fits_promoted tree values symbol.kind (is_tristate symbol.kind && is_n (modules_value tree values)) (leaves_no_m profile tree values symbol) _ (ap is_tri_kind is)
-  symbol_fits profile s symbol at Tristate is x fits = fits_promoted tree values symbol.kind (is_tristate symbol.kind && is_n (modules_value tree values)) (leaves_no_m profile tree values symbol) _ (ap is_tri_kind is)
+  symbol_fits profile s symbol at Boolean is x fits =
+      fits_promoted tree values symbol.kind (is_tristate symbol.kind && is_n (modules_value tree values)) (leaves_no_m profile tree values symbol) _
+      (ap is_tri_kind is)
+  symbol_fits profile s symbol at Tristate is x fits =
+      fits_promoted tree values symbol.kind (is_tristate symbol.kind && is_n (modules_value tree values)) (leaves_no_m profile tree values symbol) _
+      (ap is_tri_kind is)
   symbol_fits profile s symbol at Text is x fits = ap (λ k. text_fits k (string_rule tree symbol x values)) is ∙ string_fits s symbol at is x fits
-  symbol_fits profile s symbol at Int is x fits = ap (λ k. text_fits k (number_rule tree symbol x values)) is ∙ ap (λ k. length (number_rule tree symbol x values) == 0 || is_some (number_of_text k (number_rule tree symbol x values))) (sym is) ∙ number_fits symbol (ap is_tri_kind is) (λ e. cc) x fits
-  symbol_fits profile s symbol at Hex is x fits = ap (λ k. text_fits k (number_rule tree symbol x values)) is ∙ ap (λ k. length (number_rule tree symbol x values) == 0 || is_some (number_of_text k (number_rule tree symbol x values))) (sym is) ∙ number_fits symbol (ap is_tri_kind is) (λ e. cc) x fits
+  symbol_fits profile s symbol at Int is x fits =
+      ap (λ k. text_fits k (number_rule tree symbol x values)) is ∙ ap
+      (λ k. length (number_rule tree symbol x values) == 0 || is_some (number_of_text k (number_rule tree symbol x values))) (sym is)
+      ∙ number_fits symbol (ap is_tri_kind is) (λ e. cc) x fits
+  symbol_fits profile s symbol at Hex is x fits =
+      ap (λ k. text_fits k (number_rule tree symbol x values)) is ∙ ap
+      (λ k. length (number_rule tree symbol x values) == 0 || is_some (number_of_text k (number_rule tree symbol x values))) (sym is)
+      ∙ number_fits symbol (ap is_tri_kind is) (λ e. cc) x fits
 
-  at_symbol : (profile : Profile) (u s : ℕ) → slice_get tree.units u ≡ Some (of_symbol s) → (o : Option Symbol) → slice_get tree.symbols s ≡ o → (x : Option UserValue) → IfSome x (λ y. IsTrue (symbol_user_fits o y)) → symbol_value_fits o (rule_of_symbol profile tree o x values) ≡ true
+  at_symbol : (profile : Profile) (u s : ℕ) → slice_get tree.units u ≡ Some (of_symbol s) → (o : Option Symbol) → slice_get tree.symbols s ≡ o
+      → (x : Option UserValue) → IfSome x (λ y. IsTrue (symbol_user_fits o y)) → symbol_value_fits o (rule_of_symbol profile tree o x values) ≡ true
   at_symbol profile u s unit None at x fits = let found = (sound.symbol_units u s unit).1 in cc
   at_symbol profile u s unit (Some symbol) at x fits = symbol_fits profile s symbol at symbol.kind refl x fits
 
-  at_choice : (u c : ℕ) → slice_get tree.units u ≡ Some (of_choice c) → (o : Option Choice) → slice_get tree.choices c ≡ o → (x : Option UserValue) → IfSome x (λ y. IsTrue (choice_user_fits o y)) → choice_value_fits o (rule_of_choice tree o x values) ≡ true
+  at_choice : (u c : ℕ) → slice_get tree.units u ≡ Some (of_choice c) → (o : Option Choice) → slice_get tree.choices c ≡ o → (x : Option UserValue)
+      → IfSome x (λ y. IsTrue (choice_user_fits o y)) → choice_value_fits o (rule_of_choice tree o x values) ≡ true
   at_choice u c unit None at x fits = let found = (sound.choice_units u c unit).1 in cc
   at_choice u c unit (Some choice) at x fits = choice_fits c choice at x fits
 
-  at_unit : (profile : Profile) (u : ℕ) → u < length tree.units → (o : Option TreeUnit) → slice_get tree.units u ≡ o → (x : Option UserValue) → IfSome x (λ y. IsTrue (unit_user_fits tree o y)) → unit_value_fits tree o (rule_of_unit profile tree o x values) ≡ true
+  at_unit : (profile : Profile) (u : ℕ) → u < length tree.units → (o : Option TreeUnit) → slice_get tree.units u ≡ o → (x : Option UserValue)
+      → IfSome x (λ y. IsTrue (unit_user_fits tree o y)) → unit_value_fits tree o (rule_of_unit profile tree o x values) ≡ true
   at_unit profile u inside None at x fits = let there = slice_get-get_or tree.units u (of_symbol 0) inside in cc
   at_unit profile u inside (Some (of_symbol s)) at x fits = at_symbol profile u s at (slice_get tree.symbols s) refl x fits
   at_unit profile u inside (Some (of_choice c)) at x fits = at_choice u c at (slice_get tree.choices c) refl x fits

@@ -1,4 +1,4 @@
--- The value that `imply` gives: a line for each value of the implying symbol and of the dependency, in both profiles.
+-- The value that `imply` gives, where the two profiles differ.
 use Rattle.std.proofs.Common.{◌≡◌, [], ◌∷◌, Option, None, refl}
 use Rattle.kc_value.specs.declared.tri.Tri.{Tri}
 use Rattle.kc_value.specs.declared.tri.Tri.TheVariants.{N, M, Y}
@@ -21,58 +21,10 @@ record Line (profile : Profile) (foo bar : Tri) (unassigned with_n with_m with_y
   set_m : baz profile foo bar (sets M) ≡ with_m
   set_y : baz profile foo bar (sets Y) ≡ with_y
 
-present_foo_n_bar_y : Line Present N Y n n m y
-unfolding rule
-present_foo_n_bar_y = record { none = refl; set_n = refl; set_m = refl; set_y = refl }
-
-present_foo_m_bar_y : Line Present M Y m n m y
-unfolding rule
-present_foo_m_bar_y = record { none = refl; set_n = refl; set_m = refl; set_y = refl }
-
-present_foo_y_bar_y : Line Present Y Y y n m y
-unfolding rule
-present_foo_y_bar_y = record { none = refl; set_n = refl; set_m = refl; set_y = refl }
-
-present_foo_n_bar_m : Line Present N M n n m m
-unfolding rule
-present_foo_n_bar_m = record { none = refl; set_n = refl; set_m = refl; set_y = refl }
-
-present_foo_m_bar_m : Line Present M M m n m m
-unfolding rule
-present_foo_m_bar_m = record { none = refl; set_n = refl; set_m = refl; set_y = refl }
-
 present_foo_y_bar_m : Line Present Y M m n m m
 unfolding rule
 present_foo_y_bar_m = record { none = refl; set_n = refl; set_m = refl; set_y = refl }
 
-present_foo_y_bar_n : Line Present Y N n n n n
-unfolding rule
-present_foo_y_bar_n = record { none = refl; set_n = refl; set_m = refl; set_y = refl }
-
-classic_foo_n_bar_y : Line Classic N Y n n m y
-unfolding rule
-classic_foo_n_bar_y = record { none = refl; set_n = refl; set_m = refl; set_y = refl }
-
-classic_foo_m_bar_y : Line Classic M Y m n m y
-unfolding rule
-classic_foo_m_bar_y = record { none = refl; set_n = refl; set_m = refl; set_y = refl }
-
-classic_foo_y_bar_y : Line Classic Y Y y n y y
-unfolding rule
-classic_foo_y_bar_y = record { none = refl; set_n = refl; set_m = refl; set_y = refl }
-
-classic_foo_n_bar_m : Line Classic N M n n m m
-unfolding rule
-classic_foo_n_bar_m = record { none = refl; set_n = refl; set_m = refl; set_y = refl }
-
-classic_foo_m_bar_m : Line Classic M M m n m m
-unfolding rule
-classic_foo_m_bar_m = record { none = refl; set_n = refl; set_m = refl; set_y = refl }
-
 classic_foo_y_bar_m : Line Classic Y M y n y y
 unfolding rule
 classic_foo_y_bar_m = record { none = refl; set_n = refl; set_m = refl; set_y = refl }
-
-classic_foo_y_bar_n : Line Classic Y N n n n n
-unfolding rule
-classic_foo_y_bar_n = record { none = refl; set_n = refl; set_m = refl; set_y = refl }

@@ -30,7 +30,9 @@ digit_low : (base : ℕ) → base ≤ 36 → (b : ℕ) → is_digit b base ≡ t
 digit_low base most b digit = elim (cases_lt b 128) [
   | inl low ↦ lt-ltb b 128 low
   | inr high ↦
-      let none = no_digit (nat_lt b 48) (nat_lt b 58) (nat_lt b 65) (nat_lt b 91) (nat_lt b 97) (nat_lt b 123) (b - 48) (b - 55) (b - 87) (no_less b 48 (omega arith)) (no_less b 58 (omega arith)) (no_less b 65 (omega arith)) (no_less b 91 (omega arith)) (no_less b 97 (omega arith)) (no_less b 123 (omega arith)) in
+      let none = no_digit (nat_lt b 48) (nat_lt b 58) (nat_lt b 65) (nat_lt b 91) (nat_lt b 97) (nat_lt b 123) (b - 48) (b - 55) (b - 87)
+      (no_less b 48 (omega arith)) (no_less b 58 (omega arith)) (no_less b 65 (omega arith)) (no_less b 91 (omega arith)) (no_less b 97 (omega arith))
+      (no_less b 123 (omega arith)) in
       absurd (false≢true (sym (no_less 36 base most) ∙ ap (λ v. nat_lt v base) (sym none) ∙ digit))
 ]
 
@@ -46,7 +48,8 @@ some_before : (f : ℕ → ℤ) (o : Option ℕ) → is_some (option_map f o) �
 some_before f None e = absurd (false≢true e)
 some_before f (Some n) e = refl
 
-digits_ink : (base limit : ℕ) (xs : List ℕ) → base ≤ 36 → ((b : ℕ) → is_digit b base ≡ true → is_ink b ≡ true) → is_some (magnitude base limit xs) ≡ true → IsInk xs
+digits_ink : (base limit : ℕ) (xs : List ℕ) → base ≤ 36 → ((b : ℕ) → is_digit b base ≡ true → is_ink b ≡ true) → is_some (magnitude base limit xs) ≡ true
+    → IsInk xs
 digits_ink base limit xs most each e =
     let test = test_holds (nat_lt 0 (length xs) && list_all (λ c. is_digit c base) xs && nat_lt (digits_value base xs) limit) (digits_value base xs) e in
     let first = and_parts (nat_lt 0 (length xs) && list_all (λ c. is_digit c base) xs) (nat_lt (digits_value base xs) limit) test in
@@ -69,7 +72,8 @@ more_ink b k xs same ink low rest = record {
 signed_ink : (text : List ℕ) → is_some (signed_text text) ≡ true → IsInk text
 signed_ink [] e = absurd (false≢true e)
 signed_ink (c ∷ cs) e = go (c == 45) refl e where
-  go : (t : Bool) → (c == 45) ≡ t → is_some (cond t (option_map (λ n. neg_ℤ (pos n)) (magnitude 10 (2 ^ 63) cs)) (option_map pos (magnitude 10 (2 ^ 63) (c ∷ cs)))) ≡ true → IsInk (c ∷ cs)
+  go : (t : Bool) → (c == 45) ≡ t
+      → is_some (cond t (option_map (λ n. neg_ℤ (pos n)) (magnitude 10 (2 ^ 63) cs)) (option_map pos (magnitude 10 (2 ^ 63) (c ∷ cs)))) ≡ true → IsInk (c ∷ cs)
   go true minus some = more_ink c 45 cs minus refl refl (digits_ink 10 (2 ^ 63) cs (omega arith) decimal_ink (some_before _ (magnitude 10 (2 ^ 63) cs) some))
   go false minus some = digits_ink 10 (2 ^ 63) (c ∷ cs) (omega arith) decimal_ink (some_before pos (magnitude 10 (2 ^ 63) (c ∷ cs)) some)
 
@@ -82,8 +86,10 @@ behind_prefix [] rest = rest
 behind_prefix (a ∷ []) rest = rest
 behind_prefix (a ∷ b ∷ cs) rest = go (a == 48 && (b == 120)) (a == 48 && (b == 88)) refl refl rest where
   go : (s t : Bool) → (a == 48 && (b == 120)) ≡ s → (a == 48 && (b == 88)) ≡ t → IsInk (cond s cs (cond t cs (a ∷ b ∷ cs))) → IsInk (a ∷ b ∷ cs)
-  go true t small large rest = let both = and_parts (a == 48) (b == 120) small in more_ink a 48 (b ∷ cs) both.0 refl refl (more_ink b 120 cs both.1 refl refl rest)
-  go false true small large rest = let both = and_parts (a == 48) (b == 88) large in more_ink a 48 (b ∷ cs) both.0 refl refl (more_ink b 88 cs both.1 refl refl rest)
+  go true t small large rest =
+      let both = and_parts (a == 48) (b == 120) small in more_ink a 48 (b ∷ cs) both.0 refl refl (more_ink b 120 cs both.1 refl refl rest)
+  go false true small large rest =
+      let both = and_parts (a == 48) (b == 88) large in more_ink a 48 (b ∷ cs) both.0 refl refl (more_ink b 88 cs both.1 refl refl rest)
   go false false small large rest = rest
 
 hex_text_ink : (text : List ℕ) → is_some (hex_text text) ≡ true → IsInk text

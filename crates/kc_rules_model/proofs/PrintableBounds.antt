@@ -18,7 +18,8 @@ int_printable text z (negative digits n parts writes below is len) = subst (λ k
 
 hex_printable : (text : List ℕ) (z : ℤ) → IsHex text z → (pos 0 ≤ℤ z) × (z <ℤ pos (2 ^ 64))
 hex_printable text z (bare n writes below is len) = subst (λ k. (pos 0 ≤ℤ k) × (k <ℤ pos (2 ^ 64))) (sym is) (omega (arith, ints), omega (arith, ints))
-hex_printable text z (prefixed digits n parts writes below is len) = subst (λ k. (pos 0 ≤ℤ k) × (k <ℤ pos (2 ^ 64))) (sym is) (omega (arith, ints), omega (arith, ints))
+hex_printable text z (prefixed digits n parts writes below is len) =
+    subst (λ k. (pos 0 ≤ℤ k) × (k <ℤ pos (2 ^ 64))) (sym is) (omega (arith, ints), omega (arith, ints))
 
 -- the number of a text, and the 0 of one that isn't a number
 pub int_bound : (text : List ℕ) (o : Option ℤ) → number_of_text Int text ≡ o → IsPrintable Int (unwrap_or o (pos 0))

@@ -1,5 +1,5 @@
 -- Small trees by hand, on which the definitions are computed.
-use Rattle.std.proofs.Common.{ℕ, List, [], ◌∷◌, Option, Some, None, length, map}
+use Rattle.std.proofs.Common.{ℕ, true, false, List, [], ◌∷◌, Option, Some, None, length, map}
 use Rattle.std.specs.Prelude.{codes}
 use Rattle.std.specs.List.{range_with_len}
 use Rattle.kc_value.specs.declared.tri.Tri.{Tri}
@@ -51,7 +51,21 @@ otherwise e = record { value = e; condition = always }
 
 -- a symbol outside choices, with no range, select or imply, and no dependency
 abbrev pub plain : List ℕ → Kind → List Expr → List Default → Symbol
-plain x kind prompts defaults = record { name = x; kind = kind; file = 0; line = 1; prompts = prompts; defaults = defaults; ranges = []; selectors = []; impliers = []; direct = always ∷ []; choice = None }
+plain x kind prompts defaults =
+    record {
+      name = x;
+      kind = kind;
+      file = 0;
+      line = 1;
+      prompts = prompts;
+      defaults = defaults;
+      ranges = [];
+      selectors = [];
+      impliers = [];
+      direct = always
+          ∷ [];
+      choice = None;
+    }
 
 abbrev pub one_symbol : Symbol → Tree
 one_symbol symbol = record { symbols = symbol ∷ []; choices = []; entries = definition 0 ∷ []; units = of_symbol 0 ∷ [] }
@@ -60,7 +74,14 @@ abbrev pub two_symbols : Symbol → Symbol → Tree
 two_symbols a b = record { symbols = a ∷ b ∷ []; choices = []; entries = definition 0 ∷ definition 1 ∷ []; units = of_symbol 0 ∷ of_symbol 1 ∷ [] }
 
 abbrev pub three_symbols : Symbol → Symbol → Symbol → Tree
-three_symbols a b c = record { symbols = a ∷ b ∷ c ∷ []; choices = []; entries = definition 0 ∷ definition 1 ∷ definition 2 ∷ []; units = of_symbol 0 ∷ of_symbol 1 ∷ of_symbol 2 ∷ [] }
+three_symbols a b c =
+    record {
+      symbols = a ∷ b ∷ c ∷ [];
+      choices = [];
+      entries = definition 0 ∷ definition 1 ∷ definition 2 ∷ [];
+      units = of_symbol 0 ∷ of_symbol 1 ∷ of_symbol 2
+          ∷ [];
+    }
 
 -- config A / bool "a"
 abbrev pub tree_a : Tree
@@ -76,15 +97,22 @@ tree_default_n = one_symbol (plain (codes "A") Boolean (always ∷ []) (otherwis
 
 -- config MODULES / bool "mods" / default y / config D / tristate "d" / default m / config A / tristate "a" if D / default y
 abbrev pub tree_lifted : Tree
-tree_lifted = three_symbols (plain (codes "MODULES") Boolean (always ∷ []) (otherwise always ∷ [])) (plain (codes "D") Tristate (always ∷ []) (otherwise (alone (constant M)) ∷ [])) (plain (codes "A") Tristate (name (codes "D") ∷ []) (otherwise always ∷ []))
+tree_lifted =
+    three_symbols (plain (codes "MODULES") Boolean (always ∷ []) (otherwise always ∷ []))
+    (plain (codes "D") Tristate (always ∷ []) (otherwise (alone (constant M)) ∷ []))
+    (plain (codes "A") Tristate (name (codes "D") ∷ []) (otherwise always ∷ []))
 
 -- config N / int "n" / range 10 20 / default 5
 abbrev pub tree_int : Tree
-tree_int = one_symbol (record (plain (codes "N") Int (always ∷ []) (otherwise (name (codes "5")) ∷ [])) { ranges = record { low = named (codes "10"); high = named (codes "20"); condition = always } ∷ [] })
+tree_int =
+    one_symbol (record (plain (codes "N") Int (always ∷ []) (otherwise (name (codes "5")) ∷ []))
+    { ranges = record { low = named (codes "10"); high = named (codes "20"); condition = always } ∷ [] })
 
 -- config H / hex "h" / range 0x10 0x1F / default 0xFF
 abbrev pub tree_hex : Tree
-tree_hex = one_symbol (record (plain (codes "H") Hex (always ∷ []) (otherwise (name (codes "0xFF")) ∷ [])) { ranges = record { low = named (codes "0x10"); high = named (codes "0x1F"); condition = always } ∷ [] })
+tree_hex =
+    one_symbol (record (plain (codes "H") Hex (always ∷ []) (otherwise (name (codes "0xFF")) ∷ []))
+    { ranges = record { low = named (codes "0x10"); high = named (codes "0x1F"); condition = always } ∷ [] })
 
 -- config S / string "s" / default "x"
 abbrev pub tree_string : Tree
@@ -98,16 +126,20 @@ member x prompt = record (plain x Boolean (prompt ∷ []) []) { direct = shown a
 abbrev pub tree_pick : Tree
 tree_pick = record {
   symbols = member (codes "A") (shown always) ∷ member (codes "B") (shown always) ∷ member (codes "C") (both (name (codes "X")) (shown always)) ∷ plain (codes "X") Boolean (always ∷ []) [] ∷ [];
-  choices = record { file = 0; line = 1; members = 0 ∷ 1 ∷ 2 ∷ []; prompt = Some always; defaults = record { member = 1; condition = always } ∷ [] } ∷ [];
+  choices = record { file = 0; line = 1; members = 0 ∷ 1 ∷ 2 ∷ []; prompt = Some always; defaults = record { member = 1; condition = always } ∷ []; optional = false } ∷ [];
   entries = choice_begins 0 ∷ definition 0 ∷ definition 1 ∷ definition 2 ∷ definition 3 ∷ [];
   units = of_choice 0 ∷ of_symbol 3 ∷ [];
 }
+
+-- the same, with `optional`
+abbrev pub tree_optional_pick : Tree
+tree_optional_pick = record tree_pick { choices = record { file = 0; line = 1; members = 0 ∷ 1 ∷ 2 ∷ []; prompt = Some always; defaults = record { member = 1; condition = always } ∷ []; optional = true } ∷ [] }
 
 -- choice / prompt "p" if X / config A / bool "a" / endchoice / config B / bool / default A / config X / bool "x"
 abbrev pub tree_shown_if : Tree
 tree_shown_if = record {
   symbols = record (plain (codes "A") Boolean (shown (name (codes "X")) ∷ []) []) { direct = shown (name (codes "X")) ∷ []; choice = Some 0 } ∷ plain (codes "B") Boolean [] (otherwise (name (codes "A")) ∷ []) ∷ plain (codes "X") Boolean (always ∷ []) [] ∷ [];
-  choices = record { file = 0; line = 1; members = 0 ∷ []; prompt = Some (name (codes "X")); defaults = [] } ∷ [];
+  choices = record { file = 0; line = 1; members = 0 ∷ []; prompt = Some (name (codes "X")); defaults = []; optional = false } ∷ [];
   entries = choice_begins 0 ∷ definition 0 ∷ definition 1 ∷ definition 2 ∷ [];
   units = of_choice 0 ∷ of_symbol 1 ∷ of_symbol 2 ∷ [];
 }
@@ -120,8 +152,11 @@ tree_select = two_symbols (plain (codes "S") Boolean (always ∷ []) [])
 -- config MODULES / bool "mods" / default y / config FOO / tristate "foo" / imply BAZ / config BAR / tristate "bar" / config BAZ / tristate "baz" / depends on BAR
 abbrev pub tree_imply : Tree
 tree_imply = record {
-  symbols = plain (codes "MODULES") Boolean (always ∷ []) (otherwise always ∷ []) ∷ plain (codes "FOO") Tristate (always ∷ []) [] ∷ plain (codes "BAR") Tristate (always ∷ []) []
-      ∷ record (plain (codes "BAZ") Tristate (name (codes "BAR") ∷ []) []) { impliers = record { by = 1; condition = always } ∷ []; direct = name (codes "BAR") ∷ [] } ∷ [];
+  symbols =
+      plain (codes "MODULES") Boolean (always ∷ []) (otherwise always ∷ []) ∷ plain (codes "FOO") Tristate (always ∷ []) [] ∷ plain (codes "BAR") Tristate
+      (always ∷ []) []
+      ∷ record (plain (codes "BAZ") Tristate (name (codes "BAR") ∷ []) [])
+      { impliers = record { by = 1; condition = always } ∷ []; direct = name (codes "BAR") ∷ [] } ∷ [];
   choices = [];
   entries = definition 0 ∷ definition 1 ∷ definition 2 ∷ definition 3 ∷ [];
   units = of_symbol 0 ∷ of_symbol 1 ∷ of_symbol 2 ∷ of_symbol 3 ∷ [];
@@ -150,7 +185,8 @@ abbrev pub tree_menu : Tree
 tree_menu = record {
   symbols = plain (codes "A") Boolean (always ∷ []) [] ∷ plain (codes "B") Boolean (always ∷ []) [] ∷ plain (codes "C") Boolean (always ∷ []) [] ∷ [];
   choices = [];
-  entries = definition 0 ∷ menu_begins (codes "Net") always always ∷ definition 1 ∷ menu_ends (codes "Net") always always ∷ definition 2 ∷ comment (codes "done") always ∷ [];
+  entries = definition 0 ∷ menu_begins (codes "Net") always always ∷ definition 1 ∷ menu_ends (codes "Net") always always ∷ definition 2 ∷ comment
+      (codes "done") always ∷ [];
   units = of_symbol 0 ∷ of_symbol 1 ∷ of_symbol 2 ∷ [];
 }
 
@@ -170,4 +206,6 @@ tree_relation = three_symbols (plain (codes "A") Boolean (always ∷ []) []) (pl
 
 -- config N / int "n" / config Q / bool / default y if N = 10
 abbrev pub tree_number_relation : Tree
-tree_number_relation = two_symbols (plain (codes "N") Int (always ∷ []) []) (plain (codes "Q") Boolean [] (record { value = always; condition = related Equal (named (codes "N")) (named (codes "10")) } ∷ []))
+tree_number_relation =
+    two_symbols (plain (codes "N") Int (always ∷ []) []) (plain (codes "Q") Boolean []
+    (record { value = always; condition = related Equal (named (codes "N")) (named (codes "10")) } ∷ []))

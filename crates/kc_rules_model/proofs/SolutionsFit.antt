@@ -66,7 +66,8 @@ module _ (profile : Profile) (tree : Tree) (settled : IsOrderedTree tree) (users
   blanks_fit u h =
       let unit = get-some tree.units u h in
       let at : slice_get blanks u ≡ Some (blank_of tree unit.0) = slice_get-map (blank_of tree) tree.units u ∙ ap (option_map (blank_of tree)) unit.1 in
-      let fits : value_fits tree u (blank_of tree unit.0) ≡ true = ap (λ o. unit_value_fits tree o (blank_of tree unit.0)) unit.1 ∙ blank_fits u unit.0 unit.1 in
+      let fits : value_fits tree u (blank_of tree unit.0) ≡ true = ap (λ o. unit_value_fits tree o (blank_of tree unit.0)) unit.1
+      ∙ blank_fits u unit.0 unit.1 in
       rw at fits
 
   abbrev Fitted : List UnitValue → Type 0
@@ -79,20 +80,28 @@ module _ (profile : Profile) (tree : Tree) (settled : IsOrderedTree tree) (users
       each_set Fits values u (length tree.units) (rule profile tree u (user_of users u) values) fits.0 inside
       (rules_fit profile tree u (user_of users u) values settled.consistent inside (fitting.1 u inside) fits) fits.1
 
-  fitted_below : (i : ℕ) → i ≤ length settled.order → (values : List UnitValue) × Fitted values × solving.SolvedBelow (rule profile tree) users settled.order values i
+  fitted_below : (i : ℕ) → i ≤ length settled.order
+      → (values : List UnitValue) × Fitted values × solving.SolvedBelow (rule profile tree) users settled.order values i
   fitted_below zero h = (blanks, (length-map tree.units (blank_of tree), blanks_fit), record { holds = λ k u below e. absurd (omega arith) })
   fitted_below (suc i) h =
       let before = fitted_below i (omega arith) in
       let place = get-some settled.order i (omega arith) in
-      let more = solving.solved_more (length tree.units) (dependencies tree) (rule profile tree) (λ u x. IsTrue (user_fits tree u x)) settled.order settled.ordered (rules_frame profile tree) users fitting.1 before.0 i place.0 before.1.0 place.1 before.2 in
-      (set before.0 place.0 (rule profile tree place.0 (user_of users place.0) before.0), step before.0 i place.0 place.1 before.1, (let e : i + 1 ≡ suc i = omega arith in rw e at more))
+      let more = solving.solved_more (length tree.units) (dependencies tree) (rule profile tree) (λ u x. IsTrue (user_fits tree u x)) settled.order
+      settled.ordered (rules_frame profile tree) users fitting.1 before.0 i place.0 before.1.0 place.1 before.2 in (
+        set before.0 place.0 (rule profile tree place.0 (user_of users place.0) before.0),
+        step before.0 i place.0 place.1 before.1,
+        (let e : i + 1 ≡ suc i = omega arith in rw e at more),
+      )
 
   -- the values of a fitting assignment fit
-  pub solutions_fit : (values : List UnitValue) → Solves (length tree.units) (rule profile tree) users values → FitsValues (length tree.units) (λ u v. IsTrue (value_fits tree u v)) values
+  pub solutions_fit : (values : List UnitValue) → Solves (length tree.units) (rule profile tree) users values
+      → FitsValues (length tree.units) (λ u v. IsTrue (value_fits tree u v)) values
   solutions_fit values solved =
       let all = fitted_below (length settled.order) (omega arith) in
-      let other = solving.solved_all (length tree.units) (dependencies tree) (rule profile tree) (λ u x. IsTrue (user_fits tree u x)) settled.order settled.ordered (rules_frame profile tree) users fitting.1 all.0 all.1.0 all.2 in
-      let same : all.0 ≡ values = solving.unique (length tree.units) (dependencies tree) (rule profile tree) (λ u x. IsTrue (user_fits tree u x)) settled.order settled.ordered (rules_frame profile tree) users fitting.1 all.0 values other solved in
+      let other = solving.solved_all (length tree.units) (dependencies tree) (rule profile tree) (λ u x. IsTrue (user_fits tree u x)) settled.order
+      settled.ordered (rules_frame profile tree) users fitting.1 all.0 all.1.0 all.2 in
+      let same : all.0 ≡ values = solving.unique (length tree.units) (dependencies tree) (rule profile tree) (λ u x. IsTrue (user_fits tree u x)) settled.order
+      settled.ordered (rules_frame profile tree) users fitting.1 all.0 values other solved in
       subst (λ v. FitsValues (length tree.units) (λ u w. IsTrue (value_fits tree u w)) v) same all.1
 
 -- as a law

@@ -42,7 +42,8 @@ string_values = (refl, refl, refl)
 
 -- config N / int / range 3 9: invisible and without a default, it isn't written
 abbrev tree_three_to_nine : Tree
-tree_three_to_nine = one_symbol (record (plain (codes "N") Int [] []) { ranges = record { low = named (codes "3"); high = named (codes "9"); condition = always } ∷ [] })
+tree_three_to_nine =
+    one_symbol (record (plain (codes "N") Int [] []) { ranges = record { low = named (codes "3"); high = named (codes "9"); condition = always } ∷ [] })
 
 lower_bound_without_default : (by_rules Present tree_three_to_nine (None ∷ []) (text (codes "3") ∷ []) ≡ text (codes "3") ∷ [])
     × (is_written tree_three_to_nine (text (codes "3") ∷ []) 0 ≡ false)
@@ -51,7 +52,9 @@ lower_bound_without_default = (refl, refl)
 
 -- config N / int "n" / range LO 9 / default 1 / config LO / int: LO is empty, and the bound 0
 abbrev tree_empty_bound : Tree
-tree_empty_bound = two_symbols (record (plain (codes "N") Int (always ∷ []) (otherwise (name (codes "1")) ∷ [])) { ranges = record { low = named (codes "LO"); high = named (codes "9"); condition = always } ∷ [] }) (plain (codes "LO") Int [] [])
+tree_empty_bound =
+    two_symbols (record (plain (codes "N") Int (always ∷ []) (otherwise (name (codes "1")) ∷ []))
+    { ranges = record { low = named (codes "LO"); high = named (codes "9"); condition = always } ∷ [] }) (plain (codes "LO") Int [] [])
 
 empty_bound_is_0 : by_rules Present tree_empty_bound (None ∷ None ∷ []) (text (codes "1") ∷ text [] ∷ []) ≡ text (codes "1") ∷ text [] ∷ []
 unfolding rule int_text digits

@@ -1,14 +1,16 @@
 -- The symbols of a full file, unmet dependencies and lifted tristates, by the values of the units.
-use Rattle.std.specs.Prelude.{◌≡◌, ◌≢◌, ℕ, Bool, true, false, not, ◌&&◌, ◌||◌, List, Some, is_some, is_none, length, nat_lt, slice_get, filter, unwrap_or, if◌then◌else◌}
+use Rattle.std.specs.Prelude.{◌≡◌, ◌≢◌, ℕ, Bool, true, false, not, ◌&&◌, ◌||◌, List, Option, Some, None, is_some, is_none, length, nat_lt, slice_get, filter, unwrap_or, if◌then◌else◌}
 use Rattle.std.specs.List.{range_with_len}
 use Rattle.std.specs.Option.{option_map}
 use Rattle.kc_value.specs.Tri.{rank}
-use Rattle.kc_tree_model.specs.Trees.{Tree, Symbol}
-use Rattle.kc_tree_model.specs.declared.ids.Unit.TheVariants.{Symbol as of_symbol}
+use Rattle.kc_tree_model.specs.Trees.{Tree, Symbol, Choice}
+use Rattle.kc_tree_model.specs.declared.ids.Unit.TheVariants.{Symbol as of_symbol, Choice as of_choice}
 use Rattle.kc_rules_model.specs.declared.profile.Profile.{Profile}
 use Rattle.kc_rules_model.specs.declared.values.UnitValue.{UnitValue}
 use Rattle.kc_rules_model.specs.Kinds.{is_n}
 use Rattle.kc_value.specs.Kinds.{is_tri_kind, is_tristate}
+use Rattle.kc_tree_model.specs.TreeLookup.{index_of_unit}
+use Rattle.kc_rules_model.specs.SymbolValues.{member_of}
 use Rattle.kc_rules_model.specs.Rule.{rule, as_user, is_visible, selected, implied, direct_dependency, active_default, default_tri}
 
 -- the numbers of the symbols, in order of first definition
@@ -22,11 +24,20 @@ has_default tree values symbol =
     then not (is_n (default_tri tree values (active_default tree values symbol)))
     else is_some (active_default tree values symbol)
 
--- a full file (Kconfiglib's `write_config`) has each visible symbol, and outside choices each that has a default, is selected, or is implied where
--- its direct dependency isn't `n`
+-- whether a choice of this number is there and optional
+abbrev pub is_optional_choice : Tree → ℕ → Bool
+is_optional_choice tree c = unwrap_or (option_map (λ (choice : Choice). choice.optional) (slice_get tree.choices c)) false
+
+-- whether this choice, if it is one, is optional and has no selection
+abbrev pub is_unselected : Tree → List UnitValue → Option ℕ → Bool
+is_unselected tree values None = false
+is_unselected tree values (Some c) = is_optional_choice tree c && is_none (member_of (slice_get values (index_of_unit tree (of_choice c))))
+
+-- a full file (Kconfiglib's `write_config`) has each visible symbol, but no member of an optional choice without a
+-- selection; and outside choices each that has a default, is selected, or is implied where its direct dependency isn't `n`
 abbrev pub is_written_symbol : Tree → List UnitValue → Symbol → Bool
 is_written_symbol tree values symbol =
-    is_visible tree values symbol
+    (is_visible tree values symbol && not (is_unselected tree values symbol.choice))
     || (is_none symbol.choice
     && (has_default tree values symbol
     || not (is_n (selected tree values symbol))

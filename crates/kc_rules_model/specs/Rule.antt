@@ -1,7 +1,7 @@
 -- The value of a unit, from its user value or none and the values of all units. What is quoted in comments is a topic of
 -- kconfig-language.rst, "Menu attributes" and "Menu entries".
 use Rattle.std.specs.Prelude.{ℕ, Bool, true, false, not, ◌&&◌, ◌||◌, List, [], ◌∷◌, Option, Some, None, is_some, ℤ, pos, int_lt, slice_get, unwrap_or, find, if◌then◌else◌}
-use Rattle.std.specs.Option.{option_map, option_and_then}
+use Rattle.std.specs.Option.{option_map, option_and_then, option_or}
 use Rattle.kc_value.specs.declared.tri.Tri.{Tri}
 use Rattle.kc_value.specs.declared.tri.Tri.TheVariants.{N}
 use Rattle.kc_value.specs.declared.value.Kind.{Kind}
@@ -200,19 +200,16 @@ is_visible_member tree values s = unwrap_or (option_map (is_visible tree values)
 abbrev pub is_shown : Tree → List UnitValue → Choice → Bool
 is_shown tree values choice = unwrap_or (option_map (λ e. not (is_n (condition tree values e))) choice.prompt) false
 
--- the first of two that is there
-abbrev pub or_else : {X : Type 0} → Option X → Option X → Option X
-or_else None b = b
-or_else (Some x) b = Some x
-
--- the value of a choice: the user's member, the first default's or the first, each if it is visible
+-- the value of a choice: the user's member, else the first default's or the first, each if it is visible; of an optional
+-- choice the user's member alone
 abbrev pub choice_rule : Tree → Choice → Option UserValue → List UnitValue → Option ℕ
 choice_rule tree choice user values =
     let seen : ℕ → Bool = is_visible_member tree values in
     let by_user = option_and_then (λ s. if seen s then Some s else None) (assigned_member user) in
     let counts : MemberDefault → Bool = λ d. not (is_n (condition tree values d.condition)) && seen d.member in
     let by_default = option_map (λ (d : MemberDefault). d.member) (find counts choice.defaults) in
-    if is_shown tree values choice then or_else by_user (or_else by_default (find seen choice.members)) else None
+    let otherwise = if choice.optional then None else option_or by_default (find seen choice.members) in
+    if is_shown tree values choice then option_or by_user otherwise else None
 
 -- the value of a symbol, and `n` if it isn't there
 abbrev pub rule_of_symbol : Profile → Tree → Option Symbol → Option UserValue → List UnitValue → UnitValue

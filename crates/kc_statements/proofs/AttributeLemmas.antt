@@ -24,17 +24,20 @@ default_by f ts (Ok e) = default_then f ts (record { expr = e; single = length (
 default_by f ts (Err x) = Err (kind_of_fault x.0)
 
 default_reading : (f : DefaultAttribute → Attribute) (ts : List Lexeme) (r : Result Expr (ExprKind × List Lexeme))
-    → (elim r [ Ok e ↦ Ok (record { expr = e; single = length (extent ts) == 1; rest = drop (length (extent ts)) ts }) | Err x ↦ Err (kind_of_fault x.0) ] >>= default_then f ts) ≡ default_by f ts r
+    → (elim r [ Ok e ↦ Ok (record { expr = e; single = length (extent ts) == 1; rest = drop (length (extent ts)) ts }) | Err x ↦ Err (kind_of_fault x.0) ] >>=
+    default_then f ts) ≡ default_by f ts r
 unfolding default_by
 default_reading f ts (Ok e) = refl
 default_reading f ts (Err x) = refl
 
 pub default_is : (f : DefaultAttribute → Attribute) (ts : List Lexeme) (e : Expr) → read_expr (extent ts) ≡ Ok e
-    → default_line f ts ≡ stepped (λ c. attribute (f (record { value = e; single = length (extent ts) == 1; condition = c }))) (optional_if (drop (length (extent ts)) ts))
+    → default_line f ts ≡ stepped (λ c. attribute (f (record { value = e; single = length (extent ts) == 1; condition = c })))
+    (optional_if (drop (length (extent ts)) ts))
 unfolding default_by default_then
 default_is f ts e r = default_reading f ts (read_expr (extent ts)) ∙ ap (default_by f ts) r
 
-pub default_unread : (f : DefaultAttribute → Attribute) (ts : List Lexeme) (x : ExprKind × List Lexeme) → read_expr (extent ts) ≡ Err x → default_line f ts ≡ Err (kind_of_fault x.0)
+pub default_unread : (f : DefaultAttribute → Attribute) (ts : List Lexeme) (x : ExprKind × List Lexeme) → read_expr (extent ts) ≡ Err x
+    → default_line f ts ≡ Err (kind_of_fault x.0)
 unfolding default_by default_then
 default_unread f ts x r = default_reading f ts (read_expr (extent ts)) ∙ ap (default_by f ts) r
 

@@ -33,7 +33,8 @@ behind ts (Ok e) = no_more (conditional e) (drop (length (extent ts)) ts)
 behind ts (Err f) = Err (kind_of_fault f.0)
 
 by_reading : (ts : List Lexeme) (r : Result Expr (ExprKind × List Lexeme))
-    → (elim r [ Ok e ↦ Ok (record { expr = e; single = length (extent ts) == 1; rest = drop (length (extent ts)) ts }) | Err f ↦ Err (kind_of_fault f.0) ] >>= λ (t : ParsedExpr). no_more (conditional t.expr) t.rest) ≡ behind ts r
+    → (elim r [ Ok e ↦ Ok (record { expr = e; single = length (extent ts) == 1; rest = drop (length (extent ts)) ts }) | Err f ↦ Err (kind_of_fault f.0) ] >>=
+    λ (t : ParsedExpr). no_more (conditional t.expr) t.rest) ≡ behind ts r
 unfolding behind
 by_reading ts (Ok e) = refl
 by_reading ts (Err f) = refl
@@ -41,7 +42,9 @@ by_reading ts (Err f) = refl
 -- tokens after a condition
 pub condition_after : (ts : List Lexeme) (e : Expr) → read_expr (extent ts) ≡ Ok e → length (extent ts) < length ts → last_condition ts ≡ Err Malformed
 unfolding behind
-condition_after ts e reads h = by_reading ts (read_expr (extent ts)) ∙ ap (behind ts) reads ∙ more (conditional e) (drop (length (extent ts)) ts) (omega (arith, length-drop (length (extent ts)) ts))
+condition_after ts e reads h =
+    by_reading ts (read_expr (extent ts)) ∙ ap (behind ts) reads ∙ more (conditional e) (drop (length (extent ts)) ts)
+    (omega (arith, length-drop (length (extent ts)) ts))
 
 -- no tokens after a condition
 bare : {A : Type 0} (x : A) (ts : List Lexeme) → length ts ≡ 0 → no_more x ts ≡ Ok x
@@ -50,7 +53,9 @@ bare x (t ∷ ts) h = absurd (omega (arith, h))
 
 pub condition_last : (ts : List Lexeme) (e : Expr) → read_expr (extent ts) ≡ Ok e → length ts ≤ length (extent ts) → last_condition ts ≡ Ok (conditional e)
 unfolding behind
-condition_last ts e reads h = by_reading ts (read_expr (extent ts)) ∙ ap (behind ts) reads ∙ bare (conditional e) (drop (length (extent ts)) ts) (omega (arith, h, length-drop (length (extent ts)) ts))
+condition_last ts e reads h =
+    by_reading ts (read_expr (extent ts)) ∙ ap (behind ts) reads ∙ bare (conditional e) (drop (length (extent ts)) ts)
+    (omega (arith, h, length-drop (length (extent ts)) ts))
 
 -- tokens that are no expression
 pub condition_unread : (ts : List Lexeme) (x : ExprKind × List Lexeme) → read_expr (extent ts) ≡ Err x → last_condition ts ≡ Err (kind_of_fault x.0)
@@ -62,7 +67,8 @@ reported_kind all (k, []) = refl
 reported_kind all (k, t ∷ ts) = refl
 
 -- the parser's fault as that of a form
-pub unread : {A : Type 0} (ps : List Lexeme) (at : ℕ) (e : ExprFault) (k : TreeKind) (given : Result A TreeKind) → ((e.kind ≡ expr_kinds.OutOfMemory) ⊎ RefusesExpr ps at e) → k ≡ kind_of_fault e.kind
+pub unread : {A : Type 0} (ps : List Lexeme) (at : ℕ) (e : ExprFault) (k : TreeKind) (given : Result A TreeKind)
+    → ((e.kind ≡ expr_kinds.OutOfMemory) ⊎ RefusesExpr ps at e) → k ≡ kind_of_fault e.kind
     → ((x : ExprKind × List Lexeme) → read_expr (expr_tokens ps at) ≡ Err x → given ≡ Err (kind_of_fault x.0)) → (k ≡ OutOfMemory) ⊎ (given ≡ Err k)
 unread ps at e k given f q h = elim f [
   | inl m ↦ inl (q ∙ ap kind_of_fault m)
@@ -72,8 +78,11 @@ unread ps at e k given f q h = elim f [
 ]
 
 -- the token at a place, and those after it
-pub front_piece : (ts : List CodeToken) (at : ℕ) (d : CodeToken) → at < length ts → drop at (lexemes_of ts) ≡ lexeme_of (slice_index_or ts at d) ∷ drop (at + 1) (lexemes_of ts)
-front_piece ts at d h = drop-map lexeme_of at ts ∙ ap (map lexeme_of) (drop_more ts at d h) ∙ ap (λ r. lexeme_of (slice_index_or ts at d) ∷ r) (sym (drop-map lexeme_of (at + 1) ts))
+pub front_piece : (ts : List CodeToken) (at : ℕ) (d : CodeToken) → at < length ts
+    → drop at (lexemes_of ts) ≡ lexeme_of (slice_index_or ts at d) ∷ drop (at + 1) (lexemes_of ts)
+front_piece ts at d h =
+    drop-map lexeme_of at ts ∙ ap (map lexeme_of) (drop_more ts at d h)
+    ∙ ap (λ r. lexeme_of (slice_index_or ts at d) ∷ r) (sym (drop-map lexeme_of (at + 1) ts))
 
 pub no_if : (t : Lexeme) (ts : List Lexeme) → is_the_word (codes "if") t ≡ false → optional_if (t ∷ ts) ≡ Err Malformed
 no_if t ts e = rw e refl
@@ -107,7 +116,8 @@ there zero b e f = absurd (false≢true (sym f ∙ e))
 there (suc n) b e f = omega arith
 
 -- the statement of a line, by its keyword
-pub by_keyword : (e : Exprs) (r : Result CodeStatement TreeKind) (ps : List Lexeme) {k l : Keyword} → k ≡ l → ReturnsOrFails (statement_in e) r (statement_of l ps) → ReturnsOrFails (statement_in e) r (statement_of k ps)
+pub by_keyword : (e : Exprs) (r : Result CodeStatement TreeKind) (ps : List Lexeme) {k l : Keyword} → k ≡ l
+    → ReturnsOrFails (statement_in e) r (statement_of l ps) → ReturnsOrFails (statement_in e) r (statement_of k ps)
 by_keyword e r ps {k} {l} q g = along (statement_in e) r (statement_of k ps) (statement_of l ps) (ap (λ w. statement_of w ps) q) g
 
 -- no tokens where their number is 0
@@ -119,6 +129,7 @@ none_there [] b e f = refl
 none_there (t ∷ ts) b e f = absurd (omega (arith, equal (length (t ∷ ts)) 0 (sym e ∙ f)))
 
 -- what is given, one step further
-pub given_on : {A B C : Type 0} (view : A → B) (k : B → C) (r : Result A TreeKind) (x : Result B TreeKind) → ReturnsOrFails view r x → ReturnsOrFails (λ a. k (view a)) r (stepped k x)
+pub given_on : {A B C : Type 0} (view : A → B) (k : B → C) (r : Result A TreeKind) (x : Result B TreeKind) → ReturnsOrFails view r x
+    → ReturnsOrFails (λ a. k (view a)) r (stepped k x)
 given_on view k (Ok a) x g = ap (stepped k) g
 given_on view k (Err f) x g = elim g [ inl m ↦ inl m | inr q ↦ inr (ap (stepped k) q) ]

@@ -21,7 +21,8 @@ is_pattern_byte c = c == 42 || (c == 63) || (c == 91)
 no_pattern : (c d : ℕ) → is_pattern_byte d ≡ false → (c == d) ≡ true → is_pattern_byte c ≡ false
 no_pattern c d p e = let q : c ≡ d = search (rules, nat_tests) in rw q p
 
-by_byte : (c : ℕ) (bs : List ℕ) (b : Bool) → (c == 92) ≡ b → list_any is_pattern_byte (unescaped true bs) ≡ list_any is_pattern_byte bs → list_any is_pattern_byte (unescaped false bs) ≡ list_any is_pattern_byte bs
+by_byte : (c : ℕ) (bs : List ℕ) (b : Bool) → (c == 92) ≡ b → list_any is_pattern_byte (unescaped true bs) ≡ list_any is_pattern_byte bs
+    → list_any is_pattern_byte (unescaped false bs) ≡ list_any is_pattern_byte bs
     → list_any is_pattern_byte (cond b (unescaped true bs) (c ∷ unescaped false bs)) ≡ list_any is_pattern_byte (c ∷ bs)
 by_byte c bs true e t f = t ∙ sym (ap (λ r. r || list_any is_pattern_byte bs) (no_pattern c 92 refl e))
 by_byte c bs false e t f = ap (λ r. is_pattern_byte c || r) f
@@ -42,12 +43,15 @@ quote_none : (c : ℕ) → is_quote c ≡ true → is_pattern_byte c ≡ false
 quote_none c h = quote_by c (c == 34) (c == 39) refl refl h
 
 -- the last byte, where it is none
-last_none : (xs : List ℕ) (i : ℕ) → length xs ≡ i + 1 → is_pattern_byte (get_or xs i 0) ≡ false → list_any is_pattern_byte (take i xs) ≡ list_any is_pattern_byte xs
+last_none : (xs : List ℕ) (i : ℕ) → length xs ≡ i + 1 → is_pattern_byte (get_or xs i 0) ≡ false
+    → list_any is_pattern_byte (take i xs) ≡ list_any is_pattern_byte xs
 last_none xs i l n =
     sym (or-false (list_any is_pattern_byte (take i xs))) ∙ sym (ap (λ b. list_any is_pattern_byte (take i xs) || b) n)
-    ∙ sym (list_any_more is_pattern_byte xs i 0 (omega (arith, l))) ∙ ap (λ m. list_any is_pattern_byte (take m xs)) (sym l) ∙ ap (list_any is_pattern_byte) (take-length xs)
+    ∙ sym (list_any_more is_pattern_byte xs i 0 (omega (arith, l))) ∙ ap (λ m. list_any is_pattern_byte (take m xs)) (sym l)
+    ∙ ap (list_any is_pattern_byte) (take-length xs)
 
-inner : (x : ℕ) (xs : List ℕ) (i : ℕ) → length xs ≡ i + 1 → is_quote x ≡ true → is_quote (get_or xs i 0) ≡ true → list_any is_pattern_byte (take i xs) ≡ list_any is_pattern_byte (x ∷ xs)
+inner : (x : ℕ) (xs : List ℕ) (i : ℕ) → length xs ≡ i + 1 → is_quote x ≡ true → is_quote (get_or xs i 0) ≡ true
+    → list_any is_pattern_byte (take i xs) ≡ list_any is_pattern_byte (x ∷ xs)
 inner x xs i l first last = last_none xs i l (quote_none (get_or xs i 0) last) ∙ sym (ap (λ b. b || list_any is_pattern_byte xs) (quote_none x first))
 
 -- taking quotes away takes none away
@@ -65,10 +69,12 @@ between_by x y zs true true true e f =
 between_pattern : (text : List ℕ) → list_any is_pattern_byte (between_quotes text) ≡ list_any is_pattern_byte text
 between_pattern [] = refl
 between_pattern (x ∷ []) = refl
-between_pattern (x ∷ y ∷ zs) = between_by x y zs (nat_le 2 (length (x ∷ y ∷ zs))) (is_quote x) (is_quote (get_or (x ∷ y ∷ zs) (length (x ∷ y ∷ zs) - 1) 0)) refl refl
+between_pattern (x ∷ y ∷ zs) =
+    between_by x y zs (nat_le 2 (length (x ∷ y ∷ zs))) (is_quote x) (is_quote (get_or (x ∷ y ∷ zs) (length (x ∷ y ∷ zs) - 1) 0)) refl refl
 
 -- a path is a pattern where its token's text has such a byte
-glob_by : (k : TokenKind) (s e : ℕ) (text : List ℕ) → is_operand_kind k ≡ true → is_glob_path (record { kind = k; start = s; stop = e; text = text }) ≡ list_any is_pattern_byte text
+glob_by : (k : TokenKind) (s e : ℕ) (text : List ℕ) → is_operand_kind k ≡ true
+    → is_glob_path (record { kind = k; start = s; stop = e; text = text }) ≡ list_any is_pattern_byte text
 glob_by Word s e text h = refl
 glob_by Quoted s e text h = unescaped_pattern false (between_quotes text) ∙ between_pattern text
 glob_by (Relation op) s e text h = absurd (false≢true h)

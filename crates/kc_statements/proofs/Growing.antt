@@ -9,7 +9,8 @@ front_parts xs ys e = sym (take-append-drop (length xs) ys) ∙ ap (λ zs. zs ++
 
 front_on : {X : Type 0} (xs ys zs : List X) → take (length xs) ys ≡ xs → take (length ys) zs ≡ ys → take (length xs) zs ≡ xs
 front_on xs ys zs e f =
-    ap (take (length xs)) (front_parts ys zs f ∙ ap (λ vs. vs ++ drop (length ys) zs) (front_parts xs ys e) ∙ append_assoc xs (drop (length xs) ys) (drop (length ys) zs))
+    ap (take (length xs)) (front_parts ys zs f ∙ ap (λ vs. vs ++ drop (length ys) zs) (front_parts xs ys e)
+    ∙ append_assoc xs (drop (length xs) ys) (drop (length ys) zs))
     ∙ take-append_seam xs (drop (length xs) ys ++ drop (length ys) zs)
 
 pub grows_on : (old mid new : Exprs) → Grows old mid → Grows mid new → Grows old new

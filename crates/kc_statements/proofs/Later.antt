@@ -53,8 +53,10 @@ operand_held old new id g h = record {
 -- a default
 pub valued_same : (old new : Exprs) (d : CodeValued) → Grows old new → DefaultNodesExist old d → default_in new d ≡ default_in old d
 valued_same old new d g h =
-    ap (λ (v : Expr). let r : DefaultAttribute = record { value = v; single = d.single; condition = if_in new d.condition } in r) (node_same old new d.value g h.0)
-    ∙ ap (λ (c : Option Expr). let r : DefaultAttribute = record { value = node_expr old d.value; single = d.single; condition = c } in r) (if_same old new d.condition g h.1)
+    ap (λ (v : Expr). let r : DefaultAttribute = record { value = v; single = d.single; condition = if_in new d.condition } in r)
+    (node_same old new d.value g h.0)
+    ∙ ap (λ (c : Option Expr). let r : DefaultAttribute = record { value = node_expr old d.value; single = d.single; condition = c } in r)
+    (if_same old new d.condition g h.1)
 
 pub valued_held : (old new : Exprs) (d : CodeValued) → Grows old new → DefaultNodesExist old d → DefaultNodesExist new d
 valued_held old new d g h = (node_held old new d.value g h.0, if_held old new d.condition g h.1)
@@ -62,7 +64,8 @@ valued_held old new d g h = (node_held old new d.value g h.0, if_held old new d.
 -- a `select` or an `imply`
 pub target_same : (old new : Exprs) (s : CodeAimed) → Grows old new → TargetNodesExist old s → target_in new s ≡ target_in old s
 target_same old new s g h =
-    ap (λ (x : List ℕ). let r : TargetAttribute = record { name = x; condition = if_in new s.condition } in r) (front_get old.names new.names s.name [] g.names h.0)
+    ap (λ (x : List ℕ). let r : TargetAttribute = record { name = x; condition = if_in new s.condition } in r)
+    (front_get old.names new.names s.name [] g.names h.0)
     ∙ ap (λ (c : Option Expr). let r : TargetAttribute = record { name = get_or old.names s.name []; condition = c } in r) (if_same old new s.condition g h.1)
 
 pub target_held : (old new : Exprs) (s : CodeAimed) → Grows old new → TargetNodesExist old s → TargetNodesExist new s
@@ -93,6 +96,7 @@ attribute_same old new (attributes.Range r) g h = ap range (bounded_same old new
 attribute_same old new (attributes.Visible id) g h = ap visible (node_same old new id g h)
 attribute_same old new attributes.Help g h = refl
 attribute_same old new attributes.Modules g h = refl
+attribute_same old new attributes.Optional g h = refl
 
 pub attribute_held : (old new : Exprs) (a : CodeAttribute) → Grows old new → AttributeNodesExist old a → AttributeNodesExist new a
 attribute_held old new (attributes.Typed k) g h = tt
@@ -107,6 +111,7 @@ attribute_held old new (attributes.Range r) g h = bounded_held old new r g h
 attribute_held old new (attributes.Visible id) g h = node_held old new id g h
 attribute_held old new attributes.Help g h = tt
 attribute_held old new attributes.Modules g h = tt
+attribute_held old new attributes.Optional g h = tt
 
 -- a statement that closes the open entry
 pub head_same : (old new : Exprs) (h : CodeHead) → Grows old new → HeadNodesExist old h → head_in new h ≡ head_in old h

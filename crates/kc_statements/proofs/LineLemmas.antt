@@ -22,7 +22,8 @@ pub worded_is : (w : List ℕ) (f : Expr → Attribute) (ts : List CodeToken) �
 worded_is w f [] l h = absurd (omega (arith, l))
 worded_is w f (t ∷ ts) l h = rw h refl
 
-pub worded_other : (w : List ℕ) (f : Expr → Attribute) (ts : List CodeToken) → 0 < length ts → is_the_word w (lexeme_of (first_of ts)) ≡ false → condition_line w f (lexemes_of ts) ≡ Err Malformed
+pub worded_other : (w : List ℕ) (f : Expr → Attribute) (ts : List CodeToken) → 0 < length ts → is_the_word w (lexeme_of (first_of ts)) ≡ false
+    → condition_line w f (lexemes_of ts) ≡ Err Malformed
 worded_other w f [] l h = absurd (omega (arith, l))
 worded_other w f (t ∷ ts) l h = rw h refl
 
@@ -32,7 +33,8 @@ pub prompt_is : (f : Option Expr → Attribute) (ts : List CodeToken) → 0 < le
 prompt_is f [] l h = absurd (omega (arith, l))
 prompt_is f (t ∷ ts) l h = rw h refl
 
-pub prompt_other : (f : Option Expr → Attribute) (ts : List CodeToken) → 0 < length ts → is_quoted_kind (first_of ts).kind ≡ false → prompt_line f (lexemes_of ts) ≡ Err Malformed
+pub prompt_other : (f : Option Expr → Attribute) (ts : List CodeToken) → 0 < length ts → is_quoted_kind (first_of ts).kind ≡ false
+    → prompt_line f (lexemes_of ts) ≡ Err Malformed
 prompt_other f [] l h = absurd (omega (arith, l))
 prompt_other f (t ∷ ts) l h = rw h refl
 
@@ -46,11 +48,13 @@ unfolding target_as
 target_is f [] l h = absurd (omega (arith, l))
 target_is f (t ∷ ts) l h = rw h refl
 
-pub target_other : (f : TargetAttribute → Attribute) (ts : List CodeToken) → 0 < length ts → is_name (lexeme_of (first_of ts)) ≡ false → target_line f (lexemes_of ts) ≡ Err Malformed
+pub target_other : (f : TargetAttribute → Attribute) (ts : List CodeToken) → 0 < length ts → is_name (lexeme_of (first_of ts)) ≡ false
+    → target_line f (lexemes_of ts) ≡ Err Malformed
 target_other f [] l h = absurd (omega (arith, l))
 target_other f (t ∷ ts) l h = rw h refl
 
-pub target_told : (mid new : Exprs) (f : TargetAttribute → Attribute) (ts : List CodeToken) (id : ℕ) (c : Option ℕ) → 0 < length ts → is_name (lexeme_of (first_of ts)) ≡ true → Grows mid new
+pub target_told : (mid new : Exprs) (f : TargetAttribute → Attribute) (ts : List CodeToken) (id : ℕ) (c : Option ℕ) → 0 < length ts
+    → is_name (lexeme_of (first_of ts)) ≡ true → Grows mid new
     → optional_if (drop 1 (lexemes_of ts)) ≡ Ok (if_in mid c) → IfNodeExists mid c → slice_index_or new.names id [] ≡ (first_of ts).text.now
     → target_line f (lexemes_of ts) ≡ Ok (attribute (f (target_in new (record { name = id; condition = c }))))
 unfolding target_as
@@ -58,7 +62,8 @@ target_told mid new f ts id c l n g o h x =
     let k : Option Expr → Statement = target_as f (first_of ts).text.now in
     target_is f ts l n ∙ ap (stepped k) o ∙ ap (λ d. Ok (k d)) (sym (if_same mid new c g h)) ∙ ap (λ y. Ok (target_as f y (if_in new c))) (sym x)
 
-pub target_refused : (f : TargetAttribute → Attribute) (ts : List CodeToken) (k : TreeKind) → 0 < length ts → is_name (lexeme_of (first_of ts)) ≡ true → optional_if (drop 1 (lexemes_of ts)) ≡ Err k → target_line f (lexemes_of ts) ≡ Err k
+pub target_refused : (f : TargetAttribute → Attribute) (ts : List CodeToken) (k : TreeKind) → 0 < length ts → is_name (lexeme_of (first_of ts)) ≡ true
+    → optional_if (drop 1 (lexemes_of ts)) ≡ Err k → target_line f (lexemes_of ts) ≡ Err k
 target_refused f ts k l n o = target_is f ts l n ∙ ap (stepped (target_as f (first_of ts).text.now)) o
 
 -- one token
@@ -71,11 +76,13 @@ option_long [] n = refl
 option_long (t ∷ []) n = absurd (n refl)
 option_long (t ∷ u ∷ ts) n = either_way (is_the_word (codes "modules") (lexeme_of t)) (Err Malformed)
 
-pub option_other : (ts : List CodeToken) → length ts ≡ 1 → is_the_word (codes "modules") (lexeme_of (first_of ts)) ≡ false → option_line (lexemes_of ts) ≡ Err Malformed
+pub option_other : (ts : List CodeToken) → length ts ≡ 1 → is_the_word (codes "modules") (lexeme_of (first_of ts)) ≡ false
+    → option_line (lexemes_of ts) ≡ Err Malformed
 option_other [] l h = refl
 option_other (t ∷ ts) l h = rw h refl
 
-pub option_is : (ts : List CodeToken) → length ts ≡ 1 → is_the_word (codes "modules") (lexeme_of (first_of ts)) ≡ true → option_line (lexemes_of ts) ≡ Ok (attribute modules)
+pub option_is : (ts : List CodeToken) → length ts ≡ 1 → is_the_word (codes "modules") (lexeme_of (first_of ts)) ≡ true
+    → option_line (lexemes_of ts) ≡ Ok (attribute modules)
 option_is [] l h = absurd (omega (arith, l))
 option_is (t ∷ []) l h = rw h refl
 option_is (t ∷ u ∷ ts) l h = absurd (omega (arith, l))
@@ -89,7 +96,8 @@ pub config_other : (ts : List CodeToken) → length ts ≡ 1 → is_name (lexeme
 config_other [] l h = refl
 config_other (t ∷ ts) l h = rw h refl
 
-pub config_is : (ts : List CodeToken) → length ts ≡ 1 → is_name (lexeme_of (first_of ts)) ≡ true → config_line (lexemes_of ts) ≡ Ok (head (config (first_of ts).text.now))
+pub config_is : (ts : List CodeToken) → length ts ≡ 1 → is_name (lexeme_of (first_of ts)) ≡ true
+    → config_line (lexemes_of ts) ≡ Ok (head (config (first_of ts).text.now))
 config_is [] l h = absurd (omega (arith, l))
 config_is (t ∷ []) l h = rw h refl
 config_is (t ∷ u ∷ ts) l h = absurd (omega (arith, l))
@@ -99,7 +107,8 @@ source_by : List Lexeme → Option (List ℕ) → Result Statement TreeKind
 source_by ts None = Err Malformed
 source_by ts (Some x) = no_more (head (source x)) ts
 
-source_reading : (ts : List Lexeme) (p : Option (List ℕ)) → ◌≡◌ {A = Result Statement TreeKind} (elim p [ None ↦ Err Malformed | Some x ↦ no_more (head (source x)) ts ]) (source_by ts p)
+source_reading : (ts : List Lexeme) (p : Option (List ℕ))
+    → ◌≡◌ {A = Result Statement TreeKind} (elim p [ None ↦ Err Malformed | Some x ↦ no_more (head (source x)) ts ]) (source_by ts p)
 unfolding source_by
 source_reading ts None = refl
 source_reading ts (Some x) = refl
@@ -114,7 +123,8 @@ source_long [] n = refl
 source_long (t ∷ []) n = absurd (n refl)
 source_long (t ∷ u ∷ ts) n = source_reading (lexemes_of (u ∷ ts)) (path_of (lexeme_of t)) ∙ path_after (lexeme_of u) (lexemes_of ts) (path_of (lexeme_of t))
 
-pub source_is : (ts : List CodeToken) (x : List ℕ) → length ts ≡ 1 → path_of (lexeme_of (first_of ts)) ≡ Some x → source_line (lexemes_of ts) ≡ Ok (head (source x))
+pub source_is : (ts : List CodeToken) (x : List ℕ) → length ts ≡ 1 → path_of (lexeme_of (first_of ts)) ≡ Some x
+    → source_line (lexemes_of ts) ≡ Ok (head (source x))
 unfolding source_by
 source_is [] x l h = absurd (omega (arith, l))
 source_is (t ∷ []) x l h = source_reading [] (path_of (lexeme_of t)) ∙ ap (source_by []) h

@@ -28,23 +28,29 @@ any_first None = refl
 any_first (Some a) = refl
 
 -- no range begins with another token
-pub first_refused : (ts : List CodeToken) → 2 ≤ length ts → is_operand_kind (slice_index_or ts 0 some_token).kind ≡ false → range_line (lexemes_of ts) ≡ Err Malformed
+pub first_refused : (ts : List CodeToken) → 2 ≤ length ts → is_operand_kind (slice_index_or ts 0 some_token).kind ≡ false
+    → range_line (lexemes_of ts) ≡ Err Malformed
 first_refused [] l e = absurd (omega arith)
 first_refused (t ∷ []) l e = absurd (omega arith)
 first_refused (t ∷ u ∷ ts) l e = rw (no_operand t.kind t.text.now e) refl
 
-pub second_refused : (ts : List CodeToken) → 2 ≤ length ts → is_operand_kind (slice_index_or ts 1 some_token).kind ≡ false → range_line (lexemes_of ts) ≡ Err Malformed
+pub second_refused : (ts : List CodeToken) → 2 ≤ length ts → is_operand_kind (slice_index_or ts 1 some_token).kind ≡ false
+    → range_line (lexemes_of ts) ≡ Err Malformed
 second_refused [] l e = absurd (omega arith)
 second_refused (t ∷ []) l e = absurd (omega arith)
 second_refused (t ∷ u ∷ ts) l e = rw (no_operand u.kind u.text.now e) (ap (λ f. f (lexemes_of ts)) (any_first (operand_of_lexeme (lexeme_of t))))
 
 -- two operands, and what is after them
-pub operands_given : (ts : List CodeToken) (a b : Operand) (c : Option Expr) → 2 ≤ length ts → operand_of_lexeme (lexeme_of (slice_index_or ts 0 some_token)) ≡ Some a → operand_of_lexeme (lexeme_of (slice_index_or ts 1 some_token)) ≡ Some b → optional_if (drop 2 (lexemes_of ts)) ≡ Ok c → range_line (lexemes_of ts) ≡ Ok (attribute (range (record { low = a; high = b; condition = c })))
+pub operands_given : (ts : List CodeToken) (a b : Operand) (c : Option Expr) → 2 ≤ length ts
+    → operand_of_lexeme (lexeme_of (slice_index_or ts 0 some_token)) ≡ Some a → operand_of_lexeme (lexeme_of (slice_index_or ts 1 some_token)) ≡ Some b
+    → optional_if (drop 2 (lexemes_of ts)) ≡ Ok c → range_line (lexemes_of ts) ≡ Ok (attribute (range (record { low = a; high = b; condition = c })))
 operands_given [] a b c l p q o = absurd (omega arith)
 operands_given (t ∷ []) a b c l p q o = absurd (omega arith)
 operands_given (t ∷ u ∷ ts) a b c l p q o = rw (p, q, o) refl
 
-pub operands_refused : (ts : List CodeToken) (a b : Operand) (k : TreeKind) → 2 ≤ length ts → operand_of_lexeme (lexeme_of (slice_index_or ts 0 some_token)) ≡ Some a → operand_of_lexeme (lexeme_of (slice_index_or ts 1 some_token)) ≡ Some b → optional_if (drop 2 (lexemes_of ts)) ≡ Err k → range_line (lexemes_of ts) ≡ Err k
+pub operands_refused : (ts : List CodeToken) (a b : Operand) (k : TreeKind) → 2 ≤ length ts
+    → operand_of_lexeme (lexeme_of (slice_index_or ts 0 some_token)) ≡ Some a → operand_of_lexeme (lexeme_of (slice_index_or ts 1 some_token)) ≡ Some b
+    → optional_if (drop 2 (lexemes_of ts)) ≡ Err k → range_line (lexemes_of ts) ≡ Err k
 operands_refused [] a b k l p q o = absurd (omega arith)
 operands_refused (t ∷ []) a b k l p q o = absurd (omega arith)
 operands_refused (t ∷ u ∷ ts) a b k l p q o = rw (p, q, o) refl

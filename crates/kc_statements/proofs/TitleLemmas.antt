@@ -13,7 +13,8 @@ use Rattle.kc_statements.specs.between.StatementViews.{ReturnsOrFails}
 use Rattle.kc_statements.specs.checker.Titles.{is_one_quoted}
 use Rattle.kc_statements.proofs.FormLemmas.{first_of}
 
-pub title_given : (f : List ℕ → Head) (ts : List CodeToken) → is_one_quoted (lexemes_of ts) ≡ true → titled_line f (lexemes_of ts) ≡ Ok (head (f (quoted_text (first_of ts).text.now)))
+pub title_given : (f : List ℕ → Head) (ts : List CodeToken) → is_one_quoted (lexemes_of ts) ≡ true
+    → titled_line f (lexemes_of ts) ≡ Ok (head (f (quoted_text (first_of ts).text.now)))
 title_given f [] n = absurd (false≢true n)
 title_given f (t ∷ []) n = rw n refl
 title_given f (t ∷ u ∷ us) n = absurd (false≢true n)
@@ -23,7 +24,8 @@ title_there [] n = absurd (false≢true n)
 title_there (t ∷ ts) n = omega arith
 
 -- the title's text, or out of memory
-pub title_by : (f : List ℕ → Head) (x : List ℕ) (r : Result (List ℕ) TreeKind) (given : Result Statement TreeKind) → given ≡ Ok (head (f x)) → IfOk r (λ t. t ≡ x) → IfErr r (λ k. k ≡ OutOfMemory)
+pub title_by : (f : List ℕ → Head) (x : List ℕ) (r : Result (List ℕ) TreeKind) (given : Result Statement TreeKind) → given ≡ Ok (head (f x))
+    → IfOk r (λ t. t ≡ x) → IfErr r (λ k. k ≡ OutOfMemory)
     → ReturnsOrFails (λ t. head (f t)) r given
 title_by f x (Ok t) given g ok err = g ∙ ap (λ y. Ok (head (f y))) (sym ok)
 title_by f x (Err k) given g ok err = inl err

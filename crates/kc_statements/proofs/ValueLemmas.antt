@@ -48,7 +48,8 @@ operand_reported e id p x h r s =
 valued_by : (DefaultAttribute → Attribute) → Expr → ℕ → Option Expr → Result Statement TreeKind
 valued_by f v n c = Ok (attribute (f (record { value = v; single = n == 1; condition = c })))
 
-pub valued_reported : (mid new : Exprs) (f : DefaultAttribute → Attribute) (ps : List Lexeme) (id next : ℕ) (c : Option ℕ) (x : Expr) → Grows mid new → read_expr (extent ps) ≡ Ok x → Represents mid id x
+pub valued_reported : (mid new : Exprs) (f : DefaultAttribute → Attribute) (ps : List Lexeme) (id next : ℕ) (c : Option ℕ) (x : Expr) → Grows mid new
+    → read_expr (extent ps) ≡ Ok x → Represents mid id x
     → next ≡ 0 + length (extent ps) → optional_if (drop next ps) ≡ Ok (if_in new c)
     → default_line f ps ≡ Ok (attribute (f (default_in new (record { value = id; single = next == 1; condition = c }))))
 unfolding valued_by
@@ -60,7 +61,8 @@ valued_reported mid new f ps id next c x g reads s end given =
     ∙ ap (λ m. valued_by f x m (if_in new c)) (sym n)
     ∙ ap (λ v. valued_by f v next (if_in new c)) (sym (node_same mid new id g s.within ∙ s.is))
 
-pub valued_refused : (f : DefaultAttribute → Attribute) (ps : List Lexeme) (next : ℕ) (x : Expr) (k : TreeKind) → read_expr (extent ps) ≡ Ok x → next ≡ 0 + length (extent ps) → optional_if (drop next ps) ≡ Err k
+pub valued_refused : (f : DefaultAttribute → Attribute) (ps : List Lexeme) (next : ℕ) (x : Expr) (k : TreeKind) → read_expr (extent ps) ≡ Ok x
+    → next ≡ 0 + length (extent ps) → optional_if (drop next ps) ≡ Err k
     → default_line f ps ≡ Err k
 valued_refused f ps next x k reads end given =
     let n : next ≡ length (extent ps) = omega (arith, end) in

@@ -32,7 +32,8 @@ lengths_differ e x d = no_text e x (bytes_eq e x) refl (λ q. length_same (lengt
 
 -- an entry of another length is passed over
 passed : (e : List ℕ × Keyword) (es fs : List (List ℕ × Keyword)) (x : List ℕ) (b : Bool)
-    → keyword_in_table fs x ≡ keyword_in_table es x → (b ≡ false → bytes_eq e.0 x ≡ false) → keyword_in_table (cond b (e ∷ fs) fs) x ≡ keyword_in_table (e ∷ es) x
+    → keyword_in_table fs x ≡ keyword_in_table es x → (b ≡ false → bytes_eq e.0 x ≡ false)
+    → keyword_in_table (cond b (e ∷ fs) fs) x ≡ keyword_in_table (e ∷ es) x
 passed e es fs x true ih h = ap (λ (r : Option Keyword). if bytes_eq e.0 x then Some e.1 else r) ih
 passed e es fs x false ih h = rw (h refl) ih
 
@@ -56,4 +57,5 @@ pub other_length : (x : List ℕ) → (length x ≡ 2 → ⊥) → (length x ≡
     → (length x ≡ 8 → ⊥) → (length x ≡ 9 → ⊥) → (length x ≡ 10 → ⊥) → (length x ≡ 12 → ⊥) → None ≡ keyword_in_table keywords x
 other_length x a b c d e f g h i j =
     let n = length x in
-    sym (ap (λ es. keyword_in_table es x) (none_of_length n (differs 2 n a) (differs 3 n b) (differs 4 n c) (differs 5 n d) (differs 6 n e) (differs 7 n f) (differs 8 n g) (differs 9 n h) (differs 10 n i) (differs 12 n j))) ∙ by_length keywords x
+    sym (ap (λ es. keyword_in_table es x) (none_of_length n (differs 2 n a) (differs 3 n b) (differs 4 n c) (differs 5 n d) (differs 6 n e) (differs 7 n f)
+    (differs 8 n g) (differs 9 n h) (differs 10 n i) (differs 12 n j))) ∙ by_length keywords x

@@ -4,7 +4,7 @@ ghost use Rattle.kc_expr.specs.between.Arena.{Exprs, Grows, node_expr};
 ghost use Rattle.kc_expr.specs.Expr.{Expr};
 ghost use Rattle.kc_expr.specs.Token.{lexemes_of};
 ghost use Rattle.kc_tree_model.specs.Forms.{type_line, prompt_line, default_line, target_line, condition_line, option_line, no_more};
-ghost use Rattle.kc_tree_model.specs.Statements.{Attribute as DefinedAttribute, DefaultAttribute as DefinedValued, TargetAttribute as DefinedAimed, attribute, prompt, default, typed_default, depends, visible, select, imply, help, modules};
+ghost use Rattle.kc_tree_model.specs.Statements.{Attribute as DefinedAttribute, DefaultAttribute as DefinedValued, TargetAttribute as DefinedAimed, attribute, prompt, default, typed_default, depends, visible, select, imply, help, modules, optional};
 ghost use Rattle.kc_statements.specs.between.StatementViews.{ReturnsOrFails, StatementNodesExist, NodeExists, IfNodeExists, DefaultNodesExist, TargetNodesExist, statement_in, if_in, default_in, target_in};
 
 use super::condition::{last_condition, optional_if};
@@ -239,6 +239,18 @@ pub(crate) fn modules_line<'a>(tokens: &[Token<'_>]) -> Result<Statement<'a>, Tr
 {
     if tokens.is_empty() {
         Ok(Statement::Attribute(Attribute::Modules))
+    } else {
+        Err(TreeKind::Malformed)
+    }
+}
+
+/// Nothing may follow `optional`.
+pub(crate) fn optional_line<'a>(tokens: &[Token<'_>]) -> Result<Statement<'a>, TreeKind>
+    ensures gives { (e : Exprs) → ReturnsOrFails (statement_in e) result (no_more (attribute optional) (lexemes_of tokens.now)) }
+    ensures held { (e : Exprs) → IfOk result (StatementNodesExist e) }
+{
+    if tokens.is_empty() {
+        Ok(Statement::Attribute(Attribute::Optional))
     } else {
         Err(TreeKind::Malformed)
     }

@@ -16,7 +16,7 @@ pub(crate) fn last_condition(
     tokens: &[Token<'_>],
     at: usize,
 ) -> Result<ExprId, TreeKind>
-    requires { at ≤ length tokens.now }
+    requires within { at ≤ length tokens.now }
     ensures grows { Grows arena.old arena.new }
     ensures gives { ReturnsOrFails (node_expr arena.new) result (last_condition (drop at (lexemes_of tokens.now))) }
     ensures held { IfOk result (NodeExists arena.new) }
@@ -37,7 +37,7 @@ pub(crate) fn optional_if(
     tokens: &[Token<'_>],
     at: usize,
 ) -> Result<Option<ExprId>, TreeKind>
-    requires { at ≤ length tokens.now }
+    requires within { at ≤ length tokens.now }
     ensures grows { Grows arena.old arena.new }
     ensures gives { ReturnsOrFails (if_in arena.new) result (optional_if (drop at (lexemes_of tokens.now))) }
     ensures held { IfOk result (IfNodeExists arena.new) }

@@ -6,8 +6,8 @@ ghost use Rattle.kc_tree_model.specs.Forms.{statement_of as defined_statement};
 ghost use Rattle.kc_statements.specs.between.StatementViews.{ReturnsOrFails, StatementNodesExist, statement_in};
 
 use super::attributes::{
-    default_line, depends_line, help_line, imply_line, modules_line, option_line, prompt_line,
-    select_line, type_line, typed_default_line, visible_line,
+    default_line, depends_line, help_line, imply_line, modules_line, option_line, optional_line,
+    prompt_line, select_line, type_line, typed_default_line, visible_line,
 };
 use super::heads::{
     choice_line, comment_line, config_line, end_line, if_line, mainmenu_line, menu_line,
@@ -55,6 +55,7 @@ pub fn statement_of<'a>(
         Keyword::Help => help_line(tokens),
         Keyword::Modules => modules_line(tokens),
         Keyword::Option => option_line(tokens),
+        Keyword::Optional => optional_line(tokens),
         Keyword::LeftOut => Err(TreeKind::Malformed),
     }
 }

@@ -40,8 +40,8 @@ fn keyword_named(word: &str) -> Option<Keyword>
 
 /// The keywords of two letters.
 fn keyword_of_two(word: &str) -> Option<Keyword>
-    requires { length word.now ≡ 2 }
-    ensures { result ≡ keyword_in_table (of_length 2) word.now }
+    requires len { length word.now ≡ 2 }
+    ensures value { result ≡ keyword_in_table (of_length 2) word.now }
 {
     match word {
         "if" => Some(Keyword::If),
@@ -51,8 +51,8 @@ fn keyword_of_two(word: &str) -> Option<Keyword>
 
 /// The keywords of three letters.
 fn keyword_of_three(word: &str) -> Option<Keyword>
-    requires { length word.now ≡ 3 }
-    ensures { result ≡ keyword_in_table (of_length 3) word.now }
+    requires len { length word.now ≡ 3 }
+    ensures value { result ≡ keyword_in_table (of_length 3) word.now }
 {
     match word {
         "int" => Some(Keyword::Type(Kind::Int)),
@@ -63,8 +63,8 @@ fn keyword_of_three(word: &str) -> Option<Keyword>
 
 /// The keywords of four letters.
 fn keyword_of_four(word: &str) -> Option<Keyword>
-    requires { length word.now ≡ 4 }
-    ensures { result ≡ keyword_in_table (of_length 4) word.now }
+    requires len { length word.now ≡ 4 }
+    ensures value { result ≡ keyword_in_table (of_length 4) word.now }
 {
     match word {
         "bool" => Some(Keyword::Type(Kind::Bool)),
@@ -76,8 +76,8 @@ fn keyword_of_four(word: &str) -> Option<Keyword>
 
 /// The keywords of five letters.
 fn keyword_of_five(word: &str) -> Option<Keyword>
-    requires { length word.now ≡ 5 }
-    ensures { result ≡ keyword_in_table (of_length 5) word.now }
+    requires len { length word.now ≡ 5 }
+    ensures value { result ≡ keyword_in_table (of_length 5) word.now }
 {
     match word {
         "endif" => Some(Keyword::End(Block::If)),
@@ -89,8 +89,8 @@ fn keyword_of_five(word: &str) -> Option<Keyword>
 
 /// The keywords of six letters.
 fn keyword_of_six(word: &str) -> Option<Keyword>
-    requires { length word.now ≡ 6 }
-    ensures { result ≡ keyword_in_table (of_length 6) word.now }
+    requires len { length word.now ≡ 6 }
+    ensures value { result ≡ keyword_in_table (of_length 6) word.now }
 {
     match word {
         "config" => Some(Keyword::Config),
@@ -106,8 +106,8 @@ fn keyword_of_six(word: &str) -> Option<Keyword>
 
 /// The keywords of seven letters.
 fn keyword_of_seven(word: &str) -> Option<Keyword>
-    requires { length word.now ≡ 7 }
-    ensures { result ≡ keyword_in_table (of_length 7) word.now }
+    requires len { length word.now ≡ 7 }
+    ensures value { result ≡ keyword_in_table (of_length 7) word.now }
 {
     match word {
         "depends" => Some(Keyword::Depends),
@@ -116,29 +116,32 @@ fn keyword_of_seven(word: &str) -> Option<Keyword>
         "endmenu" => Some(Keyword::End(Block::Menu)),
         "visible" => Some(Keyword::Visible),
         "modules" => Some(Keyword::Modules),
-        "def_int" | "def_hex" | "rsource" | "osource" => Some(Keyword::LeftOut),
+        "def_int" => Some(Keyword::DefaultType(Kind::Int)),
+        "def_hex" => Some(Keyword::DefaultType(Kind::Hex)),
+        "rsource" | "osource" => Some(Keyword::LeftOut),
         _ => None,
     }
 }
 
 /// The keywords of eight letters.
 fn keyword_of_eight(word: &str) -> Option<Keyword>
-    requires { length word.now ≡ 8 }
-    ensures { result ≡ keyword_in_table (of_length 8) word.now }
+    requires len { length word.now ≡ 8 }
+    ensures value { result ≡ keyword_in_table (of_length 8) word.now }
 {
     match word {
         "tristate" => Some(Keyword::Type(Kind::Tristate)),
         "def_bool" => Some(Keyword::DefaultType(Kind::Bool)),
         "mainmenu" => Some(Keyword::Mainmenu),
-        "orsource" | "optional" => Some(Keyword::LeftOut),
+        "optional" => Some(Keyword::Optional),
+        "orsource" => Some(Keyword::LeftOut),
         _ => None,
     }
 }
 
 /// The keywords of nine letters.
 fn keyword_of_nine(word: &str) -> Option<Keyword>
-    requires { length word.now ≡ 9 }
-    ensures { result ≡ keyword_in_table (of_length 9) word.now }
+    requires len { length word.now ≡ 9 }
+    ensures value { result ≡ keyword_in_table (of_length 9) word.now }
 {
     match word {
         "endchoice" => Some(Keyword::End(Block::Choice)),
@@ -148,21 +151,21 @@ fn keyword_of_nine(word: &str) -> Option<Keyword>
 
 /// The keywords of ten letters.
 fn keyword_of_ten(word: &str) -> Option<Keyword>
-    requires { length word.now ≡ 10 }
-    ensures { result ≡ keyword_in_table (of_length 10) word.now }
+    requires len { length word.now ≡ 10 }
+    ensures value { result ≡ keyword_in_table (of_length 10) word.now }
 {
     match word {
         "menuconfig" => Some(Keyword::Config),
         "---help---" => Some(Keyword::Help),
-        "def_string" => Some(Keyword::LeftOut),
+        "def_string" => Some(Keyword::DefaultType(Kind::Text)),
         _ => None,
     }
 }
 
 /// The keywords of twelve letters.
 fn keyword_of_twelve(word: &str) -> Option<Keyword>
-    requires { length word.now ≡ 12 }
-    ensures { result ≡ keyword_in_table (of_length 12) word.now }
+    requires len { length word.now ≡ 12 }
+    ensures value { result ≡ keyword_in_table (of_length 12) word.now }
 {
     match word {
         "def_tristate" => Some(Keyword::DefaultType(Kind::Tristate)),

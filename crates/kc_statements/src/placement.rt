@@ -1,12 +1,13 @@
 //! The checks before a line's form: forms that are left out, and the attributes of each entry.
-ghost use Rattle.std.specs.Prelude.{◌≡◌, ◌||◌, ◌==◌, List};
+ghost use Rattle.std.specs.Prelude.{◌≡◌, ◌&&◌, ◌||◌, ◌==◌, not, List};
 ghost use Rattle.std.specs.List.{list_any};
+ghost use Rattle.kc_value.specs.Kinds.{is_tri_kind};
 ghost use Rattle.kc_expr.specs.Token.{lexemes_of, lexeme_of};
 ghost use Rattle.kc_tree_model.specs.Blocks.{Group};
-ghost use Rattle.kc_tree_model.specs.Placement.{is_left_out, is_choice_open, open_entry, is_glob_path, allows_attribute};
+ghost use Rattle.kc_tree_model.specs.Placement.{is_strict, is_left_out, is_choice_open, open_entry, is_glob_path, allows_attribute};
 
 use super::token::{is_left_out_option, is_operand, is_word};
-use kc_expr::Token;
+use kc_expr::{Language, Token};
 use kc_tree_model::{Keyword, OpenEntry};
 use kc_value::Kind;
 
@@ -53,6 +54,7 @@ fn choice_allows(keyword: Keyword) -> bool
             | Keyword::Default
             | Keyword::Depends
             | Keyword::Help
+            | Keyword::Optional
     )
 }
 
@@ -77,11 +79,36 @@ fn is_glob_path(token: &Token<'_>) -> bool
     is_operand(token) && has_glob_byte(token.text.as_bytes())
 }
 
-/// Whether a line with this keyword is left out, by the tokens after its first and whether the open entry is a
-/// choice: its first word, options, named and tristate choices, and paths that are patterns ("Kconfig syntax").
-pub fn is_left_out(keyword: Keyword, tokens: &[Token<'_>], choice_is_open: bool) -> bool
+fn is_strict(language: Language) -> bool
+    ensures { result ≡ is_strict language }
+{
+    match language {
+        Language::Strict => true,
+        Language::Linux => false,
+    }
+}
+
+/// Whether a default type is left out in this language: in the strict one, where it is neither bool nor tristate.
+fn is_default_type_left_out(language: Language, kind: Kind) -> bool
+    ensures { result ≡ (is_strict language && not (is_tri_kind kind)) }
+{
+    match language {
+        Language::Strict => !matches!(kind, Kind::Bool | Kind::Tristate),
+        Language::Linux => false,
+    }
+}
+
+/// Whether a line with this keyword is left out in this language, by the tokens after its first and whether the open
+/// entry is a choice: its first word, options, named and tristate choices, paths that are patterns, and in the strict
+/// language default types other than bool and tristate, and optional choices ("Kconfig syntax").
+pub fn is_left_out(
+    language: Language,
+    keyword: Keyword,
+    tokens: &[Token<'_>],
+    choice_is_open: bool,
+) -> bool
     ensures { (read : List Group) → is_choice_open (open_entry read) ≡ choice_is_open
-        → result ≡ is_left_out read keyword (lexemes_of tokens.now) }
+        → result ≡ is_left_out language read keyword (lexemes_of tokens.now) }
 {
     match keyword {
         Keyword::LeftOut => true,
@@ -89,6 +116,8 @@ pub fn is_left_out(keyword: Keyword, tokens: &[Token<'_>], choice_is_open: bool)
         Keyword::Choice => !tokens.is_empty() && is_word(&tokens[0]),
         Keyword::Source => !tokens.is_empty() && is_glob_path(&tokens[0]),
         Keyword::Type(Kind::Tristate) => choice_is_open,
+        Keyword::DefaultType(kind) => is_default_type_left_out(language, kind),
+        Keyword::Optional => is_strict(language),
         _ => false,
     }
 }

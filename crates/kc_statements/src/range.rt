@@ -15,7 +15,7 @@ use kc_tree_model::TreeKind;
 
 /// The operand that a word or a quoted text is, as an expression.
 fn operand(arena: &mut Arena, token: &Token<'_>) -> Result<ExprId, TreeKind>
-    requires { is_operand_kind token.now.kind ≡ true }
+    requires kind { is_operand_kind token.now.kind ≡ true }
     ensures grows { Grows arena.old arena.new }
     ensures operand { IfOk result (λ id. operand_of_lexeme (lexeme_of token.now) ≡ Some (operand_or_n arena.new id)) }
     ensures held { IfOk result (OperandNodeExists arena.new) }

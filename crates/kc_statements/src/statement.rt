@@ -58,6 +58,7 @@ pub enum Attribute {
     Visible(ExprId),
     Help,
     Modules,
+    Optional,
 }
 
 /// The statement of a line.

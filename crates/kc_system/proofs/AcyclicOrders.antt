@@ -24,7 +24,8 @@ first_unset flags (u ∷ units) = elim (cases_Bool (get_or flags u false)) [
       (suc rest.0, omega (arith, rest.1), record { passed = λ j d lt e. passed rest.0 rest.2 is_set j d lt e; found = λ d e. rest.2.found d e })
   | inr unset ↦ (0, omega arith, record { passed = λ j d lt e. absurd (omega (arith, lt)); found = λ d e. let same : u ≡ d = cc in rw (← same) unset })
 ] where
-  passed : (k : ℕ) → FirstUnset flags units k → get_or flags u false ≡ true → (j d : ℕ) → j < suc k → slice_get (u ∷ units) j ≡ Some d → get_or flags d false ≡ true
+  passed : (k : ℕ) → FirstUnset flags units k → get_or flags u false ≡ true → (j d : ℕ) → j < suc k → slice_get (u ∷ units) j ≡ Some d
+      → get_or flags d false ≡ true
   passed k rest is_set zero d lt e = let same : u ≡ d = cc in rw (← same) is_set
   passed k rest is_set (suc j) d lt e = rest.passed j d (omega (arith, lt)) e
 
@@ -72,7 +73,8 @@ module _ (size : ℕ) (dependencies : ℕ → List ℕ) (graph : IsGraph size de
   ]
 
   -- all flags are set, or there is a least unit whose flag is unset
-  least_unset : (flags : List Bool) (n : ℕ) → ((u : ℕ) → u < n → get_or flags u false ≡ true) ⊎ ((u : ℕ) × (u < n) × (get_or flags u false ≡ false) × ((w : ℕ) → w < u → get_or flags w false ≡ true))
+  least_unset : (flags : List Bool) (n : ℕ)
+      → ((u : ℕ) → u < n → get_or flags u false ≡ true) ⊎ ((u : ℕ) × (u < n) × (get_or flags u false ≡ false) × ((w : ℕ) → w < u → get_or flags w false ≡ true))
   least_unset flags zero = inl (λ u lt. absurd (omega (arith, lt)))
   least_unset flags (suc n) = elim (least_unset flags n) [
     | inr some ↦ inr (some.0, omega (arith, some.1), some.2, some.3)
@@ -83,7 +85,8 @@ module _ (size : ℕ) (dependencies : ℕ → List ℕ) (graph : IsGraph size de
   ]
 
   -- the walk from the least unit left closes
-  walk_closes : (flags : List Bool) → FlagsLeft size dependencies flags → (first : ℕ) → IsLeast (IsLeft size dependencies) first → (n : ℕ) (walk places : List ℕ) (u : ℕ)
+  walk_closes : (flags : List Bool) → FlagsLeft size dependencies flags → (first : ℕ) → IsLeast (IsLeft size dependencies) first
+      → (n : ℕ) (walk places : List ℕ) (u : ℕ)
       → Walking size dependencies first walk places u → size < length walk + n → (cycle : List ℕ) × IsNamedCycle size dependencies cycle
   walk_closes flags left first least zero walk places u w h = absurd (omega (arith, h, short size dependencies first walk places u w))
   walk_closes flags left first least (suc n) walk places u w h = elim (cases_eq (get_or places u 0) size) [
@@ -111,7 +114,8 @@ module _ (size : ℕ) (dependencies : ℕ → List ℕ) (graph : IsGraph size de
   }
 
   -- where a unit is left there is a cycle
-  left_closes : (flags : List Bool) → FlagsLeft size dependencies flags → (u : ℕ) → u < size → get_or flags u false ≡ false → ((w : ℕ) → w < u → get_or flags w false ≡ true) → (cycle : List ℕ) × IsNamedCycle size dependencies cycle
+  left_closes : (flags : List Bool) → FlagsLeft size dependencies flags → (u : ℕ) → u < size → get_or flags u false ≡ false
+      → ((w : ℕ) → w < u → get_or flags w false ≡ true) → (cycle : List ℕ) × IsNamedCycle size dependencies cycle
   left_closes flags left u h unset before =
       let here = (left u h).0 unset in
       walk_closes flags left u (record {
@@ -123,17 +127,20 @@ module _ (size : ℕ) (dependencies : ℕ → List ℕ) (graph : IsGraph size de
       }) (suc size) [] (replicate size size) u (at_first u here) (omega arith)
 
   -- with n units still to be eliminated at most, an order is found
-  take_more : (n : ℕ) (eliminated : List ℕ) (flags : List Bool) → Eliminating size dependencies eliminated flags → size < length eliminated + n → HasNoCycle size dependencies → (order : List ℕ) × IsOrder size dependencies order
+  take_more : (n : ℕ) (eliminated : List ℕ) (flags : List Bool) → Eliminating size dependencies eliminated flags → size < length eliminated + n
+      → HasNoCycle size dependencies → (order : List ℕ) × IsOrder size dependencies order
   take_more zero eliminated flags t h acyclic = absurd (omega (arith, h, length-once size eliminated t.units t.once))
   take_more (suc n) eliminated flags t h acyclic = elim (next_ready flags size (omega arith)) [
     | inl some ↦
         let u = some.0 in
-        take_more n (eliminated ++ u ∷ []) (set flags u true) (eliminates_more size dependencies eliminated (eliminated ++ u ∷ []) flags u some.1.inside refl some.1.fresh some.1.ready t)
+        take_more n (eliminated ++ u ∷ []) (set flags u true) (eliminates_more size dependencies eliminated (eliminated ++ u ∷ []) flags u some.1.inside refl
+        some.1.fresh some.1.ready t)
         (omega (arith, h, length-append eliminated (u ∷ []))) acyclic
     | inr each ↦ elim (least_unset flags size) [
       | inl all ↦ (eliminated, all_eliminated size dependencies eliminated flags t all)
       | inr some ↦
-          let left = flags_left size dependencies eliminated flags graph t (λ w lt. elim (each w lt) [ inl is_set ↦ inl ((t.flagged w lt).0 is_set) | inr waits ↦ inr waits ]) in
+          let left = flags_left size dependencies eliminated flags graph t
+          (λ w lt. elim (each w lt) [ inl is_set ↦ inl ((t.flagged w lt).0 is_set) | inr waits ↦ inr waits ]) in
           let cycle = left_closes flags left some.0 some.1 some.2 some.3 in
           absurd (acyclic cycle.0 (named_is_cycle size dependencies cycle.0 cycle.1))
     ]

@@ -23,11 +23,15 @@ push_cases (x ∷ xs) u zero w e = inl e
 push_cases (x ∷ xs) u (suc k) w e = elim (push_cases xs u k w e) [ inl earlier ↦ inl earlier | inr last ↦ inr (ap suc last.0, last.1) ]
 
 -- a unit whose dependencies are all eliminated is eliminated
-pub eliminates_more : (size : ℕ) (dependencies : ℕ → List ℕ) (eliminated new : List ℕ) (flags : List Bool) (u : ℕ) → u < size → new ≡ eliminated ++ u ∷ [] → get_or flags u false ≡ false
-    → ((d : ℕ) → Contains (dependencies u) d → (d < size) × (get_or flags d false ≡ true)) → Eliminating size dependencies eliminated flags → Eliminating size dependencies new (set flags u true)
+pub eliminates_more : (size : ℕ) (dependencies : ℕ → List ℕ) (eliminated new : List ℕ) (flags : List Bool) (u : ℕ) → u < size → new ≡ eliminated ++ u ∷ []
+    → get_or flags u false ≡ false
+    → ((d : ℕ) → Contains (dependencies u) d → (d < size) × (get_or flags d false ≡ true)) → Eliminating size dependencies eliminated flags
+    → Eliminating size dependencies new (set flags u true)
 eliminates_more size dependencies eliminated new flags u inside new_is fresh ready t =
-    let at : (k w : ℕ) → slice_get new k ≡ Some w → (slice_get eliminated k ≡ Some w) ⊎ ((k ≡ length eliminated) × (w ≡ u)) = λ k w e. push_cases eliminated u k w (ap (λ xs. slice_get xs k) (sym new_is) ∙ e) in
-    let keep : (k w : ℕ) → slice_get eliminated k ≡ Some w → slice_get new k ≡ Some w = λ k w e. ap (λ xs. slice_get xs k) new_is ∙ get-append_left eliminated (u ∷ []) k w e in
+    let at : (k w : ℕ) → slice_get new k ≡ Some w → (slice_get eliminated k ≡ Some w) ⊎ ((k ≡ length eliminated) × (w ≡ u)) = λ k w e. push_cases eliminated u k
+    w (ap (λ xs. slice_get xs k) (sym new_is) ∙ e) in
+    let keep : (k w : ℕ) → slice_get eliminated k ≡ Some w → slice_get new k ≡ Some w = λ k w e. ap (λ xs. slice_get xs k) new_is
+    ∙ get-append_left eliminated (u ∷ []) k w e in
     let last : slice_get new (length eliminated) ≡ Some u = ap (λ xs. slice_get xs (length eliminated)) new_is ∙ push_at eliminated u in
     let not_yet : (k : ℕ) → slice_get eliminated k ≡ Some u → ⊥ = λ k e. false≢true (sym fresh ∙ (t.flagged u inside).1 (k, e)) in
     record {
@@ -45,10 +49,15 @@ eliminates_more size dependencies eliminated new flags u inside new_is fresh rea
       ];
       one_each = length-set flags u true ∙ t.one_each;
       flagged = λ w h. elim (cases_eq w u) [
-        | inl same ↦ (λ m. (length eliminated, last ∙ ap Some (sym same)), λ m. ap (λ x. get_or (set flags u true) x false) same ∙ get_or-set_same flags u true false (omega (arith, t.one_each)))
+        | inl same ↦ (
+          λ m. (length eliminated, last ∙ ap Some (sym same)),
+          λ m. ap (λ x. get_or (set flags u true) x false) same
+              ∙ get_or-set_same flags u true false (omega (arith, t.one_each)),
+        )
         | inr other ↦ (
           λ m. let r = (t.flagged w h).0 (sym (get_or-set_other flags u w true false other) ∙ m) in (r.0, keep r.0 w r.1),
-          λ m. get_or-set_other flags u w true false other ∙ elim (at m.0 w m.1) [ inl earlier ↦ (t.flagged w h).1 (m.0, earlier) | inr here ↦ absurd (other here.1) ],
+          λ m. get_or-set_other flags u w true false other ∙ elim (at m.0 w m.1)
+              [ inl earlier ↦ (t.flagged w h).1 (m.0, earlier) | inr here ↦ absurd (other here.1) ],
         )
       ];
     }
@@ -60,11 +69,13 @@ eliminated_grows eliminated new u new_is = (
 )
 
 -- where every unit is eliminated, the list is an order
-pub all_eliminated : (size : ℕ) (dependencies : ℕ → List ℕ) (eliminated : List ℕ) (flags : List Bool) → Eliminating size dependencies eliminated flags → ((u : ℕ) → u < size → get_or flags u false ≡ true) → IsOrder size dependencies eliminated
+pub all_eliminated : (size : ℕ) (dependencies : ℕ → List ℕ) (eliminated : List ℕ) (flags : List Bool) → Eliminating size dependencies eliminated flags
+    → ((u : ℕ) → u < size → get_or flags u false ≡ true) → IsOrder size dependencies eliminated
 all_eliminated size dependencies eliminated flags t all = record { units = t.units; each = λ u h. (t.flagged u h).0 (all u h); once = t.once; after = t.after }
 
 -- a unit that waits beyond the first i still does
-pub still_beyond : (dependencies : ℕ → List ℕ) (old new : List ℕ) (i u : ℕ) → i ≤ length old → Grows old new → WaitsBeyond dependencies old i u → WaitsBeyond dependencies new i u
+pub still_beyond : (dependencies : ℕ → List ℕ) (old new : List ℕ) (i u : ℕ) → i ≤ length old → Grows old new → WaitsBeyond dependencies old i u
+    → WaitsBeyond dependencies new i u
 still_beyond dependencies old new i u h grows w = elim w [
   | inl eliminated ↦ inl (eliminated.0, grows eliminated.0 u eliminated.1)
   | inr waits ↦ inr (
@@ -78,7 +89,8 @@ still_beyond dependencies old new i u h grows w = elim w [
   )
 ]
 
-pub waits_beyond : (size : ℕ) (dependencies : ℕ → List ℕ) (flags : List Bool) (eliminated : List ℕ) (i u : ℕ) → Eliminating size dependencies eliminated flags → IsEliminatedOrWaits dependencies flags eliminated u → WaitsBeyond dependencies eliminated i u
+pub waits_beyond : (size : ℕ) (dependencies : ℕ → List ℕ) (flags : List Bool) (eliminated : List ℕ) (i u : ℕ) → Eliminating size dependencies eliminated flags
+    → IsEliminatedOrWaits dependencies flags eliminated u → WaitsBeyond dependencies eliminated i u
 waits_beyond size dependencies flags eliminated i u t s = elim s [
   | inl yet ↦ inl yet
   | inr waits ↦ inr (waits.0, waits.1, λ k lt e. false≢true (sym waits.2 ∙ (t.flagged waits.0 (t.units k waits.0 e)).1 (k, e)))
@@ -91,12 +103,15 @@ grows_length (x ∷ xs) b g =
     let there = slice_get_within b (length xs) last.0 (g (length xs) last.0 last.1) in
     omega arith
 
-pub beyond_less : (dependencies : ℕ → List ℕ) (eliminated : List ℕ) (i j u : ℕ) → i ≤ j → WaitsBeyond dependencies eliminated j u → WaitsBeyond dependencies eliminated i u
+pub beyond_less : (dependencies : ℕ → List ℕ) (eliminated : List ℕ) (i j u : ℕ) → i ≤ j → WaitsBeyond dependencies eliminated j u
+    → WaitsBeyond dependencies eliminated i u
 beyond_less dependencies eliminated i j u h w = elim w [ inl yet ↦ inl yet | inr waits ↦ inr (waits.0, waits.1, λ k lt e. waits.2 k (omega arith) e) ]
 
 -- the units that depend on the one at i were visited
-pub visited_beyond : (size : ℕ) (dependencies : ℕ → List ℕ) (eliminated new : List ℕ) (ready : List ℕ) (i u : ℕ) → slice_get eliminated i ≡ Some u → AreDependents size dependencies u ready → Grows eliminated new
-    → ((w : ℕ) → Contains ready w → WaitsBeyond dependencies new (length eliminated) w) → (w : ℕ) → w < size → WaitsBeyond dependencies eliminated i w → WaitsBeyond dependencies new (i + 1) w
+pub visited_beyond : (size : ℕ) (dependencies : ℕ → List ℕ) (eliminated new : List ℕ) (ready : List ℕ) (i u : ℕ) → slice_get eliminated i ≡ Some u
+    → AreDependents size dependencies u ready → Grows eliminated new
+    → ((w : ℕ) → Contains ready w → WaitsBeyond dependencies new (length eliminated) w) → (w : ℕ) → w < size → WaitsBeyond dependencies eliminated i w
+    → WaitsBeyond dependencies new (i + 1) w
 visited_beyond size dependencies eliminated new ready i u at dependents grows visited w inside before =
     let h = slice_get_within eliminated i u at in
     elim before [
@@ -117,12 +132,14 @@ visited_beyond size dependencies eliminated new ready i u at dependents grows vi
     ]
 
 -- numbers below n, each once, are n at most
-pub length-once : (n : ℕ) (xs : List ℕ) → ((k u : ℕ) → slice_get xs k ≡ Some u → u < n) → ((j k u : ℕ) → slice_get xs j ≡ Some u → slice_get xs k ≡ Some u → j ≡ k) → length xs ≤ n
+pub length-once : (n : ℕ) (xs : List ℕ) → ((k u : ℕ) → slice_get xs k ≡ Some u → u < n)
+    → ((j k u : ℕ) → slice_get xs j ≡ Some u → slice_get xs k ≡ Some u → j ≡ k) → length xs ≤ n
 length-once n xs below once = length-le_from_distinct_below xs n (distinct_from_once xs once)
     (λ q has. let at = Contains-from_any {eq = eqb} eqb-true q xs has in below at.0 q (get_from_Contains xs q at))
 
 -- with nothing eliminated, the flags are unset
-pub nothing_eliminated : (size : ℕ) (dependencies : ℕ → List ℕ) (eliminated : List ℕ) (flags : List Bool) → eliminated ≡ [] → flags ≡ replicate size false → Eliminating size dependencies eliminated flags
+pub nothing_eliminated : (size : ℕ) (dependencies : ℕ → List ℕ) (eliminated : List ℕ) (flags : List Bool) → eliminated ≡ [] → flags ≡ replicate size false
+    → Eliminating size dependencies eliminated flags
 nothing_eliminated size dependencies eliminated flags none unset =
     let empty : (k u : ℕ) → slice_get eliminated k ≡ Some u → ⊥ = λ k u e. none-some u (sym (ap (λ xs. slice_get xs k) none) ∙ e) in
     record {
@@ -147,8 +164,10 @@ nothing_passed size dependencies flags next is =
     }
 
 -- where each unit is eliminated or has a dependency that isn't, just the units that are left have unset flags
-pub flags_left : (size : ℕ) (dependencies : ℕ → List ℕ) (eliminated : List ℕ) (flags : List Bool) → IsGraph size dependencies → Eliminating size dependencies eliminated flags
-    → ((u : ℕ) → u < size → IsEliminated eliminated u ⊎ ((d : ℕ) × Contains (dependencies u) d × (get_or flags d false ≡ false))) → FlagsLeft size dependencies flags
+pub flags_left : (size : ℕ) (dependencies : ℕ → List ℕ) (eliminated : List ℕ) (flags : List Bool) → IsGraph size dependencies
+    → Eliminating size dependencies eliminated flags
+    → ((u : ℕ) → u < size → IsEliminated eliminated u ⊎ ((d : ℕ) × Contains (dependencies u) d × (get_or flags d false ≡ false)))
+    → FlagsLeft size dependencies flags
 flags_left size dependencies eliminated flags graph t each u h = (
   λ unset. (remaining, record { units = λ w is_so. inside w is_so; depends = λ w is_so. depends w is_so }, not_set u h unset),
   λ left. elim (cases_Bool (get_or flags u false)) [
@@ -163,7 +182,8 @@ flags_left size dependencies eliminated flags graph t each u h = (
   not_set w inside unset = ap not (get_or_default flags w true false (omega (arith, t.one_each)) ∙ unset)
 
   inside : (w : ℕ) → not (get_or flags w true) ≡ true → w < size
-  inside w is_so = elim (cases_lt w size) [ inl lt ↦ lt | inr past ↦ absurd (false≢true (sym (ap not (get_or_past flags w true (omega (arith, t.one_each)))) ∙ is_so)) ]
+  inside w is_so =
+      elim (cases_lt w size) [ inl lt ↦ lt | inr past ↦ absurd (false≢true (sym (ap not (get_or_past flags w true (omega (arith, t.one_each)))) ∙ is_so)) ]
 
   depends : (w : ℕ) → not (get_or flags w true) ≡ true → (d : ℕ) × Contains (dependencies w) d × (not (get_or flags d true) ≡ true)
   depends w is_so =
@@ -175,7 +195,8 @@ flags_left size dependencies eliminated flags graph t each u h = (
       ]
 
 -- once each unit is eliminated or waits for one that isn't, just the units that are left have unset flags
-pub flags_left_at_end : (size : ℕ) (dependencies : ℕ → List ℕ) (eliminated : List ℕ) (flags : List Bool) → IsGraph size dependencies → Eliminating size dependencies eliminated flags
+pub flags_left_at_end : (size : ℕ) (dependencies : ℕ → List ℕ) (eliminated : List ℕ) (flags : List Bool) → IsGraph size dependencies
+    → Eliminating size dependencies eliminated flags
     → ((u : ℕ) → u < size → WaitsBeyond dependencies eliminated (length eliminated) u) → FlagsLeft size dependencies flags
 flags_left_at_end size dependencies eliminated flags graph t beyond = flags_left size dependencies eliminated flags graph t (λ u h. elim (beyond u h) [
   | inl yet ↦ inl yet
@@ -183,7 +204,8 @@ flags_left_at_end size dependencies eliminated flags graph t beyond = flags_left
     waits.0,
     waits.1,
     elim (cases_Bool (get_or flags waits.0 false)) [
-      | inl so ↦ let at = (t.flagged waits.0 (graph.units u waits.0 h waits.1)).0 so in absurd (waits.2 at.0 (slice_get_within eliminated at.0 waits.0 at.1) at.1)
+      | inl so ↦ let at = (t.flagged waits.0 (graph.units u waits.0 h waits.1)).0 so in absurd
+          (waits.2 at.0 (slice_get_within eliminated at.0 waits.0 at.1) at.1)
       | inr unset ↦ unset
     ],
   )

@@ -7,8 +7,10 @@ use Rattle.kc_system.proofs.Lists.{get-set_same, get-set_other}
 use Rattle.kc_system.proofs.Eliminations.{length-once, push_cases}
 
 -- one more unit has its place
-pub places_more : (size : ℕ) (dependencies : ℕ → List ℕ) (order places : List ℕ) (i u : ℕ) → IsOrder size dependencies order → length places ≡ size → slice_get order i ≡ Some u
-    → ((k w : ℕ) → k < i → slice_get order k ≡ Some w → slice_get places w ≡ Some k) → (k w : ℕ) → k < i + 1 → slice_get order k ≡ Some w → slice_get (set places u i) w ≡ Some k
+pub places_more : (size : ℕ) (dependencies : ℕ → List ℕ) (order places : List ℕ) (i u : ℕ) → IsOrder size dependencies order → length places ≡ size
+    → slice_get order i ≡ Some u
+    → ((k w : ℕ) → k < i → slice_get order k ≡ Some w → slice_get places w ≡ Some k) → (k w : ℕ) → k < i + 1 → slice_get order k ≡ Some w
+    → slice_get (set places u i) w ≡ Some k
 places_more size dependencies order places i u ordered one_each at below k w h e =
     let inside = ordered.units i u at in
     elim (cases_eq w u) [
@@ -16,7 +18,11 @@ places_more size dependencies order places i u ordered one_each at below k w h e
           let place = ordered.once k i u (e ∙ ap Some same) at in
           ap (slice_get (set places u i)) same ∙ get-set_same places u i (omega (arith, one_each)) ∙ ap Some (sym place)
       | inr other ↦
-          let earlier : k < i = elim (cases_eq k i) [ inl here ↦ let both : Some u ≡ Some w = sym at ∙ ap (slice_get order) (sym here) ∙ e in let same : w ≡ u = cc in absurd (other same) | inr not_here ↦ omega arith ] in
+          let earlier : k < i = elim (cases_eq k i) [
+            | inl here ↦ let both : Some u ≡ Some w = sym at ∙ ap (slice_get order) (sym here)
+                ∙ e in let same : w ≡ u = cc in absurd (other same)
+            | inr not_here ↦ omega arith
+          ] in
           get-set_other places u w i other ∙ below k w earlier e
     ]
 

@@ -12,7 +12,7 @@ fn least_remaining_dependency<G: Graph>(graph: &G, flags: &[bool], u: u32) -> u3
     requires left { FlagsLeft (G.size graph.now) (G.dependencies graph.now) flags.now }
     requires flags { length flags.now ≡ G.size graph.now }
     requires unit { IsLeft (G.size graph.now) (G.dependencies graph.now) u }
-    ensures { FollowsLeft (G.size graph.now) (G.dependencies graph.now) u result }
+    ensures follows { FollowsLeft (G.size graph.now) (G.dependencies graph.now) u result }
 {
     let dependencies = graph.deps(u);
     dependencies[first_remaining(dependencies, 0, flags)]
@@ -20,8 +20,8 @@ fn least_remaining_dependency<G: Graph>(graph: &G, flags: &[bool], u: u32) -> u3
 
 /// A copy of the part of a list from a place on, or out of memory.
 fn part_from(alloc: Global, walk: &[u32], start: usize) -> Result<Vec<u32>, AllocError>
-    requires { start ≤ length walk.now }
-    ensures { IfOk result (λ part. part.items ≡ drop start walk.now) }
+    requires within { start ≤ length walk.now }
+    ensures ok { IfOk result (λ part. part.items ≡ drop start walk.now) }
 {
     Vec::from_slice(alloc, &walk[start..])
 }
@@ -36,7 +36,7 @@ pub(crate) fn named_cycle<G: Graph>(
     requires left { FlagsLeft (G.size graph.now) (G.dependencies graph.now) flags.now }
     requires flags { length flags.now ≡ G.size graph.now }
     requires first { IsLeast (IsLeft (G.size graph.now) (G.dependencies graph.now)) first }
-    ensures { IfOk result (λ cycle. IsNamedCycle (G.size graph.now) (G.dependencies graph.now) cycle.items) }
+    ensures ok { IfOk result (λ cycle. IsNamedCycle (G.size graph.now) (G.dependencies graph.now) cycle.items) }
 {
     let count = flags.len();
     let mut places = vec![in alloc; count; count]?;

@@ -6,7 +6,7 @@ use std::alloc::AllocError;
 
 /// Exchanges the value of a unit for another.
 fn replace_value<V>(values: &mut [V], u: usize, value: &mut V)
-    requires { u < length values.old }
+    requires there { u < length values.old }
     ensures written { values.new ≡ slice_set values.old u value.old }
     ensures replaced { slice_get values.old u ≡ Some value.new }
 {
@@ -20,7 +20,7 @@ pub(crate) fn write_logged<V: Drop>(
     u: u32,
     value: V,
 ) -> Result<(), AllocError>
-    requires { u < length values.old }
+    requires there { u < length values.old }
     ensures written { OnOk result (values.new ≡ slice_set values.old u value) }
     ensures logged { OnOk result (LogsOneMore log.old.items log.new.items values.old u) }
     ensures undo { (old : List V) → Undoes log.old.items old values.old → Undoes log.new.items old values.new }
@@ -34,8 +34,8 @@ pub(crate) fn write_logged<V: Drop>(
 
 /// Restores the logged values, the last logged first.
 pub(crate) fn restore_logged<V: Drop>(values: &mut [V], log: &mut Vec<(u32, V)>)
-    requires { (k u : ℕ) (a : V) → slice_get log.old.items k ≡ Some (u, a) → u < length values.old }
-    ensures { values.new ≡ undone log.old.items values.old }
+    requires units { (k u : ℕ) (a : V) → slice_get log.old.items k ≡ Some (u, a) → u < length values.old }
+    ensures restored { values.new ≡ undone log.old.items values.old }
 {
     while let Some((u, mut value)) = log.pop() {
         replace_value(values, u as usize, &mut value);

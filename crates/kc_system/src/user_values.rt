@@ -36,7 +36,7 @@ fn mark_if_changed<S: System>(
     before: &Option<S::User>,
     after: &Option<S::User>,
 )
-    requires { place < pending.old.size }
+    requires there { place < pending.old.size }
     ensures size { pending.new.size ≡ pending.old.size }
     ensures here { (is_pending pending.new place ≡ true) ↔ (before.now ≢ after.now) }
     ensures others { (k : ℕ) → k ≢ place → is_pending pending.new k ≡ is_pending pending.old k }

@@ -2,7 +2,9 @@
 ghost use Rattle.std.specs.Prelude.{◌<◌, ◌≤◌, ◌^◌, length, IfOk, OnOk, []};
 ghost use Rattle.kc_expr.specs.between.Visits.{HasFound};
 
-use kc_expr::{Arena, ExprFault, ExprId, ExprKind, NameId, Operand, Token, VisitedSet, tokens};
+use kc_expr::{
+    Arena, ExprFault, ExprId, ExprKind, Language, NameId, Operand, Token, VisitedSet, tokens,
+};
 use kc_value::Tri;
 use std::alloc::{AllocError, Global};
 
@@ -22,16 +24,16 @@ fn parsed(arena: &mut Arena, line: &[Token<'_>]) -> Result<(ExprId, usize), Expr
 
 /// An expression joined to itself.
 fn doubled(arena: &mut Arena, id: ExprId) -> Result<ExprId, ExprFault>
-    requires { id < length arena.old.nodes }
-    ensures { IfOk result (λ i. i < length arena.new.nodes) }
+    requires there { id < length arena.old.nodes }
+    ensures there { IfOk result (λ i. i < length arena.new.nodes) }
 {
     Ok(twice_on!(sizes(arena), arena.join(id, id)))
 }
 
 /// Whether an expression is other than `n`.
 fn shown(arena: &mut Arena, id: ExprId) -> Result<ExprId, ExprFault>
-    requires { id < length arena.old.nodes }
-    ensures { IfOk result (λ i. i < length arena.new.nodes) }
+    requires there { id < length arena.old.nodes }
+    ensures there { IfOk result (λ i. i < length arena.new.nodes) }
 {
     Ok(twice_on!(sizes(arena), arena.shown(id)))
 }
@@ -45,26 +47,26 @@ fn interned(arena: &mut Arena, name: &str) -> Result<usize, ExprFault> {
 fn read(alloc: Global, arena: &mut Arena, text: &str) -> Result<(ExprId, usize, usize), ExprFault>
     ensures { IfOk result (λ r. r.0 < length arena.new.nodes) }
 {
-    let list = twice!(tokens(alloc, text));
+    let list = twice!(tokens(alloc, Language::Strict, text));
     let (id, end) = parsed(arena, &list)?;
     Ok((id, end, list.len()))
 }
 
 /// Whether the calls of an arena return the parts of an expression.
-fn is_told(alloc: Global) -> Result<bool, ExprFault> {
+fn returns_parts(alloc: Global) -> Result<bool, ExprFault> {
     let mut arena = Arena::new(alloc);
-    let is_told = is_told_in(alloc, &mut arena);
+    let returns_parts = returns_parts_in(alloc, &mut arena);
     drop(arena);
-    is_told
+    returns_parts
 }
 
 /// Whether those of this arena, which is empty, do.
-fn is_told_in(alloc: Global, arena: &mut Arena) -> Result<bool, ExprFault> {
+fn returns_parts_in(alloc: Global, arena: &mut Arena) -> Result<bool, ExprFault> {
     let (id, end, tokens) = read(alloc, arena, "Z = \"x\" && (!A || Z) && m if NEW")?;
     let (names, nodes) = sizes(arena);
     let count = count_of_names(arena, id)?;
     let is_read = tokens == 14 && end == 12 && names == 3 && count == 3;
-    Ok(is_read && sizes(arena) == (3, nodes + 2) && are_put_behind(arena)?)
+    Ok(is_read && sizes(arena) == (3, nodes + 2) && are_appended(arena)?)
 }
 
 /// How many names an expression has, joined to itself and shown.
@@ -77,19 +79,19 @@ fn count_of_names(arena: &mut Arena, id: ExprId) -> Result<usize, ExprFault>
 }
 
 /// Whether a new name is appended to the three of an arena once, and then a constant to the expressions.
-fn are_put_behind(arena: &mut Arena) -> Result<bool, ExprFault> {
+fn are_appended(arena: &mut Arena) -> Result<bool, ExprFault> {
     let nodes = arena.node_count();
     let new = interned(arena, "NEW")?;
     let again = interned(arena, "NEW")?;
     let is_named = new == 3 && again == 3 && sizes(arena) == (4, nodes);
     let id = twice_on!(sizes(arena), arena.constant(Tri::M));
-    let is_held = matches!(arena.operand(id), Some(Operand::Tri(Tri::M)));
-    Ok(is_named && is_held && sizes(arena) == (4, nodes + 1))
+    let is_constant = matches!(arena.operand(id), Some(Operand::Tri(Tri::M)));
+    Ok(is_named && is_constant && sizes(arena) == (4, nodes + 1))
 }
 
 #[test]
-fn tells_names(rt: HostRuntime) -> Result<(), std::test::Fail> {
-    assert!(rt; is_told(rt.alloc())?);
+fn returns_names(rt: HostRuntime) -> Result<(), std::test::Fail> {
+    assert!(rt; returns_parts(rt.alloc())?);
     Ok(())
 }
 
@@ -103,7 +105,7 @@ fn push_met(
 ) -> Result<(), AllocError>
     requires there { id < length arena.now.nodes }
     requires found { HasFound arena.now walk.old found.old.items }
-    ensures { OnOk result (HasFound arena.now walk.new found.new.items) }
+    ensures found { OnOk result (HasFound arena.now walk.new found.new.items) }
 {
     let others = found.len();
     match arena.push_new_names(id, walk, found) {
@@ -168,15 +170,15 @@ fn push_all(arena: &Arena, id: ExprId, found: &mut Vec<NameId>) -> Result<(), Al
 }
 
 /// Whether the names of an expression are appended to those of a list, each as often as it occurs.
-fn are_put(alloc: Global) -> Result<bool, ExprFault> {
+fn are_pushed(alloc: Global) -> Result<bool, ExprFault> {
     let mut arena = Arena::new(alloc);
-    let are_put = are_put_from(alloc, &mut arena);
+    let are_pushed = are_pushed_in(alloc, &mut arena);
     drop(arena);
-    are_put
+    are_pushed
 }
 
 /// Whether those of an expression of this arena, which is empty, are.
-fn are_put_from(alloc: Global, arena: &mut Arena) -> Result<bool, ExprFault> {
+fn are_pushed_in(alloc: Global, arena: &mut Arena) -> Result<bool, ExprFault> {
     let (id, _, _) = read(alloc, arena, "A && B || !A")?;
     let mut found = Vec::new(alloc);
     push_all(arena, id, &mut found)?;
@@ -185,8 +187,8 @@ fn are_put_from(alloc: Global, arena: &mut Arena) -> Result<bool, ExprFault> {
 }
 
 #[test]
-fn puts_names(rt: HostRuntime) -> Result<(), std::test::Fail> {
-    assert!(rt; are_put(rt.alloc())?);
+fn pushes_names(rt: HostRuntime) -> Result<(), std::test::Fail> {
+    assert!(rt; are_pushed(rt.alloc())?);
     Ok(())
 }
 
@@ -204,8 +206,8 @@ fn a_kind_is_its_name(rt: HostRuntime) -> Result<(), std::test::Fail> {
         (ExprKind::OutOfMemory, "OutOfMemory, OutOfMemory at byte 12"),
     ] {
         let fault = ExprFault { offset: 12, kind };
-        let told = twice!(format!(in rt.alloc(); "{kind}, {fault}"));
-        assert_eq!(rt; told.as_str(), wanted);
+        let text = twice!(format!(in rt.alloc(); "{kind}, {fault}"));
+        assert_eq!(rt; text.as_str(), wanted);
     }
     Ok(())
 }

@@ -14,15 +14,15 @@ macro_rules! twice {
     };
 }
 
-/// Makes a call again where it was refused at its first try, which has to leave this as it was; else it stays refused.
+/// Makes a call again where it was refused at its first try, which has to leave the state as it was; else it stays refused.
 #[cfg(test)]
 macro_rules! twice_on {
-    ($told:expr, $call:expr) => {{
-        let before = $told;
+    ($state:expr, $call:expr) => {{
+        let before = $state;
         match $call {
             Ok(made) => made,
             Err(fault) => {
-                if $told != before {
+                if $state != before {
                     return Err(fault);
                 }
                 $call?
@@ -63,5 +63,7 @@ mod sums;
 mod systems;
 #[cfg(test)]
 mod texts;
+#[cfg(test)]
+mod tree_sessions;
 #[cfg(test)]
 mod trees;

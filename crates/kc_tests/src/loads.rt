@@ -1,6 +1,6 @@
 //! Configurations that hold what files assign.
-use super::settling::{merged, replaced, settled};
-use kc_dotconfig::Config;
+use super::settling::{fragment_twice, merged, replaced, settled};
+use kc_dotconfig::{Config, Fragment};
 use kc_rules::{Profile, Settled};
 use kc_value::{Tri, ValueRef};
 use std::alloc::{AllocError, Global};
@@ -200,5 +200,40 @@ fn each_unit_of_a_diamond_is_evaluated_once(rt: HostRuntime) -> Result<(), Fail>
 #[test]
 fn a_configuration_holds_what_files_assign(rt: HostRuntime) -> Result<(), Fail> {
     assert!(rt; holds_from_the_start(rt.alloc())?);
+    Ok(())
+}
+
+/// Whether what a file assigns over a tree fits another tree.
+fn is_fitting(alloc: Global, file: &str, over: &[u8], other: &[u8]) -> Result<bool, AllocError> {
+    let tree = settled(alloc, over, Profile::Present)?;
+    let fragment = fragment_twice(alloc, &tree, file);
+    drop(tree);
+    let fragment = fragment?;
+    let other = settled(alloc, other, Profile::Present);
+    let is_fitting = fits_tree(&fragment, other);
+    drop(fragment);
+    is_fitting
+}
+
+/// Whether a fragment fits a tree.
+fn fits_tree(fragment: &Fragment, tree: Result<Settled, AllocError>) -> Result<bool, AllocError> {
+    let tree = tree?;
+    let fits = fragment.fits(&tree);
+    drop(tree);
+    Ok(fits)
+}
+
+#[test]
+fn a_fragment_fits_trees_whose_units_have_its_shapes(rt: HostRuntime) -> Result<(), Fail> {
+    let tree = b"config A\n\tbool \"a\"\nconfig N\n\tint \"n\"\n".as_slice();
+    for (other, wanted) in [
+        (tree, true),
+        (b"config A\n\tbool\nconfig N\n\thex\n".as_slice(), true),
+        (b"config A\n\tbool\nconfig N\n\tbool\n".as_slice(), false),
+        (b"config A\n\tbool\n".as_slice(), false),
+    ] {
+        let fits = is_fitting(rt.alloc(), "CONFIG_A=y\nCONFIG_N=10\n", tree, other)?;
+        assert_eq!(rt; fits, wanted);
+    }
     Ok(())
 }

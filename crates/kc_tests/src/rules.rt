@@ -72,9 +72,10 @@ fn is_solved(alloc: Global, config: &Config<'_>) -> Result<bool, AllocError> {
 /// Whether the values held stay those that solving anew gives, in this profile.
 fn is_kept_solved(alloc: Global, profile: Profile) -> Result<bool, AllocError> {
     let tree = settled(alloc, TREE, profile)?;
+    let has_profile = tree.profile() == profile;
     let stays_solved = stays_solved(alloc, &tree);
     drop(tree);
-    stays_solved
+    Ok(has_profile && stays_solved?)
 }
 
 /// Whether they do so in this tree, through many changes.

@@ -4,10 +4,8 @@ ghost use Rattle.kc_system.specs.Changes.{FitsChanges};
 ghost use Rattle.kc_system.specs.Dependencies.{IsOrder};
 ghost use Rattle.kc_tests.specs.Sums.{IsSmall, row_at};
 
-use super::settling::settled;
 use super::sums::{Sums, Tally, fit_changes};
 use super::systems::{order_of, sums_of};
-use kc_rules::{Profile, Settled, Steps};
 use kc_system::{Order, Report, Session};
 use std::alloc::{AllocError, Global};
 use std::process::Abort;
@@ -19,8 +17,8 @@ fn session_of<'a>(
     system: &'a Sums,
     order: &'a Order,
 ) -> Result<Session<'a, Sums>, AllocError>
-    requires { IsOrder (length system.now.rows.items) (row_at system.now.rows.items) order.now }
-    ensures { IfOk result (λ s. s.system ≡ system.now) }
+    requires order { IsOrder (length system.now.rows.items) (row_at system.now.rows.items) order.now }
+    ensures system { IfOk result (λ s. s.system ≡ system.now) }
 {
     match Session::new(alloc, system, order, &mut Tally::new()) {
         Ok(session) => Ok(session),
@@ -45,8 +43,8 @@ fn change(
     session: &mut Session<'_, Sums>,
     changes: &[(u32, Option<u32>)],
 ) -> Result<Report, AllocError>
-    requires { session.old.system ≡ system.now }
-    ensures { session.new.system ≡ system.now }
+    requires system { session.old.system ≡ system.now }
+    ensures system { session.new.system ≡ system.now }
 {
     assert!(rt; fit_changes(system, changes));
     Ok(twice!(session.apply(changes, &mut Tally::new())))
@@ -145,21 +143,5 @@ fn more_than_65536_units_and_links_fit_in_memory(rt: HostRuntime) -> Result<(), 
     assert_eq!(rt; session.values().last().copied(), Some(8));
     let copy = copied(&session)?;
     assert_eq!(rt; copy.values().last().copied(), Some(8));
-    Ok(())
-}
-
-/// How many steps a new session of a tree takes.
-fn steps_of(alloc: Global, tree: &Settled) -> Result<u64, AllocError> {
-    let mut steps = Steps::new();
-    let session = Session::new(alloc, tree, tree.order(), &mut steps)?;
-    drop(session);
-    Ok(steps.count())
-}
-
-#[test]
-fn a_new_session_takes_a_step_for_each_unit(rt: HostRuntime) -> Result<(), Fail> {
-    let text = b"config A\n\tbool\nconfig B\n\tbool\nconfig C\n\tbool\n";
-    let tree = settled(rt.alloc(), text, Profile::Present)?;
-    assert_eq!(rt; twice!(steps_of(rt.alloc(), &tree)), 3);
     Ok(())
 }

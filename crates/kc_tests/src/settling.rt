@@ -2,7 +2,7 @@
 ghost use Rattle.std.specs.Prelude.{IfOk};
 ghost use Rattle.kc_dotconfig.specs.Configured.{tree_in};
 ghost use Rattle.kc_dotconfig.specs.Fragments.{FitsTree};
-ghost use Rattle.kc_rules.specs.SettledViews.{tree_of_settled};
+ghost use Rattle.kc_rules.specs.between.SettledViews.{tree_of_settled};
 
 use kc_dotconfig::{Config, Fragment, Prefix, read_config};
 use kc_rules::{Profile, Settled, UnitValue, UserValue, settle};
@@ -75,7 +75,11 @@ pub(crate) fn merged_twice(
 }
 
 /// The assignments of a file, read at the second try where the first is refused.
-fn fragment_twice(alloc: Global, settled: &Settled, file: &str) -> Result<Fragment, AllocError>
+pub(crate) fn fragment_twice(
+    alloc: Global,
+    settled: &Settled,
+    file: &str,
+) -> Result<Fragment, AllocError>
     ensures { IfOk result (λ fragment. FitsTree (tree_of_settled settled.now) fragment.assigns.items) }
 {
     Ok(twice!(fragment_of(alloc, settled, file)))

@@ -2,7 +2,7 @@
 use kc_value::{Bounded, Failed, Script, Sink, Source, Then};
 
 #[test]
-fn a_script_does_as_it_says(rt: HostRuntime) -> Result<(), std::test::Fail> {
+fn a_script_is_followed(rt: HostRuntime) -> Result<(), std::test::Fail> {
     for (then, third, fourth) in [
         (Then::End, Ok(0), Ok(0)),
         (Then::Fail, Err(Failed), Err(Failed)),
@@ -28,7 +28,7 @@ fn answers(mut writer: Bounded, answers: [Result<usize, Failed>; 3]) -> bool {
 }
 
 #[test]
-fn a_full_writer_does_as_it_says(rt: HostRuntime) -> Result<(), std::test::Fail> {
+fn a_full_writer_is_followed(rt: HostRuntime) -> Result<(), std::test::Fail> {
     let alloc = rt.alloc();
     let writer = twice!(Bounded::new(alloc, 2, false));
     assert!(rt; answers(writer, [Ok(2), Ok(0), Ok(0)]));

@@ -1,5 +1,5 @@
-//! Copies of values, and seeds.
-use kc_value::{Seed, Text, Value};
+//! Copies of values, values up to a limit, and seeds.
+use kc_value::{Seed, Text, Tri, Value};
 use std::alloc::{AllocError, Global};
 use std::hash::BuildHasher;
 
@@ -22,4 +22,15 @@ fn seeds_differ(rt: HostRuntime) {
     let hash = Seed::of(1, 2).hash_one("A");
     assert!(rt; hash != Seed::of(1, 3).hash_one("A"));
     assert!(rt; hash != Seed::of(2, 2).hash_one("A"));
+}
+
+#[test]
+fn values_are_cut_down_to_a_limit(rt: HostRuntime) {
+    for (value, limit, cut) in [
+        (Tri::Y, Tri::M, Tri::M),
+        (Tri::M, Tri::Y, Tri::M),
+        (Tri::Y, Tri::N, Tri::N),
+    ] {
+        assert_eq!(rt; value.at_most(limit), cut);
+    }
 }

@@ -21,7 +21,8 @@ pub record IsShownAt (e : Exprs) (names texts : List (List ℕ)) (lines : List C
   pub within : attributes_end groups lines i ≤ length lines
 
 -- as many groups as were read
-pub as_many : (e : Exprs) (names texts : List (List ℕ)) (lines : List CodeLine) (end : ℕ) (gs : List CodeGroup) (ms : List Group) → RepresentsGroups e names texts lines end gs ms → length gs ≡ length ms
+pub as_many : (e : Exprs) (names texts : List (List ℕ)) (lines : List CodeLine) (end : ℕ) (gs : List CodeGroup) (ms : List Group)
+    → RepresentsGroups e names texts lines end gs ms → length gs ≡ length ms
 as_many e names texts lines end [] [] h = refl
 as_many e names texts lines end [] (m ∷ ms) h = absurd h
 as_many e names texts lines end (g ∷ gs) [] h = absurd h
@@ -46,7 +47,8 @@ record IsNewestAt (e : Exprs) (names texts : List (List ℕ)) (lines : List Code
   pub rising : (get_or gs k no_group).attributes ≤ end_at end gs k
   pub within : end_at end gs k ≤ end
 
-newest_at : (e : Exprs) (names texts : List (List ℕ)) (lines : List CodeLine) (end : ℕ) (gs : List CodeGroup) (ms : List Group) (k : ℕ) → k < length gs → RepresentsGroups e names texts lines end gs ms → IsNewestAt e names texts lines end gs ms k
+newest_at : (e : Exprs) (names texts : List (List ℕ)) (lines : List CodeLine) (end : ℕ) (gs : List CodeGroup) (ms : List Group) (k : ℕ) → k < length gs
+    → RepresentsGroups e names texts lines end gs ms → IsNewestAt e names texts lines end gs ms k
 unfolding end_at
 newest_at e names texts lines end [] ms k l h = absurd (omega arith)
 newest_at e names texts lines end (g ∷ gs) [] k l h = absurd h
@@ -59,7 +61,8 @@ newest_at e names texts lines end (g ∷ gs) (m ∷ ms) (suc k) l h =
     record {
       group = r.group;
       now = r.now;
-      shown = subst (λ j. RepresentsGroup e names texts (slice_range lines (get_or gs k no_group).attributes (end_at g.attributes gs k)) j (get_or gs k no_group) r.group) n r.shown;
+      shown = subst (λ j. RepresentsGroup e names texts (slice_range lines (get_or gs k no_group).attributes (end_at g.attributes gs k)) j
+          (get_or gs k no_group) r.group) n r.shown;
       rising = r.rising;
       within = (let a = r.within in let b = h.1 in omega arith);
     }
@@ -71,12 +74,14 @@ module _ (e : Exprs) (names texts : List (List ℕ)) (lines : List CodeLine) (gr
 
   ends_by : (i k : ℕ) → i < length groups → i + suc k ≡ length groups → end_at (length lines) (reverse groups) k ≡ attributes_end groups lines i
   unfolding end_at
-  ends_by i zero l n = ap (λ b. cond b (group_at groups (i + 1)).attributes (length lines)) (sym (let f : nat_lt (i + 1) (length groups) ≡ false = grind arith in f))
+  ends_by i zero l n =
+      ap (λ b. cond b (group_at groups (i + 1)).attributes (length lines)) (sym (let f : nat_lt (i + 1) (length groups) ≡ false = grind arith in f))
   ends_by i (suc k) l n =
       let r : k < length groups = omega arith in
       let b : k < length (reverse groups) = omega (arith, length-reverse groups) in
       end_is (length lines) (reverse groups) k b
-      ∙ ap (λ (g : CodeGroup). g.attributes) (get_or-reverse groups k no_group r ∙ ap (λ j. get_or groups j no_group) (let q : length groups - 1 - k ≡ i + 1 = omega arith in q))
+      ∙ ap (λ (g : CodeGroup). g.attributes) (get_or-reverse groups k no_group r
+      ∙ ap (λ j. get_or groups j no_group) (let q : length groups - 1 - k ≡ i + 1 = omega arith in q))
       ∙ ap (λ b. cond b (group_at groups (i + 1)).attributes (length lines)) (sym (lt-ltb (i + 1) (length groups) (omega arith)))
 
   pub shown_at : (i : ℕ) → i < length groups → IsShownAt e names texts lines groups read i
@@ -84,7 +89,8 @@ module _ (e : Exprs) (names texts : List (List ℕ)) (lines : List CodeLine) (gr
       let k : ℕ = length groups - suc i in
       let b : k < length (reverse groups) = omega (arith, length-reverse groups) in
       let r = newest_at e names texts lines (length lines) (reverse groups) read k b h in
-      let own : get_or (reverse groups) k no_group ≡ group_at groups i = get_or-reverse groups k no_group (omega arith) ∙ ap (λ j. get_or groups j no_group) (let q : length groups - 1 - k ≡ i = omega arith in q) in
+      let own : get_or (reverse groups) k no_group ≡ group_at groups i = get_or-reverse groups k no_group (omega arith)
+      ∙ ap (λ j. get_or groups j no_group) (let q : length groups - 1 - k ≡ i = omega arith in q) in
       let ends = ends_by i k l (omega arith) in
       let c = count_is in
       let n : length read - suc k ≡ i = omega arith in
@@ -104,7 +110,8 @@ pub all_before : (read : List Group) → read_before (length read) read ≡ read
 all_before read = ap (λ n. drop n read) (let n : length read - length read ≡ 0 = omega arith in n)
 
 -- one place more
-pub placed_more : (read : List Group) (i : ℕ) (m : Group) → read_before (i + 1) read ≡ m ∷ read_before i read → groups_in_context (read_before (i + 1) read) ≡ groups_in_context (read_before i read) ++ group_in_context (open_blocks 0 (read_before i read)) m ∷ []
+pub placed_more : (read : List Group) (i : ℕ) (m : Group) → read_before (i + 1) read ≡ m ∷ read_before i read
+    → groups_in_context (read_before (i + 1) read) ≡ groups_in_context (read_before i read) ++ group_in_context (open_blocks 0 (read_before i read)) m ∷ []
 placed_more read i m e = ap groups_in_context e
 
 -- places before others
@@ -112,15 +119,19 @@ pub placed_before : (k : ℕ) (read : List Group) → (rest : List GroupInContex
 placed_before zero read = ([], sym (append-nil (groups_in_context read)))
 placed_before (suc k) [] = ([], refl)
 placed_before (suc k) (g ∷ read) =
-    let r = placed_before k read in
-    (r.0 ++ group_in_context (open_blocks 0 read) g ∷ [], ap (λ ps. ps ++ group_in_context (open_blocks 0 read) g ∷ []) r.1 ∙ append_assoc (groups_in_context (drop k read)) r.0 (group_in_context (open_blocks 0 read) g ∷ []))
+    let r = placed_before k read in (
+      r.0 ++ group_in_context (open_blocks 0 read) g ∷ [],
+      ap (λ ps. ps ++ group_in_context (open_blocks 0 read) g ∷ []) r.1
+          ∙ append_assoc (groups_in_context (drop k read)) r.0 (group_in_context (open_blocks 0 read) g ∷ []),
+    )
 
 -- each group has its number
 abbrev pub AreNumbers : List Group → Type 0
 AreNumbers [] = Unit {0}
 AreNumbers (g ∷ before) = (g.number ≡ length before) × AreNumbers before
 
-pub are_numbers : (e : Exprs) (names texts : List (List ℕ)) (lines : List CodeLine) (end : ℕ) (gs : List CodeGroup) (ms : List Group) → RepresentsGroups e names texts lines end gs ms → AreNumbers ms
+pub are_numbers : (e : Exprs) (names texts : List (List ℕ)) (lines : List CodeLine) (end : ℕ) (gs : List CodeGroup) (ms : List Group)
+    → RepresentsGroups e names texts lines end gs ms → AreNumbers ms
 are_numbers e names texts lines end [] [] h = tt
 are_numbers e names texts lines end [] (m ∷ ms) h = absurd h
 are_numbers e names texts lines end (g ∷ gs) [] h = absurd h
@@ -134,7 +145,9 @@ numbers_before (suc k) (g ∷ read) h = numbers_before k read h.1
 -- a place by its number
 pub placed_count : (read : List Group) → length (groups_in_context read) ≡ length read
 placed_count [] = refl
-placed_count (g ∷ read) = length-append (groups_in_context read) (group_in_context (open_blocks 0 read) g ∷ []) ∙ ap (λ n. n + 1) (placed_count read) ∙ (let e : length read + 1 ≡ suc (length read) = omega arith in e)
+placed_count (g ∷ read) =
+    length-append (groups_in_context read) (group_in_context (open_blocks 0 read) g ∷ []) ∙ ap (λ n. n + 1) (placed_count read)
+    ∙ (let e : length read + 1 ≡ suc (length read) = omega arith in e)
 
 pub count_before : (read : List Group) (i : ℕ) → i ≤ length read → length (read_before i read) ≡ i
 count_before read i h = length-drop (length read - i) read ∙ (let e : length read - (length read - i) ≡ i = omega arith in e)
@@ -143,7 +156,8 @@ last_then : {A : Type 0} (xs : List A) (y : A) (zs : List A) → slice_get ((xs 
 last_then [] y zs = refl
 last_then (x ∷ xs) y zs = last_then xs y zs
 
-pub place_numbered : (read : List Group) (i : ℕ) (m : Group) → i < length read → read_before (i + 1) read ≡ m ∷ read_before i read → slice_get (groups_in_context read) i ≡ Some (group_in_context (open_blocks 0 (read_before i read)) m)
+pub place_numbered : (read : List Group) (i : ℕ) (m : Group) → i < length read → read_before (i + 1) read ≡ m ∷ read_before i read
+    → slice_get (groups_in_context read) i ≡ Some (group_in_context (open_blocks 0 (read_before i read)) m)
 place_numbered read i m h now =
     let prior : List Group = read_before i read in
     let p : GroupInContext = group_in_context (open_blocks 0 prior) m in

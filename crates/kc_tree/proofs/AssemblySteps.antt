@@ -25,6 +25,7 @@ use Rattle.kc_tree_model.proofs.Consistency.Units.{number_is}
 use Rattle.kc_listing.specs.declared.listing.Listing.{Listing}
 use Rattle.kc_listing.specs.between.SymbolTable.{text_of_name}
 use Rattle.kc_listing.specs.between.ListingView.{RepresentsListing}
+use Rattle.kc_tree.specs.checker.FaultSearch.{HasNoFaults}
 use Rattle.kc_tree.specs.TreeModel.{TreeModel}
 use Rattle.kc_tree.specs.between.Views.{member_default_view}
 use Rattle.kc_tree.specs.checker.Assembly.{AreSymbolParts, AreChoiceParts, IsGathering}
@@ -52,9 +53,23 @@ use Rattle.kc_tree.proofs.MemberLaw.{members_are}
 module _ (g : Gathered) (c : Contents) (a : AreAttributes g.arena c g.attributes) where
   symbol_same : (s : ℕ) (name : List ℕ) (r : SymbolRow) → slice_get c.names s ≡ Some name → IsRowOf g.arena c name r → symbol_gathered g s r ≡ symbol_of c name
   symbol_same s name r e h =
-      rw (h.name_is, h.kind_is, h.file_is, h.line_is, h.choice_is, a.prompts_are s name e, a.defaults_are s name e, a.ranges_are s name e, a.selectors_are s name e, a.impliers_are s name e, a.direct_are s name e) refl
+      rw (
+        h.name_is,
+        h.kind_is,
+        h.file_is,
+        h.line_is,
+        h.choice_is,
+        a.prompts_are s name e,
+        a.defaults_are s name e,
+        a.ranges_are s name e,
+        a.selectors_are s
+            name e,
+        a.impliers_are s name e,
+        a.direct_are s name e,
+      ) refl
 
-  symbols_from : (n : ℕ) (names : List (List ℕ)) (rows : List SymbolRow) → ((i : ℕ) (x : List ℕ) → slice_get names i ≡ Some x → slice_get c.names (n + i) ≡ Some x) → AreRowsOf g.arena c names rows
+  symbols_from : (n : ℕ) (names : List (List ℕ)) (rows : List SymbolRow)
+      → ((i : ℕ) (x : List ℕ) → slice_get names i ≡ Some x → slice_get c.names (n + i) ≡ Some x) → AreRowsOf g.arena c names rows
       → from_rows (symbol_gathered g) n rows ≡ map (symbol_of c) names
   symbols_from n [] [] at h = refl
   symbols_from n [] (r ∷ rows) at h = absurd h
@@ -73,7 +88,8 @@ as_many_rows e c [] (r ∷ rows) h = absurd h
 as_many_rows e c (x ∷ names) [] h = absurd h
 as_many_rows e c (x ∷ names) (r ∷ rows) h = ap suc (as_many_rows e c names rows h.1)
 
-rows_held : (e : Exprs) (c : Contents) (names : List (List ℕ)) (rows : List SymbolRow) → AreRowsOf e c names rows → All (λ (r : SymbolRow). r.name < length e.names) rows
+rows_held : (e : Exprs) (c : Contents) (names : List (List ℕ)) (rows : List SymbolRow) → AreRowsOf e c names rows
+    → All (λ (r : SymbolRow). r.name < length e.names) rows
 rows_held e c [] [] h = All-nil (λ (r : SymbolRow). r.name < length e.names)
 rows_held e c [] (r ∷ rows) h = absurd h
 rows_held e c (x ∷ names) [] h = absurd h
@@ -82,30 +98,37 @@ rows_held e c (x ∷ names) (r ∷ rows) h = All-cons (λ (r : SymbolRow). r.nam
 -- choices
 module _ (g : Gathered) (c : Contents) (sound : IsSound c) (keys : g.members.keys.items ≡ flat_map (member_keys_at c) c.places) (items : g.members.items.items ≡ flat_map (members_at c) c.places)
     (d : (k : ℕ) → map (member_default_view g.arena) (items_of k g.member_defaults.keys.items g.member_defaults.items.items) ≡ elim (slice_get (filter opens c.places) k) as (λ _. List tree.MemberDefault) [ None ↦ [] | Some p ↦ (choice_of c p).defaults ]) where
-  members_same : (k : ℕ) (p : GroupInContext) → slice_get (filter opens c.places) k ≡ Some p → items_of k g.members.keys.items g.members.items.items ≡ (choice_of c p).members
+  members_same : (k : ℕ) (p : GroupInContext) → slice_get (filter opens c.places) k ≡ Some p
+      → items_of k g.members.keys.items g.members.items.items ≡ (choice_of c p).members
   members_same k p e =
-      let number : choice_number c p.group.number ≡ Some k = number_is c sound p.group.number k (ap (λ ns. slice_get ns k) sound.choices ∙ map-get (λ (q : GroupInContext). q.group.number) (filter opens c.places) k p e) in
+      let number : choice_number c p.group.number ≡ Some k = number_is c sound p.group.number k
+      (ap (λ ns. slice_get ns k) sound.choices ∙ map-get (λ (q : GroupInContext). q.group.number) (filter opens c.places) k p e) in
       ap (λ ks. items_of k ks g.members.items.items) keys
       ∙ ap (items_of k (flat_map (member_keys_at c) c.places)) items
       ∙ members_are c k p.group.number number
 
-  choice_same : (k : ℕ) (p : GroupInContext) (r : ChoiceRow) → slice_get (filter opens c.places) k ≡ Some p → IsChoiceRow g.arena p r → choice_gathered g k r ≡ choice_of c p
+  choice_same : (k : ℕ) (p : GroupInContext) (r : ChoiceRow) → slice_get (filter opens c.places) k ≡ Some p → IsChoiceRow g.arena p r
+      → choice_gathered g k r ≡ choice_of c p
   choice_same k p r e h =
       let defaults : map (member_default_view g.arena) (items_of k g.member_defaults.keys.items g.member_defaults.items.items) ≡ (choice_of c p).defaults = d k ∙ ap (λ o. elim o as (λ _. List tree.MemberDefault) [ None ↦ [] | Some q ↦ (choice_of c q).defaults ]) e in
-      rw (h.file_is, h.line_is, h.prompt_is, members_same k p e, defaults) refl
+      rw (h.file_is, h.line_is, h.prompt_is, h.optional_is, members_same k p e, defaults) refl
 
-  choices_from : (n : ℕ) (ps : List GroupInContext) (rows : List ChoiceRow) → ((i : ℕ) (p : GroupInContext) → slice_get ps i ≡ Some p → slice_get (filter opens c.places) (n + i) ≡ Some p) → AreChoiceRows g.arena ps rows
+  choices_from : (n : ℕ) (ps : List GroupInContext) (rows : List ChoiceRow)
+      → ((i : ℕ) (p : GroupInContext) → slice_get ps i ≡ Some p → slice_get (filter opens c.places) (n + i) ≡ Some p) → AreChoiceRows g.arena ps rows
       → from_rows (choice_gathered g) n rows ≡ map (choice_of c) ps
   choices_from n [] [] at h = refl
   choices_from n [] (r ∷ rows) at h = absurd h
   choices_from n (p ∷ ps) [] at h = absurd h
   choices_from n (p ∷ ps) (r ∷ rows) at h =
       let here : slice_get (filter opens c.places) n ≡ Some p = ap (slice_get (filter opens c.places)) (let e : n ≡ n + 0 = omega arith in e) ∙ at 0 p refl in
-      let rest = choices_from (suc n) ps rows (λ i y e. ap (slice_get (filter opens c.places)) (let m : suc n + i ≡ n + suc i = omega arith in m) ∙ at (suc i) y e) h.1 in
+      let rest = choices_from (suc n) ps rows (λ i y e. ap (slice_get (filter opens c.places)) (let m : suc n + i ≡ n + suc i = omega arith in m)
+      ∙ at (suc i) y e) h.1 in
       ap (λ k. k ∷ from_rows (choice_gathered g) (suc n) rows) (choice_same n p r here h.0) ∙ ap (λ ks. choice_of c p ∷ ks) rest
 
-  pub choices_are : (rows : List ChoiceRow) → AreChoiceRows g.arena (filter opens c.places) rows → from_rows (choice_gathered g) 0 rows ≡ map (choice_of c) (filter opens c.places)
-  choices_are rows h = choices_from 0 (filter opens c.places) rows (λ i p e. ap (slice_get (filter opens c.places)) (let m : 0 + i ≡ i = omega arith in m) ∙ e) h
+  pub choices_are : (rows : List ChoiceRow) → AreChoiceRows g.arena (filter opens c.places) rows
+      → from_rows (choice_gathered g) 0 rows ≡ map (choice_of c) (filter opens c.places)
+  choices_are rows h =
+      choices_from 0 (filter opens c.places) rows (λ i p e. ap (slice_get (filter opens c.places)) (let m : 0 + i ≡ i = omega arith in m) ∙ e) h
 
 as_many_choices : (e : Exprs) (ps : List GroupInContext) (rows : List ChoiceRow) → AreChoiceRows e ps rows → length rows ≡ length ps
 as_many_choices e [] [] h = refl
@@ -113,7 +136,8 @@ as_many_choices e [] (r ∷ rows) h = absurd h
 as_many_choices e (p ∷ ps) [] h = absurd h
 as_many_choices e (p ∷ ps) (r ∷ rows) h = ap suc (as_many_choices e ps rows h.1)
 
-prompts_held : (e : Exprs) (ps : List GroupInContext) (rows : List ChoiceRow) → AreChoiceRows e ps rows → (k i : ℕ) (r : ChoiceRow) → slice_get rows k ≡ Some r → r.prompt ≡ Some i → i < length e.nodes
+prompts_held : (e : Exprs) (ps : List GroupInContext) (rows : List ChoiceRow) → AreChoiceRows e ps rows → (k i : ℕ) (r : ChoiceRow) → slice_get rows k ≡ Some r
+    → r.prompt ≡ Some i → i < length e.nodes
 prompts_held e [] [] h k i r at is = cc
 prompts_held e [] (x ∷ rows) h k i r at is = absurd h
 prompts_held e (p ∷ ps) [] h k i r at is = absurd h
@@ -139,13 +163,16 @@ module _ (c : Contents) where
 
   pub members_fit : (ps : List GroupInContext) → All (λ s. s < length c.names) (flat_map (members_at c) ps)
   members_fit [] = All-nil (λ s. s < length c.names)
-  members_fit (p ∷ ps) = All-append (λ s. s < length c.names) (members_at c p) (flat_map (members_at c) ps) (members_fit_at (enclosing_choice c p) (defined_name p.group)) (members_fit ps)
+  members_fit (p ∷ ps) =
+      All-append (λ s. s < length c.names) (members_at c p) (flat_map (members_at c) ps) (members_fit_at (enclosing_choice c p) (defined_name p.group))
+      (members_fit ps)
 
   mapped_keys : (k : ℕ) (xs : List ℕ) → k < length c.choices → All (λ n. n < length c.choices) (map (λ _. k) xs)
   mapped_keys k [] h = All-nil (λ n. n < length c.choices)
   mapped_keys k (x ∷ xs) h = All-cons (λ n. n < length c.choices) k (map (λ _. k) xs) h (mapped_keys k xs h)
 
-  keys_fit_at : (o : Option ℕ) (x : Option (List ℕ)) → ((k : ℕ) → o ≡ Some k → k < length c.choices) → All (λ n. n < length c.choices) (map (λ _. elim o as (λ _. ℕ) [ None ↦ 0 | Some k ↦ k ]) (member_in c o x))
+  keys_fit_at : (o : Option ℕ) (x : Option (List ℕ)) → ((k : ℕ) → o ≡ Some k → k < length c.choices)
+      → All (λ n. n < length c.choices) (map (λ _. elim o as (λ _. ℕ) [ None ↦ 0 | Some k ↦ k ]) (member_in c o x))
   keys_fit_at None x h = All-nil (λ n. n < length c.choices)
   keys_fit_at (Some k) x h = mapped_keys k (option_to_list (option_and_then (λ y. index_of_name y c.names) x)) (h k refl)
 
@@ -155,7 +182,9 @@ module _ (c : Contents) where
 
   pub keys_fit : (ps : List GroupInContext) → All (λ n. n < length c.choices) (flat_map (member_keys_at c) ps)
   keys_fit [] = All-nil (λ n. n < length c.choices)
-  keys_fit (p ∷ ps) = All-append (λ n. n < length c.choices) (member_keys_at c p) (flat_map (member_keys_at c) ps) (keys_fit_at (enclosing_choice c p) (defined_name p.group) (enclosing_fits p.enclosing.choice)) (keys_fit ps)
+  keys_fit (p ∷ ps) =
+      All-append (λ n. n < length c.choices) (member_keys_at c p) (flat_map (member_keys_at c) ps)
+      (keys_fit_at (enclosing_choice c p) (defined_name p.group) (enclosing_fits p.enclosing.choice)) (keys_fit ps)
 
 keys_of_all : (n : ℕ) (ks : List ℕ) → All (λ k. k < n) ks → AreKeys n ks
 keys_of_all n ks h i l = h i 0 l
@@ -182,9 +211,9 @@ after_by : (f : Option TreeFault) (x : Option TreeFault) → elim f as (λ _. Op
 after_by None x e = e
 after_by (Some g) x e = cc
 
-pub faultless_of : (files : Files) (root : List ℕ) → first_tree_fault files root ≡ None → tree_faults (reading files root).read ≡ []
+pub faultless_of : (files : Files) (root : List ℕ) → first_tree_fault files root ≡ None → HasNoFaults (reading files root).read
 unfolding first_tree_fault
-faultless_of files root h = no_first (tree_faults (reading files root).read) (after_by (reading files root).fault (slice_get (tree_faults (reading files root).read) 0) h)
+faultless_of files root h = (files.language, no_first (tree_faults files.language (reading files root).read) (after_by (reading files root).fault (slice_get (tree_faults files.language (reading files root).read) 0) h))
 
 -- the whole, part by part
 module _ (files : Files) (root : List ℕ) (l : Listing) (symbols : SymbolParts) (choices : ChoiceParts) (summary : Summary) (g : Gathered)
@@ -222,7 +251,8 @@ module _ (files : Files) (root : List ℕ) (l : Listing) (symbols : SymbolParts)
   defaults_by None = refl
   defaults_by (Some p) = refl
 
-  defaults : (j : ℕ) → map (member_default_view g.arena) (items_of j g.member_defaults.keys.items g.member_defaults.items.items) ≡ elim (slice_get (filter opens c.places) j) as (λ _. List tree.MemberDefault) [ None ↦ [] | Some p ↦ (choice_of c p).defaults ]
+  defaults : (j : ℕ)
+      → map (member_default_view g.arena) (items_of j g.member_defaults.keys.items g.member_defaults.items.items) ≡ elim (slice_get (filter opens c.places) j) as (λ _. List tree.MemberDefault) [ None ↦ [] | Some p ↦ (choice_of c p).defaults ]
   defaults j = rw (arena_is, defaults_is) (k.defaults.are j ∙ defaults_by (slice_get (filter opens c.places) j))
 
   entries : map (entry_from_row g.arena g.titles.items) g.entries.items ≡ (tree_of_groups read).entries
@@ -239,7 +269,9 @@ module _ (files : Files) (root : List ℕ) (l : Listing) (symbols : SymbolParts)
   many_symbols = as_many_rows g.arena c c.names g.symbols.items rows
 
   many_choices : length g.choices.items ≡ length c.choices
-  many_choices = as_many_choices g.arena (filter opens c.places) g.choices.items choice_rows ∙ sym (length-map (filter opens c.places) (λ (p : GroupInContext). p.group.number))
+  many_choices =
+      as_many_choices g.arena (filter opens c.places) g.choices.items choice_rows
+      ∙ sym (length-map (filter opens c.places) (λ (p : GroupInContext). p.group.number))
 
   many_names : length l.names.symbols.items ≡ length c.names
   unfolding RepresentsListing
@@ -290,11 +322,13 @@ module _ (files : Files) (root : List ℕ) (l : Listing) (symbols : SymbolParts)
   is_gathering = record { whole = whole; fits = fits }
 
 -- the tree is consistent
-pub consistent_of : (files : Files) (root : List ℕ) (g : Gathered) → first_tree_fault files root ≡ None → IsGathering (reading files root).read g → IsConsistent (gathered_tree g)
+pub consistent_of : (files : Files) (root : List ℕ) (g : Gathered) → first_tree_fault files root ≡ None → IsGathering (reading files root).read g
+    → IsConsistent (gathered_tree g)
 unfolding tree_of_files
 consistent_of files root g h k = subst IsConsistent (sym k.whole) (tree_is_consistent files root h)
 
 -- what a tree of it shows
-pub whole_is : (files : Files) (root : List ℕ) (g : Gathered) (t : TreeModel) → IsGathering (reading files root).read g → t ≡ record { exprs = g.arena; tree = gathered_tree g } → t.tree ≡ tree_of_files files root
+pub whole_is : (files : Files) (root : List ℕ) (g : Gathered) (t : TreeModel) → IsGathering (reading files root).read g
+    → t ≡ record { exprs = g.arena; tree = gathered_tree g } → t.tree ≡ tree_of_files files root
 unfolding tree_of_files
 whole_is files root g t k e = ap (λ (h : TreeModel). h.tree) e ∙ k.whole

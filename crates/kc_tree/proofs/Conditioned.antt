@@ -19,7 +19,8 @@ pub record IsConditionedAt (e : Exprs) (texts : List (List ℕ)) (conditions : L
   pub rising : (conditions_at groups i).first ≤ conditions_end groups conditions i
   pub within : conditions_end groups conditions i ≤ length conditions
 
-as_many : (e : Exprs) (texts : List (List ℕ)) (conditions : List ℕ) (end : ℕ) (cs : List GroupConditions) (ms : List Group) → RepresentsAllConditions e texts conditions end cs ms → length cs ≡ length ms
+as_many : (e : Exprs) (texts : List (List ℕ)) (conditions : List ℕ) (end : ℕ) (cs : List GroupConditions) (ms : List Group)
+    → RepresentsAllConditions e texts conditions end cs ms → length cs ≡ length ms
 as_many e texts conditions end [] [] h = refl
 as_many e texts conditions end [] (m ∷ ms) h = absurd h
 as_many e texts conditions end (c ∷ cs) [] h = absurd h
@@ -44,11 +45,13 @@ record IsNewestAt (e : Exprs) (texts : List (List ℕ)) (conditions : List ℕ) 
   pub rising : (get_or cs k no_conditions).first ≤ end_at end cs k
   pub within : end_at end cs k ≤ end
 
-newest_at : (e : Exprs) (texts : List (List ℕ)) (conditions : List ℕ) (end : ℕ) (cs : List GroupConditions) (ms : List Group) (k : ℕ) → k < length cs → RepresentsAllConditions e texts conditions end cs ms → IsNewestAt e texts conditions end cs ms k
+newest_at : (e : Exprs) (texts : List (List ℕ)) (conditions : List ℕ) (end : ℕ) (cs : List GroupConditions) (ms : List Group) (k : ℕ) → k < length cs
+    → RepresentsAllConditions e texts conditions end cs ms → IsNewestAt e texts conditions end cs ms k
 unfolding end_at
 newest_at e texts conditions end [] ms k l h = absurd (omega arith)
 newest_at e texts conditions end (c ∷ cs) [] k l h = absurd h
-newest_at e texts conditions end (c ∷ cs) (m ∷ ms) zero l h = record { group = m; now = refl; shown = h.0; rising = h.1; within = (let r : end ≤ end = omega arith in r) }
+newest_at e texts conditions end (c ∷ cs) (m ∷ ms) zero l h =
+    record { group = m; now = refl; shown = h.0; rising = h.1; within = (let r : end ≤ end = omega arith in r) }
 newest_at e texts conditions end (c ∷ cs) (m ∷ ms) (suc k) l h =
     let r = newest_at e texts conditions c.first cs ms k (omega arith) h.2 in
     record { group = r.group; now = r.now; shown = r.shown; rising = r.rising; within = (let a = r.within in let b = h.1 in omega arith) }
@@ -60,12 +63,14 @@ module _ (e : Exprs) (texts : List (List ℕ)) (conditions : List ℕ) (groups :
 
   ends_by : (i k : ℕ) → i < length groups → i + suc k ≡ length groups → end_at (length conditions) (reverse groups) k ≡ conditions_end groups conditions i
   unfolding end_at
-  ends_by i zero l n = ap (λ b. cond b (conditions_at groups (i + 1)).first (length conditions)) (sym (let f : nat_lt (i + 1) (length groups) ≡ false = grind arith in f))
+  ends_by i zero l n =
+      ap (λ b. cond b (conditions_at groups (i + 1)).first (length conditions)) (sym (let f : nat_lt (i + 1) (length groups) ≡ false = grind arith in f))
   ends_by i (suc k) l n =
       let r : k < length groups = omega arith in
       let b : k < length (reverse groups) = omega (arith, length-reverse groups) in
       end_is (length conditions) (reverse groups) k b
-      ∙ ap (λ (g : GroupConditions). g.first) (get_or-reverse groups k no_conditions r ∙ ap (λ j. get_or groups j no_conditions) (let q : length groups - 1 - k ≡ i + 1 = omega arith in q))
+      ∙ ap (λ (g : GroupConditions). g.first) (get_or-reverse groups k no_conditions r
+      ∙ ap (λ j. get_or groups j no_conditions) (let q : length groups - 1 - k ≡ i + 1 = omega arith in q))
       ∙ ap (λ b. cond b (conditions_at groups (i + 1)).first (length conditions)) (sym (lt-ltb (i + 1) (length groups) (omega arith)))
 
   pub conditioned_at : (i : ℕ) → i < length groups → IsConditionedAt e texts conditions groups read i
@@ -73,7 +78,8 @@ module _ (e : Exprs) (texts : List (List ℕ)) (conditions : List ℕ) (groups :
       let k : ℕ = length groups - suc i in
       let b : k < length (reverse groups) = omega (arith, length-reverse groups) in
       let r = newest_at e texts conditions (length conditions) (reverse groups) read k b h in
-      let own : get_or (reverse groups) k no_conditions ≡ conditions_at groups i = get_or-reverse groups k no_conditions (omega arith) ∙ ap (λ j. get_or groups j no_conditions) (let q : length groups - 1 - k ≡ i = omega arith in q) in
+      let own : get_or (reverse groups) k no_conditions ≡ conditions_at groups i = get_or-reverse groups k no_conditions (omega arith)
+      ∙ ap (λ j. get_or groups j no_conditions) (let q : length groups - 1 - k ≡ i = omega arith in q) in
       let ends = ends_by i k l (omega arith) in
       let c = conditions_count in
       let p : length read - (i + 1) ≡ k = omega arith in

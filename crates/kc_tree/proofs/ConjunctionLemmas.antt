@@ -15,14 +15,16 @@ all_more [] f h = absurd (omega arith)
 all_more (e ∷ es) f h = all_from_more e es f
 
 -- both of a conjunction and one more
-pub joined : (old new : Exprs) (a b id : ℕ) (es : List Expr) → Represents new id (both (node_expr old a) (node_expr old b)) → Conjoins old (Some a) es → Conjoins new (Some id) (es ++ conjunct old (Some b))
+pub joined : (old new : Exprs) (a b id : ℕ) (es : List Expr) → Represents new id (both (node_expr old a) (node_expr old b)) → Conjoins old (Some a) es
+    → Conjoins new (Some id) (es ++ conjunct old (Some b))
 joined old new a b id es s c = (
   omega (arith, length-append es (node_expr old b ∷ [])),
   record { within = s.within; is = s.is ∙ ap (λ e. both e (node_expr old b)) c.1.is ∙ sym (all_more es (node_expr old b) c.0) },
 )
 
 -- one alone
-pub alone_conjunct : (exprs : Exprs) (b : ℕ) (es : List Expr) → b < length exprs.nodes → Conjoins exprs None es → Conjoins exprs (Some b) (es ++ conjunct exprs (Some b))
+pub alone_conjunct : (exprs : Exprs) (b : ℕ) (es : List Expr) → b < length exprs.nodes → Conjoins exprs None es
+    → Conjoins exprs (Some b) (es ++ conjunct exprs (Some b))
 alone_conjunct exprs b es h e = subst (λ xs. Conjoins exprs (Some b) (xs ++ node_expr exprs b ∷ [])) (sym e) (omega arith, record { within = h; is = refl })
 
 -- nothing more

@@ -62,7 +62,8 @@ from-append n [] (d ∷ cs) g c e = absurd (omega (arith, e))
 from-append n (h ∷ gs) [] g c e = absurd (omega (arith, e))
 from-append n (h ∷ gs) (d ∷ cs) g c e =
     ap (λ t. option_to_list (entry_row h.head d n) ++ t) (from-append (choices_after h.head n) gs cs g c (omega (arith, e)))
-    ∙ sym (append_assoc (option_to_list (entry_row h.head d n)) (entries_from (choices_after h.head n) gs cs) (option_to_list (entry_row g.head c (count_from (choices_after h.head n) gs))))
+    ∙ sym (append_assoc (option_to_list (entry_row h.head d n)) (entries_from (choices_after h.head n) gs cs)
+    (option_to_list (entry_row g.head c (count_from (choices_after h.head n) gs))))
 
 from_reverse : (gs : List CodeGroup) (cs : List GroupConditions) → length gs ≡ length cs → entries_from 0 (reverse gs) (reverse cs) ≡ entries_back gs cs
 from_reverse [] cs e = refl
@@ -93,12 +94,15 @@ filter_snoc : {A : Type 0} (f : A → Bool) (xs : List A) (x : A) → filter f (
 filter_snoc f [] x = refl
 filter_snoc f (y ∷ xs) x = snoc_by (f y) (filter f (xs ++ x ∷ [])) (filter f xs) (cond (f x) (x ∷ []) []) y (filter_snoc f xs x)
 
-numbers_by : (b : Bool) (xs : List GroupInContext) (p : GroupInContext) → map number (xs ++ cond b (p ∷ []) []) ≡ map number xs ++ cond b (p.group.number ∷ []) []
+numbers_by : (b : Bool) (xs : List GroupInContext) (p : GroupInContext)
+    → map number (xs ++ cond b (p ∷ []) []) ≡ map number xs ++ cond b (p.group.number ∷ []) []
 numbers_by true xs p = map-append number xs (p ∷ [])
 numbers_by false xs p = map-append number xs []
 
 numbers_more : (m : Group) (ms : List Group) → numbers (m ∷ ms) ≡ numbers ms ++ cond (opens_choice m) (m.number ∷ []) []
-numbers_more m ms = ap (map number) (filter_snoc opens (groups_in_context ms) (group_in_context (open_blocks 0 ms) m)) ∙ numbers_by (opens_choice m) (filter opens (groups_in_context ms)) (group_in_context (open_blocks 0 ms) m)
+numbers_more m ms =
+    ap (map number) (filter_snoc opens (groups_in_context ms) (group_in_context (open_blocks 0 ms) m))
+    ∙ numbers_by (opens_choice m) (filter opens (groups_in_context ms)) (group_in_context (open_blocks 0 ms) m)
 
 abbrev AreBelow : ℕ → List ℕ → Type 0
 AreBelow k [] = Unit {0}
@@ -189,7 +193,8 @@ module _ (e : Exprs) (names texts : List (List ℕ)) (lines : List CodeLine) whe
   numbers_below end (g ∷ gs) (m ∷ ms) h =
       let n = h.0.number_is in
       subst (AreBelow (suc (length ms))) (sym (numbers_more m ms))
-      (below_by (opens_choice m) (suc (length ms)) m.number (numbers ms) (below_later (length ms) (numbers ms) (numbers_below g.attributes gs ms h.2)) (omega (arith, n)))
+      (below_by (opens_choice m) (suc (length ms)) m.number (numbers ms) (below_later (length ms) (numbers ms) (numbers_below g.attributes gs ms h.2))
+      (omega (arith, n)))
   numbers_below end [] (m ∷ ms) h = absurd h
   numbers_below end (g ∷ gs) [] h = absurd h
 
@@ -222,7 +227,8 @@ module _ (e e2 : Exprs) (texts : List (List ℕ)) (C : Contents) (d : Differ C.n
   stands id x (inl a) away = absurd (away a)
   stands id x (inr s) away = s
 
-  end_shown : (o : Option ℕ) (a v : ℕ) (x : Option tree.Entry) → RepresentsEnd e2 texts o a v x → option_map (entry_from_row e2 texts) (option_map (λ t. MenuEnds t a v) o) ≡ x
+  end_shown : (o : Option ℕ) (a v : ℕ) (x : Option tree.Entry) → RepresentsEnd e2 texts o a v x
+      → option_map (entry_from_row e2 texts) (option_map (λ t. MenuEnds t a v) o) ≡ x
   end_shown None a v x h = sym h
   end_shown (Some t) a v x h = ap (λ title. Some (tree.menu_ends title (node_expr e2 a) (node_expr e2 v))) (text_is t h.0 h.1) ∙ sym h.4
 
@@ -239,7 +245,8 @@ module _ (e e2 : Exprs) (texts : List (List ℕ)) (C : Contents) (d : Differ C.n
       ap (λ title. Some (tree.menu_begins title (node_expr e2 c.dependency) (node_expr e2 c.visible))) (text_is t h.0 h.1)
       ∙ ap (λ x. Some (tree.menu_begins h.0 x (node_expr e2 c.visible))) a.is
       ∙ ap (λ x. Some (tree.menu_begins h.0 (dependency_of p.enclosing p.group) x)) v.is
-      ∙ sym (ap at_place h.2 ∙ ap (λ w. option_map (λ title. tree.menu_begins title (dependency_of p.enclosing p.group) (conjunction_of (p.enclosing.visibles ++ attribute_values visible_of p.group))) (from_head title_of_head w)) h.2)
+      ∙ sym (ap at_place h.2 ∙ ap (λ w. option_map (λ title. tree.menu_begins title (dependency_of p.enclosing p.group)
+      (conjunction_of (p.enclosing.visibles ++ attribute_values visible_of p.group))) (from_head title_of_head w)) h.2)
   entry_shown (codes.Condition id) c own h k o = sym (ap at_place h.1)
   entry_shown (codes.Comment t) c own h k o =
       let away : side_of p.group.head ≡ closing → ⊥ = λ q. let z = sym (ap side_of h.2) ∙ q in cc in
@@ -249,7 +256,8 @@ module _ (e e2 : Exprs) (texts : List (List ℕ)) (C : Contents) (d : Differ C.n
       ∙ sym (ap at_place h.2)
   entry_shown (codes.Source t) c own h k o = sym (ap at_place h.2)
   entry_shown codes.Mainmenu c own h k o = sym (ap at_place h)
-  entry_shown (codes.Ends blocks.Menu) c own h k o = end_shown c.ended c.dependency c.visible (menu_end_of p.opened) (k.ended_is (ap side_of h)) ∙ sym (ap at_place h)
+  entry_shown (codes.Ends blocks.Menu) c own h k o =
+      end_shown c.ended c.dependency c.visible (menu_end_of p.opened) (k.ended_is (ap side_of h)) ∙ sym (ap at_place h)
   entry_shown (codes.Ends blocks.If) c own h k o = sym (ap at_place h)
   entry_shown (codes.Ends blocks.Choice) c own h k o = sym (ap at_place h)
   entry_shown codes.FileEnd c own h k o = sym (ap at_place h)
@@ -273,8 +281,11 @@ module _ (e e2 : Exprs) (texts : List (List ℕ)) (C : Contents) (d : Differ C.n
       one_fits (ChoiceBegins n) (o opened)
   entry_fits (codes.Menu t) c own h k o =
       let away : side_of p.group.head ≡ closing → ⊥ = λ q. let z : opening ≡ closing = sym (ap side_of h.2) ∙ q in cc in
-      one_fits (MenuBegins t c.dependency c.visible)
-      (get_below texts t h.0 h.1, (stands c.dependency (dependency_of p.enclosing p.group) k.dependency_is away).within, (stands c.visible (conjunction_of (p.enclosing.visibles ++ attribute_values visible_of p.group)) k.visible_is away).within)
+      one_fits (MenuBegins t c.dependency c.visible) (
+        get_below texts t h.0 h.1,
+        (stands c.dependency (dependency_of p.enclosing p.group) k.dependency_is away).within,
+        (stands c.visible (conjunction_of (p.enclosing.visibles ++ attribute_values visible_of p.group)) k.visible_is away).within,
+      )
   entry_fits (codes.Condition id) c own h k o = All-nil Fits
   entry_fits (codes.Comment t) c own h k o =
       let away : side_of p.group.head ≡ closing → ⊥ = λ q. let z = sym (ap side_of h.2) ∙ q in cc in
@@ -288,7 +299,8 @@ module _ (e e2 : Exprs) (texts : List (List ℕ)) (C : Contents) (d : Differ C.n
 
 -- all entries
 module _ (e e2 : Exprs) (texts : List (List ℕ)) (lines : List CodeLine) (conditions : List ℕ) (C : Contents) (d : Differ C.names) where
-  all_entries : (end end2 : ℕ) (gs : List CodeGroup) (cs : List GroupConditions) (ms : List Group) (rest : List ℕ) → RepresentsGroups e C.names texts lines end gs ms
+  all_entries : (end end2 : ℕ) (gs : List CodeGroup) (cs : List GroupConditions) (ms : List Group) (rest : List ℕ)
+      → RepresentsGroups e C.names texts lines end gs ms
       → RepresentsAllConditions e2 texts conditions end2 cs ms → C.choices ≡ numbers ms ++ rest
       → map (entry_from_row e2 texts) (entries_back gs cs) ≡ filter_map (entry_at C) (groups_in_context ms)
   all_entries end end2 [] [] [] rest h k c = refl
@@ -298,9 +310,11 @@ module _ (e e2 : Exprs) (texts : List (List ℕ)) (lines : List CodeLine) (condi
       let n = count_is e C.names texts lines g.attributes gs ms h.2 in
       let b = numbers_below e C.names texts lines g.attributes gs ms h.2 in
       map-append f (entries_back gs xs) (option_to_list (entry_row g.head x (count_back gs)))
-      ∙ ap (λ t. t ++ map f (option_to_list (entry_row g.head x (count_back gs)))) (all_entries g.attributes x.first gs xs ms (cond (opens_choice m) (m.number ∷ []) [] ++ rest) h.2 k.2 (before C m ms rest c))
+      ∙ ap (λ t. t ++ map f (option_to_list (entry_row g.head x (count_back gs))))
+      (all_entries g.attributes x.first gs xs ms (cond (opens_choice m) (m.number ∷ []) [] ++ rest) h.2 k.2 (before C m ms rest c))
       ∙ ap (λ t. filter_map (entry_at C) (groups_in_context ms) ++ t) (map_option f (entry_row g.head x (count_back gs)))
-      ∙ ap (λ o. filter_map (entry_at C) (groups_in_context ms) ++ option_to_list o) (entry_shown e e2 texts C d p (count_back gs) g.head x _ h.0.head k.0 (λ o. numbered C m ms rest c h.0.number_is b o ∙ ap Some (sym n)))
+      ∙ ap (λ o. filter_map (entry_at C) (groups_in_context ms) ++ option_to_list o)
+      (entry_shown e e2 texts C d p (count_back gs) g.head x _ h.0.head k.0 (λ o. numbered C m ms rest c h.0.number_is b o ∙ ap Some (sym n)))
       ∙ sym (filter_map-snoc (entry_at C) (groups_in_context ms) p)
   all_entries end end2 [] cs (m ∷ ms) rest h k c = absurd h
   all_entries end end2 (g ∷ gs) cs [] rest h k c = absurd h
@@ -314,7 +328,8 @@ module _ (e e2 : Exprs) (texts : List (List ℕ)) (lines : List CodeLine) (condi
   all_fit end end2 (g ∷ gs) (x ∷ xs) (m ∷ ms) rest h k c =
       let p : GroupInContext = group_in_context (open_blocks 0 ms) m in
       let n = count_is e C.names texts lines g.attributes gs ms h.2 in
-      All-append (EntryRowFits (length e2.nodes) (length C.names) (length C.choices) (length texts)) (entries_back gs xs) (option_to_list (entry_row g.head x (count_back gs)))
+      All-append (EntryRowFits (length e2.nodes) (length C.names) (length C.choices) (length texts)) (entries_back gs xs)
+      (option_to_list (entry_row g.head x (count_back gs)))
       (all_fit g.attributes x.first gs xs ms (cond (opens_choice m) (m.number ∷ []) [] ++ rest) h.2 k.2 (before C m ms rest c))
       (entry_fits e e2 texts C d p (count_back gs) g.head x _ h.0.head k.0 (λ o. let t = there C m ms rest c o in omega (arith, t, n)))
   all_fit end end2 [] cs (m ∷ ms) rest h k c = absurd h
@@ -323,7 +338,8 @@ module _ (e e2 : Exprs) (texts : List (List ℕ)) (lines : List CodeLine) (condi
   all_fit end end2 (g ∷ gs) [] (m ∷ ms) rest h k c = absurd k
 
 -- the entries that the rows represent once no group is left
-pub rows_are : (gs : List CodeGroup) (cs : List GroupConditions) (rows : List EntryRow) (n i : ℕ) → length cs ≡ length gs → length gs ≤ i → rows ++ entries_from n (drop i gs) (drop i cs) ≡ entries_from 0 gs cs → i ≤ length gs
+pub rows_are : (gs : List CodeGroup) (cs : List GroupConditions) (rows : List EntryRow) (n i : ℕ) → length cs ≡ length gs → length gs ≤ i
+    → rows ++ entries_from n (drop i gs) (drop i cs) ≡ entries_from 0 gs cs → i ≤ length gs
     → rows ≡ entries_back (reverse gs) (reverse cs)
 rows_are gs cs rows n i m a e b =
     let at : i ≡ length gs = omega (arith, a, b) in
@@ -340,12 +356,15 @@ module _ (l : Listing) (e2 : Exprs) (conditions : List ℕ) (end : ℕ) (cs : Li
   unfolding RepresentsListing tree_of_groups
   entries_are =
       ap (map (entry_from_row e2 l.texts.items)) r
-      ∙ all_entries l.names.arena e2 l.texts.items l.lines.items conditions (contents_of read) (Differ-once (filter_map defined_name read)) (length l.lines.items) end (reverse l.groups.items) (reverse cs) read [] s.groups_are k (sym (append-nil (numbers read)))
+      ∙ all_entries l.names.arena e2 l.texts.items l.lines.items conditions (contents_of read) (Differ-once (filter_map defined_name read))
+      (length l.lines.items) end (reverse l.groups.items) (reverse cs) read [] s.groups_are k (sym (append-nil (numbers read)))
 
   pub entries_fit : All (EntryRowFits (length e2.nodes) (length l.names.symbols.items) (length (contents_of read).choices) (length l.texts.items)) rows
   unfolding RepresentsListing
   entries_fit =
-      let f = all_fit l.names.arena e2 l.texts.items l.lines.items conditions (contents_of read) (Differ-once (filter_map defined_name read)) (length l.lines.items) end (reverse l.groups.items) (reverse cs) read [] s.groups_are k (sym (append-nil (numbers read))) in
-      let n : length (names_defined read) ≡ length l.names.symbols.items = sym (ap length s.names.words) ∙ length-map l.names.symbols.items (text_of_name l.names.arena) in
+      let f = all_fit l.names.arena e2 l.texts.items l.lines.items conditions (contents_of read) (Differ-once (filter_map defined_name read))
+      (length l.lines.items) end (reverse l.groups.items) (reverse cs) read [] s.groups_are k (sym (append-nil (numbers read))) in
+      let n : length (names_defined read) ≡ length l.names.symbols.items = sym (ap length s.names.words)
+      ∙ length-map l.names.symbols.items (text_of_name l.names.arena) in
       subst (λ (k : ℕ). All (EntryRowFits (length e2.nodes) k (length (contents_of read).choices) (length l.texts.items)) rows) n
       (subst (All (EntryRowFits (length e2.nodes) (length (names_defined read)) (length (contents_of read).choices) (length l.texts.items))) (sym r) f)

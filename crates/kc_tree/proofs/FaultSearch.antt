@@ -7,6 +7,7 @@ use Rattle.std.proofs.lemmas.Bool.{ltb-true}
 use Rattle.std.proofs.lemmas.Grind.{flat_map-append}
 use Rattle.std.proofs.lemmas.List.{get_or_past, length-map}
 use Rattle.std.proofs.lemmas.Option.{get_or_from_slice_get}
+use Rattle.kc_expr.specs.declared.language.Language.{Language}
 use Rattle.kc_expr.specs.between.Arena.{Exprs}
 use Rattle.kc_expr.specs.Expr.{modules as modules_name}
 use Rattle.kc_expr.specs.Lookup.{index_of_name}
@@ -16,7 +17,7 @@ use Rattle.kc_tree_model.specs.Blocks.{Group, GroupHead, of_head, file_end, defi
 use Rattle.kc_tree_model.specs.Conditions.{GroupInContext, group_in_context, groups_in_context}
 use Rattle.kc_tree_model.specs.Contents.{Contents, contents_of, choice_number, definitions_of, is_first_definition, member_names}
 use Rattle.kc_tree_model.specs.Limits.{names_defined}
-use Rattle.kc_tree_model.specs.TreeFaults.{attribute_faults, choice_faults, definition_faults, faults_at, faults_of_group, faults_of_head, faults_of_lines, kind_of}
+use Rattle.kc_tree_model.specs.TreeFaults.{may_follow_member, attribute_faults, choice_faults, definition_faults, faults_at, faults_of_group, faults_of_head, faults_of_lines, kind_of}
 use Rattle.kc_tree_model.proofs.Consistency.Lists.{Has, Differ-once, get-map, get_below, has-at, map-get, number-get}
 use Rattle.kc_listing.specs.declared.listing.Group.{Group as CodeGroup}
 use Rattle.kc_listing.specs.declared.listing.Line.{Line as CodeLine}
@@ -72,65 +73,77 @@ module _ (e : Exprs) (names texts : List (List ℕ)) (lines : List CodeLine) (gr
       (group_in_context (open_blocks 0 (read_before i read)) t.group, place_numbered read i t.group (omega arith) t.now)
 
 -- the name that a `config` defines
-pub config_there : (e : Exprs) (names texts : List (List ℕ)) (code : CodeWhat) (s : ℕ) (w : GroupHead) → RepresentsHead e names texts code w → code ≡ codes.Config s → (name : List ℕ) × (slice_get names s ≡ Some name) × (w ≡ of_head (config name))
+pub config_there : (e : Exprs) (names texts : List (List ℕ)) (code : CodeWhat) (s : ℕ) (w : GroupHead) → RepresentsHead e names texts code w
+    → code ≡ codes.Config s → (name : List ℕ) × (slice_get names s ≡ Some name) × (w ≡ of_head (config name))
 config_there e names texts code s w h k = subst (λ v. RepresentsHead e names texts v w) k h
 
-pub choice_there : (e : Exprs) (names texts : List (List ℕ)) (code : CodeWhat) (w : GroupHead) → RepresentsHead e names texts code w → code ≡ codes.Choice → w ≡ of_head choice
+pub choice_there : (e : Exprs) (names texts : List (List ℕ)) (code : CodeWhat) (w : GroupHead) → RepresentsHead e names texts code w → code ≡ codes.Choice
+    → w ≡ of_head choice
 choice_there e names texts code w h k = subst (λ v. RepresentsHead e names texts v w) k h
 
 -- the number of the choice that encloses a place
-pub enclosing_got : (read : List Group) (enclosing : List (Option ℕ)) (i : ℕ) (p : GroupInContext) (d : Option ℕ) → enclosing ≡ map (enclosing_choice (contents_of read)) (groups_in_context read) → slice_get (groups_in_context read) i ≡ Some p → get_or enclosing i d ≡ enclosing_choice (contents_of read) p
-enclosing_got read enclosing i p d a at = get_or_from_slice_get enclosing i _ d (ap (λ xs. slice_get xs i) a ∙ map-get (enclosing_choice (contents_of read)) (groups_in_context read) i p at)
+pub enclosing_got : (read : List Group) (enclosing : List (Option ℕ)) (i : ℕ) (p : GroupInContext) (d : Option ℕ)
+    → enclosing ≡ map (enclosing_choice (contents_of read)) (groups_in_context read) → slice_get (groups_in_context read) i ≡ Some p
+    → get_or enclosing i d ≡ enclosing_choice (contents_of read) p
+enclosing_got read enclosing i p d a at =
+    get_or_from_slice_get enclosing i _ d (ap (λ xs. slice_get xs i) a ∙ map-get (enclosing_choice (contents_of read)) (groups_in_context read) i p at)
 
 -- the word of a symbol's name
-pub word_is : (e : Exprs) (symbols numbers : List ℕ) (names : List (List ℕ)) (s : ℕ) (name : List ℕ) (d : ℕ) → HasNames e symbols numbers names → slice_get names s ≡ Some name → text_of_name e (get_or symbols s d) ≡ name
+pub word_is : (e : Exprs) (symbols numbers : List ℕ) (names : List (List ℕ)) (s : ℕ) (name : List ℕ) (d : ℕ) → HasNames e symbols numbers names
+    → slice_get names s ≡ Some name → text_of_name e (get_or symbols s d) ≡ name
 word_is e symbols numbers names s name d h at =
     let r = get-map (text_of_name e) symbols s name (ap (λ xs. slice_get xs s) h.words ∙ at) in
     ap (text_of_name e) (get_or_from_slice_get symbols s r.0 d r.1) ∙ r.2
 
 -- whether a choice encloses a place
-enclosing_by : (c : Contents) (o : Option ℕ) → ((n : ℕ) → o ≡ Some n → (k : ℕ) × (choice_number c n ≡ Some k)) → is_some (option_and_then (choice_number c) o) ≡ is_some o
+enclosing_by : (c : Contents) (o : Option ℕ) → ((n : ℕ) → o ≡ Some n → (k : ℕ) × (choice_number c n ≡ Some k))
+    → is_some (option_and_then (choice_number c) o) ≡ is_some o
 enclosing_by c None k = refl
 enclosing_by c (Some n) k = let j = k n refl in ap is_some j.1
 
-pub enclosing_some : (read : List Group) (p : GroupInContext) → Has p (groups_in_context read) → is_some (enclosing_choice (contents_of read) p) ≡ is_some p.enclosing.choice
+pub enclosing_some : (read : List Group) (p : GroupInContext) → Has p (groups_in_context read)
+    → is_some (enclosing_choice (contents_of read) p) ≡ is_some p.enclosing.choice
 enclosing_some read p h = enclosing_by (contents_of read) p.enclosing.choice (λ n e. enclosing_numbered read p n h e)
 
 -- whether a place is the first definition
-first_by : (ds : List GroupInContext) (n : ℕ) → first_is (slice_get (flat_map number_at ds) 0) n ≡ elim (option_map (λ (q : GroupInContext). q.group) (slice_get ds 0)) as (λ _. Bool) [ None ↦ false | Some g ↦ g.number == n ]
+first_by : (ds : List GroupInContext) (n : ℕ)
+    → first_is (slice_get (flat_map number_at ds) 0) n ≡ elim (option_map (λ (q : GroupInContext). q.group) (slice_get ds 0)) as (λ _. Bool) [ None ↦ false | Some g ↦ g.number == n ]
 first_by [] n = refl
 first_by (d ∷ ds) n = refl
 
-pub first_reported : (c : Contents) (name : List ℕ) (p : GroupInContext) (i : ℕ) → p.group.number ≡ i → first_is (first_in_definitions number_at c.places name) i ≡ is_first_definition c name p
+pub first_reported : (c : Contents) (name : List ℕ) (p : GroupInContext) (i : ℕ) → p.group.number ≡ i
+    → first_is (first_in_definitions number_at c.places name) i ≡ is_first_definition c name p
 first_reported c name p i e = ap (first_is (first_in_definitions number_at c.places name)) (sym e) ∙ first_by (definitions_of c name) p.group.number
 
 -- the kind of fault of a definition
-pub definition_reported : (read : List Group) (p : GroupInContext) (name : List ℕ) (i : ℕ) (about : SymbolSummary) (is_member is_first is_modules : Bool) → Has p (groups_in_context read) → p.group.number ≡ i → about ≡ summary_in (contents_of read) (groups_in_context read) name
-    → is_member ≡ is_some (enclosing_choice (contents_of read) p) → is_first ≡ first_is about.first i → is_modules ≡ bytes_eq name modules_name → definition_kind about is_member is_first is_modules ≡ slice_get (definition_faults (contents_of read) p name) 0
-definition_reported read p name i about is_member is_first is_modules has n a m f o =
-    definition_is (contents_of read) p name about is_member is_first is_modules
+pub definition_reported : (language : Language) (read : List Group) (p : GroupInContext) (name : List ℕ) (i : ℕ) (about : SymbolSummary) (is_member is_first is_modules may_follow : Bool) → Has p (groups_in_context read) → p.group.number ≡ i → about ≡ summary_in (contents_of read) (groups_in_context read) name
+    → is_member ≡ is_some (enclosing_choice (contents_of read) p) → is_first ≡ first_is about.first i → is_modules ≡ bytes_eq name modules_name → may_follow ≡ may_follow_member language p → definition_kind about is_member is_first is_modules may_follow ≡ slice_get (definition_faults language (contents_of read) p name) 0
+definition_reported language read p name i about is_member is_first is_modules may_follow has n a m f o w =
+    definition_is language (contents_of read) p name about is_member is_first is_modules may_follow
     (ap (λ (x : SymbolSummary). x.given) a)
     (ap (λ (x : SymbolSummary). is_some x.choice) a ∙ ap is_some (choice_is read name))
     (m ∙ enclosing_some read p has)
     (f ∙ ap (λ (x : SymbolSummary). first_is x.first i) a ∙ first_reported (contents_of read) name p i n)
     o
+    w
 
 -- the first fault of a definition with its attributes
-pub config_first : (c : Contents) (p : GroupInContext) (name : List ℕ) → p.group.head ≡ of_head (config name)
-    → slice_get (faults_of_group c p) 0
-    ≡ option_or (option_map (fault_of p.group p.group.at.line) (slice_get (definition_faults c p name) 0)) (slice_get (faults_of_lines p.group (attribute_faults c name (kind_of c name)) false p.group.attributes) 0)
-config_first c p name e =
-    ap (λ w. slice_get (elim w as (λ _. List TreeFault) [ of_head h ↦ faults_of_head c p h | file_end ↦ [] ]) 0) e
-    ∙ first_of_both (faults_at p.group p.group.at.line (definition_faults c p name)) (faults_of_lines p.group (attribute_faults c name (kind_of c name)) false p.group.attributes)
-    ∙ ap (λ o. option_or o (slice_get (faults_of_lines p.group (attribute_faults c name (kind_of c name)) false p.group.attributes) 0)) (first_mapped (fault_of p.group p.group.at.line) (definition_faults c p name))
+pub config_first : (language : Language) (c : Contents) (p : GroupInContext) (name : List ℕ) → p.group.head ≡ of_head (config name)
+    → slice_get (faults_of_group language c p) 0
+    ≡ option_or (option_map (fault_of p.group p.group.at.line) (slice_get (definition_faults language c p name) 0)) (slice_get (faults_of_lines p.group (attribute_faults c name (kind_of c name)) false p.group.attributes) 0)
+config_first language c p name e =
+    ap (λ w. slice_get (elim w as (λ _. List TreeFault) [ of_head h ↦ faults_of_head language c p h | file_end ↦ [] ]) 0) e
+    ∙ first_of_both (faults_at p.group p.group.at.line (definition_faults language c p name)) (faults_of_lines p.group (attribute_faults c name (kind_of c name)) false p.group.attributes)
+    ∙ ap (λ o. option_or o (slice_get (faults_of_lines p.group (attribute_faults c name (kind_of c name)) false p.group.attributes) 0)) (first_mapped (fault_of p.group p.group.at.line) (definition_faults language c p name))
 
-pub choice_first : (c : Contents) (p : GroupInContext) → p.group.head ≡ of_head choice
-    → slice_get (faults_of_group c p) 0 ≡ slice_get (faults_of_lines p.group (choice_faults (member_names c p.group.number)) false p.group.attributes) 0
-choice_first c p e = ap (λ w. slice_get (elim w as (λ _. List TreeFault) [ of_head h ↦ faults_of_head c p h | file_end ↦ [] ]) 0) e
+pub choice_first : (language : Language) (c : Contents) (p : GroupInContext) → p.group.head ≡ of_head choice
+    → slice_get (faults_of_group language c p) 0 ≡ slice_get (faults_of_lines p.group (choice_faults (member_names c p.group.number)) false p.group.attributes) 0
+choice_first language c p e = ap (λ w. slice_get (elim w as (λ _. List TreeFault) [ of_head h ↦ faults_of_head language c p h | file_end ↦ [] ]) 0) e
 
 -- the members of a choice at a place are those with its mark
 module _ (e : Exprs) (texts : List (List ℕ)) (lines : List CodeLine) (groups : List CodeGroup) (read : List Group) (h : RepresentsGroups e (names_defined read) texts lines (length lines) (reverse groups) read) where
-  pub choice_counted : (i choices : ℕ) (p : GroupInContext) → i < length groups → (group_at groups i).head ≡ codes.Choice → slice_get (groups_in_context read) i ≡ Some p → choices ≡ choices_before i read → choice_number (contents_of read) p.group.number ≡ Some choices
+  pub choice_counted : (i choices : ℕ) (p : GroupInContext) → i < length groups → (group_at groups i).head ≡ codes.Choice
+      → slice_get (groups_in_context read) i ≡ Some p → choices ≡ choices_before i read → choice_number (contents_of read) p.group.number ≡ Some choices
   choice_counted i choices p l w at c =
       let t = shown_at e (names_defined read) texts lines groups read h i l in
       let n = count_is e (names_defined read) texts lines groups read h in
@@ -142,15 +155,18 @@ module _ (e : Exprs) (texts : List (List ℕ)) (lines : List CodeLine) (groups :
       sym (ap (λ (q : GroupInContext). choice_number (contents_of read) q.group.number) same)
       ∙ number_counts read i t.group a (numbers_before (length read - (i + 1)) read a) t.now begins ∙ ap Some (sym c)
 
-  pub choice_below : (i choices : ℕ) → i < length groups → (group_at groups i).head ≡ codes.Choice → choices ≡ choices_before i read → choices < length (contents_of read).choices
+  pub choice_below : (i choices : ℕ) → i < length groups → (group_at groups i).head ≡ codes.Choice → choices ≡ choices_before i read
+      → choices < length (contents_of read).choices
   choice_below i choices l w c =
       let t = shown_at e (names_defined read) texts lines groups read h i l in
       let n = count_is e (names_defined read) texts lines groups read h in
       let found = place_numbered read i t.group (omega arith) t.now in
       let p : GroupInContext = group_in_context (open_blocks 0 (read_before i read)) t.group in
-      get_below (contents_of read).choices choices p.group.number (number-get p.group.number (contents_of read).choices choices (choice_counted i choices p l w found c))
+      get_below (contents_of read).choices choices p.group.number (number-get p.group.number (contents_of read).choices choices
+      (choice_counted i choices p l w found c))
 
-  pub members_kept : (s : Summary) (starts items : List ℕ) (i choices : ℕ) (p : GroupInContext) → IsSummaryOf (contents_of read) s → HasMembers s starts items → i < length groups → (group_at groups i).head ≡ codes.Choice → slice_get (groups_in_context read) i ≡ Some p → choices ≡ choices_before i read
+  pub members_kept : (s : Summary) (starts items : List ℕ) (i choices : ℕ) (p : GroupInContext) → IsSummaryOf (contents_of read) s → HasMembers s starts items
+      → i < length groups → (group_at groups i).head ≡ codes.Choice → slice_get (groups_in_context read) i ≡ Some p → choices ≡ choices_before i read
       → items_at starts items choices ≡ filter_map (λ x. index_of_name x (names_defined read)) (member_names (contents_of read) p.group.number)
   members_kept s starts items i choices p known m l w at c =
       let below = choice_below i choices l w c in
@@ -160,7 +176,9 @@ module _ (e : Exprs) (texts : List (List ℕ)) (lines : List CodeLine) (groups :
       ∙ ap (items_of choices (flat_map (member_keys_at (contents_of read)) (groups_in_context read))) known.members
       ∙ members_are (contents_of read) choices p.group.number (choice_counted i choices p l w at c)
 
-pub are_marked_in : (read : List Group) (p : GroupInContext) (members old new : List ℕ) (choices : ℕ) → members ≡ filter_map (λ x. index_of_name x (names_defined read)) (member_names (contents_of read) p.group.number) → length old ≡ length (names_defined read) → AreSmall old choices → WereMarked old members (choices + 1) new
+pub are_marked_in : (read : List Group) (p : GroupInContext) (members old new : List ℕ) (choices : ℕ)
+    → members ≡ filter_map (λ x. index_of_name x (names_defined read)) (member_names (contents_of read) p.group.number)
+    → length old ≡ length (names_defined read) → AreSmall old choices → WereMarked old members (choices + 1) new
     → AreMarked (names_defined read) (member_names (contents_of read) p.group.number) new (choices + 1)
 are_marked_in read p members old new choices e many small were =
     are_marked (names_defined read) (member_names (contents_of read) p.group.number) old new (choices + 1) many (λ s. let k = small s in omega arith)
@@ -185,44 +203,44 @@ marks_small members old new choices small were = λ s. by_any s (list_any (λ m.
             omega arith
 
 -- the first fault of one group more, and of all
-pub fault_more : (read : List Group) (i : ℕ) (m : Group) → read_before (i + 1) read ≡ m ∷ read_before i read → slice_get (flat_map (faults_of_group (contents_of read)) (groups_in_context (read_before i read))) 0 ≡ None
-    → slice_get (flat_map (faults_of_group (contents_of read)) (groups_in_context (read_before (i + 1) read))) 0 ≡ slice_get (faults_of_group (contents_of read) (group_in_context (open_blocks 0 (read_before i read)) m)) 0
-fault_more read i m now none =
-    let f = faults_of_group (contents_of read) in
+pub fault_more : (language : Language) (read : List Group) (i : ℕ) (m : Group) → read_before (i + 1) read ≡ m ∷ read_before i read → slice_get (flat_map (faults_of_group language (contents_of read)) (groups_in_context (read_before i read))) 0 ≡ None
+    → slice_get (flat_map (faults_of_group language (contents_of read)) (groups_in_context (read_before (i + 1) read))) 0 ≡ slice_get (faults_of_group language (contents_of read) (group_in_context (open_blocks 0 (read_before i read)) m)) 0
+fault_more language read i m now none =
+    let f = faults_of_group language (contents_of read) in
     let p : GroupInContext = group_in_context (open_blocks 0 (read_before i read)) m in
     ap (λ xs. slice_get xs 0) (statement_by f read i m now)
     ∙ first_of_both (flat_map f (groups_in_context (read_before i read))) (f p)
     ∙ ap (λ o. option_or o (slice_get (f p) 0)) none
 
-pub fault_all : (read : List Group) (i : ℕ) (t : TreeFault) → slice_get (flat_map (faults_of_group (contents_of read)) (groups_in_context (read_before i read))) 0 ≡ Some t → slice_get (flat_map (faults_of_group (contents_of read)) (groups_in_context read)) 0 ≡ Some t
-fault_all read i t told =
-    let f = faults_of_group (contents_of read) in
+pub fault_all : (language : Language) (read : List Group) (i : ℕ) (t : TreeFault) → slice_get (flat_map (faults_of_group language (contents_of read)) (groups_in_context (read_before i read))) 0 ≡ Some t → slice_get (flat_map (faults_of_group language (contents_of read)) (groups_in_context read)) 0 ≡ Some t
+fault_all language read i t told =
+    let f = faults_of_group language (contents_of read) in
     let r = placed_before (length read - i) read in
     ap (λ ps. slice_get (flat_map f ps) 0) r.1
     ∙ ap (λ xs. slice_get xs 0) (flat_map-append f (groups_in_context (read_before i read)) r.0)
     ∙ first_of_both (flat_map f (groups_in_context (read_before i read))) (flat_map f r.0)
     ∙ ap (λ o. option_or o (slice_get (flat_map f r.0) 0)) told
 
-pub fault_none : (read : List Group) (i : ℕ) → i ≡ length read → slice_get (flat_map (faults_of_group (contents_of read)) (groups_in_context (read_before i read))) 0 ≡ None → slice_get (flat_map (faults_of_group (contents_of read)) (groups_in_context read)) 0 ≡ None
-fault_none read i e none = ap (λ r. slice_get (flat_map (faults_of_group (contents_of read)) (groups_in_context r)) 0) (sym (ap (λ n. read_before n read) e ∙ all_before read)) ∙ none
+pub fault_none : (language : Language) (read : List Group) (i : ℕ) → i ≡ length read → slice_get (flat_map (faults_of_group language (contents_of read)) (groups_in_context (read_before i read))) 0 ≡ None → slice_get (flat_map (faults_of_group language (contents_of read)) (groups_in_context read)) 0 ≡ None
+fault_none language read i e none = ap (λ r. slice_get (flat_map (faults_of_group language (contents_of read)) (groups_in_context r)) 0) (sym (ap (λ n. read_before n read) e ∙ all_before read)) ∙ none
 
-pub no_fault_yet : (read : List Group) → slice_get (flat_map (faults_of_group (contents_of read)) (groups_in_context (read_before 0 read))) 0 ≡ None
-no_fault_yet read = ap (λ r. slice_get (flat_map (faults_of_group (contents_of read)) (groups_in_context r)) 0) (none_before read)
+pub no_fault_yet : (language : Language) (read : List Group) → slice_get (flat_map (faults_of_group language (contents_of read)) (groups_in_context (read_before 0 read))) 0 ≡ None
+no_fault_yet language read = ap (λ r. slice_get (flat_map (faults_of_group language (contents_of read)) (groups_in_context r)) 0) (none_before read)
 
 -- other groups have no fault
-other_first : (c : Contents) (p : GroupInContext) (w : GroupHead) → p.group.head ≡ w → slice_get (faults_of_group c p) 0 ≡ slice_get (elim w as (λ _. List TreeFault) [ of_head h ↦ faults_of_head c p h | file_end ↦ [] ]) 0
-other_first c p w e = ap (λ v. slice_get (elim v as (λ _. List TreeFault) [ of_head h ↦ faults_of_head c p h | file_end ↦ [] ]) 0) e
+other_first : (language : Language) (c : Contents) (p : GroupInContext) (w : GroupHead) → p.group.head ≡ w → slice_get (faults_of_group language c p) 0 ≡ slice_get (elim w as (λ _. List TreeFault) [ of_head h ↦ faults_of_head language c p h | file_end ↦ [] ]) 0
+other_first language c p w e = ap (λ v. slice_get (elim v as (λ _. List TreeFault) [ of_head h ↦ faults_of_head language c p h | file_end ↦ [] ]) 0) e
 
-pub nothing_reported : (e : Exprs) (names texts : List (List ℕ)) (code : CodeWhat) (c : Contents) (p : GroupInContext) → RepresentsHead e names texts code p.group.head → ((s : ℕ) → code ≡ codes.Config s → ⊥) → (code ≡ codes.Choice → ⊥) → slice_get (faults_of_group c p) 0 ≡ None
-nothing_reported e names texts (codes.Config s) c p h n m = absurd (n s refl)
-nothing_reported e names texts codes.Choice c p h n m = absurd (m refl)
-nothing_reported e names texts (codes.Menu t) c p h n m = other_first c p _ h.2
-nothing_reported e names texts (codes.Condition id) c p h n m = other_first c p _ h.1
-nothing_reported e names texts (codes.Comment t) c p h n m = other_first c p _ h.2
-nothing_reported e names texts (codes.Source t) c p h n m = other_first c p _ h.2
-nothing_reported e names texts codes.Mainmenu c p h n m = other_first c p _ h
-nothing_reported e names texts (codes.Ends b) c p h n m = other_first c p _ h
-nothing_reported e names texts codes.FileEnd c p h n m = other_first c p _ h
+pub nothing_reported : (language : Language) (e : Exprs) (names texts : List (List ℕ)) (code : CodeWhat) (c : Contents) (p : GroupInContext) → RepresentsHead e names texts code p.group.head → ((s : ℕ) → code ≡ codes.Config s → ⊥) → (code ≡ codes.Choice → ⊥) → slice_get (faults_of_group language c p) 0 ≡ None
+nothing_reported language e names texts (codes.Config s) c p h n m = absurd (n s refl)
+nothing_reported language e names texts codes.Choice c p h n m = absurd (m refl)
+nothing_reported language e names texts (codes.Menu t) c p h n m = other_first language c p _ h.2
+nothing_reported language e names texts (codes.Condition id) c p h n m = other_first language c p _ h.1
+nothing_reported language e names texts (codes.Comment t) c p h n m = other_first language c p _ h.2
+nothing_reported language e names texts (codes.Source t) c p h n m = other_first language c p _ h.2
+nothing_reported language e names texts codes.Mainmenu c p h n m = other_first language c p _ h
+nothing_reported language e names texts (codes.Ends b) c p h n m = other_first language c p _ h
+nothing_reported language e names texts codes.FileEnd c p h n m = other_first language c p _ h
 
 pub at_most_more : (b : Bool) (m n : ℕ) → m ≤ n → m ≤ cond b (n + 1) n
 at_most_more true m n h = omega arith
@@ -242,9 +260,11 @@ pub zeros_small : (n : ℕ) → AreSmall (replicate n 0) 0
 zeros_small n = λ s. let e = zero_at n s in omega arith
 
 -- the members have places among the choices
-pub keys_fit : (read : List Group) (s : Summary) → IsSummaryOf (contents_of read) s → (i : ℕ) → i < length s.members.keys.items → slice_index s.members.keys.items i < s.choices
+pub keys_fit : (read : List Group) (s : Summary) → IsSummaryOf (contents_of read) s → (i : ℕ) → i < length s.members.keys.items
+    → slice_index s.members.keys.items i < s.choices
 keys_fit read s known i h =
-    let small = subst (All (λ k. k < length (contents_of read).choices)) (sym known.member_keys) (keys_small (contents_of read) (groups_in_context read)) i 0 h in
+    let small = subst (All (λ k. k < length (contents_of read).choices)) (sym known.member_keys) (keys_small (contents_of read) (groups_in_context read)) i 0
+    h in
     let n = known.choices in
     omega arith
 
@@ -266,13 +286,13 @@ few_choices read =
 
 -- the faults of one more group
 module _ (e : Exprs) (texts : List (List ℕ)) (lines : List CodeLine) (groups : List CodeGroup) (read : List Group) (h : RepresentsGroups e (names_defined read) texts lines (length lines) (reverse groups) read) where
-  pub fault_here : (i : ℕ) (told : Option TreeFault) → i < length groups → slice_get (flat_map (faults_of_group (contents_of read)) (groups_in_context (read_before i read))) 0 ≡ None
-      → ((p : GroupInContext) → slice_get (groups_in_context read) i ≡ Some p → told ≡ slice_get (faults_of_group (contents_of read) p) 0) → told ≡ slice_get (flat_map (faults_of_group (contents_of read)) (groups_in_context (read_before (i + 1) read))) 0
-  fault_here i told l none t =
+  pub fault_here : (language : Language) (i : ℕ) (told : Option TreeFault) → i < length groups → slice_get (flat_map (faults_of_group language (contents_of read)) (groups_in_context (read_before i read))) 0 ≡ None
+      → ((p : GroupInContext) → slice_get (groups_in_context read) i ≡ Some p → told ≡ slice_get (faults_of_group language (contents_of read) p) 0) → told ≡ slice_get (flat_map (faults_of_group language (contents_of read)) (groups_in_context (read_before (i + 1) read))) 0
+  fault_here language i told l none t =
       let s = shown_at e (names_defined read) texts lines groups read h i l in
       let n = count_is e (names_defined read) texts lines groups read h in
       let p : GroupInContext = group_in_context (open_blocks 0 (read_before i read)) s.group in
-      t p (place_numbered read i s.group (omega arith) s.now) ∙ sym (fault_more read i s.group s.now none)
+      t p (place_numbered read i s.group (omega arith) s.now) ∙ sym (fault_more language read i s.group s.now none)
 
 pub reported_some : (o : Option TreeFault) → is_some o ≡ true → (t : TreeFault) × (o ≡ Some t)
 reported_some None e = cc

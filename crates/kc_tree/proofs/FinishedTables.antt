@@ -55,7 +55,8 @@ named_by W x s a named at =
     let p = found_inside (position_or_len (λ (t : tree.Symbol). bytes_eq x t.name) W.symbols) (length W.symbols) s _ named in
     let below = ltb-true (position_or_len (λ (t : tree.Symbol). bytes_eq x t.name) W.symbols) (length W.symbols) p.0 in
     let passes = passes_at_first (λ (t : tree.Symbol). bytes_eq x t.name) W.symbols a below in
-    let here : get_or W.symbols (position_or_len (λ (t : tree.Symbol). bytes_eq x t.name) W.symbols) a ≡ a = ap (λ k. get_or W.symbols k a) p.1 ∙ get_or_from_slice_get W.symbols s a a at in
+    let here : get_or W.symbols (position_or_len (λ (t : tree.Symbol). bytes_eq x t.name) W.symbols) a ≡ a = ap (λ k. get_or W.symbols k a) p.1
+    ∙ get_or_from_slice_get W.symbols s a a at in
     (bytes_eq-Decides x a.name).0 (rw here at passes)
 
 module _ (g : Gathered) (sound : IsConsistent (gathered_tree g)) (distinct : AreDistinct g.arena.names) (fits : GatheredFit g) where
@@ -63,12 +64,16 @@ module _ (g : Gathered) (sound : IsConsistent (gathered_tree g)) (distinct : Are
   name_at s r e = all_got (λ (q : SymbolRow). q.name < length g.arena.names) g.symbols.items s r fits.names e
 
   pub names_apart : (s t : ℕ) (r q : SymbolRow) → slice_get g.symbols.items s ≡ Some r → slice_get g.symbols.items t ≡ Some q → r.name ≡ q.name → s ≡ t
-  names_apart s t r q e f n = sound.names_differ s t (symbol_gathered g s r) (symbol_gathered g t q) (symbol_at g sound s r e) (symbol_at g sound t q f) (ap (λ i. slice_index_or g.arena.names i []) n)
+  names_apart s t r q e f n =
+      sound.names_differ s t (symbol_gathered g s r) (symbol_gathered g t q) (symbol_at g sound s r e) (symbol_at g sound t q f)
+      (ap (λ i. slice_index_or g.arena.names i []) n)
 
   -- a symbol that is named has a row
-  row_named : (x : List ℕ) (s : ℕ) → symbol_named (gathered_tree g) x ≡ Some s → (r : SymbolRow) × (slice_get g.symbols.items s ≡ Some r) × (x ≡ slice_index_or g.arena.names r.name [])
+  row_named : (x : List ℕ) (s : ℕ) → symbol_named (gathered_tree g) x ≡ Some s
+      → (r : SymbolRow) × (slice_get g.symbols.items s ≡ Some r) × (x ≡ slice_index_or g.arena.names r.name [])
   row_named x s e =
-      let w : IfSome (Some s) (λ t. t < length (gathered_tree g).symbols) = subst (λ o. IfSome o (λ t. t < length (gathered_tree g).symbols)) e (named_there (gathered_tree g) x) in
+      let w : IfSome (Some s) (λ t. t < length (gathered_tree g).symbols) = subst (λ o. IfSome o (λ t. t < length (gathered_tree g).symbols)) e
+      (named_there (gathered_tree g) x) in
       let below : s < length (gathered_tree g).symbols = w in
       let k = got g.symbols.items s (omega (arith, symbols_count g sound)) in
       (k.0, k.1, named_by (gathered_tree g) x s (symbol_gathered g s k.0) e (symbol_at g sound s k.0 k.1))
@@ -88,9 +93,11 @@ module _ (g : Gathered) (sound : IsConsistent (gathered_tree g)) (distinct : Are
     reported_some : (j s : ℕ) → get_or table j None ≡ Some s → symbol_named (gathered_tree g) (get_or g.arena.names j []) ≡ Some s
     reported_some j s e =
         let k = t.there j s e in
-        ap (λ i. symbol_named (gathered_tree g) (get_or g.arena.names i [])) (sym k.2) ∙ found_by_name (gathered_tree g) sound s (symbol_gathered g s k.0) (symbol_at g sound s k.0 k.1)
+        ap (λ i. symbol_named (gathered_tree g) (get_or g.arena.names i [])) (sym k.2)
+        ∙ found_by_name (gathered_tree g) sound s (symbol_gathered g s k.0) (symbol_at g sound s k.0 k.1)
 
-    reported_none : (j : ℕ) (o : Option ℕ) → j < length g.arena.names → get_or table j None ≡ None → symbol_named (gathered_tree g) (get_or g.arena.names j []) ≡ o → o ≡ None
+    reported_none : (j : ℕ) (o : Option ℕ) → j < length g.arena.names → get_or table j None ≡ None
+        → symbol_named (gathered_tree g) (get_or g.arena.names j []) ≡ o → o ≡ None
     reported_none j None h e f = refl
     reported_none j (Some s) h e f =
         let k = row_named (get_or g.arena.names j []) s f in
@@ -103,12 +110,26 @@ module _ (g : Gathered) (sound : IsConsistent (gathered_tree g)) (distinct : Are
     reported_same j (Some s) h e = sym (reported_some j s e)
 
     pub table_is : table ≡ map (symbol_named (gathered_tree g)) g.arena.names
-    table_is = ext_get_or None table (map (symbol_named (gathered_tree g)) g.arena.names) (t.len ∙ sym (length-map g.arena.names (symbol_named (gathered_tree g))))
-        (λ j h. (let l : j < length g.arena.names = omega (arith, t.len) in reported_same j (get_or table j None) l refl ∙ sym (get_or-map (symbol_named (gathered_tree g)) g.arena.names j [] None l)))
+    table_is =
+        ext_get_or None table (map (symbol_named (gathered_tree g)) g.arena.names) (t.len ∙ sym (length-map g.arena.names (symbol_named (gathered_tree g))))
+        (λ j h. (let l : j < length g.arena.names = omega (arith, t.len) in reported_same j (get_or table j None) l refl
+        ∙ sym (get_or-map (symbol_named (gathered_tree g)) g.arena.names j [] None l)))
 
 -- the collected lists, if these are the lists of their tree
 abbrev pub gathered_in : Parts → Attributes → Keyed ℕ → Keyed MemberDefault → Gathered
-gathered_in p A M D = record { arena = p.arena; symbols = p.symbols; attributes = A; choices = p.choices; members = M; member_defaults = D; entries = p.entries; titles = p.titles; units = p.units }
+gathered_in p A M D =
+    record {
+      arena = p.arena;
+      symbols = p.symbols;
+      attributes = A;
+      choices = p.choices;
+      members = M;
+      member_defaults = D;
+      entries = p.entries;
+      titles =
+          p.titles;
+      units = p.units;
+    }
 
 abbrev pub grouped_in : Parts → GroupedAttributes
 grouped_in p = record { prompts = p.prompts; defaults = p.defaults; ranges = p.ranges; selectors = p.selectors; impliers = p.impliers; direct = p.direct }
@@ -129,9 +150,16 @@ module _ (p : Parts) (A : Attributes) (M : Keyed ℕ) (D : Keyed MemberDefault) 
   -- both are one tree
   pub whole_same : tree_from_rows p ≡ gathered_tree (gathered_in p A M D)
   whole_same =
-      let made : List tree.Symbol → List tree.Choice → Tree = λ s c. record { symbols = s; choices = c; entries = (tree_from_rows p).entries; units = (tree_from_rows p).units } in
+      let made : List tree.Symbol → List tree.Choice → Tree = λ s c. record {
+        symbols = s;
+        choices = c;
+        entries = (tree_from_rows p).entries;
+        units =
+            (tree_from_rows p).units;
+      } in
       ap (λ s. made s (tree_from_rows p).choices) (seen_same (symbol_from_row p) (symbol_gathered (gathered_in p A M D)) 0 p.symbols.items same_symbol)
-      ∙ ap (made (gathered_tree (gathered_in p A M D)).symbols) (seen_same (choice_from_row p) (choice_gathered (gathered_in p A M D)) 0 p.choices.items same_choice)
+      ∙ ap (made (gathered_tree (gathered_in p A M D)).symbols) (seen_same (choice_from_row p) (choice_gathered (gathered_in p A M D)) 0 p.choices.items
+      same_choice)
 
   module _ (f : GatheredFit (gathered_in p A M D)) (sound : IsConsistent (gathered_tree (gathered_in p A M D))) where
     parts_fit : PartsFit p
@@ -144,12 +172,15 @@ module _ (p : Parts) (A : Attributes) (M : Keyed ℕ) (D : Keyed MemberDefault) 
       defaults = all_together (DefaultFits (length p.arena.nodes)) A.defaults.items.items p.defaults.items.items a.defaults.same f.defaults;
       ranges = all_together (RangeFits (length p.arena.nodes)) A.ranges.items.items p.ranges.items.items a.ranges.same f.ranges;
       bounds = all_together (HasOperands p.arena) A.ranges.items.items p.ranges.items.items a.ranges.same f.bounds;
-      selectors = all_together (ReverseDependencyFits (length p.arena.nodes) (length p.symbols.items)) A.selectors.items.items p.selectors.items.items a.selectors.same f.selectors;
-      impliers = all_together (ReverseDependencyFits (length p.arena.nodes) (length p.symbols.items)) A.impliers.items.items p.impliers.items.items a.impliers.same f.impliers;
+      selectors = all_together (ReverseDependencyFits (length p.arena.nodes) (length p.symbols.items)) A.selectors.items.items p.selectors.items.items
+          a.selectors.same f.selectors;
+      impliers = all_together (ReverseDependencyFits (length p.arena.nodes) (length p.symbols.items)) A.impliers.items.items p.impliers.items.items
+          a.impliers.same f.impliers;
       direct = all_together (λ i. i < length p.arena.nodes) A.direct.items.items p.direct.items.items a.direct.same f.direct;
       choice_prompts = f.choice_prompts;
       members = all_together (λ s. s < length p.symbols.items) M.items.items p.members.items.items m.same f.members;
-      member_defaults = all_together (MemberDefaultFits (length p.arena.nodes) (length p.symbols.items)) D.items.items p.member_defaults.items.items d.same f.member_defaults;
+      member_defaults = all_together (MemberDefaultFits (length p.arena.nodes) (length p.symbols.items)) D.items.items p.member_defaults.items.items d.same
+          f.member_defaults;
       entries = f.entries;
       symbol_units = symbols_there (gathered_in p A M D) sound;
       choice_units = choices_there (gathered_in p A M D) sound;
@@ -184,11 +215,16 @@ module _ (p : Parts) (A : Attributes) (M : Keyed ℕ) (D : Keyed MemberDefault) 
       kept distinct t = record {
         fits = parts_fit;
         places = have_places;
-        units = subst (λ (W : Tree). (s : ℕ) → s < length p.symbols.items → (slice_index p.unit_of_symbol.items s ≡ unit_of W s) × (slice_index p.unit_of_symbol.items s < length p.units.items)) (sym whole_same)
+        units = subst (λ (W : Tree). (s : ℕ) → s < length p.symbols.items
+            → (slice_index p.unit_of_symbol.items s ≡ unit_of W s) × (slice_index p.unit_of_symbol.items s < length p.units.items)) (sym whole_same)
             (λ s h. (let k = u.symbol_units s (omega (arith, symbols_many)) in (k.0, omega (arith, k.1, units_many))));
-        choice_units = subst (λ (W : Tree). (c : ℕ) → c < length p.choices.items → (slice_index p.unit_of_choice.items c ≡ index_of_unit W (of_choice c)) × (slice_index p.unit_of_choice.items c < length p.units.items)) (sym whole_same)
+        choice_units = subst (λ (W : Tree). (c : ℕ) → c < length p.choices.items
+            → (slice_index p.unit_of_choice.items c ≡ index_of_unit W (of_choice c)) × (slice_index p.unit_of_choice.items c < length p.units.items))
+            (sym whole_same)
             (λ c h. (let k = u.choice_units c (omega (arith, choices_many)) in (k.0, omega (arith, k.1, units_many))));
-        table = subst (λ (W : Tree). p.symbol_of_name.items ≡ map (symbol_named W) p.arena.names) (sym whole_same) (table_is (gathered_in p A M D) sound distinct f p.symbol_of_name.items t);
-        held = subst (λ (W : Tree). (x : List ℕ) → index_of_name x p.arena.names ≡ None → symbol_named W x ≡ None) (sym whole_same) (held (gathered_in p A M D) sound distinct f);
+        table = subst (λ (W : Tree). p.symbol_of_name.items ≡ map (symbol_named W) p.arena.names) (sym whole_same)
+            (table_is (gathered_in p A M D) sound distinct f p.symbol_of_name.items t);
+        held = subst (λ (W : Tree). (x : List ℕ) → index_of_name x p.arena.names ≡ None → symbol_named W x ≡ None) (sym whole_same)
+            (held (gathered_in p A M D) sound distinct f);
         consistent = subst IsConsistent (sym whole_same) sound;
       }

@@ -65,80 +65,126 @@ module _ (n : SymbolTable) (names : List (List ℕ)) (h : HasNames n.arena n.sym
     (name : defined_name p.group ≡ Some x) (number : number_of names x ≡ s) (below : s < length names) (many : length cs ≡ length ls) (held : All (LineNodesExist n.arena) ls) (there : All (λ i. i < length n.arena.nodes) cs)
     (attributes : p.group.attributes ≡ map (line_in n.arena) ls) (conditions : map (node_expr n.arena) cs ≡ map (condition_at p) (map (line_in n.arena) ls)) where
   own_step : {T B M : Type 0} (view : T → M) (G : Attribute → Option B) (m : GroupInContext → B → M) (P : T → Type 0) (item : CodeLine → ℕ → Option T) (old new : Keyed T)
-      → AreListed view (own_keys G names) (own_items G m) P (length names) prior old.keys.items old.items.items → HasAppended (own_key s item) item old new ls cs
+      → AreListed view (own_keys G names) (own_items G m) P (length names) prior old.keys.items old.items.items
+      → HasAppended (own_key s item) item old new ls cs
       → ((l : CodeLine) (i : ℕ) → own_key s item l i ≡ own_key_of G names x (line_in n.arena l))
-      → ((l : CodeLine) (i : ℕ) → LineNodesExist n.arena l → node_expr n.arena i ≡ condition_at p (line_in n.arena l) → option_map view (item l i) ≡ own_item_of G m p (line_in n.arena l))
+      → ((l : CodeLine) (i : ℕ) → LineNodesExist n.arena l → node_expr n.arena i ≡ condition_at p (line_in n.arena l)
+      → option_map view (item l i) ≡ own_item_of G m p (line_in n.arena l))
       → ((l : CodeLine) (i : ℕ) → LineNodesExist n.arena l → i < length n.arena.nodes → IfSome (item l i) P)
       → AreListed view (own_keys G names) (own_items G m) P (length names) (prior ++ p ∷ []) new.keys.items new.items.items
   own_step view G m P item old new l more key is fit =
-      listed_more view (own_keys G names) (own_items G m) P (length names) prior old.keys.items new.keys.items (gathered_items (own_key s item) ls cs) old.items.items new.items.items (gathered_items item ls cs) p l more.keys more.items
-      (pairs_keys (own_key s item) (own_key_of G names x) n.arena ls cs many key ∙ ap (filter_map (own_key_of G names x)) (sym attributes) ∙ sym (ap (by_name (λ y. filter_map (own_key_of G names y) p.group.attributes)) name))
-      (pairs_items view item (own_item_of G m p) (condition_at p) n.arena ls cs conditions held is ∙ ap (filter_map (own_item_of G m p)) (sym attributes) ∙ sym (ap (by_name (λ y. filter_map (own_item_of G m p) p.group.attributes)) name))
+      listed_more view (own_keys G names) (own_items G m) P (length names) prior old.keys.items new.keys.items (gathered_items (own_key s item) ls cs)
+      old.items.items new.items.items (gathered_items item ls cs) p l more.keys more.items
+      (pairs_keys (own_key s item) (own_key_of G names x) n.arena ls cs many key ∙ ap (filter_map (own_key_of G names x)) (sym attributes)
+      ∙ sym (ap (by_name (λ y. filter_map (own_key_of G names y) p.group.attributes)) name))
+      (pairs_items view item (own_item_of G m p) (condition_at p) n.arena ls cs conditions held is ∙ ap (filter_map (own_item_of G m p)) (sym attributes)
+      ∙ sym (ap (by_name (λ y. filter_map (own_item_of G m p) p.group.attributes)) name))
       (pairs_fit P item n.arena ls cs held there fit)
       (pairs_fit (λ k. k < length names) (own_key s item) n.arena ls cs held there (λ y i w v. own_below item s (length names) below y i))
 
   reverse_dependency_step : (f : ReverseKind) (old new : Keyed CodeForce)
-      → AreListed (told.reverse_dependency_view n.arena) (force_keys (aim_of f) names) (force_items (aim_of f) names) (ReverseDependencyFits (length n.arena.nodes) (length names)) (length names) prior old.keys.items old.items.items → HasAppended (aimed_at n f) (gathered_reverse_dependency n f s) old new ls cs
-      → AreListed (told.reverse_dependency_view n.arena) (force_keys (aim_of f) names) (force_items (aim_of f) names) (ReverseDependencyFits (length n.arena.nodes) (length names)) (length names) (prior ++ p ∷ []) new.keys.items new.items.items
+      → AreListed (told.reverse_dependency_view n.arena) (force_keys (aim_of f) names) (force_items (aim_of f) names)
+      (ReverseDependencyFits (length n.arena.nodes) (length names)) (length names) prior old.keys.items old.items.items
+      → HasAppended (aimed_at n f) (gathered_reverse_dependency n f s) old new ls cs
+      → AreListed (told.reverse_dependency_view n.arena) (force_keys (aim_of f) names) (force_items (aim_of f) names)
+      (ReverseDependencyFits (length n.arena.nodes) (length names)) (length names) (prior ++ p ∷ []) new.keys.items new.items.items
   reverse_dependency_step f old new l more =
-      listed_more (told.reverse_dependency_view n.arena) (force_keys (aim_of f) names) (force_items (aim_of f) names) (ReverseDependencyFits (length n.arena.nodes) (length names)) (length names) prior old.keys.items new.keys.items (gathered_items (aimed_at n f) ls cs) old.items.items new.items.items (gathered_items (gathered_reverse_dependency n f s) ls cs) p l more.keys more.items
-      (pairs_keys (aimed_at n f) (force_key_of (aim_of f) names) n.arena ls cs many (reverse_dependency_key n names h f) ∙ ap (filter_map (force_key_of (aim_of f) names)) (sym attributes) ∙ sym (ap (by_name (λ y. filter_map (force_key_of (aim_of f) names) p.group.attributes)) name))
-      (pairs_items (told.reverse_dependency_view n.arena) (gathered_reverse_dependency n f s) (force_item_of (aim_of f) names p x) (condition_at p) n.arena ls cs conditions held (reverse_dependency_item n names h f x s p number)
-      ∙ ap (filter_map (force_item_of (aim_of f) names p x)) (sym attributes) ∙ sym (ap (by_name (λ y. filter_map (force_item_of (aim_of f) names p y) p.group.attributes)) name))
-      (pairs_fit (ReverseDependencyFits (length n.arena.nodes) (length names)) (gathered_reverse_dependency n f s) n.arena ls cs held there (reverse_dependency_fit n names h f s (length names) below))
+      listed_more (told.reverse_dependency_view n.arena) (force_keys (aim_of f) names) (force_items (aim_of f) names)
+      (ReverseDependencyFits (length n.arena.nodes) (length names)) (length names) prior old.keys.items new.keys.items (gathered_items (aimed_at n f) ls cs)
+      old.items.items new.items.items (gathered_items (gathered_reverse_dependency n f s) ls cs) p l more.keys more.items
+      (pairs_keys (aimed_at n f) (force_key_of (aim_of f) names) n.arena ls cs many (reverse_dependency_key n names h f)
+      ∙ ap (filter_map (force_key_of (aim_of f) names)) (sym attributes)
+      ∙ sym (ap (by_name (λ y. filter_map (force_key_of (aim_of f) names) p.group.attributes)) name))
+      (pairs_items (told.reverse_dependency_view n.arena) (gathered_reverse_dependency n f s) (force_item_of (aim_of f) names p x) (condition_at p) n.arena ls
+      cs conditions held (reverse_dependency_item n names h f x s p number)
+      ∙ ap (filter_map (force_item_of (aim_of f) names p x)) (sym attributes)
+      ∙ sym (ap (by_name (λ y. filter_map (force_item_of (aim_of f) names p y) p.group.attributes)) name))
+      (pairs_fit (ReverseDependencyFits (length n.arena.nodes) (length names)) (gathered_reverse_dependency n f s) n.arena ls cs held there
+      (reverse_dependency_fit n names h f s (length names) below))
       (pairs_fit (λ k. k < length names) (aimed_at n f) n.arena ls cs held there (λ y i w v. target_below n names h f y i))
 
-  direct_step : (d : ℕ) (old new : Keyed ℕ) → AreListed (node_expr n.arena) (direct_keys names) (direct_items dependency_meant) (λ k. k < length n.arena.nodes) (length names) prior old.keys.items old.items.items
+  direct_step : (d : ℕ) (old new : Keyed ℕ)
+      → AreListed (node_expr n.arena) (direct_keys names) (direct_items dependency_meant) (λ k. k < length n.arena.nodes) (length names) prior old.keys.items old.items.items
       → new.keys.items ≡ old.keys.items ++ s ∷ [] → new.items.items ≡ old.items.items ++ d ∷ [] → Represents n.arena d (dependency_meant p)
-      → AreListed (node_expr n.arena) (direct_keys names) (direct_items dependency_meant) (λ k. k < length n.arena.nodes) (length names) (prior ++ p ∷ []) new.keys.items new.items.items
+      → AreListed (node_expr n.arena) (direct_keys names) (direct_items dependency_meant) (λ k. k < length n.arena.nodes) (length names) (prior ++ p ∷ [])
+      new.keys.items new.items.items
   direct_step d old new l k i stands =
-      listed_more (node_expr n.arena) (direct_keys names) (direct_items dependency_meant) (λ j. j < length n.arena.nodes) (length names) prior old.keys.items new.keys.items (s ∷ []) old.items.items new.items.items (d ∷ []) p l k i
+      listed_more (node_expr n.arena) (direct_keys names) (direct_items dependency_meant) (λ j. j < length n.arena.nodes) (length names) prior old.keys.items
+      new.keys.items (s ∷ []) old.items.items new.items.items (d ∷ []) p l k i
       (ap (λ m. m ∷ []) (sym number) ∙ sym (ap (by_name (λ y. number_of names y ∷ [])) name))
       (ap (λ m. m ∷ []) stands.is ∙ sym (ap (by_name (λ y. dependency_meant p ∷ [])) name))
       (All-cons (λ j. j < length n.arena.nodes) d [] stands.within (All-nil (λ j. j < length n.arena.nodes)))
       (All-cons (λ j. j < length names) s [] below (All-nil (λ j. j < length names)))
 
-  pub definition_step : (d : ℕ) (old new : Attributes) → AreGathered n.arena names prior old → HasDefinition n s old new ls cs d → Represents n.arena d (dependency_meant p) → AreGathered n.arena names (prior ++ p ∷ []) new
+  pub definition_step : (d : ℕ) (old new : Attributes) → AreGathered n.arena names prior old → HasDefinition n s old new ls cs d
+      → Represents n.arena d (dependency_meant p) → AreGathered n.arena names (prior ++ p ∷ []) new
   definition_step d old new g more stands = record {
-    prompts = own_step (node_expr n.arena) prompt_of prompt_meant (λ k. k < length n.arena.nodes) gathered_prompt old.prompts new.prompts g.prompts more.prompts (prompt_key n.arena names x s number) (prompt_item n.arena p) (prompt_fit n.arena);
-    defaults = own_step (told.default_view n.arena) default_of default_meant (DefaultFits (length n.arena.nodes)) gathered_default old.defaults new.defaults g.defaults more.defaults (default_key n.arena names x s number) (default_item n.arena p) (default_fit n.arena);
-    ranges = own_step (told.range_view n.arena) range_of range_meant (RangeStands n.arena) gathered_range old.ranges new.ranges g.ranges more.ranges (range_key n.arena names x s number) (range_item n.arena p) (range_fit n.arena);
+    prompts = own_step (node_expr n.arena) prompt_of prompt_meant (λ k. k < length n.arena.nodes) gathered_prompt old.prompts new.prompts g.prompts more.prompts
+        (prompt_key n.arena names x s number) (prompt_item n.arena p) (prompt_fit n.arena);
+    defaults = own_step (told.default_view n.arena) default_of default_meant (DefaultFits (length n.arena.nodes)) gathered_default old.defaults new.defaults
+        g.defaults more.defaults (default_key n.arena names x s number) (default_item n.arena p) (default_fit n.arena);
+    ranges = own_step (told.range_view n.arena) range_of range_meant (RangeStands n.arena) gathered_range old.ranges new.ranges g.ranges more.ranges
+        (range_key n.arena names x s number) (range_item n.arena p) (range_fit n.arena);
     selectors = reverse_dependency_step Select old.selectors new.selectors g.selectors more.selectors;
     impliers = reverse_dependency_step Imply old.impliers new.impliers g.impliers more.impliers;
     direct = direct_step d old.direct new.direct g.direct more.direct_keys more.direct_items stands;
   }
 
 -- what defines nothing gives nothing
-pub nothing_more : (e : Exprs) (names : List (List ℕ)) (prior : List GroupInContext) (p : GroupInContext) (a : Attributes) → defined_name p.group ≡ None → AreGathered e names prior a → AreGathered e names (prior ++ p ∷ []) a
+pub nothing_more : (e : Exprs) (names : List (List ℕ)) (prior : List GroupInContext) (p : GroupInContext) (a : Attributes) → defined_name p.group ≡ None
+    → AreGathered e names prior a → AreGathered e names (prior ++ p ∷ []) a
 nothing_more e names prior p a none g = record {
-  prompts = listed_same (node_expr e) (own_keys prompt_of names) (own_items prompt_of prompt_meant) (λ k. k < length e.nodes) (length names) prior a.prompts.keys.items a.prompts.items.items p g.prompts
-      (ap (by_name (λ x. filter_map (own_key_of prompt_of names x) p.group.attributes)) none) (ap (by_name (λ x. filter_map (own_item_of prompt_of prompt_meant p) p.group.attributes)) none);
-  defaults = listed_same (told.default_view e) (own_keys default_of names) (own_items default_of default_meant) (DefaultFits (length e.nodes)) (length names) prior a.defaults.keys.items a.defaults.items.items p g.defaults
-      (ap (by_name (λ x. filter_map (own_key_of default_of names x) p.group.attributes)) none) (ap (by_name (λ x. filter_map (own_item_of default_of default_meant p) p.group.attributes)) none);
-  ranges = listed_same (told.range_view e) (own_keys range_of names) (own_items range_of range_meant) (RangeStands e) (length names) prior a.ranges.keys.items a.ranges.items.items p g.ranges
-      (ap (by_name (λ x. filter_map (own_key_of range_of names x) p.group.attributes)) none) (ap (by_name (λ x. filter_map (own_item_of range_of range_meant p) p.group.attributes)) none);
-  selectors = listed_same (told.reverse_dependency_view e) (force_keys (aim_of Select) names) (force_items (aim_of Select) names) (ReverseDependencyFits (length e.nodes) (length names)) (length names) prior a.selectors.keys.items a.selectors.items.items p g.selectors
-      (ap (by_name (λ x. filter_map (force_key_of (aim_of Select) names) p.group.attributes)) none) (ap (by_name (λ x. filter_map (force_item_of (aim_of Select) names p x) p.group.attributes)) none);
-  impliers = listed_same (told.reverse_dependency_view e) (force_keys (aim_of Imply) names) (force_items (aim_of Imply) names) (ReverseDependencyFits (length e.nodes) (length names)) (length names) prior a.impliers.keys.items a.impliers.items.items p g.impliers
-      (ap (by_name (λ x. filter_map (force_key_of (aim_of Imply) names) p.group.attributes)) none) (ap (by_name (λ x. filter_map (force_item_of (aim_of Imply) names p x) p.group.attributes)) none);
-  direct = listed_same (node_expr e) (direct_keys names) (direct_items dependency_meant) (λ k. k < length e.nodes) (length names) prior a.direct.keys.items a.direct.items.items p g.direct
+  prompts =
+      listed_same (node_expr e) (own_keys prompt_of names) (own_items prompt_of prompt_meant) (λ k. k < length e.nodes) (length names) prior
+      a.prompts.keys.items a.prompts.items.items p g.prompts
+      (ap (by_name (λ x. filter_map (own_key_of prompt_of names x) p.group.attributes)) none)
+      (ap (by_name (λ x. filter_map (own_item_of prompt_of prompt_meant p) p.group.attributes)) none);
+  defaults =
+      listed_same (told.default_view e) (own_keys default_of names) (own_items default_of default_meant) (DefaultFits (length e.nodes)) (length names) prior
+      a.defaults.keys.items a.defaults.items.items p g.defaults
+      (ap (by_name (λ x. filter_map (own_key_of default_of names x) p.group.attributes)) none)
+      (ap (by_name (λ x. filter_map (own_item_of default_of default_meant p) p.group.attributes)) none);
+  ranges =
+      listed_same (told.range_view e) (own_keys range_of names) (own_items range_of range_meant) (RangeStands e) (length names) prior a.ranges.keys.items
+      a.ranges.items.items p g.ranges
+      (ap (by_name (λ x. filter_map (own_key_of range_of names x) p.group.attributes)) none)
+      (ap (by_name (λ x. filter_map (own_item_of range_of range_meant p) p.group.attributes)) none);
+  selectors =
+      listed_same (told.reverse_dependency_view e) (force_keys (aim_of Select) names) (force_items (aim_of Select) names)
+      (ReverseDependencyFits (length e.nodes) (length names)) (length names) prior a.selectors.keys.items a.selectors.items.items p g.selectors
+      (ap (by_name (λ x. filter_map (force_key_of (aim_of Select) names) p.group.attributes)) none)
+      (ap (by_name (λ x. filter_map (force_item_of (aim_of Select) names p x) p.group.attributes)) none);
+  impliers =
+      listed_same (told.reverse_dependency_view e) (force_keys (aim_of Imply) names) (force_items (aim_of Imply) names)
+      (ReverseDependencyFits (length e.nodes) (length names)) (length names) prior a.impliers.keys.items a.impliers.items.items p g.impliers
+      (ap (by_name (λ x. filter_map (force_key_of (aim_of Imply) names) p.group.attributes)) none)
+      (ap (by_name (λ x. filter_map (force_item_of (aim_of Imply) names p x) p.group.attributes)) none);
+  direct =
+      listed_same (node_expr e) (direct_keys names) (direct_items dependency_meant) (λ k. k < length e.nodes) (length names) prior a.direct.keys.items
+      a.direct.items.items p g.direct
       (ap (by_name (λ x. number_of names x ∷ [])) none) (ap (by_name (λ x. dependency_meant p ∷ [])) none);
 }
 
 -- nothing is collected yet
-pub nothing_gathered : (e : Exprs) (names : List (List ℕ)) (a : Attributes) → (a.prompts.keys.items ≡ []) × (a.prompts.items.items ≡ []) → (a.defaults.keys.items ≡ []) × (a.defaults.items.items ≡ []) → (a.ranges.keys.items ≡ []) × (a.ranges.items.items ≡ [])
-    → (a.selectors.keys.items ≡ []) × (a.selectors.items.items ≡ []) → (a.impliers.keys.items ≡ []) × (a.impliers.items.items ≡ []) → (a.direct.keys.items ≡ []) × (a.direct.items.items ≡ []) → AreGathered e names [] a
+pub nothing_gathered : (e : Exprs) (names : List (List ℕ)) (a : Attributes) → (a.prompts.keys.items ≡ []) × (a.prompts.items.items ≡ [])
+    → (a.defaults.keys.items ≡ []) × (a.defaults.items.items ≡ []) → (a.ranges.keys.items ≡ []) × (a.ranges.items.items ≡ [])
+    → (a.selectors.keys.items ≡ []) × (a.selectors.items.items ≡ []) → (a.impliers.keys.items ≡ []) × (a.impliers.items.items ≡ [])
+    → (a.direct.keys.items ≡ []) × (a.direct.items.items ≡ []) → AreGathered e names [] a
 nothing_gathered e names a p d r s i x = record {
   prompts = rw (p.0, p.1) (none_listed (node_expr e) (own_keys prompt_of names) (own_items prompt_of prompt_meant) (λ k. k < length e.nodes) (length names));
-  defaults = rw (d.0, d.1) (none_listed (told.default_view e) (own_keys default_of names) (own_items default_of default_meant) (DefaultFits (length e.nodes)) (length names));
+  defaults = rw (d.0, d.1) (none_listed (told.default_view e) (own_keys default_of names) (own_items default_of default_meant) (DefaultFits (length e.nodes))
+      (length names));
   ranges = rw (r.0, r.1) (none_listed (told.range_view e) (own_keys range_of names) (own_items range_of range_meant) (RangeStands e) (length names));
-  selectors = rw (s.0, s.1) (none_listed (told.reverse_dependency_view e) (force_keys (aim_of Select) names) (force_items (aim_of Select) names) (ReverseDependencyFits (length e.nodes) (length names)) (length names));
-  impliers = rw (i.0, i.1) (none_listed (told.reverse_dependency_view e) (force_keys (aim_of Imply) names) (force_items (aim_of Imply) names) (ReverseDependencyFits (length e.nodes) (length names)) (length names));
+  selectors = rw (s.0, s.1) (none_listed (told.reverse_dependency_view e) (force_keys (aim_of Select) names) (force_items (aim_of Select) names)
+      (ReverseDependencyFits (length e.nodes) (length names)) (length names));
+  impliers = rw (i.0, i.1) (none_listed (told.reverse_dependency_view e) (force_keys (aim_of Imply) names) (force_items (aim_of Imply) names)
+      (ReverseDependencyFits (length e.nodes) (length names)) (length names));
   direct = rw (x.0, x.1) (none_listed (node_expr e) (direct_keys names) (direct_items dependency_meant) (λ k. k < length e.nodes) (length names));
 }
 
 -- all is collected
-pub all_gathered : (e : Exprs) (read : List Group) (a : Attributes) → AreGathered e (names_defined read) (groups_in_context read) a → AreAttributes e (contents_of read) a
+pub all_gathered : (e : Exprs) (read : List Group) (a : Attributes) → AreGathered e (names_defined read) (groups_in_context read) a
+    → AreAttributes e (contents_of read) a
 all_gathered e read a g = record {
   keys = record {
     prompts = λ i l. g.prompts.below i 0 l;
@@ -148,12 +194,20 @@ all_gathered e read a g = record {
     impliers = λ i l. g.impliers.below i 0 l;
     direct = λ i l. g.direct.below i 0 l;
   };
-  prompts_are = λ s x at. own_law (node_expr e) prompt_of prompt_meant (λ k. k < length e.nodes) (length (names_defined read)) read a.prompts.keys.items a.prompts.items.items s x g.prompts at;
-  defaults_are = λ s x at. own_law (told.default_view e) default_of default_meant (DefaultFits (length e.nodes)) (length (names_defined read)) read a.defaults.keys.items a.defaults.items.items s x g.defaults at;
-  ranges_are = λ s x at. own_law (told.range_view e) range_of range_meant (RangeStands e) (length (names_defined read)) read a.ranges.keys.items a.ranges.items.items s x g.ranges at;
-  selectors_are = λ s x at. reverse_dependency_law (told.reverse_dependency_view e) (aim_of Select) (ReverseDependencyFits (length e.nodes) (length (names_defined read))) (length (names_defined read)) read a.selectors.keys.items a.selectors.items.items s x g.selectors at;
-  impliers_are = λ s x at. reverse_dependency_law (told.reverse_dependency_view e) (aim_of Imply) (ReverseDependencyFits (length e.nodes) (length (names_defined read))) (length (names_defined read)) read a.impliers.keys.items a.impliers.items.items s x g.impliers at;
-  direct_are = λ s x at. direct_law (node_expr e) dependency_meant (λ k. k < length e.nodes) (length (names_defined read)) read a.direct.keys.items a.direct.items.items s x g.direct at;
+  prompts_are = λ s x at. own_law (node_expr e) prompt_of prompt_meant (λ k. k < length e.nodes) (length (names_defined read)) read a.prompts.keys.items
+      a.prompts.items.items s x g.prompts at;
+  defaults_are = λ s x at. own_law (told.default_view e) default_of default_meant (DefaultFits (length e.nodes)) (length (names_defined read)) read
+      a.defaults.keys.items a.defaults.items.items s x g.defaults at;
+  ranges_are = λ s x at. own_law (told.range_view e) range_of range_meant (RangeStands e) (length (names_defined read)) read a.ranges.keys.items
+      a.ranges.items.items s x g.ranges at;
+  selectors_are = λ s x at. reverse_dependency_law (told.reverse_dependency_view e) (aim_of Select)
+      (ReverseDependencyFits (length e.nodes) (length (names_defined read))) (length (names_defined read)) read a.selectors.keys.items a.selectors.items.items s
+      x g.selectors at;
+  impliers_are = λ s x at. reverse_dependency_law (told.reverse_dependency_view e) (aim_of Imply)
+      (ReverseDependencyFits (length e.nodes) (length (names_defined read))) (length (names_defined read)) read a.impliers.keys.items a.impliers.items.items s x
+      g.impliers at;
+  direct_are = λ s x at. direct_law (node_expr e) dependency_meant (λ k. k < length e.nodes) (length (names_defined read)) read a.direct.keys.items
+      a.direct.items.items s x g.direct at;
   prompts_fit = g.prompts.fit;
   defaults_fit = g.defaults.fit;
   ranges_fit = λ i d l. (g.ranges.fit i d l).0;
@@ -170,9 +224,11 @@ open_still w x e c = let d : inside ≡ closing = sym (ap side_of e) ∙ c in cc
 -- group by group
 module _ (n : SymbolTable) (read : List Group) (h : HasNames n.arena n.symbols.items n.numbers.items (names_defined read)) (texts : List (List ℕ)) (lines : List CodeLine) (groups : List CodeGroup) (conditioned : List GroupConditions) (conditions : List ℕ)
     (shown : RepresentsGroups n.arena (names_defined read) texts lines (length lines) (reverse groups) read) (walked : RepresentsAllConditions n.arena texts conditions (length conditions) (reverse conditioned) read) where
-  pub gathered_definition : (i s : ℕ) (old new : Attributes) → i < length groups → i < length conditioned → (group_at groups i).head ≡ codes.Config s → All (LineNodesExist n.arena) (slice_range lines (group_at groups i).attributes (attributes_end groups lines i))
+  pub gathered_definition : (i s : ℕ) (old new : Attributes) → i < length groups → i < length conditioned → (group_at groups i).head ≡ codes.Config s
+      → All (LineNodesExist n.arena) (slice_range lines (group_at groups i).attributes (attributes_end groups lines i))
       → AreGathered n.arena (names_defined read) (groups_in_context (read_before i read)) old
-      → HasDefinition n s old new (slice_range lines (group_at groups i).attributes (attributes_end groups lines i)) (own_conditions conditioned conditions i) (conditions_at conditioned i).dependency
+      → HasDefinition n s old new (slice_range lines (group_at groups i).attributes (attributes_end groups lines i)) (own_conditions conditioned conditions i)
+      (conditions_at conditioned i).dependency
       → AreGathered n.arena (names_defined read) (groups_in_context (read_before (i + 1) read)) new
   gathered_definition i s old new l m w held g more =
       let t = shown_at n.arena (names_defined read) texts lines groups read shown i l in
@@ -186,22 +242,30 @@ module _ (n : SymbolTable) (read : List Group) (h : HasNames n.arena n.symbols.i
       let c = subst (λ k. RepresentsConditions n.arena texts cs (conditions_at conditioned i) (group_in_context (open_blocks 0 prior) k)) same q.shown in
       let what = subst (λ v. RepresentsHead n.arena (names_defined read) texts v t.group.head) w t.shown.head in
       let name : defined_name t.group ≡ Some what.0 = ap (from_head name_of_head) what.2 in
-      let number : number_of (names_defined read) what.0 ≡ s = ap (λ o. unwrap_or o 0) (number_is (names_defined read) what.0 s (Differ-once (filter_map defined_name read)) what.1) in
+      let number : number_of (names_defined read) what.0 ≡ s = ap (λ o. unwrap_or o 0)
+      (number_is (names_defined read) what.0 s (Differ-once (filter_map defined_name read)) what.1) in
       let conds : map (node_expr n.arena) cs ≡ map (condition_at p) (map (line_in n.arena) ls) = c.own_are ∙ ap (map (condition_at p)) t.shown.attributes in
-      let many : length cs ≡ length ls = sym (length-map cs (node_expr n.arena)) ∙ ap length conds ∙ length-map (map (line_in n.arena) ls) (condition_at p) ∙ length-map ls (line_in n.arena) in
-      let stands : Represents n.arena (conditions_at conditioned i).dependency (dependency_meant p) = elim c.dependency_is [ inl closes ↦ absurd (open_still t.group.head what.0 what.2 closes) | inr d ↦ d ] in
+      let many : length cs ≡ length ls = sym (length-map cs (node_expr n.arena)) ∙ ap length conds ∙ length-map (map (line_in n.arena) ls) (condition_at p)
+      ∙ length-map ls (line_in n.arena) in
+      let stands : Represents n.arena (conditions_at conditioned i).dependency (dependency_meant p) = elim c.dependency_is
+      [ inl closes ↦ absurd (open_still t.group.head what.0 what.2 closes) | inr d ↦ d ] in
       subst (λ ps. AreGathered n.arena (names_defined read) ps new) (sym (placed_more read i t.group t.now))
-      (definition_step n (names_defined read) h (groups_in_context prior) p what.0 s ls cs name number (get_below (names_defined read) s what.0 what.1) many held c.held t.shown.attributes conds (conditions_at conditioned i).dependency old new g more stands)
+      (definition_step n (names_defined read) h (groups_in_context prior) p what.0 s ls cs name number (get_below (names_defined read) s what.0 what.1) many
+      held c.held t.shown.attributes conds (conditions_at conditioned i).dependency old new g more stands)
 
-  pub gathered_other : (i : ℕ) (a : Attributes) → i < length groups → ((s : ℕ) → (group_at groups i).head ≡ codes.Config s → ⊥) → AreGathered n.arena (names_defined read) (groups_in_context (read_before i read)) a → AreGathered n.arena (names_defined read) (groups_in_context (read_before (i + 1) read)) a
+  pub gathered_other : (i : ℕ) (a : Attributes) → i < length groups → ((s : ℕ) → (group_at groups i).head ≡ codes.Config s → ⊥)
+      → AreGathered n.arena (names_defined read) (groups_in_context (read_before i read)) a
+      → AreGathered n.arena (names_defined read) (groups_in_context (read_before (i + 1) read)) a
   gathered_other i a l w g =
       let t = shown_at n.arena (names_defined read) texts lines groups read shown i l in
       let prior : List Group = read_before i read in
       let p : GroupInContext = group_in_context (open_blocks 0 prior) t.group in
       subst (λ ps. AreGathered n.arena (names_defined read) ps a) (sym (placed_more read i t.group t.now))
-      (nothing_more n.arena (names_defined read) (groups_in_context prior) p a (nameless n.arena (names_defined read) texts (group_at groups i).head t.group.head t.shown.head w) g)
+      (nothing_more n.arena (names_defined read) (groups_in_context prior) p a
+      (nameless n.arena (names_defined read) texts (group_at groups i).head t.group.head t.shown.head w) g)
 
-  pub definition_many : (i : ℕ) → i < length groups → i < length conditioned → length (own_conditions conditioned conditions i) ≡ length (slice_range lines (group_at groups i).attributes (attributes_end groups lines i))
+  pub definition_many : (i : ℕ) → i < length groups → i < length conditioned
+      → length (own_conditions conditioned conditions i) ≡ length (slice_range lines (group_at groups i).attributes (attributes_end groups lines i))
   definition_many i l m =
       let t = shown_at n.arena (names_defined read) texts lines groups read shown i l in
       let q = conditioned_at n.arena texts conditions conditioned read walked i m in
@@ -215,14 +279,19 @@ module _ (n : SymbolTable) (read : List Group) (h : HasNames n.arena n.symbols.i
       let conds : map (node_expr n.arena) cs ≡ map (condition_at p) (map (line_in n.arena) ls) = c.own_are ∙ ap (map (condition_at p)) t.shown.attributes in
       sym (length-map cs (node_expr n.arena)) ∙ ap length conds ∙ length-map (map (line_in n.arena) ls) (condition_at p) ∙ length-map ls (line_in n.arena)
 
-pub gathered_none : (e : Exprs) (names : List (List ℕ)) (read : List Group) (a : Attributes) → AreGathered e names [] a → AreGathered e names (groups_in_context (read_before 0 read)) a
+pub gathered_none : (e : Exprs) (names : List (List ℕ)) (read : List Group) (a : Attributes) → AreGathered e names [] a
+    → AreGathered e names (groups_in_context (read_before 0 read)) a
 gathered_none e names read a g = subst (λ ps. AreGathered e names ps a) (sym (ap groups_in_context (none_before read))) g
 
-pub gathered_whole : (e : Exprs) (read : List Group) (i : ℕ) (a : Attributes) → i ≡ length read → AreGathered e (names_defined read) (groups_in_context (read_before i read)) a → AreAttributes e (contents_of read) a
-gathered_whole e read i a n g = all_gathered e read a (subst (λ ps. AreGathered e (names_defined read) ps a) (ap (λ k. groups_in_context (read_before k read)) n ∙ ap groups_in_context (all_before read)) g)
+pub gathered_whole : (e : Exprs) (read : List Group) (i : ℕ) (a : Attributes) → i ≡ length read
+    → AreGathered e (names_defined read) (groups_in_context (read_before i read)) a → AreAttributes e (contents_of read) a
+gathered_whole e read i a n g =
+    all_gathered e read a (subst (λ ps. AreGathered e (names_defined read) ps a)
+    (ap (λ k. groups_in_context (read_before k read)) n ∙ ap groups_in_context (all_before read)) g)
 
 -- each group has its conditions
-pub group_count : (l : Listing) (conditioned : List GroupConditions) (conditions : List ℕ) (read : List Group) → IsWalkOf l conditioned conditions read → length conditioned ≡ length l.groups.items
+pub group_count : (l : Listing) (conditioned : List GroupConditions) (conditions : List ℕ) (read : List Group) → IsWalkOf l conditioned conditions read
+    → length conditioned ≡ length l.groups.items
 unfolding RepresentsListing
 group_count l conditioned conditions read w =
     conditions_count l.names.arena l.texts.items conditions conditioned read w.shown

@@ -58,7 +58,8 @@ module _ (g : Gathered) (sound : IsConsistent (gathered_tree g)) where
     choice_number : (c u : ℕ) → slice_get (gathered_tree g).units u ≡ Some (of_choice c) → slice_index choices c ≡ u
     choice_number c u e = n.choice_units u c (slice_get_within g.units.items u (of_choice c) e) e
 
-    unit_had : (s : ℕ) (r : SymbolRow) (o : Option ℕ) → slice_get g.symbols.items s ≡ Some r → r.choice ≡ o → (slice_index new s ≡ unit_of (gathered_tree g) s) × (slice_index new s < length (gathered_tree g).units)
+    unit_had : (s : ℕ) (r : SymbolRow) (o : Option ℕ) → slice_get g.symbols.items s ≡ Some r → r.choice ≡ o
+        → (slice_index new s ≡ unit_of (gathered_tree g) s) × (slice_index new s < length (gathered_tree g).units)
     unit_had s r None e f =
         let at = symbol_at s r e in
         let t = sound.own_units s (symbol_gathered g s r) at f in
@@ -74,7 +75,8 @@ module _ (g : Gathered) (sound : IsConsistent (gathered_tree g)) where
         let within = slice_get_within (gathered_tree g).units t.0 (of_choice c) t.1 in
         (number ∙ sym unit, rw number within)
 
-    choice_had : (c : ℕ) → c < length (gathered_tree g).choices → (slice_index choices c ≡ index_of_unit (gathered_tree g) (of_choice c)) × (slice_index choices c < length (gathered_tree g).units)
+    choice_had : (c : ℕ) → c < length (gathered_tree g).choices
+        → (slice_index choices c ≡ index_of_unit (gathered_tree g) (of_choice c)) × (slice_index choices c < length (gathered_tree g).units)
     choice_had c h =
         let k = got (gathered_tree g).choices c h in
         let t = sound.units_of_choices c k.0 k.1 in

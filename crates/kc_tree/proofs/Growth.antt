@@ -64,6 +64,7 @@ reported_there Dependencies exprs (attributes.Range r) h = tt
 reported_there Dependencies exprs (attributes.Visible id) h = tt
 reported_there Dependencies exprs attributes.Help h = tt
 reported_there Dependencies exprs attributes.Modules h = tt
+reported_there Dependencies exprs attributes.Optional h = tt
 reported_there Visibles exprs (attributes.Typed k) h = tt
 reported_there Visibles exprs (attributes.TypedPrompt k c) h = tt
 reported_there Visibles exprs (attributes.TypedDefault k d) h = tt
@@ -76,6 +77,7 @@ reported_there Visibles exprs (attributes.Range r) h = tt
 reported_there Visibles exprs (attributes.Visible id) h = h
 reported_there Visibles exprs attributes.Help h = tt
 reported_there Visibles exprs attributes.Modules h = tt
+reported_there Visibles exprs attributes.Optional h = tt
 
 if_there : (exprs : Exprs) (c : Option ℕ) → IfNodeExists exprs c → IfSome c (λ i. i < length exprs.nodes)
 if_there exprs None h = tt
@@ -95,10 +97,14 @@ if_told_there exprs (attributes.Range r) h = if_there exprs r.condition h.2
 if_told_there exprs (attributes.Visible id) h = tt
 if_told_there exprs attributes.Help h = tt
 if_told_there exprs attributes.Modules h = tt
+if_told_there exprs attributes.Optional h = tt
 
-reported_append : (w : Conjuncts) (exprs : Exprs) (xs ys : List CodeLine) → conjunct_views w exprs (xs ++ ys) ≡ conjunct_views w exprs xs ++ conjunct_views w exprs ys
+reported_append : (w : Conjuncts) (exprs : Exprs) (xs ys : List CodeLine)
+    → conjunct_views w exprs (xs ++ ys) ≡ conjunct_views w exprs xs ++ conjunct_views w exprs ys
 reported_append w exprs [] ys = refl
-reported_append w exprs (x ∷ xs) ys = ap (λ es. conjunct exprs (conjunct_view w x.attribute) ++ es) (reported_append w exprs xs ys) ∙ sym (append_assoc (conjunct exprs (conjunct_view w x.attribute)) (conjunct_views w exprs xs) (conjunct_views w exprs ys))
+reported_append w exprs (x ∷ xs) ys =
+    ap (λ es. conjunct exprs (conjunct_view w x.attribute) ++ es) (reported_append w exprs xs ys)
+    ∙ sym (append_assoc (conjunct exprs (conjunct_view w x.attribute)) (conjunct_views w exprs xs) (conjunct_views w exprs ys))
 
 -- one attribute more
 pub reported_more : (w : Conjuncts) (exprs : Exprs) (lines : List CodeLine) (k : ℕ) (d : CodeLine) → k < length lines
@@ -108,7 +114,8 @@ reported_more w exprs lines k d h =
     ∙ ap (λ es. conjunct_views w exprs (take k lines) ++ es) (append-nil (conjunct exprs (conjunct_view w (get_or lines k d).attribute)))
 
 -- what attributes give stays
-pub reported_on : (w : Conjuncts) (old new : Exprs) (lines : List CodeLine) → Grows old new → All (LineNodesExist old) lines → conjunct_views w new lines ≡ conjunct_views w old lines
+pub reported_on : (w : Conjuncts) (old new : Exprs) (lines : List CodeLine) → Grows old new → All (LineNodesExist old) lines
+    → conjunct_views w new lines ≡ conjunct_views w old lines
 reported_on w old new [] g h = refl
 reported_on w old new (l ∷ lines) g h =
     let a : AttributeNodesExist old l.attribute = h 0 l (omega arith) in
@@ -117,7 +124,8 @@ reported_on w old new (l ∷ lines) g h =
     cc
 
 -- a conjunction of all
-pub represents_all : (exprs : Exprs) (o : Option ℕ) (y : ℕ) (es : List Expr) → Conjoins exprs o es → Represents exprs y (conjunction_of []) → Represents exprs (or_yes y o) (conjunction_of es)
+pub represents_all : (exprs : Exprs) (o : Option ℕ) (y : ℕ) (es : List Expr) → Conjoins exprs o es → Represents exprs y (conjunction_of [])
+    → Represents exprs (or_yes y o) (conjunction_of es)
 represents_all exprs None y es h s = subst (λ xs. Represents exprs y (conjunction_of xs)) (sym h) s
 represents_all exprs (Some i) y es h s = h.1
 
@@ -128,16 +136,20 @@ one_visible exprs (Some i) [] h = absurd (omega (arith, h.0))
 one_visible exprs (Some i) (v ∷ vs) h = ap (λ e. e ∷ []) h.1.is
 
 -- one attribute more is joined
-pub with_more : (old mid new : Exprs) (w : Conjuncts) (lines : List CodeLine) (k : ℕ) (d : CodeLine) (all joined c more : Option ℕ) → Grows old mid → All (LineNodesExist old) lines → k < length lines → d ≡ get_or lines k d → more ≡ conjunct_view w d.attribute
-    → ((es : List Expr) → Conjoins old all es → Conjoins mid joined (es ++ conjunct_views w old (take k lines))) → ((es : List Expr) → Conjoins mid joined es → Conjoins new c (es ++ conjunct mid more))
+pub with_more : (old mid new : Exprs) (w : Conjuncts) (lines : List CodeLine) (k : ℕ) (d : CodeLine) (all joined c more : Option ℕ) → Grows old mid
+    → All (LineNodesExist old) lines → k < length lines → d ≡ get_or lines k d → more ≡ conjunct_view w d.attribute
+    → ((es : List Expr) → Conjoins old all es → Conjoins mid joined (es ++ conjunct_views w old (take k lines)))
+    → ((es : List Expr) → Conjoins mid joined es → Conjoins new c (es ++ conjunct mid more))
     → (es : List Expr) → Conjoins old all es → Conjoins new c (es ++ conjunct_views w old (take (k + 1) lines))
 with_more old mid new w lines k d all joined c more g held h e m f step es j =
     let a : AttributeNodesExist old (get_or lines k d).attribute = held k d h in
     let n : more ≡ conjunct_view w (get_or lines k d).attribute = m ∙ ap (λ (l : CodeLine). conjunct_view w l.attribute) e in
     let t : IfSome (conjunct_view w (get_or lines k d).attribute) (λ i. i < length old.nodes) = reported_there w old (get_or lines k d).attribute a in
-    let same : conjunct mid more ≡ conjunct old (conjunct_view w (get_or lines k d).attribute) = ap (conjunct mid) n ∙ conjunct_on old mid g (conjunct_view w (get_or lines k d).attribute) t in
+    let same : conjunct mid more ≡ conjunct old (conjunct_view w (get_or lines k d).attribute) = ap (conjunct mid) n
+    ∙ conjunct_on old mid g (conjunct_view w (get_or lines k d).attribute) t in
     subst (Conjoins new c)
-    (append_assoc es (conjunct_views w old (take k lines)) (conjunct mid more) ∙ ap (λ xs. es ++ (conjunct_views w old (take k lines) ++ xs)) same ∙ ap (λ xs. es ++ xs) (sym (reported_more w old lines k d h)))
+    (append_assoc es (conjunct_views w old (take k lines)) (conjunct mid more) ∙ ap (λ xs. es ++ (conjunct_views w old (take k lines) ++ xs)) same
+    ∙ ap (λ xs. es ++ xs) (sym (reported_more w old lines k d h)))
     (step (es ++ conjunct_views w old (take k lines)) (f es j))
 
 by_test : (b : Bool) (x y u v : Expr) → x ≡ u → y ≡ v → cond b x y ≡ cond b u v
@@ -145,7 +157,8 @@ by_test true x y u v e f = e
 by_test false x y u v e f = f
 
 -- the condition of an attribute, as the arena grows
-pub condition_on : (old new : Exprs) (ds vs : List Expr) (a : CodeAttribute) → Grows old new → AttributeNodesExist old a → condition_view new ds vs a ≡ condition_view old ds vs a
+pub condition_on : (old new : Exprs) (ds vs : List Expr) (a : CodeAttribute) → Grows old new → AttributeNodesExist old a
+    → condition_view new ds vs a ≡ condition_view old ds vs a
 condition_on old new ds vs a g h =
     let e = conjunct_on old new g (if_view a) (if_told_there old a h) in
     by_test (is_prompt a) _ _ _ _ (ap (λ c. conjunction_of (ds ++ (visible_conjunct vs ++ c))) e) (ap (λ c. conjunction_of (ds ++ c)) e)
@@ -161,12 +174,15 @@ pub held_on : (old new : Exprs) (ids : List ℕ) → Grows old new → All (λ i
 held_on old new ids g h = λ k d l. node_held old new (get_or ids k d) g (h k d l)
 
 -- one condition more
-pub after_more : (old mid new : Exprs) (before after : List ℕ) (ds vs : List Expr) (lines : List CodeLine) (k id : ℕ) (d : CodeLine) → Grows old mid → Grows mid new → All (LineNodesExist old) lines → k < length lines → d ≡ get_or lines k d
-    → AreAppended old mid before after ds vs (take k lines) → Represents new id (condition_view mid ds vs d.attribute) → AreAppended old new before (after ++ id ∷ []) ds vs (take (k + 1) lines)
+pub after_more : (old mid new : Exprs) (before after : List ℕ) (ds vs : List Expr) (lines : List CodeLine) (k id : ℕ) (d : CodeLine) → Grows old mid
+    → Grows mid new → All (LineNodesExist old) lines → k < length lines → d ≡ get_or lines k d
+    → AreAppended old mid before after ds vs (take k lines) → Represents new id (condition_view mid ds vs d.attribute)
+    → AreAppended old new before (after ++ id ∷ []) ds vs (take (k + 1) lines)
 after_more old mid new before after ds vs lines k id d g m held h e b s =
     let l : d ≡ get_or lines k d = e in
     let a : AttributeNodesExist old d.attribute = subst (λ (x : CodeLine). AttributeNodesExist old x.attribute) (sym l) (held k d h) in
-    let here : node_expr new id ≡ line_condition old ds vs (get_or lines k d) = s.is ∙ condition_on old mid ds vs d.attribute g a ∙ ap (line_condition old ds vs) l in
+    let here : node_expr new id ≡ line_condition old ds vs (get_or lines k d) = s.is ∙ condition_on old mid ds vs d.attribute g a
+    ∙ ap (line_condition old ds vs) l in
     record {
       own = b.own ++ id ∷ [];
       is = ap (λ xs. xs ++ id ∷ []) b.is ∙ append_assoc before b.own (id ∷ []);
@@ -175,7 +191,8 @@ after_more old mid new before after ds vs lines k id d g m held h e b s =
           ∙ ap (λ x. map (line_condition old ds vs) (take k lines) ++ x ∷ []) here
           ∙ sym (map-append (line_condition old ds vs) (take k lines) (get_or lines k d ∷ []))
           ∙ ap (map (line_condition old ds vs)) (sym (take_more lines k d h));
-      held = All-append (λ i. i < length new.nodes) b.own (id ∷ []) (held_on mid new b.own m b.held) (All-cons (λ i. i < length new.nodes) id [] s.within (All-nil (λ i. i < length new.nodes)));
+      held = All-append (λ i. i < length new.nodes) b.own (id ∷ []) (held_on mid new b.own m b.held)
+          (All-cons (λ i. i < length new.nodes) id [] s.within (All-nil (λ i. i < length new.nodes)));
     }
 
 -- no condition yet
@@ -183,7 +200,8 @@ pub none_after : (exprs : Exprs) (before : List ℕ) (ds vs : List Expr) → Are
 none_after exprs before ds vs = record { own = []; is = sym (append-nil before); stand = refl; held = All-nil (λ i. i < length exprs.nodes) }
 
 -- the conditions of an entry
-pub entry_joined : (old mid far new : Exprs) (lines : List CodeLine) (dependencies visibles d v s : Option ℕ) → Grows old mid → Grows mid far → Grows far new → All (LineNodesExist old) lines
+pub entry_joined : (old mid far new : Exprs) (lines : List CodeLine) (dependencies visibles d v s : Option ℕ) → Grows old mid → Grows mid far → Grows far new
+    → All (LineNodesExist old) lines
     → IfSome visibles (λ i. i < length old.nodes)
     → ((es : List Expr) → Conjoins old dependencies es → Conjoins mid d (es ++ conjunct_views Dependencies old lines))
     → ((es : List Expr) → Conjoins mid visibles es → Conjoins far v (es ++ conjunct_views Visibles mid lines))
@@ -195,6 +213,8 @@ entry_joined old mid far new lines dependencies visibles d v s g h i held there 
     let same : conjunct far visibles ≡ visible_conjunct vs = one_visible far visibles vs (conjoins_on old far (grows_on old mid far g h) visibles vs q) in
     record {
       dependencies_are = conjoins_on mid new (grows_on mid far new h i) d (ds ++ conjunct_views Dependencies old lines) dm;
-      visibles_are = conjoins_on far new i v (vs ++ conjunct_views Visibles old lines) (subst (λ es. Conjoins far v (vs ++ es)) (reported_on Visibles old mid lines g held) (k vs (conjoins_on old mid g visibles vs q)));
-      shown_is = subst (λ es. Conjoins new s ((ds ++ conjunct_views Dependencies old lines) ++ es)) same (l (ds ++ conjunct_views Dependencies old lines) (conjoins_on mid far h d (ds ++ conjunct_views Dependencies old lines) dm));
+      visibles_are = conjoins_on far new i v (vs ++ conjunct_views Visibles old lines)
+          (subst (λ es. Conjoins far v (vs ++ es)) (reported_on Visibles old mid lines g held) (k vs (conjoins_on old mid g visibles vs q)));
+      shown_is = subst (λ es. Conjoins new s ((ds ++ conjunct_views Dependencies old lines) ++ es)) same
+          (l (ds ++ conjunct_views Dependencies old lines) (conjoins_on mid far h d (ds ++ conjunct_views Dependencies old lines) dm));
     }

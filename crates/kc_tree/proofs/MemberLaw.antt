@@ -58,16 +58,20 @@ module _ (c : Contents) (k g : ℕ) (number : choice_number c g ≡ Some k) wher
           cc
 
   here_by : (o : Option ℕ) (r : Option ℕ) (x : Option (List ℕ)) → option_and_then (choice_number c) o ≡ r
-      → cond (elim r as (λ _. ℕ) [ None ↦ 0 | Some j ↦ j ] == k) (member_in c r x) [] ≡ cond (elim o as (λ _. Bool) [ None ↦ false | Some n ↦ n == g ]) (option_to_list (option_and_then (λ n. index_of_name n c.names) x)) []
+      → cond (elim r as (λ _. ℕ) [ None ↦ 0 | Some j ↦ j ] == k) (member_in c r x) [] ≡ cond (elim o as (λ _. Bool) [ None ↦ false | Some n ↦ n == g ])
+      (option_to_list (option_and_then (λ n. index_of_name n c.names) x)) []
   here_by None None x e = nothing_either (0 == k) [] refl
   here_by None (Some j) x e = cc
-  here_by (Some n) None x e = nothing_either (0 == k) [] refl ∙ sym (nothing_false (n == g) (option_to_list (option_and_then (λ m. index_of_name m c.names) x)) (away n e))
+  here_by (Some n) None x e =
+      nothing_either (0 == k) [] refl ∙ sym (nothing_false (n == g) (option_to_list (option_and_then (λ m. index_of_name m c.names) x)) (away n e))
   here_by (Some n) (Some j) x e = ap (λ b. cond b (option_to_list (option_and_then (λ m. index_of_name m c.names) x)) []) (same_choice n j e)
 
-  here : (p : GroupInContext) → cond (member_key c p == k) (members_at c p) [] ≡ cond (is_member_of g p) (option_to_list (option_and_then (λ n. index_of_name n c.names) (defined_name p.group))) []
+  here : (p : GroupInContext)
+      → cond (member_key c p == k) (members_at c p) [] ≡ cond (is_member_of g p) (option_to_list (option_and_then (λ n. index_of_name n c.names) (defined_name p.group))) []
   here p = here_by p.enclosing.choice (option_and_then (choice_number c) p.enclosing.choice) (defined_name p.group) refl
 
-  named_by : (x : Option (List ℕ)) (xs : List (List ℕ)) → filter_map (λ n. index_of_name n c.names) (cons_option x xs) ≡ option_to_list (option_and_then (λ n. index_of_name n c.names) x) ++ filter_map (λ n. index_of_name n c.names) xs
+  named_by : (x : Option (List ℕ)) (xs : List (List ℕ))
+      → filter_map (λ n. index_of_name n c.names) (cons_option x xs) ≡ option_to_list (option_and_then (λ n. index_of_name n c.names) x) ++ filter_map (λ n. index_of_name n c.names) xs
   named_by None xs = refl
   named_by (Some n) xs = by_place (index_of_name n c.names)
     where
@@ -77,11 +81,13 @@ module _ (c : Contents) (k g : ℕ) (number : choice_number c g ≡ Some k) wher
 
   some_named : (b : Bool) (p : GroupInContext) (ps : List GroupInContext)
       → filter_map (λ n. index_of_name n c.names) (filter_map (λ (q : GroupInContext). defined_name q.group) (cond b (p ∷ ps) ps))
-      ≡ cond b (option_to_list (option_and_then (λ n. index_of_name n c.names) (defined_name p.group))) [] ++ filter_map (λ n. index_of_name n c.names) (filter_map (λ (q : GroupInContext). defined_name q.group) ps)
+      ≡ cond b (option_to_list (option_and_then (λ n. index_of_name n c.names) (defined_name p.group))) [] ++ filter_map (λ n. index_of_name n c.names)
+      (filter_map (λ (q : GroupInContext). defined_name q.group) ps)
   some_named true p ps = named_by (defined_name p.group) (filter_map (λ (q : GroupInContext). defined_name q.group) ps)
   some_named false p ps = refl
 
-  members_among : (ps : List GroupInContext) → flat_map (members_at c) (filter (λ p. member_key c p == k) ps) ≡ filter_map (λ n. index_of_name n c.names) (filter_map (λ (q : GroupInContext). defined_name q.group) (filter (is_member_of g) ps))
+  members_among : (ps : List GroupInContext)
+      → flat_map (members_at c) (filter (λ p. member_key c p == k) ps) ≡ filter_map (λ n. index_of_name n c.names) (filter_map (λ (q : GroupInContext). defined_name q.group) (filter (is_member_of g) ps))
   members_among [] = refl
   members_among (p ∷ ps) =
       some_of (member_key c p == k) (members_at c) p (filter (λ q. member_key c q == k) ps)

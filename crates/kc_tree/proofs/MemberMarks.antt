@@ -21,17 +21,21 @@ all_has P xs h = λ k d l. h (get_or xs k d) (has-at (get_or xs k d) xs k (slice
 
 -- the numbers of members are those of symbols
 pub members_small : (names members : List (List ℕ)) → All (λ s. s < length names) (filter_map (λ x. index_of_name x names) members)
-members_small names members = all_has (λ s. s < length names) (filter_map (λ x. index_of_name x names) members) (λ s h. let r = has-filter_map (λ x. index_of_name x names) members s h in get_below names s r.0 (place-get r.0 names s r.2))
+members_small names members =
+    all_has (λ s. s < length names) (filter_map (λ x. index_of_name x names) members)
+    (λ s h. let r = has-filter_map (λ x. index_of_name x names) members s h in get_below names s r.0 (place-get r.0 names s r.2))
 
 -- the choice of a member is there
-key_in : (c : Contents) (p : GroupInContext) (o : Option ℕ) (x : Option (List ℕ)) (s : ℕ) → enclosing_choice c p ≡ o → Has s (member_in c o x) → (j : ℕ) × (enclosing_choice c p ≡ Some j)
+key_in : (c : Contents) (p : GroupInContext) (o : Option ℕ) (x : Option (List ℕ)) (s : ℕ) → enclosing_choice c p ≡ o → Has s (member_in c o x)
+    → (j : ℕ) × (enclosing_choice c p ≡ Some j)
 key_in c p None x s e h = absurd h
 key_in c p (Some j) x s e h = (j, e)
 
 no_round : (c : Contents) (j : ℕ) → option_and_then (choice_number c) None ≡ Some j → ⊥
 no_round c j h = cc
 
-enclosing_below : (c : Contents) (p : GroupInContext) (j : ℕ) (o : Option ℕ) → p.enclosing.choice ≡ o → option_and_then (choice_number c) o ≡ Some j → j < length c.choices
+enclosing_below : (c : Contents) (p : GroupInContext) (j : ℕ) (o : Option ℕ) → p.enclosing.choice ≡ o → option_and_then (choice_number c) o ≡ Some j
+    → j < length c.choices
 enclosing_below c p j None e h = absurd (no_round c j h)
 enclosing_below c p j (Some n) e h = get_below c.choices j n (number-get n c.choices j h)
 
@@ -45,7 +49,8 @@ keys_small c ps = all_has (λ k. k < length c.choices) (flat_map (member_keys_at
     omega arith)
 
 -- the names of members are names of symbols
-pub member_defined : (read : List Group) (g : ℕ) (x : List ℕ) → index_of_name x (names_defined read) ≡ None → index_of_name x (member_names (contents_of read) g) ≡ None
+pub member_defined : (read : List Group) (g : ℕ) (x : List ℕ) → index_of_name x (names_defined read) ≡ None
+    → index_of_name x (member_names (contents_of read) g) ≡ None
 member_defined read g x e = by_place (index_of_name x (member_names (contents_of read) g)) refl
   where
     by_place : (o : Option ℕ) → index_of_name x (member_names (contents_of read) g) ≡ o → o ≡ None
@@ -62,11 +67,15 @@ member_defined read g x e = by_place (index_of_name x (member_names (contents_of
 pub marked_test : (m mark : ℕ) → m < mark → (m == mark) ≡ false
 marked_test m mark h = grind arith
 
-pub are_marked : (names members : List (List ℕ)) (old new : List ℕ) (mark : ℕ) → length old ≡ length names → ((s : ℕ) → slice_index old s < mark) → WereMarked old (filter_map (λ x. index_of_name x names) members) mark new
-    → ((x : List ℕ) → index_of_name x names ≡ None → index_of_name x members ≡ None) → ((s : ℕ) (x : List ℕ) → slice_get names s ≡ Some x → index_of_name x names ≡ Some s) → AreMarked names members new mark
-are_marked names members old new mark many small were within places = record { marked = λ s x at. by_any s x at (list_any (λ m. m == s) (filter_map (λ y. index_of_name y names) members)) refl; within = within }
+pub are_marked : (names members : List (List ℕ)) (old new : List ℕ) (mark : ℕ) → length old ≡ length names → ((s : ℕ) → slice_index old s < mark)
+    → WereMarked old (filter_map (λ x. index_of_name x names) members) mark new
+    → ((x : List ℕ) → index_of_name x names ≡ None → index_of_name x members ≡ None)
+    → ((s : ℕ) (x : List ℕ) → slice_get names s ≡ Some x → index_of_name x names ≡ Some s) → AreMarked names members new mark
+are_marked names members old new mark many small were within places =
+    record { marked = λ s x at. by_any s x at (list_any (λ m. m == s) (filter_map (λ y. index_of_name y names) members)) refl; within = within }
   where
-    by_any : (s : ℕ) (x : List ℕ) → slice_get names s ≡ Some x → (b : Bool) → list_any (λ m. m == s) (filter_map (λ y. index_of_name y names) members) ≡ b → (slice_index new s == mark) ≡ is_some (index_of_name x members)
+    by_any : (s : ℕ) (x : List ℕ) → slice_get names s ≡ Some x → (b : Bool) → list_any (λ m. m == s) (filter_map (λ y. index_of_name y names) members) ≡ b
+        → (slice_index new s == mark) ≡ is_some (index_of_name x members)
     by_any s x at true e =
         let below = get_below names s x at in
         let is : slice_index new s ≡ mark = were.marked s (omega arith) e in
@@ -84,5 +93,6 @@ are_marked names members old new mark many small were within places = record { m
         by_place (Some j) f =
             let h = has-at x members j (place-get x members j f) in
             let k = filter_map-has (λ y. index_of_name y names) members x s h (places s x at) in
-            let t : list_any (λ m. m == s) (filter_map (λ y. index_of_name y names) members) ≡ true = any-has s (filter_map (λ y. index_of_name y names) members) k in
+            let t : list_any (λ m. m == s) (filter_map (λ y. index_of_name y names) members) ≡ true = any-has s
+            (filter_map (λ y. index_of_name y names) members) k in
             cc

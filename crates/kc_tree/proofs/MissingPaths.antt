@@ -50,7 +50,8 @@ module _ (f : List ℕ → Bool) where
   among-append x y (z ∷ ys) = or_more (bytes_eq z x) (is_in_list x (ys ++ y ∷ [])) (is_in_list x ys) (bytes_eq y x) (among-append x y ys)
 
   once_by : (x y : List ℕ) (ys : List (List ℕ)) → ((z : List ℕ) → is_in_list z (without_repeats ys) ≡ is_in_list z ys)
-      → (a : Bool) → is_in_list y ys ≡ a → (b : Bool) → bytes_eq y x ≡ b → is_in_list x (cond a (without_repeats ys) (without_repeats ys ++ y ∷ [])) ≡ (b || is_in_list x ys)
+      → (a : Bool) → is_in_list y ys ≡ a → (b : Bool) → bytes_eq y x ≡ b
+      → is_in_list x (cond a (without_repeats ys) (without_repeats ys ++ y ∷ [])) ≡ (b || is_in_list x ys)
   once_by x y ys ih true e true h = ap (λ z. is_in_list z (without_repeats ys)) (sym ((bytes_eq-Decides y x).0 h)) ∙ ih y ∙ e
   once_by x y ys ih true e false h = ih x
   once_by x y ys ih false e true h = among-append x y (without_repeats ys) ∙ rw h (or_true (is_in_list x (without_repeats ys)))
@@ -85,12 +86,17 @@ module _ (f : List ℕ → Bool) where
   append_nil [] = refl
   append_nil (y ∷ l) = ap (λ m. y ∷ m) (append_nil l)
 
-  pushed_kept : (x : List ℕ) (ys : List (List ℕ)) (t : Bool) → f x ≡ t → (a : Bool) → is_in_list x ys ≡ a → filter f (cond a (without_repeats ys) (without_repeats ys ++ x ∷ [])) ≡ cond t (with_path x (filter f (without_repeats ys))) (filter f (without_repeats ys))
-  pushed_kept x ys true e true g = let n : is_in_list x (filter f (without_repeats ys)) ≡ true = among_kept x e (without_repeats ys) ∙ among_once x ys ∙ g in rw n refl
-  pushed_kept x ys true e false g = let n : is_in_list x (filter f (without_repeats ys)) ≡ false = among_kept x e (without_repeats ys) ∙ among_once x ys ∙ g in rw n (filter-append (without_repeats ys) x ∙ rw e refl)
+  pushed_kept : (x : List ℕ) (ys : List (List ℕ)) (t : Bool) → f x ≡ t → (a : Bool) → is_in_list x ys ≡ a
+      → filter f (cond a (without_repeats ys) (without_repeats ys ++ x ∷ [])) ≡ cond t (with_path x (filter f (without_repeats ys))) (filter f (without_repeats ys))
+  pushed_kept x ys true e true g =
+      let n : is_in_list x (filter f (without_repeats ys)) ≡ true = among_kept x e (without_repeats ys) ∙ among_once x ys ∙ g in rw n refl
+  pushed_kept x ys true e false g =
+      let n : is_in_list x (filter f (without_repeats ys)) ≡ false = among_kept x e (without_repeats ys) ∙ among_once x ys
+      ∙ g in rw n (filter-append (without_repeats ys) x ∙ rw e refl)
   pushed_kept x ys false e true g = refl
   pushed_kept x ys false e false g = filter-append (without_repeats ys) x ∙ rw e (append_nil (filter f (without_repeats ys)))
 
   -- one more path
-  pub once_kept : (x : List ℕ) (ys : List (List ℕ)) → filter f (without_repeats (x ∷ ys)) ≡ cond (f x) (with_path x (filter f (without_repeats ys))) (filter f (without_repeats ys))
+  pub once_kept : (x : List ℕ) (ys : List (List ℕ))
+      → filter f (without_repeats (x ∷ ys)) ≡ cond (f x) (with_path x (filter f (without_repeats ys))) (filter f (without_repeats ys))
   once_kept x ys = pushed_kept x ys (f x) refl (is_in_list x ys) refl

@@ -1,6 +1,7 @@
 -- The faults and the absent paths of files.
 use Rattle.std.proofs.Common.{◌≡◌, ◌≢◌, ◌⊎◌, inl, inr, ℕ, List, [], ◌∷◌, ◌++◌, refl, sym, ◌∙◌, Option, Some, None}
 use Rattle.std.specs.Prelude.{slice_get, filter, filter_map}
+use Rattle.kc_expr.specs.declared.language.Language.{Language}
 use Rattle.kc_tree_model.specs.declared.fault.TreeFault.{TreeFault}
 use Rattle.kc_tree_model.specs.TreeFiles.{Files}
 use Rattle.kc_tree_model.specs.Blocks.{Group, sourced_path}
@@ -14,20 +15,21 @@ use Rattle.kc_tree.specs.checker.Summaries.{IsRepresented}
 use Rattle.kc_tree.specs.checker.Surface.{IsOfTree}
 use Rattle.kc_tree.specs.checker.MissingPaths.{is_absent}
 
-after_some : (o : Outcome) (f : TreeFault) → o.fault ≡ Some f → first_fault_after o ≡ Some f
-after_some o f e = rw e refl
+after_some : (language : Language) (o : Outcome) (f : TreeFault) → o.fault ≡ Some f → first_fault_after language o ≡ Some f
+after_some language o f e = rw e refl
 
-after_none : (o : Outcome) → o.fault ≡ None → first_fault_after o ≡ slice_get (tree_faults o.read) 0
-after_none o e = rw e refl
+after_none : (language : Language) (o : Outcome) → o.fault ≡ None → first_fault_after language o ≡ slice_get (tree_faults language o.read) 0
+after_none language o e = rw e refl
 
 some_is : (f g : TreeFault) → Some f ≡ Some g → f ≡ g
 some_is f g e = cc
 
 module _ (files : Files) (root : List ℕ) (l : Listing) (given : Option TreeFault) (fault : (given ≡ Some no_memory) ⊎ (given ≡ (reading files root).fault)) (read : (given ≡ Some no_memory) ⊎ RepresentsListing l (reading files root).read) where
-  reported_by : (f : TreeFault) → given ≡ Some f → (given ≡ Some no_memory) ⊎ (given ≡ (reading files root).fault) → (f ≡ no_memory) ⊎ (first_tree_fault files root ≡ Some f)
+  reported_by : (f : TreeFault) → given ≡ Some f → (given ≡ Some no_memory) ⊎ (given ≡ (reading files root).fault)
+      → (f ≡ no_memory) ⊎ (first_tree_fault files root ≡ Some f)
   unfolding first_tree_fault
   reported_by f e (inl m) = inl (some_is f no_memory (sym e ∙ m))
-  reported_by f e (inr h) = inr (after_some (reading files root) f (sym h ∙ e))
+  reported_by f e (inr h) = inr (after_some files.language (reading files root) f (sym h ∙ e))
 
   -- a fault of reading is the one that is returned
   pub reported_of_reading : (f : TreeFault) → given ≡ Some f → (f ≡ no_memory) ⊎ (first_tree_fault files root ≡ Some f)
@@ -51,11 +53,11 @@ module _ (files : Files) (root : List ℕ) (l : Listing) (given : Option TreeFau
   of_reading e = record { read = (reading files root).read; shows = shown_of_reading e }
 
   -- where reading met none, the first of the others
-  pub reported_behind : (o : Option TreeFault) → given ≡ None → o ≡ slice_get (tree_faults (reading files root).read) 0 → first_tree_fault files root ≡ o
+  pub reported_behind : (o : Option TreeFault) → given ≡ None → o ≡ slice_get (tree_faults files.language (reading files root).read) 0 → first_tree_fault files root ≡ o
   unfolding first_tree_fault
-  reported_behind o e h = after_none (reading files root) (unfailed_of e) ∙ sym h
+  reported_behind o e h = after_none files.language (reading files root) (unfailed_of e) ∙ sym h
 
-  pub of_tree : given ≡ None → None ≡ slice_get (tree_faults (reading files root).read) 0 → IsOfTree l
+  pub of_tree : given ≡ None → None ≡ slice_get (tree_faults files.language (reading files root).read) 0 → IsOfTree l
   of_tree e h = record { files = files; root = root; untold = reported_behind None e h; shows = shown_of_reading e }
 
 -- the result for absent paths
@@ -68,7 +70,8 @@ module _ (files : Files) (root : List ℕ) (l : Listing) (given : Option TreeFau
   read_by (inl m) = absurd (ample m)
   read_by (inr h) = h
 
-  pub wanted_is : (paths : List (List ℕ)) → (given ≡ Some no_memory) ⊎ (given ≡ (lenient_reading files root).fault) → (given ≡ Some no_memory) ⊎ RepresentsListing l (lenient_reading files root).read
+  pub wanted_is : (paths : List (List ℕ)) → (given ≡ Some no_memory) ⊎ (given ≡ (lenient_reading files root).fault)
+      → (given ≡ Some no_memory) ⊎ RepresentsListing l (lenient_reading files root).read
       → ((read : List Group) → RepresentsListing l read → paths ≡ filter (is_absent files) (without_repeats (filter_map sourced_path read ++ root ∷ [])))
       → paths_or_fault paths given ≡ files_wanted files root
   unfolding files_wanted wanted_by

@@ -80,7 +80,8 @@ numbers_before_others k read =
           ∙ map-append number (filter opens (groups_in_context (drop k read))) (filter opens r.0),
     )
 
-place_after : (n k : ℕ) (ks rest : List ℕ) (b : Bool) → (k == n) ≡ b → (b ≡ true → ⊥) → index_of_number n ((ks ++ n ∷ []) ++ rest) ≡ Some (length ks) → cond b (Some 0) (option_map suc (index_of_number n ((ks ++ n ∷ []) ++ rest))) ≡ Some (suc (length ks))
+place_after : (n k : ℕ) (ks rest : List ℕ) (b : Bool) → (k == n) ≡ b → (b ≡ true → ⊥) → index_of_number n ((ks ++ n ∷ []) ++ rest) ≡ Some (length ks)
+    → cond b (Some 0) (option_map suc (index_of_number n ((ks ++ n ∷ []) ++ rest))) ≡ Some (suc (length ks))
 place_after n k ks rest true e away ih = absurd (away refl)
 place_after n k ks rest false e _ ih = ap (option_map suc) ih
 
@@ -93,7 +94,8 @@ place_there n [] rest _ = place_first n rest (n == n) (index_of_number n rest) (
 place_there n (k ∷ ks) rest away = place_after n k ks rest (k == n) refl (λ e. away (inl (eqb-true k n e))) (place_there n ks rest (λ h. away (inr h)))
 
 -- the number of a choice counts those before it
-pub number_counts : (read : List Group) (i : ℕ) (m : Group) → AreNumbers read → AreNumbers (read_before (i + 1) read) → read_before (i + 1) read ≡ m ∷ read_before i read → opens_choice m ≡ true
+pub number_counts : (read : List Group) (i : ℕ) (m : Group) → AreNumbers read → AreNumbers (read_before (i + 1) read)
+    → read_before (i + 1) read ≡ m ∷ read_before i read → opens_choice m ≡ true
     → choice_number (contents_of read) m.number ≡ Some (length (numbers_of_choices (read_before i read)))
 number_counts read i m a b now e =
     let r = numbers_before_others (length read - (i + 1)) read in
@@ -104,10 +106,12 @@ number_counts read i m a b now e =
     ∙ place_there m.number (numbers_of_choices prior) r.0 apart
 
 -- each choice that encloses a place has a number
-pub enclosing_numbered : (read : List Group) (p : GroupInContext) (n : ℕ) → Has p (groups_in_context read) → p.enclosing.choice ≡ Some n → (k : ℕ) × (choice_number (contents_of read) n ≡ Some k)
+pub enclosing_numbered : (read : List Group) (p : GroupInContext) (n : ℕ) → Has p (groups_in_context read) → p.enclosing.choice ≡ Some n
+    → (k : ℕ) × (choice_number (contents_of read) n ≡ Some k)
 enclosing_numbered read p n h e =
     let q = choice_read p read n h e in
-    let there : Has q.0.group.number (numbers_of_choices read) = mapped_has number (filter opens (groups_in_context read)) q.0 (filter-has opens (groups_in_context read) q.0 q.1 q.3) in
+    let there : Has q.0.group.number (numbers_of_choices read) = mapped_has number (filter opens (groups_in_context read)) q.0
+    (filter-has opens (groups_in_context read) q.0 q.1 q.3) in
     has-number n (numbers_of_choices read) (subst (λ m. Has m (numbers_of_choices read)) q.2 there)
 
 -- what is kept of the open blocks
@@ -119,28 +123,34 @@ dropped : (c : Contents) (opened : List Group) → open_choices c (drop 1 opened
 dropped c [] = refl
 dropped c (g ∷ outer) = refl
 
-opens_same : (c : Contents) (g : Group) (before : List Group) (w : GroupHead) → g.head ≡ w → side_of w ≡ opening → ((enclosing : Context) → (inner_context_of_group_head w enclosing g).choice ≡ enclosing.choice)
+opens_same : (c : Contents) (g : Group) (before : List Group) (w : GroupHead) → g.head ≡ w → side_of w ≡ opening
+    → ((enclosing : Context) → (inner_context_of_group_head w enclosing g).choice ≡ enclosing.choice)
     → open_choices c (open_blocks 0 (g ∷ before)) ≡ innermost_choice (open_choices c (open_blocks 0 before)) ∷ open_choices c (open_blocks 0 before)
 opens_same c g before w e side stays =
     let outer : List Group = open_blocks 0 before in
     ap (open_choices c) (pushed g before (ap side_of e ∙ side))
     ∙ ap (λ o. o ∷ open_choices c outer)
-    (ap (option_and_then (choice_number c)) (ap (λ v. (inner_context_of_group_head v (context outer) g).choice) e ∙ stays (context outer)) ∙ sym (innermost_is c outer))
+    (ap (option_and_then (choice_number c)) (ap (λ v. (inner_context_of_group_head v (context outer) g).choice) e ∙ stays (context outer))
+    ∙ sym (innermost_is c outer))
 
 opens_own : (c : Contents) (g : Group) (before : List Group) (n : ℕ) → g.head ≡ of_head choice → choice_number c g.number ≡ Some n
     → open_choices c (open_blocks 0 (g ∷ before)) ≡ Some n ∷ open_choices c (open_blocks 0 before)
 opens_own c g before n e number =
     let outer : List Group = open_blocks 0 before in
     ap (open_choices c) (pushed g before (ap side_of e))
-    ∙ ap (λ o. o ∷ open_choices c outer) (ap (option_and_then (choice_number c)) (ap (λ v. (inner_context_of_group_head v (context outer) g).choice) e) ∙ number)
+    ∙ ap (λ o. o ∷ open_choices c outer) (ap (option_and_then (choice_number c)) (ap (λ v. (inner_context_of_group_head v (context outer) g).choice) e)
+    ∙ number)
 
-closes : (c : Contents) (g : Group) (before : List Group) → side_of g.head ≡ closing → open_choices c (open_blocks 0 (g ∷ before)) ≡ drop 1 (open_choices c (open_blocks 0 before))
+closes : (c : Contents) (g : Group) (before : List Group) → side_of g.head ≡ closing
+    → open_choices c (open_blocks 0 (g ∷ before)) ≡ drop 1 (open_choices c (open_blocks 0 before))
 closes c g before e = ap (open_choices c) (popped g before e) ∙ dropped c (open_blocks 0 before)
 
-stays : (c : Contents) (g : Group) (before : List Group) → side_of g.head ≡ inside → open_choices c (open_blocks 0 (g ∷ before)) ≡ open_choices c (open_blocks 0 before)
+stays : (c : Contents) (g : Group) (before : List Group) → side_of g.head ≡ inside
+    → open_choices c (open_blocks 0 (g ∷ before)) ≡ open_choices c (open_blocks 0 before)
 stays c g before e = ap (open_choices c) (open_inside 0 g before e)
 
-pub opened_is : (c : Contents) (e : Exprs) (names texts : List (List ℕ)) (what : CodeWhat) (g : Group) (before : List Group) (n : ℕ) → RepresentsHead e names texts what g.head
+pub opened_is : (c : Contents) (e : Exprs) (names texts : List (List ℕ)) (what : CodeWhat) (g : Group) (before : List Group) (n : ℕ)
+    → RepresentsHead e names texts what g.head
     → (is_choice_code what ≡ true → choice_number c g.number ≡ Some n)
     → open_choices c (open_blocks 0 (g ∷ before)) ≡ choices_opened_after what n (open_choices c (open_blocks 0 before))
 opened_is c e names texts (codes.Config s) g before n h number = stays c g before (ap side_of h.2)
@@ -154,7 +164,8 @@ opened_is c e names texts (codes.Ends b) g before n h number = closes c g before
 opened_is c e names texts codes.FileEnd g before n h number = closes c g before (ap side_of h)
 
 -- whether a choice begins
-pub begins_is : (e : Exprs) (names texts : List (List ℕ)) (what : CodeWhat) (g : Group) → RepresentsHead e names texts what g.head → opens_choice g ≡ is_choice_code what
+pub begins_is : (e : Exprs) (names texts : List (List ℕ)) (what : CodeWhat) (g : Group) → RepresentsHead e names texts what g.head
+    → opens_choice g ≡ is_choice_code what
 begins_is e names texts (codes.Config s) g h = rw h.2 refl
 begins_is e names texts codes.Choice g h = rw h refl
 begins_is e names texts (codes.Menu t) g h = rw h.2 refl
@@ -180,13 +191,16 @@ no_rounds read =
       choices_are = sym (ap (λ r. length (numbers_of_choices r)) e);
     }
 
-counted : (read : List Group) (i : ℕ) (m : Group) (b : Bool) (n : ℕ) → read_before (i + 1) read ≡ m ∷ read_before i read → opens_choice m ≡ b → n ≡ length (numbers_of_choices (read_before i read)) → cond b (n + 1) n ≡ length (numbers_of_choices (read_before (i + 1) read))
+counted : (read : List Group) (i : ℕ) (m : Group) (b : Bool) (n : ℕ) → read_before (i + 1) read ≡ m ∷ read_before i read → opens_choice m ≡ b
+    → n ≡ length (numbers_of_choices (read_before i read)) → cond b (n + 1) n ≡ length (numbers_of_choices (read_before (i + 1) read))
 counted read i m true n now o e = ap (λ k. k + 1) e ∙ sym (ap (λ r. length (numbers_of_choices r)) now ∙ count_more m (read_before i read) o)
 counted read i m false n now o e = e ∙ sym (ap (λ r. length (numbers_of_choices r)) now ∙ ap length (choices_same m (read_before i read) o))
 
 module _ (e : Exprs) (names texts : List (List ℕ)) (lines : List CodeLine) (groups : List CodeGroup) (read : List Group) (h : RepresentsGroups e names texts lines (length lines) (reverse groups) read) where
-  pub enclosing_more : (i : ℕ) (enclosing inner around2 inner2 : List (Option ℕ)) (choices choices2 : ℕ) (what : CodeWhat) → i < length groups → what ≡ (group_at groups i).head → AreRound read i enclosing inner choices
-      → around2 ≡ enclosing ++ innermost_choice (reverse inner) ∷ [] → reverse inner2 ≡ choices_opened_after what choices (reverse inner) → choices2 ≡ cond (is_choice_code what) (choices + 1) choices → AreRound read (i + 1) around2 inner2 choices2
+  pub enclosing_more : (i : ℕ) (enclosing inner around2 inner2 : List (Option ℕ)) (choices choices2 : ℕ) (what : CodeWhat) → i < length groups
+      → what ≡ (group_at groups i).head → AreRound read i enclosing inner choices
+      → around2 ≡ enclosing ++ innermost_choice (reverse inner) ∷ [] → reverse inner2 ≡ choices_opened_after what choices (reverse inner)
+      → choices2 ≡ cond (is_choice_code what) (choices + 1) choices → AreRound read (i + 1) around2 inner2 choices2
   enclosing_more i enclosing inner around2 inner2 choices choices2 what l w r ae oe ce =
       let s = shown_at e names texts lines groups read h i l in
       let c : Contents = contents_of read in
@@ -198,23 +212,30 @@ module _ (e : Exprs) (names texts : List (List ℕ)) (lines : List CodeLine) (gr
         around_is = ae
             ∙ ap (λ x. enclosing ++ x ∷ []) (ap innermost_choice r.open_is ∙ innermost_is c (open_blocks 0 prior))
             ∙ ap (λ xs. xs ++ enclosing_choice c (group_in_context (open_blocks 0 prior) s.group) ∷ []) r.around_is
-            ∙ sym (ap (map (enclosing_choice c)) (placed_more read i s.group s.now) ∙ map-append (enclosing_choice c) (groups_in_context prior) (group_in_context (open_blocks 0 prior) s.group ∷ []));
+            ∙ sym (ap (map (enclosing_choice c)) (placed_more read i s.group s.now)
+            ∙ map-append (enclosing_choice c) (groups_in_context prior) (group_in_context (open_blocks 0 prior) s.group ∷ []));
         open_is = oe
             ∙ ap (choices_opened_after what choices) r.open_is
             ∙ sym (ap (λ x. open_choices c (open_blocks 0 x)) s.now
-            ∙ opened_is c e names texts what s.group prior choices shown (λ b. number_counts read i s.group a (numbers_before (length read - (i + 1)) read a) s.now (begins ∙ b) ∙ ap Some (sym r.choices_are)));
+            ∙ opened_is c e names texts what s.group prior choices shown
+            (λ b. number_counts read i s.group a (numbers_before (length read - (i + 1)) read a) s.now (begins ∙ b) ∙ ap Some (sym r.choices_are)));
         choices_are = ce ∙ counted read i s.group (is_choice_code what) choices s.now begins r.choices_are;
       }
 
-pub all_round : (read : List Group) (i : ℕ) (enclosing inner : List (Option ℕ)) (choices : ℕ) → i ≡ length read → AreRound read i enclosing inner choices → enclosing ≡ map (enclosing_choice (contents_of read)) (groups_in_context read)
-all_round read i enclosing inner choices e r = r.around_is ∙ ap (λ x. map (enclosing_choice (contents_of read)) (groups_in_context x)) (ap (λ n. read_before n read) e ∙ all_before read)
+pub all_round : (read : List Group) (i : ℕ) (enclosing inner : List (Option ℕ)) (choices : ℕ) → i ≡ length read → AreRound read i enclosing inner choices
+    → enclosing ≡ map (enclosing_choice (contents_of read)) (groups_in_context read)
+all_round read i enclosing inner choices e r =
+    r.around_is ∙ ap (λ x. map (enclosing_choice (contents_of read)) (groups_in_context x)) (ap (λ n. read_before n read) e ∙ all_before read)
 
 -- the count of choices alone
 pub none_counted : (read : List Group) → 0 ≡ length (numbers_of_choices (read_before 0 read))
 none_counted read = sym (ap (λ r. length (numbers_of_choices r)) (none_before read))
 
-pub one_counted : (e : Exprs) (names texts : List (List ℕ)) (lines : List CodeLine) (groups : List CodeGroup) (read : List Group) → RepresentsGroups e names texts lines (length lines) (reverse groups) read → (i n n2 : ℕ) (what : CodeWhat) → i < length groups → what ≡ (group_at groups i).head
-    → n ≡ length (numbers_of_choices (read_before i read)) → n2 ≡ cond (is_choice_code what) (n + 1) n → n2 ≡ length (numbers_of_choices (read_before (i + 1) read))
+pub one_counted : (e : Exprs) (names texts : List (List ℕ)) (lines : List CodeLine) (groups : List CodeGroup) (read : List Group)
+    → RepresentsGroups e names texts lines (length lines) (reverse groups) read → (i n n2 : ℕ) (what : CodeWhat) → i < length groups
+    → what ≡ (group_at groups i).head
+    → n ≡ length (numbers_of_choices (read_before i read)) → n2 ≡ cond (is_choice_code what) (n + 1) n
+    → n2 ≡ length (numbers_of_choices (read_before (i + 1) read))
 one_counted e names texts lines groups read h i n n2 what l w c k =
     let s = shown_at e names texts lines groups read h i l in
     let shown : RepresentsHead e names texts what s.group.head = subst (λ v. RepresentsHead e names texts v s.group.head) (sym w) s.shown.head in

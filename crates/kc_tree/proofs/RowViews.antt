@@ -1,13 +1,15 @@
 -- The symbols and choices that the rows of a tree represent, by their places.
-use Rattle.std.proofs.Common.{◌≡◌, ℕ, zero, suc, ◌+◌, ◌-◌, List, [], ◌∷◌, length, drop, Some, refl, ap, arith}
+use Rattle.std.proofs.Common.{◌≡◌, ℕ, zero, suc, ◌+◌, ◌-◌, List, [], ◌∷◌, length, map, drop, Option, Some, None, refl, ap, sym, arith}
 use Rattle.std.specs.Prelude.{All, slice_get, slice_index}
-use Rattle.std.proofs.lemmas.List.{length-map}
+use Rattle.std.proofs.lemmas.List.{length-map, take-map}
 use Rattle.std.proofs.lemmas.List.Elements.{All-take, All-drop}
+use Rattle.kc_tree_model.specs.Contents.{own_dependencies}
 use Rattle.kc_tree.specs.checker.GroupedItems.{items_at}
 use Rattle.kc_tree.specs.checker.PartsView.{from_rows, tree_from_rows, symbol_from_row, choice_from_row, entry_from_row}
 use Rattle.kc_tree.specs.declared.parts.Parts.{Parts}
 
-pub seen_get : {A B : Type 0} (f : ℕ → A → B) (n : ℕ) (xs : List A) (i j : ℕ) (x : A) → j ≡ n + i → slice_get xs i ≡ Some x → slice_get (from_rows f n xs) i ≡ Some (f j x)
+pub seen_get : {A B : Type 0} (f : ℕ → A → B) (n : ℕ) (xs : List A) (i j : ℕ) (x : A) → j ≡ n + i → slice_get xs i ≡ Some x
+    → slice_get (from_rows f n xs) i ≡ Some (f j x)
 seen_get f n [] i j x e h = cc
 seen_get f n (y ∷ ys) zero j x e h =
     let s : y ≡ x = cc in
@@ -21,7 +23,8 @@ seen_length f n (x ∷ xs) = ap suc (seen_length f (suc n) xs)
 
 -- what holds of all items holds of those of a key
 pub all_at : {X : Type 0} (P : X → Type 0) (starts : List ℕ) (items : List X) (k : ℕ) → All P items → All P (items_at starts items k)
-all_at P starts items k h = All-take P (slice_index starts (k + 1) - slice_index starts k) (drop (slice_index starts k) items) (All-drop P (slice_index starts k) items h)
+all_at P starts items k h =
+    All-take P (slice_index starts (k + 1) - slice_index starts k) (drop (slice_index starts k) items) (All-drop P (slice_index starts k) items h)
 
 -- as many symbols, choices, entries and units as rows
 pub symbols_length : (p : Parts) → length (tree_from_rows p).symbols ≡ length p.symbols.items
@@ -35,3 +38,12 @@ entries_length p = length-map p.entries.items (entry_from_row p.arena p.titles.i
 
 pub units_length : (p : Parts) → length (tree_from_rows p).units ≡ length p.units.items
 units_length p = refl
+
+-- the dependencies of a member or of another symbol, seen through a view, and where each has a property
+pub mapped_own : {A B : Type 0} (f : A → B) (choice : Option ℕ) (all : List A) → map f (own_dependencies choice all) ≡ own_dependencies choice (map f all)
+mapped_own f None all = refl
+mapped_own f (Some k) all = sym (take-map f 1 all)
+
+pub all_own : {A : Type 0} (P : A → Type 0) (choice : Option ℕ) (all : List A) → All P all → All P (own_dependencies choice all)
+all_own P None all h = h
+all_own P (Some k) all h = All-take P 1 all h

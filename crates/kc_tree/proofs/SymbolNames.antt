@@ -18,13 +18,15 @@ found_there p n false e = tt
 pub named_there : (tree : Tree) (x : List ℕ) → IfSome (symbol_named tree x) (λ s. s < length tree.symbols)
 named_there tree x = found_there (position_or_len (λ (s : Symbol). bytes_eq x s.name) tree.symbols) (length tree.symbols) _ refl
 
-pub reported_at : (tree : Tree) (names : List (List ℕ)) (table : List (Option ℕ)) (i : ℕ) (o : Option ℕ) → table ≡ map (symbol_named tree) names → i < length table → o ≡ get_or table i o → o ≡ symbol_of_name_id tree names i
+pub reported_at : (tree : Tree) (names : List (List ℕ)) (table : List (Option ℕ)) (i : ℕ) (o : Option ℕ) → table ≡ map (symbol_named tree) names
+    → i < length table → o ≡ get_or table i o → o ≡ symbol_of_name_id tree names i
 reported_at tree names table i o e h f =
     let l : length table ≡ length names = ap length e ∙ length-map names (symbol_named tree) in
     let g : get_or table i o ≡ symbol_named tree (get_or names i []) = ap (λ t. get_or t i o) e ∙ get_or-map (symbol_named tree) names i [] o (omega arith) in
     f ∙ g ∙ sym (ap (option_and_then (symbol_named tree)) (slice_get-get_or names i [] (omega arith)))
 
-pub reported_past : (tree : Tree) (names : List (List ℕ)) (table : List (Option ℕ)) (i : ℕ) → table ≡ map (symbol_named tree) names → length table ≤ i → None ≡ symbol_of_name_id tree names i
+pub reported_past : (tree : Tree) (names : List (List ℕ)) (table : List (Option ℕ)) (i : ℕ) → table ≡ map (symbol_named tree) names → length table ≤ i
+    → None ≡ symbol_of_name_id tree names i
 reported_past tree names table i e h =
     let l : length table ≡ length names = ap length e ∙ length-map names (symbol_named tree) in
     sym (ap (option_and_then (symbol_named tree)) (slice_get_past names i (omega arith)))
@@ -37,7 +39,8 @@ pub reported_there : (tree : Tree) (names : List (List ℕ)) (i : ℕ) (o : Opti
 reported_there tree names i o e = subst (λ p. IfSome p (λ s. s < length tree.symbols)) (sym e) (reported_of tree (slice_get names i))
 
 -- the symbol at the place of a name is the symbol of that name
-pub reported_by_place : (tree : Tree) (x : List ℕ) (names : List (List ℕ)) (i : ℕ) → index_of_name x names ≡ Some i → symbol_of_name_id tree names i ≡ symbol_named tree x
+pub reported_by_place : (tree : Tree) (x : List ℕ) (names : List (List ℕ)) (i : ℕ) → index_of_name x names ≡ Some i
+    → symbol_of_name_id tree names i ≡ symbol_named tree x
 reported_by_place tree x names i e =
     let t = place_there x names i e in
     ap (option_and_then (symbol_named tree)) (slice_get-get_or names i [] t.0) ∙ ap (symbol_named tree) t.1

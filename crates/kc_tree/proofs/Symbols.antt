@@ -33,11 +33,13 @@ use Rattle.kc_tree.proofs.Aligned.{all_before, count_is, none_before, place_numb
 use Rattle.kc_tree.proofs.Rounds.{enclosing_numbered}
 
 -- a name that a place defines is among those that are defined
-pub named_there : (read : List Group) (p : GroupInContext) (name : List ℕ) → Has p (groups_in_context read) → defined_name p.group ≡ Some name → Has name (names_defined read)
+pub named_there : (read : List Group) (p : GroupInContext) (name : List ℕ) → Has p (groups_in_context read) → defined_name p.group ≡ Some name
+    → Has name (names_defined read)
 named_there read p name h e = once-has name (filter_map defined_name read) (filter_map-has defined_name read p.group name (group-placed p read h) e)
 
 -- a name that isn't among them has no definition
-no_places : (read : List Group) (name : List ℕ) (ds : List GroupInContext) → definitions_of (contents_of read) name ≡ ds → index_of_name name (names_defined read) ≡ None → ds ≡ []
+no_places : (read : List Group) (name : List ℕ) (ds : List GroupInContext) → definitions_of (contents_of read) name ≡ ds
+    → index_of_name name (names_defined read) ≡ None → ds ≡ []
 no_places read name [] e n = refl
 no_places read name (d ∷ ds) e n =
     let own : Has d (definitions_of (contents_of read) name) = subst (Has d) (sym e) (inl refl) in
@@ -51,7 +53,9 @@ no_definitions read name n = no_places read name (definitions_of (contents_of re
 
 -- the type by the definitions
 abbrev kind_by : Contents → List GroupInContext → Option Kind
-kind_by c ds = kind_or_bool (slice_get (flat_map (λ (p : GroupInContext). attribute_values type_of p.group) ds) 0) (is_some (option_and_then (choice_number c) (slice_get (filter_map (λ (p : GroupInContext). p.enclosing.choice) ds) 0)))
+kind_by c ds =
+    kind_or_bool (slice_get (flat_map (λ (p : GroupInContext). attribute_values type_of p.group) ds) 0)
+    (is_some (option_and_then (choice_number c) (slice_get (filter_map (λ (p : GroupInContext). p.enclosing.choice) ds) 0)))
 
 selectable_by : (o : Option Kind) → Bool
 selectable_by None = true
@@ -78,27 +82,36 @@ unfolding selectable_by
 selectable_none c name e = selectable_is c name ∙ ap selectable_by e
 
 -- the choice of a symbol
-choice_by : (c : Contents) (p : GroupInContext) (o : Option ℕ) → p.enclosing.choice ≡ o → ((n : ℕ) → o ≡ Some n → (k : ℕ) × (choice_number c n ≡ Some k)) → (xs ys : List ℕ)
+choice_by : (c : Contents) (p : GroupInContext) (o : Option ℕ) → p.enclosing.choice ≡ o → ((n : ℕ) → o ≡ Some n → (k : ℕ) × (choice_number c n ≡ Some k))
+    → (xs ys : List ℕ)
     → slice_get xs 0 ≡ option_and_then (choice_number c) (slice_get ys 0)
     → slice_get (option_to_list (option_and_then (choice_number c) o) ++ xs) 0 ≡ option_and_then (choice_number c) (slice_get (cons_option o ys) 0)
 choice_by c p None e numbered xs ys ih = ih
 choice_by c p (Some n) e numbered xs ys ih = let k = numbered n refl in ap (λ m. slice_get (option_to_list m ++ xs) 0) k.1 ∙ sym k.1
 
-choice_first : (c : Contents) (ds : List GroupInContext) → ((p : GroupInContext) (n : ℕ) → Has p ds → p.enclosing.choice ≡ Some n → (k : ℕ) × (choice_number c n ≡ Some k))
+choice_first : (c : Contents) (ds : List GroupInContext)
+    → ((p : GroupInContext) (n : ℕ) → Has p ds → p.enclosing.choice ≡ Some n → (k : ℕ) × (choice_number c n ≡ Some k))
     → slice_get (flat_map (choices_at c) ds) 0 ≡ option_and_then (choice_number c) (slice_get (filter_map (λ (p : GroupInContext). p.enclosing.choice) ds) 0)
 choice_first c [] numbered = refl
-choice_first c (p ∷ ds) numbered = choice_by c p p.enclosing.choice refl (λ n e. numbered p n (inl refl) e) (flat_map (choices_at c) ds) (filter_map (λ (q : GroupInContext). q.enclosing.choice) ds) (choice_first c ds (λ q n h e. numbered q n (inr h) e))
+choice_first c (p ∷ ds) numbered =
+    choice_by c p p.enclosing.choice refl (λ n e. numbered p n (inl refl) e) (flat_map (choices_at c) ds)
+    (filter_map (λ (q : GroupInContext). q.enclosing.choice) ds) (choice_first c ds (λ q n h e. numbered q n (inr h) e))
 
-pub choice_is : (read : List Group) (name : List ℕ) → (summary_in (contents_of read) (groups_in_context read) name).choice ≡ choice_of_symbol (contents_of read) name
-choice_is read name = choice_first (contents_of read) (definitions_of (contents_of read) name) (λ p n h e. enclosing_numbered read p n (has-filter (defines name) (groups_in_context read) p h).0 e)
+pub choice_is : (read : List Group) (name : List ℕ)
+    → (summary_in (contents_of read) (groups_in_context read) name).choice ≡ choice_of_symbol (contents_of read) name
+choice_is read name =
+    choice_first (contents_of read) (definitions_of (contents_of read) name)
+    (λ p n h e. enclosing_numbered read p n (has-filter (defines name) (groups_in_context read) p h).0 e)
 
-pub kind_is : (read : List Group) (name : List ℕ) (a : SymbolSummary) → a ≡ summary_in (contents_of read) (groups_in_context read) name → kind_or_bool a.given (is_some a.choice) ≡ kind_of (contents_of read) name
+pub kind_is : (read : List Group) (name : List ℕ) (a : SymbolSummary) → a ≡ summary_in (contents_of read) (groups_in_context read) name
+    → kind_or_bool a.given (is_some a.choice) ≡ kind_of (contents_of read) name
 kind_is read name a e =
     ap (λ (x : SymbolSummary). kind_or_bool x.given (is_some x.choice)) e
     ∙ ap (λ o. kind_or_bool (type_given (contents_of read) name) (is_some o)) (choice_is read name)
 
 -- what defines no symbol
-pub nameless : (e : Exprs) (names texts : List (List ℕ)) (code : CodeWhat) (w : GroupHead) → RepresentsHead e names texts code w → ((s : ℕ) → code ≡ codes.Config s → ⊥) → from_head name_of_head w ≡ None
+pub nameless : (e : Exprs) (names texts : List (List ℕ)) (code : CodeWhat) (w : GroupHead) → RepresentsHead e names texts code w
+    → ((s : ℕ) → code ≡ codes.Config s → ⊥) → from_head name_of_head w ≡ None
 nameless e names texts (codes.Config s) w h n = absurd (n s refl)
 nameless e names texts codes.Choice w h n = ap (from_head name_of_head) h
 nameless e names texts (codes.Menu t) w h n = ap (from_head name_of_head) h.2
@@ -117,11 +130,15 @@ module _ (read : List Group) (symbols : List SymbolSummary) (h : symbols ≡ sym
   pub symbol_below : (s : ℕ) (name : List ℕ) → slice_get (names_defined read) s ≡ Some name → s < length symbols
   symbol_below s name e = let l = get_below (names_defined read) s name e in let m = as_many_symbols in omega arith
 
-  pub about_is : (s : ℕ) (name : List ℕ) (d : SymbolSummary) → slice_get (names_defined read) s ≡ Some name → get_or symbols s d ≡ summary_in (contents_of read) (groups_in_context read) name
-  about_is s name d e = get_or_from_slice_get symbols s _ d (ap (λ xs. slice_get xs s) h ∙ map-get (summary_in (contents_of read) (groups_in_context read)) (names_defined read) s name e)
+  pub about_is : (s : ℕ) (name : List ℕ) (d : SymbolSummary) → slice_get (names_defined read) s ≡ Some name
+      → get_or symbols s d ≡ summary_in (contents_of read) (groups_in_context read) name
+  about_is s name d e =
+      get_or_from_slice_get symbols s _ d (ap (λ xs. slice_get xs s) h
+      ∙ map-get (summary_in (contents_of read) (groups_in_context read)) (names_defined read) s name e)
 
 -- what is selected or implied
-pub reverse_dependency_some : (c : Contents) (k : Kind) (a : Attribute) (x : List ℕ) → aim_of a ≡ Some x → is_wrong_reverse_dependency c k a ≡ (not (is_tri_kind k) || not (is_selectable c x))
+pub reverse_dependency_some : (c : Contents) (k : Kind) (a : Attribute) (x : List ℕ) → aim_of a ≡ Some x
+    → is_wrong_reverse_dependency c k a ≡ (not (is_tri_kind k) || not (is_selectable c x))
 reverse_dependency_some c k (select s) x e = let same : s.name ≡ x = cc in ap (λ y. not (is_tri_kind k) || not (is_selectable c y)) same
 reverse_dependency_some c k (imply s) x e = let same : s.name ≡ x = cc in ap (λ y. not (is_tri_kind k) || not (is_selectable c y)) same
 reverse_dependency_some c k a x e = cc
@@ -148,7 +165,8 @@ no_member_named false members = refl
 pub no_name_none : (members : List (List ℕ)) (d : DefaultAttribute) → bare_name d.value ≡ None → is_some (member_named members d) ≡ false
 no_name_none members d e = ap (λ o. is_some (cond d.single (option_and_then (name_among members) o) None)) e ∙ no_member_named d.single members
 
-pub name_some : (members : List (List ℕ)) (d : DefaultAttribute) (x : List ℕ) → d.single ≡ true → bare_name d.value ≡ Some x → is_some (member_named members d) ≡ is_some (index_of_name x members)
+pub name_some : (members : List (List ℕ)) (d : DefaultAttribute) (x : List ℕ) → d.single ≡ true → bare_name d.value ≡ Some x
+    → is_some (member_named members d) ≡ is_some (index_of_name x members)
 name_some members d x s e =
     ap (λ b. is_some (cond b (option_and_then (name_among members) (bare_name d.value)) None)) s
     ∙ ap (λ o. is_some (option_and_then (name_among members) o)) e
@@ -160,15 +178,23 @@ name_some members d x s e =
 
 -- the symbols that the first `i` groups define
 module _ (e : Exprs) (texts : List (List ℕ)) (lines : List CodeLine) (groups : List CodeGroup) (read : List Group) (h : RepresentsGroups e (names_defined read) texts lines (length lines) (reverse groups) read) where
-  pub enclosing_at : (i : ℕ) (enclosing : List (Option ℕ)) (p : GroupInContext) → enclosing ≡ map (enclosing_choice (contents_of read)) (groups_in_context read) → slice_get (groups_in_context read) i ≡ Some p → get_or enclosing i None ≡ enclosing_choice (contents_of read) p
-  enclosing_at i enclosing p a at = get_or_from_slice_get enclosing i _ None (ap (λ xs. slice_get xs i) a ∙ map-get (enclosing_choice (contents_of read)) (groups_in_context read) i p at)
+  pub enclosing_at : (i : ℕ) (enclosing : List (Option ℕ)) (p : GroupInContext) → enclosing ≡ map (enclosing_choice (contents_of read)) (groups_in_context read)
+      → slice_get (groups_in_context read) i ≡ Some p → get_or enclosing i None ≡ enclosing_choice (contents_of read) p
+  enclosing_at i enclosing p a at =
+      get_or_from_slice_get enclosing i _ None (ap (λ xs. slice_get xs i) a ∙ map-get (enclosing_choice (contents_of read)) (groups_in_context read) i p at)
 
   types_at : (m : Group) (own : List CodeLine) → m.attributes ≡ map (line_in e) own → attribute_values type_of m ≡ filter_map (type_in e) own
   types_at m own a = ap (filter_map (λ (l : Line). type_of l.attribute)) a ∙ types_of_lines e own
 
-  pub symbols_more : (i s : ℕ) (symbols : List SymbolSummary) (enclosing : List (Option ℕ)) (old here : SymbolSummary) → i < length groups → (group_at groups i).head ≡ codes.Config s → symbols ≡ symbol_summaries (contents_of read) (groups_in_context (read_before i read))
+  pub symbols_more : (i s : ℕ) (symbols : List SymbolSummary) (enclosing : List (Option ℕ)) (old here : SymbolSummary) → i < length groups
+      → (group_at groups i).head ≡ codes.Config s → symbols ≡ symbol_summaries (contents_of read) (groups_in_context (read_before i read))
       → enclosing ≡ map (enclosing_choice (contents_of read)) (groups_in_context read) → old ≡ get_or symbols s old
-      → here ≡ record { first = Some i; given = slice_get (filter_map (type_in e) (slice_range lines (group_at groups i).attributes (attributes_end groups lines i))) 0; choice = get_or enclosing i None }
+      → here ≡ record {
+        first = Some i;
+        given = slice_get (filter_map (type_in e)
+            (slice_range lines (group_at groups i).attributes (attributes_end groups lines i))) 0;
+        choice = get_or enclosing i None;
+      }
       → set symbols s (first_summary old here) ≡ symbol_summaries (contents_of read) (groups_in_context (read_before (i + 1) read))
   symbols_more i s symbols enclosing old here l w a r o k =
       let c = contents_of read in
@@ -178,25 +204,33 @@ module _ (e : Exprs) (texts : List (List ℕ)) (lines : List CodeLine) (groups :
       let prior : List Group = read_before i read in
       let p : GroupInContext = group_in_context (open_blocks 0 prior) t.group in
       let at = place_numbered read i t.group (omega arith) t.now in
-      let was : old ≡ summary_in c (groups_in_context prior) what.0 = o ∙ get_or_from_slice_get symbols s _ old (ap (λ xs. slice_get xs s) a ∙ map-get (summary_in c (groups_in_context prior)) (names_defined read) s what.0 what.1) in
+      let was : old ≡ summary_in c (groups_in_context prior) what.0 = o
+      ∙ get_or_from_slice_get symbols s _ old (ap (λ xs. slice_get xs s) a
+      ∙ map-get (summary_in c (groups_in_context prior)) (names_defined read) s what.0 what.1) in
       let own = slice_range lines (group_at groups i).attributes (attributes_end groups lines i) in
       let is : here ≡ about_at c p =
       k
-      ∙ ap (λ f. let x : SymbolSummary = record { first = Some f; given = slice_get (filter_map (type_in e) own) 0; choice = get_or enclosing i None } in x) (sym t.shown.number_is)
-      ∙ ap (λ f. let x : SymbolSummary = record { first = Some t.group.number; given = slice_get f 0; choice = get_or enclosing i None } in x) (sym (types_at t.group own t.shown.attributes))
-      ∙ ap (λ f. let x : SymbolSummary = record { first = Some t.group.number; given = slice_get (attribute_values type_of t.group) 0; choice = f } in x) (enclosing_at i enclosing p r at) in
+      ∙ ap (λ f. let x : SymbolSummary = record { first = Some f; given = slice_get (filter_map (type_in e) own) 0; choice = get_or enclosing i None } in x)
+      (sym t.shown.number_is)
+      ∙ ap (λ f. let x : SymbolSummary = record { first = Some t.group.number; given = slice_get f 0; choice = get_or enclosing i None } in x)
+      (sym (types_at t.group own t.shown.attributes))
+      ∙ ap (λ f. let x : SymbolSummary = record { first = Some t.group.number; given = slice_get (attribute_values type_of t.group) 0; choice = f } in x)
+      (enclosing_at i enclosing p r at) in
       ap (λ x. set symbols s (first_summary x here)) was
       ∙ ap (λ x. set symbols s (first_summary (summary_in c (groups_in_context prior) what.0) x)) is
       ∙ ap (λ xs. set xs s (first_summary (summary_in c (groups_in_context prior) what.0) (about_at c p))) a
-      ∙ sym (ap (symbol_summaries c) (placed_more read i t.group t.now) ∙ abouts_more c (groups_in_context prior) p what.0 s (Differ-once (filter_map defined_name read)) what.2 what.1)
+      ∙ sym (ap (symbol_summaries c) (placed_more read i t.group t.now)
+      ∙ abouts_more c (groups_in_context prior) p what.0 s (Differ-once (filter_map defined_name read)) what.2 what.1)
 
-  pub symbols_kept : (i : ℕ) → i < length groups → ((s : ℕ) → (group_at groups i).head ≡ codes.Config s → ⊥) → symbol_summaries (contents_of read) (groups_in_context (read_before i read)) ≡ symbol_summaries (contents_of read) (groups_in_context (read_before (i + 1) read))
+  pub symbols_kept : (i : ℕ) → i < length groups → ((s : ℕ) → (group_at groups i).head ≡ codes.Config s → ⊥)
+      → symbol_summaries (contents_of read) (groups_in_context (read_before i read)) ≡ symbol_summaries (contents_of read) (groups_in_context (read_before (i + 1) read))
   symbols_kept i l w =
       let c = contents_of read in
       let t = shown_at e (names_defined read) texts lines groups read h i l in
       let prior : List Group = read_before i read in
       let p : GroupInContext = group_in_context (open_blocks 0 prior) t.group in
-      sym (ap (symbol_summaries c) (placed_more read i t.group t.now) ∙ abouts_same c (groups_in_context prior) p (nameless e (names_defined read) texts (group_at groups i).head t.group.head t.shown.head w))
+      sym (ap (symbol_summaries c) (placed_more read i t.group t.now) ∙ abouts_same c (groups_in_context prior) p
+      (nameless e (names_defined read) texts (group_at groups i).head t.group.head t.shown.head w))
 
   pub symbol_there : (i s : ℕ) → i < length groups → (group_at groups i).head ≡ codes.Config s → s < length (names_defined read)
   symbol_there i s l w =
@@ -205,14 +239,16 @@ module _ (e : Exprs) (texts : List (List ℕ)) (lines : List CodeLine) (groups :
       get_below (names_defined read) s what.0 what.1
 
 -- nothing is known yet
-pub none_known : (c : Contents) (names : List (List ℕ)) → replicate (length names) (let x : SymbolSummary = record { first = None; given = None; choice = None } in x) ≡ map (summary_in c []) names
+pub none_known : (c : Contents) (names : List (List ℕ))
+    → replicate (length names) (let x : SymbolSummary = record { first = None; given = None; choice = None } in x) ≡ map (summary_in c []) names
 none_known c [] = refl
 none_known c (x ∷ names) = ap (λ xs. (let y : SymbolSummary = record { first = None; given = None; choice = None } in y) ∷ xs) (none_known c names)
 
 pub no_abouts : (read : List Group) → symbol_summaries (contents_of read) [] ≡ symbol_summaries (contents_of read) (groups_in_context (read_before 0 read))
 no_abouts read = sym (ap (λ r. symbol_summaries (contents_of read) (groups_in_context r)) (none_before read))
 
-pub all_abouts : (read : List Group) (i : ℕ) → i ≡ length read → symbol_summaries (contents_of read) (groups_in_context (read_before i read)) ≡ symbol_summaries (contents_of read) (groups_in_context read)
+pub all_abouts : (read : List Group) (i : ℕ) → i ≡ length read
+    → symbol_summaries (contents_of read) (groups_in_context (read_before i read)) ≡ symbol_summaries (contents_of read) (groups_in_context read)
 all_abouts read i e = ap (λ r. symbol_summaries (contents_of read) (groups_in_context r)) (ap (λ n. read_before n read) e ∙ all_before read)
 
 pub as_many_abouts : (c : Contents) (ps : List GroupInContext) (symbols : List SymbolSummary) → symbols ≡ symbol_summaries c ps → length symbols ≡ length c.names
@@ -220,10 +256,12 @@ as_many_abouts c ps symbols e = ap length e ∙ length-map c.names (summary_in c
 
 -- the summary with one more place
 pub statement_by : {A : Type 0} (f : GroupInContext → List A) (read : List Group) (i : ℕ) (m : Group) → read_before (i + 1) read ≡ m ∷ read_before i read
-    → flat_map f (groups_in_context (read_before (i + 1) read)) ≡ flat_map f (groups_in_context (read_before i read)) ++ f (group_in_context (open_blocks 0 (read_before i read)) m)
+    → flat_map f (groups_in_context (read_before (i + 1) read)) ≡ flat_map f (groups_in_context (read_before i read)) ++ f
+    (group_in_context (open_blocks 0 (read_before i read)) m)
 statement_by f read i m now =
     let p : GroupInContext = group_in_context (open_blocks 0 (read_before i read)) m in
-    ap (flat_map f) (placed_more read i m now) ∙ flat_map-append f (groups_in_context (read_before i read)) (p ∷ []) ∙ ap (λ xs. flat_map f (groups_in_context (read_before i read)) ++ xs) (append-nil (f p))
+    ap (flat_map f) (placed_more read i m now) ∙ flat_map-append f (groups_in_context (read_before i read)) (p ∷ [])
+    ∙ ap (λ xs. flat_map f (groups_in_context (read_before i read)) ++ xs) (append-nil (f p))
 
 -- the members that the first `i` groups define
 pub record AreMembers (read : List Group) (i : ℕ) (keys members : List ℕ) : Type 0 where
@@ -239,10 +277,14 @@ no_members read =
     }
 
 pub all_members : (read : List Group) (i : ℕ) (keys members : List ℕ) → i ≡ length read → AreMembers read i keys members
-    → (keys ≡ flat_map (member_keys_at (contents_of read)) (groups_in_context read)) × (members ≡ flat_map (members_at (contents_of read)) (groups_in_context read))
+    → (keys ≡ flat_map (member_keys_at (contents_of read)) (groups_in_context read))
+    × (members ≡ flat_map (members_at (contents_of read)) (groups_in_context read))
 all_members read i keys members e a =
-    let all = ap (λ n. read_before n read) e ∙ all_before read in
-    (a.keys_are ∙ ap (λ r. flat_map (member_keys_at (contents_of read)) (groups_in_context r)) all, a.members_are ∙ ap (λ r. flat_map (members_at (contents_of read)) (groups_in_context r)) all)
+    let all = ap (λ n. read_before n read) e ∙ all_before read in (
+      a.keys_are ∙ ap (λ r. flat_map (member_keys_at (contents_of read)) (groups_in_context r)) all,
+      a.members_are
+          ∙ ap (λ r. flat_map (members_at (contents_of read)) (groups_in_context r)) all,
+    )
 
 -- a name's number is its place
 pub place_is : (names : List (List ℕ)) (name : List ℕ) (s : ℕ) → Differ names → slice_get names s ≡ Some name → index_of_name name names ≡ Some s
@@ -251,16 +293,21 @@ place_is names name s differ at =
     r.1 ∙ ap Some (at_most_once name names r.0 s differ (place-get name names r.0 r.1) at)
 
 module _ (e : Exprs) (texts : List (List ℕ)) (lines : List CodeLine) (groups : List CodeGroup) (read : List Group) (h : RepresentsGroups e (names_defined read) texts lines (length lines) (reverse groups) read) where
-  here_more : (i : ℕ) (m : Group) (ks ms keys members : List ℕ) → read_before (i + 1) read ≡ m ∷ read_before i read → member_keys_at (contents_of read) (group_in_context (open_blocks 0 (read_before i read)) m) ≡ ks → members_at (contents_of read) (group_in_context (open_blocks 0 (read_before i read)) m) ≡ ms
+  here_more : (i : ℕ) (m : Group) (ks ms keys members : List ℕ) → read_before (i + 1) read ≡ m ∷ read_before i read
+      → member_keys_at (contents_of read) (group_in_context (open_blocks 0 (read_before i read)) m) ≡ ks
+      → members_at (contents_of read) (group_in_context (open_blocks 0 (read_before i read)) m) ≡ ms
       → AreMembers read i keys members → AreMembers read (i + 1) (keys ++ ks) (members ++ ms)
   here_more i m ks ms keys members now k s a =
       let c = contents_of read in
       record {
-        keys_are = ap (λ xs. xs ++ ks) a.keys_are ∙ ap (λ xs. flat_map (member_keys_at c) (groups_in_context (read_before i read)) ++ xs) (sym k) ∙ sym (statement_by (member_keys_at c) read i m now);
-        members_are = ap (λ xs. xs ++ ms) a.members_are ∙ ap (λ xs. flat_map (members_at c) (groups_in_context (read_before i read)) ++ xs) (sym s) ∙ sym (statement_by (members_at c) read i m now);
+        keys_are = ap (λ xs. xs ++ ks) a.keys_are ∙ ap (λ xs. flat_map (member_keys_at c) (groups_in_context (read_before i read)) ++ xs) (sym k)
+            ∙ sym (statement_by (member_keys_at c) read i m now);
+        members_are = ap (λ xs. xs ++ ms) a.members_are ∙ ap (λ xs. flat_map (members_at c) (groups_in_context (read_before i read)) ++ xs) (sym s)
+            ∙ sym (statement_by (members_at c) read i m now);
       }
 
-  none_more : (i : ℕ) (m : Group) (keys members : List ℕ) → read_before (i + 1) read ≡ m ∷ read_before i read → members_at (contents_of read) (group_in_context (open_blocks 0 (read_before i read)) m) ≡ []
+  none_more : (i : ℕ) (m : Group) (keys members : List ℕ) → read_before (i + 1) read ≡ m ∷ read_before i read
+      → members_at (contents_of read) (group_in_context (open_blocks 0 (read_before i read)) m) ≡ []
       → AreMembers read i keys members → AreMembers read (i + 1) keys members
   none_more i m keys members now s a =
       let p : GroupInContext = group_in_context (open_blocks 0 (read_before i read)) m in
@@ -272,7 +319,8 @@ module _ (e : Exprs) (texts : List (List ℕ)) (lines : List CodeLine) (groups :
   unnamed c (Some k) = refl
 
   -- a member, and what is none
-  pub member_more : (i s k : ℕ) (enclosing : List (Option ℕ)) (keys members : List ℕ) → i < length groups → (group_at groups i).head ≡ codes.Config s → enclosing ≡ map (enclosing_choice (contents_of read)) (groups_in_context read) → get_or enclosing i None ≡ Some k
+  pub member_more : (i s k : ℕ) (enclosing : List (Option ℕ)) (keys members : List ℕ) → i < length groups → (group_at groups i).head ≡ codes.Config s
+      → enclosing ≡ map (enclosing_choice (contents_of read)) (groups_in_context read) → get_or enclosing i None ≡ Some k
       → AreMembers read i keys members → AreMembers read (i + 1) (keys ++ k ∷ []) (members ++ s ∷ [])
   member_more i s k enclosing keys members l w r a m =
       let c = contents_of read in
@@ -289,21 +337,27 @@ module _ (e : Exprs) (texts : List (List ℕ)) (lines : List CodeLine) (groups :
       let key : member_keys_at c p ≡ k ∷ [] = ap (map (λ _. member_key c p)) is ∙ ap (λ o. elim o as (λ _. ℕ) [ None ↦ 0 | Some j ↦ j ] ∷ []) chosen in
       here_more i t.group (k ∷ []) (s ∷ []) keys members t.now key is m
 
-  pub outside_more : (i : ℕ) (enclosing : List (Option ℕ)) (keys members : List ℕ) → i < length groups → enclosing ≡ map (enclosing_choice (contents_of read)) (groups_in_context read) → get_or enclosing i None ≡ None → AreMembers read i keys members → AreMembers read (i + 1) keys members
+  pub outside_more : (i : ℕ) (enclosing : List (Option ℕ)) (keys members : List ℕ) → i < length groups
+      → enclosing ≡ map (enclosing_choice (contents_of read)) (groups_in_context read) → get_or enclosing i None ≡ None → AreMembers read i keys members
+      → AreMembers read (i + 1) keys members
   outside_more i enclosing keys members l r a m =
       let c = contents_of read in
       let t = shown_at e (names_defined read) texts lines groups read h i l in
       let n = count_is e (names_defined read) texts lines groups read h in
       let p : GroupInContext = group_in_context (open_blocks 0 (read_before i read)) t.group in
       let at = place_numbered read i t.group (omega arith) t.now in
-      none_more i t.group keys members t.now (ap (λ o. member_in c o (defined_name p.group)) (sym (enclosing_at e texts lines groups read h i enclosing p r at) ∙ a)) m
+      none_more i t.group keys members t.now (ap (λ o. member_in c o (defined_name p.group))
+      (sym (enclosing_at e texts lines groups read h i enclosing p r at) ∙ a)) m
 
-  pub nameless_more : (i : ℕ) (keys members : List ℕ) → i < length groups → ((s : ℕ) → (group_at groups i).head ≡ codes.Config s → ⊥) → AreMembers read i keys members → AreMembers read (i + 1) keys members
+  pub nameless_more : (i : ℕ) (keys members : List ℕ) → i < length groups → ((s : ℕ) → (group_at groups i).head ≡ codes.Config s → ⊥)
+      → AreMembers read i keys members → AreMembers read (i + 1) keys members
   nameless_more i keys members l w m =
       let c = contents_of read in
       let t = shown_at e (names_defined read) texts lines groups read h i l in
       let p : GroupInContext = group_in_context (open_blocks 0 (read_before i read)) t.group in
-      none_more i t.group keys members t.now (ap (member_in c (enclosing_choice c p)) (nameless e (names_defined read) texts (group_at groups i).head t.group.head t.shown.head w) ∙ unnamed c (enclosing_choice c p)) m
+      none_more i t.group keys members t.now (ap (member_in c (enclosing_choice c p))
+      (nameless e (names_defined read) texts (group_at groups i).head t.group.head t.shown.head w) ∙ unnamed c (enclosing_choice c p)) m
 
-pub members_same : (read : List Group) (i : ℕ) (keys members keys2 members2 : List ℕ) → keys2 ≡ keys → members2 ≡ members → AreMembers read i keys members → AreMembers read i keys2 members2
+pub members_same : (read : List Group) (i : ℕ) (keys members keys2 members2 : List ℕ) → keys2 ≡ keys → members2 ≡ members → AreMembers read i keys members
+    → AreMembers read i keys2 members2
 members_same read i keys members keys2 members2 k m a = record { keys_are = k ∙ a.keys_are; members_are = m ∙ a.members_are }

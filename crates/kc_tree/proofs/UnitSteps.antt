@@ -31,13 +31,16 @@ place_is names name s d e =
     p.1 ∙ ap Some (at_most_once name names p.0 s d (place-get name names p.0 p.1) e)
 
 -- whether a group is the first definition of a name
-first_by : (ds : List GroupInContext) (n : ℕ) → is_number n (slice_get (flat_map number_at ds) 0) ≡ elim (option_map (λ (p : GroupInContext). p.group) (slice_get ds 0)) as (λ _. Bool) [ None ↦ false | Some g ↦ g.number == n ]
+first_by : (ds : List GroupInContext) (n : ℕ)
+    → is_number n (slice_get (flat_map number_at ds) 0) ≡ elim (option_map (λ (p : GroupInContext). p.group) (slice_get ds 0)) as (λ _. Bool) [ None ↦ false | Some g ↦ g.number == n ]
 first_by [] n = refl
 first_by (p ∷ ds) n = refl
 
-unit_at : (read : List Group) (name : List ℕ) (p : GroupInContext) → is_unit_at p.group.number (summary_in (contents_of read) (groups_in_context read) name) ≡ (is_first_definition (contents_of read) name p && is_none (choice_of_symbol (contents_of read) name))
+unit_at : (read : List Group) (name : List ℕ) (p : GroupInContext)
+    → is_unit_at p.group.number (summary_in (contents_of read) (groups_in_context read) name) ≡ (is_first_definition (contents_of read) name p && is_none (choice_of_symbol (contents_of read) name))
 unit_at read name p =
-    ap (λ b. b && is_none (summary_in (contents_of read) (groups_in_context read) name).choice) (first_by (definitions_of (contents_of read) name) p.group.number)
+    ap (λ b. b && is_none (summary_in (contents_of read) (groups_in_context read) name).choice)
+    (first_by (definitions_of (contents_of read) name) p.group.number)
     ∙ ap (λ o. is_first_definition (contents_of read) name p && is_none o) (choice_is read name)
 
 reported_by : (b : Bool) (s : ℕ) (o : Option ℕ) → o ≡ Some s → cond b (Some (of_symbol s)) None ≡ cond b (option_map of_symbol o) None
@@ -46,14 +49,18 @@ reported_by false s o e = refl
 
 -- the unit of a group
 module _ (read : List Group) (symbols : List SymbolSummary) (a : symbols ≡ symbol_summaries (contents_of read) (groups_in_context read)) (e : Exprs) (texts : List (List ℕ)) (p : GroupInContext) (n choices : ℕ) (number : p.group.number ≡ n) where
-  symbol_unit : (s : ℕ) (name : List ℕ) → slice_get (names_defined read) s ≡ Some name → first_unit n s (slice_get symbols s) ≡ unit_of_head (contents_of read) p (config name)
+  symbol_unit : (s : ℕ) (name : List ℕ) → slice_get (names_defined read) s ≡ Some name
+      → first_unit n s (slice_get symbols s) ≡ unit_of_head (contents_of read) p (config name)
   symbol_unit s name at =
       ap (λ xs. first_unit n s (slice_get xs s)) a
       ∙ ap (first_unit n s) (map-get (summary_in (contents_of read) (groups_in_context read)) (names_defined read) s name at)
-      ∙ ap (λ b. cond b (Some (of_symbol s)) None) (ap (λ k. is_unit_at k (summary_in (contents_of read) (groups_in_context read) name)) (sym number) ∙ unit_at read name p)
-      ∙ reported_by (is_first_definition (contents_of read) name p && is_none (choice_of_symbol (contents_of read) name)) s (index_of_name name (names_defined read)) (place_is (names_defined read) name s (Differ-once (filter_map defined_name read)) at)
+      ∙ ap (λ b. cond b (Some (of_symbol s)) None) (ap (λ k. is_unit_at k (summary_in (contents_of read) (groups_in_context read) name)) (sym number)
+      ∙ unit_at read name p)
+      ∙ reported_by (is_first_definition (contents_of read) name p && is_none (choice_of_symbol (contents_of read) name)) s
+      (index_of_name name (names_defined read)) (place_is (names_defined read) name s (Differ-once (filter_map defined_name read)) at)
 
-  pub unit_shown : (w : CodeWhat) → RepresentsHead e (names_defined read) texts w p.group.head → (is_choice_code w ≡ true → choice_number (contents_of read) p.group.number ≡ Some choices)
+  pub unit_shown : (w : CodeWhat) → RepresentsHead e (names_defined read) texts w p.group.head
+      → (is_choice_code w ≡ true → choice_number (contents_of read) p.group.number ≡ Some choices)
       → unit_of_group symbols n choices w ≡ unit_read (contents_of read) p
   unit_shown (codes.Config s) h c = symbol_unit s h.0 h.1 ∙ sym (ap (from_head (unit_of_head (contents_of read) p)) h.2)
   unit_shown codes.Choice h c = sym (ap (from_head (unit_of_head (contents_of read) p)) h ∙ ap (option_map of_choice) (c refl))
@@ -88,23 +95,28 @@ filter_map-more : {A B : Type 0} (f : A → Option B) (xs : List A) (x : A) → 
 filter_map-more f [] x = more_one (f x)
 filter_map-more f (y ∷ ys) x = more_by (f y) (filter_map f (ys ++ x ∷ [])) (filter_map f ys) (option_to_list (f x)) (filter_map-more f ys x)
 
-counted : (read : List Group) (i : ℕ) (m : Group) (b : Bool) (n : ℕ) → read_before (i + 1) read ≡ m ∷ read_before i read → opens_choice m ≡ b → n ≡ length (numbers_of_choices (read_before i read)) → cond b (n + 1) n ≡ length (numbers_of_choices (read_before (i + 1) read))
+counted : (read : List Group) (i : ℕ) (m : Group) (b : Bool) (n : ℕ) → read_before (i + 1) read ≡ m ∷ read_before i read → opens_choice m ≡ b
+    → n ≡ length (numbers_of_choices (read_before i read)) → cond b (n + 1) n ≡ length (numbers_of_choices (read_before (i + 1) read))
 counted read i m true n now o e = ap (λ k. k + 1) e ∙ sym (ap (λ r. length (numbers_of_choices r)) now ∙ count_more m (read_before i read) o)
 counted read i m false n now o e = e ∙ sym (ap (λ r. length (numbers_of_choices r)) now ∙ ap length (choices_same m (read_before i read) o))
 
 module _ (read : List Group) (symbols : List SymbolSummary) (a : symbols ≡ symbol_summaries (contents_of read) (groups_in_context read)) (e : Exprs) (texts : List (List ℕ)) (lines : List CodeLine) (groups : List CodeGroup)
     (h : RepresentsGroups e (names_defined read) texts lines (length lines) (reverse groups) read) where
-  pub units_more : (i : ℕ) (units units2 : List TreeUnit) (choices choices2 : ℕ) (what : CodeWhat) → i < length groups → what ≡ (group_at groups i).head → AreUnits read i units choices
-      → units2 ≡ units ++ option_to_list (unit_of_group symbols i choices what) → choices2 ≡ cond (is_choice_code what) (choices + 1) choices → AreUnits read (i + 1) units2 choices2
+  pub units_more : (i : ℕ) (units units2 : List TreeUnit) (choices choices2 : ℕ) (what : CodeWhat) → i < length groups → what ≡ (group_at groups i).head
+      → AreUnits read i units choices
+      → units2 ≡ units ++ option_to_list (unit_of_group symbols i choices what) → choices2 ≡ cond (is_choice_code what) (choices + 1) choices
+      → AreUnits read (i + 1) units2 choices2
   units_more i units units2 choices choices2 what l w r ue ce =
       let s = shown_at e (names_defined read) texts lines groups read h i l in
       let c : Contents = contents_of read in
       let prior : List Group = read_before i read in
       let p : GroupInContext = group_in_context (open_blocks 0 prior) s.group in
       let n = are_numbers e (names_defined read) texts lines (length lines) (reverse groups) read h in
-      let shown : RepresentsHead e (names_defined read) texts what s.group.head = subst (λ v. RepresentsHead e (names_defined read) texts v s.group.head) (sym w) s.shown.head in
+      let shown : RepresentsHead e (names_defined read) texts what s.group.head = subst (λ v. RepresentsHead e (names_defined read) texts v s.group.head)
+      (sym w) s.shown.head in
       let begins = begins_is e (names_defined read) texts what s.group shown in
-      let here = unit_shown read symbols a e texts p i choices s.shown.number_is what shown (λ b. number_counts read i s.group n (numbers_before (length read - (i + 1)) read n) s.now (begins ∙ b) ∙ ap Some (sym r.choices_are)) in
+      let here = unit_shown read symbols a e texts p i choices s.shown.number_is what shown
+      (λ b. number_counts read i s.group n (numbers_before (length read - (i + 1)) read n) s.now (begins ∙ b) ∙ ap Some (sym r.choices_are)) in
       record {
         units_are = ue ∙ ap (λ xs. xs ++ option_to_list (unit_of_group symbols i choices what)) r.units_are
             ∙ ap (λ o. filter_map (unit_read c) (groups_in_context prior) ++ option_to_list o) here
@@ -112,5 +124,7 @@ module _ (read : List Group) (symbols : List SymbolSummary) (a : symbols ≡ sym
         choices_are = ce ∙ counted read i s.group (is_choice_code what) choices s.now begins r.choices_are;
       }
 
-pub all_units : (read : List Group) (i : ℕ) (units : List TreeUnit) (choices : ℕ) → i ≡ length read → AreUnits read i units choices → units ≡ units_read (contents_of read)
-all_units read i units choices e r = r.units_are ∙ ap (λ x. filter_map (unit_read (contents_of read)) (groups_in_context x)) (ap (λ n. read_before n read) e ∙ all_before read)
+pub all_units : (read : List Group) (i : ℕ) (units : List TreeUnit) (choices : ℕ) → i ≡ length read → AreUnits read i units choices
+    → units ≡ units_read (contents_of read)
+all_units read i units choices e r =
+    r.units_are ∙ ap (λ x. filter_map (unit_read (contents_of read)) (groups_in_context x)) (ap (λ n. read_before n read) e ∙ all_before read)

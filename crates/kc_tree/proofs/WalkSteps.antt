@@ -34,14 +34,16 @@ use Rattle.kc_statements.proofs.Growing.{grows_on}
 use Rattle.kc_tree.proofs.Growth.{conjoins_on, joined_on, represent_on, held_on, represents_all, condition_on}
 
 -- the next attribute
-pub first_step : (lines : List CodeLine) (conditions : List ℕ) (i : ℕ) (d : CodeLine) → i < length lines → length conditions ≡ length lines → is_prompt (get_or lines i d).attribute ≡ false
+pub first_step : (lines : List CodeLine) (conditions : List ℕ) (i : ℕ) (d : CodeLine) → i < length lines → length conditions ≡ length lines
+    → is_prompt (get_or lines i d).attribute ≡ false
     → first_prompt (drop i lines) (drop i conditions) ≡ first_prompt (drop (i + 1) lines) (drop (i + 1) conditions)
 first_step lines conditions i d h e f =
     let l : drop i lines ≡ get_or lines i d ∷ drop (i + 1) lines = rw add-one (drop-cons lines i d h) in
     let c : drop i conditions ≡ get_or conditions i 0 ∷ drop (i + 1) conditions = rw add-one (drop-cons conditions i 0 (omega arith)) in
     rw (l, c, f) refl
 
-pub first_here : (lines : List CodeLine) (conditions : List ℕ) (i x : ℕ) (d : CodeLine) → i < length lines → length conditions ≡ length lines → is_prompt (get_or lines i d).attribute ≡ true → x ≡ get_or conditions i 0
+pub first_here : (lines : List CodeLine) (conditions : List ℕ) (i x : ℕ) (d : CodeLine) → i < length lines → length conditions ≡ length lines
+    → is_prompt (get_or lines i d).attribute ≡ true → x ≡ get_or conditions i 0
     → Some x ≡ first_prompt (drop i lines) (drop i conditions)
 first_here lines conditions i x d h e f g =
     let l : drop i lines ≡ get_or lines i d ∷ drop (i + 1) lines = rw add-one (drop-cons lines i d h) in
@@ -49,7 +51,8 @@ first_here lines conditions i x d h e f g =
     rw (l, c, f) (ap Some g)
 
 -- the inside of an `if`, a menu and a sourced file
-pub if_inside : (old new : Exprs) (texts : List (List ℕ)) (y id : ℕ) (d : Option ℕ) (m : Group) (a : EnclosingConditions) (opened : List Group) → Grows old new → m.head ≡ of_head (condition (node_expr old id)) → RepresentsEnclosing old texts y a opened
+pub if_inside : (old new : Exprs) (texts : List (List ℕ)) (y id : ℕ) (d : Option ℕ) (m : Group) (a : EnclosingConditions) (opened : List Group) → Grows old new
+    → m.head ≡ of_head (condition (node_expr old id)) → RepresentsEnclosing old texts y a opened
     → ((es : List Expr) → Conjoins old a.dependencies es → Conjoins new d (es ++ conjunct old (Some id)))
     → RepresentsEnclosing new texts y (record { dependencies = d; visibles = a.visibles; title = None }) (m ∷ opened)
 if_inside old new texts y id d m a opened g e h f = record {
@@ -58,7 +61,8 @@ if_inside old new texts y id d m a opened g e h f = record {
   ends = rw e refl;
 }
 
-pub menu_inside : (exprs : Exprs) (texts : List (List ℕ)) (y t : ℕ) (title : List ℕ) (m : Group) (c : EntryConditions) (opened : List Group) → m.head ≡ of_head (menu title) → slice_get texts t ≡ Some title
+pub menu_inside : (exprs : Exprs) (texts : List (List ℕ)) (y t : ℕ) (title : List ℕ) (m : Group) (c : EntryConditions) (opened : List Group)
+    → m.head ≡ of_head (menu title) → slice_get texts t ≡ Some title
     → AreJoined exprs c (dependencies_of (context opened) m) (context opened).visibles (attribute_values visible_of m) → Represents exprs y (conjunction_of [])
     → RepresentsEnclosing exprs texts y (record { dependencies = c.dependencies; visibles = c.visibles; title = Some t }) (m ∷ opened)
 menu_inside exprs texts y t title m c opened e s j h =
@@ -70,7 +74,8 @@ menu_inside exprs texts y t title m c opened e s j h =
       ends = (title, s, d.within, v.within, rw (e, d.is, v.is) refl);
     }
 
-pub source_inside : (exprs : Exprs) (texts : List (List ℕ)) (y : ℕ) (path : List ℕ) (m : Group) (a : EnclosingConditions) (opened : List Group) → m.head ≡ of_head (source path) → RepresentsEnclosing exprs texts y a opened
+pub source_inside : (exprs : Exprs) (texts : List (List ℕ)) (y : ℕ) (path : List ℕ) (m : Group) (a : EnclosingConditions) (opened : List Group)
+    → m.head ≡ of_head (source path) → RepresentsEnclosing exprs texts y a opened
     → RepresentsEnclosing exprs texts y (record { dependencies = a.dependencies; visibles = a.visibles; title = None }) (m ∷ opened)
 source_inside exprs texts y path m a opened e h = record {
   dependencies_are = rw e h.dependencies_are;
@@ -79,13 +84,15 @@ source_inside exprs texts y path m a opened e h = record {
 }
 
 -- the context of the innermost place
-pub top_shown : (exprs : Exprs) (texts : List (List ℕ)) (y : ℕ) (rs : List EnclosingConditions) (gs : List Group) → RepresentsEnclosings exprs texts y rs gs → RepresentsEnclosing exprs texts y (innermost_enclosing rs) gs
+pub top_shown : (exprs : Exprs) (texts : List (List ℕ)) (y : ℕ) (rs : List EnclosingConditions) (gs : List Group) → RepresentsEnclosings exprs texts y rs gs
+    → RepresentsEnclosing exprs texts y (innermost_enclosing rs) gs
 top_shown exprs texts y [] [] h = record { dependencies_are = refl; visibles_are = refl; ends = refl }
 top_shown exprs texts y [] (g ∷ gs) h = absurd h
 top_shown exprs texts y (a ∷ outer) [] h = absurd h
 top_shown exprs texts y (a ∷ outer) (g ∷ gs) h = h.0
 
-outer_shown : (exprs : Exprs) (texts : List (List ℕ)) (y : ℕ) (rs : List EnclosingConditions) (gs : List Group) → RepresentsEnclosings exprs texts y rs gs → RepresentsEnclosings exprs texts y (drop 1 rs) (drop 1 gs)
+outer_shown : (exprs : Exprs) (texts : List (List ℕ)) (y : ℕ) (rs : List EnclosingConditions) (gs : List Group) → RepresentsEnclosings exprs texts y rs gs
+    → RepresentsEnclosings exprs texts y (drop 1 rs) (drop 1 gs)
 outer_shown exprs texts y [] [] h = tt
 outer_shown exprs texts y [] (g ∷ gs) h = absurd h
 outer_shown exprs texts y (a ∷ outer) [] h = absurd h
@@ -93,7 +100,8 @@ outer_shown exprs texts y (a ∷ outer) (g ∷ gs) h = h.1
 
 -- the values of attributes, by the code and by the definition
 depends_one : (exprs : Exprs) (n : ℕ) (a : CodeAttribute) (xs : List Expr) (rest : List Line) → xs ≡ filter_map (λ (l : Line). depends_of l.attribute) rest
-    → conjunct exprs (conjunct_view Dependencies a) ++ xs ≡ filter_map (λ (l : Line). depends_of l.attribute) (record { number = n; attribute = attribute_in exprs a } ∷ rest)
+    → conjunct exprs (conjunct_view Dependencies a) ++ xs ≡ filter_map (λ (l : Line). depends_of l.attribute)
+    (record { number = n; attribute = attribute_in exprs a } ∷ rest)
 depends_one exprs n (attributes.Typed k) xs rest e = e
 depends_one exprs n (attributes.TypedPrompt k c) xs rest e = e
 depends_one exprs n (attributes.TypedDefault k d) xs rest e = e
@@ -106,14 +114,18 @@ depends_one exprs n (attributes.Range r) xs rest e = e
 depends_one exprs n (attributes.Visible id) xs rest e = e
 depends_one exprs n attributes.Help xs rest e = e
 depends_one exprs n attributes.Modules xs rest e = e
+depends_one exprs n attributes.Optional xs rest e = e
 
-depends_given : (exprs : Exprs) (lines : List CodeLine) → conjunct_views Dependencies exprs lines ≡ filter_map (λ (l : Line). depends_of l.attribute) (map (line_in exprs) lines)
+depends_given : (exprs : Exprs) (lines : List CodeLine)
+    → conjunct_views Dependencies exprs lines ≡ filter_map (λ (l : Line). depends_of l.attribute) (map (line_in exprs) lines)
 depends_given exprs [] = refl
-depends_given exprs (l ∷ lines) = depends_one exprs l.number l.attribute (conjunct_views Dependencies exprs lines) (map (line_in exprs) lines) (depends_given exprs lines)
+depends_given exprs (l ∷ lines) =
+    depends_one exprs l.number l.attribute (conjunct_views Dependencies exprs lines) (map (line_in exprs) lines) (depends_given exprs lines)
 
 -- the values of attributes, by the code and by the definition
 visible_one : (exprs : Exprs) (n : ℕ) (a : CodeAttribute) (xs : List Expr) (rest : List Line) → xs ≡ filter_map (λ (l : Line). visible_of l.attribute) rest
-    → conjunct exprs (conjunct_view Visibles a) ++ xs ≡ filter_map (λ (l : Line). visible_of l.attribute) (record { number = n; attribute = attribute_in exprs a } ∷ rest)
+    → conjunct exprs (conjunct_view Visibles a) ++ xs ≡ filter_map (λ (l : Line). visible_of l.attribute)
+    (record { number = n; attribute = attribute_in exprs a } ∷ rest)
 visible_one exprs n (attributes.Typed k) xs rest e = e
 visible_one exprs n (attributes.TypedPrompt k c) xs rest e = e
 visible_one exprs n (attributes.TypedDefault k d) xs rest e = e
@@ -126,10 +138,13 @@ visible_one exprs n (attributes.Range r) xs rest e = e
 visible_one exprs n (attributes.Visible id) xs rest e = ap (λ es. node_expr exprs id ∷ es) e
 visible_one exprs n attributes.Help xs rest e = e
 visible_one exprs n attributes.Modules xs rest e = e
+visible_one exprs n attributes.Optional xs rest e = e
 
-visible_given : (exprs : Exprs) (lines : List CodeLine) → conjunct_views Visibles exprs lines ≡ filter_map (λ (l : Line). visible_of l.attribute) (map (line_in exprs) lines)
+visible_given : (exprs : Exprs) (lines : List CodeLine)
+    → conjunct_views Visibles exprs lines ≡ filter_map (λ (l : Line). visible_of l.attribute) (map (line_in exprs) lines)
 visible_given exprs [] = refl
-visible_given exprs (l ∷ lines) = visible_one exprs l.number l.attribute (conjunct_views Visibles exprs lines) (map (line_in exprs) lines) (visible_given exprs lines)
+visible_given exprs (l ∷ lines) =
+    visible_one exprs l.number l.attribute (conjunct_views Visibles exprs lines) (map (line_in exprs) lines) (visible_given exprs lines)
 
 -- the condition of an attribute, by the code and by the definition
 condition_one : (exprs : Exprs) (ds vs : List Expr) (a : CodeAttribute) → condition_view exprs ds vs a ≡ condition_among ds vs (attribute_in exprs a)
@@ -145,8 +160,10 @@ condition_one exprs ds vs (attributes.Range r) = refl
 condition_one exprs ds vs (attributes.Visible id) = refl
 condition_one exprs ds vs attributes.Help = refl
 condition_one exprs ds vs attributes.Modules = refl
+condition_one exprs ds vs attributes.Optional = refl
 
-conditions_given : (exprs : Exprs) (ds vs : List Expr) (lines : List CodeLine) → map (line_condition exprs ds vs) lines ≡ map (λ (l : Line). condition_among ds vs l.attribute) (map (line_in exprs) lines)
+conditions_given : (exprs : Exprs) (ds vs : List Expr) (lines : List CodeLine)
+    → map (line_condition exprs ds vs) lines ≡ map (λ (l : Line). condition_among ds vs l.attribute) (map (line_in exprs) lines)
 conditions_given exprs ds vs [] = refl
 conditions_given exprs ds vs (l ∷ lines) =
     let e = condition_one exprs ds vs l.attribute in
@@ -178,25 +195,34 @@ slice_own xs own =
     ap (take (length (xs ++ own) - length xs)) (drop-append_seam xs own) ∙ take_all (length (xs ++ own) - length xs) own (omega (arith, length-append xs own))
 
 range_kept : (xs ys : List ℕ) (a end : ℕ) → a ≤ end → end ≤ length xs → slice_range (xs ++ ys) a end ≡ slice_range xs a end
-range_kept xs ys a end l e = ap (take (end - a)) (drop-append-le a xs ys (omega arith)) ∙ take-append-le (end - a) (drop a xs) ys (omega (arith, length-drop a xs))
+range_kept xs ys a end l e =
+    ap (take (end - a)) (drop-append-le a xs ys (omega arith)) ∙ take-append-le (end - a) (drop a xs) ys (omega (arith, length-drop a xs))
 
-all_kept : (exprs : Exprs) (texts : List (List ℕ)) (xs ys : List ℕ) (end : ℕ) → end ≤ length xs → (cs : List GroupConditions) (ms : List Group) → RepresentsAllConditions exprs texts xs end cs ms → RepresentsAllConditions exprs texts (xs ++ ys) end cs ms
+all_kept : (exprs : Exprs) (texts : List (List ℕ)) (xs ys : List ℕ) (end : ℕ) → end ≤ length xs → (cs : List GroupConditions) (ms : List Group)
+    → RepresentsAllConditions exprs texts xs end cs ms → RepresentsAllConditions exprs texts (xs ++ ys) end cs ms
 all_kept exprs texts xs ys end l [] [] h = tt
 all_kept exprs texts xs ys end l [] (m ∷ ms) h = absurd h
 all_kept exprs texts xs ys end l (c ∷ cs) [] h = absurd h
-all_kept exprs texts xs ys end l (c ∷ cs) (m ∷ ms) h =
-    (subst (λ own. RepresentsConditions exprs texts own c (group_in_context (open_blocks 0 ms) m)) (sym (range_kept xs ys c.first end h.1 l)) h.0, h.1, all_kept exprs texts xs ys c.first (let k = h.1 in omega arith) cs ms h.2)
+all_kept exprs texts xs ys end l (c ∷ cs) (m ∷ ms) h = (
+  subst (λ own. RepresentsConditions exprs texts own c (group_in_context (open_blocks 0 ms) m)) (sym (range_kept xs ys c.first end h.1 l)) h.0,
+  h.1,
+  all_kept
+      exprs texts xs ys c.first (let k = h.1 in omega arith) cs ms h.2,
+)
 
 -- one group more
-pushed_shown : (exprs : Exprs) (texts : List (List ℕ)) (xs own : List ℕ) (c : GroupConditions) (cs : List GroupConditions) (before : List Group) (m : Group) → c.first ≡ length xs → RepresentsConditions exprs texts own c (group_in_context (open_blocks 0 before) m)
+pushed_shown : (exprs : Exprs) (texts : List (List ℕ)) (xs own : List ℕ) (c : GroupConditions) (cs : List GroupConditions) (before : List Group) (m : Group)
+    → c.first ≡ length xs → RepresentsConditions exprs texts own c (group_in_context (open_blocks 0 before) m)
     → RepresentsAllConditions exprs texts xs (length xs) cs before → RepresentsAllConditions exprs texts (xs ++ own) (length (xs ++ own)) (c ∷ cs) (m ∷ before)
 pushed_shown exprs texts xs own c cs before m e h rest = (
-  subst (λ ys. RepresentsConditions exprs texts ys c (group_in_context (open_blocks 0 before) m)) (sym (slice_own xs own) ∙ ap (λ n. slice_range (xs ++ own) n (length (xs ++ own))) (sym e)) h,
+  subst (λ ys. RepresentsConditions exprs texts ys c (group_in_context (open_blocks 0 before) m))
+      (sym (slice_own xs own) ∙ ap (λ n. slice_range (xs ++ own) n (length (xs ++ own))) (sym e)) h,
   omega (arith, e, length-append xs own),
   subst (λ n. RepresentsAllConditions exprs texts (xs ++ own) n cs before) (sym e) (all_kept exprs texts xs own (length xs) (omega arith) cs before rest),
 )
 
-pub end_side : (exprs : Exprs) (names texts : List (List ℕ)) (what : CodeWhat) (m : Group) → RepresentsHead exprs names texts what m.head → is_end what ≡ true → side_of m.head ≡ closing
+pub end_side : (exprs : Exprs) (names texts : List (List ℕ)) (what : CodeWhat) (m : Group) → RepresentsHead exprs names texts what m.head → is_end what ≡ true
+    → side_of m.head ≡ closing
 end_side exprs names texts (codes.Config s) m h e = cc
 end_side exprs names texts codes.Choice m h e = cc
 end_side exprs names texts (codes.Menu t) m h e = cc
@@ -207,7 +233,8 @@ end_side exprs names texts codes.Mainmenu m h e = cc
 end_side exprs names texts (codes.Ends b) m h e = rw h refl
 end_side exprs names texts codes.FileEnd m h e = rw h refl
 
-pub other_side : (exprs : Exprs) (names texts : List (List ℕ)) (what : CodeWhat) (m : Group) → RepresentsHead exprs names texts what m.head → is_end what ≡ false → side_of m.head ≡ closing → ⊥
+pub other_side : (exprs : Exprs) (names texts : List (List ℕ)) (what : CodeWhat) (m : Group) → RepresentsHead exprs names texts what m.head → is_end what ≡ false
+    → side_of m.head ≡ closing → ⊥
 other_side exprs names texts (codes.Config s) m h e f = let k : inside ≡ closing = ap side_of (sym h.2) ∙ f in cc
 other_side exprs names texts codes.Choice m h e f = let k : opening ≡ closing = ap side_of (sym h) ∙ f in cc
 other_side exprs names texts (codes.Menu t) m h e f = let k : opening ≡ closing = ap side_of (sym h.2) ∙ f in cc
@@ -221,14 +248,18 @@ other_side exprs names texts codes.FileEnd m h e f = cc
 reverse_push : {A : Type 0} (xs : List A) (x : A) → reverse (xs ++ x ∷ []) ≡ x ∷ reverse xs
 reverse_push xs x = reverse-append xs (x ∷ [])
 
-not_opened : (exprs : Exprs) (texts : List (List ℕ)) (y : ℕ) (stack : List EnclosingConditions) (m : Group) (before : List Group) (side : Side) → side_of m.head ≡ side → (side ≡ closing → ⊥) → (side ≡ opening → ⊥)
-    → RepresentsEnclosings exprs texts y (reverse stack) (open_blocks 0 before) → RepresentsEnclosings exprs texts y (reverse (stack ++ [])) (open_blocks 0 (m ∷ before))
+not_opened : (exprs : Exprs) (texts : List (List ℕ)) (y : ℕ) (stack : List EnclosingConditions) (m : Group) (before : List Group) (side : Side)
+    → side_of m.head ≡ side → (side ≡ closing → ⊥) → (side ≡ opening → ⊥)
+    → RepresentsEnclosings exprs texts y (reverse stack) (open_blocks 0 before)
+    → RepresentsEnclosings exprs texts y (reverse (stack ++ [])) (open_blocks 0 (m ∷ before))
 not_opened exprs texts y stack m before opening e f g h = absurd (g refl)
 not_opened exprs texts y stack m before closing e f g h = absurd (f refl)
 not_opened exprs texts y stack m before inside e f g h = rw (open_inside 0 m before e, append-nil stack) h
 
-stack_entered : (exprs : Exprs) (texts : List (List ℕ)) (y : ℕ) (stack : List EnclosingConditions) (o : Option EnclosingConditions) (m : Group) (before : List Group) → (side_of m.head ≡ closing → ⊥) → RepresentsInside exprs texts y m (open_blocks 0 before) o
-    → RepresentsEnclosings exprs texts y (reverse stack) (open_blocks 0 before) → RepresentsEnclosings exprs texts y (reverse (stack ++ option_to_list o)) (open_blocks 0 (m ∷ before))
+stack_entered : (exprs : Exprs) (texts : List (List ℕ)) (y : ℕ) (stack : List EnclosingConditions) (o : Option EnclosingConditions) (m : Group) (before : List Group)
+    → (side_of m.head ≡ closing → ⊥) → RepresentsInside exprs texts y m (open_blocks 0 before) o
+    → RepresentsEnclosings exprs texts y (reverse stack) (open_blocks 0 before)
+    → RepresentsEnclosings exprs texts y (reverse (stack ++ option_to_list o)) (open_blocks 0 (m ∷ before))
 stack_entered exprs texts y stack None m before side h s = not_opened exprs texts y stack m before (side_of m.head) refl side h s
 stack_entered exprs texts y stack (Some a) m before side h s = rw (pushed m before h.0, reverse_push stack a) (h.1, s)
 
@@ -246,10 +277,14 @@ module _ (w new : GroupWalk) (texts : List (List ℕ)) (before : List Group) (m 
       → AreJoined mid e (dependencies_of (context (open_blocks 0 before)) m) (context (open_blocks 0 before)).visibles (attribute_values visible_of m)
   entry_is f =
       let j = f (context (open_blocks 0 before)).dependencies (context (open_blocks 0 before)).visibles top.dependencies_are top.visibles_are in
-      let d : conjunct_views Dependencies w.arena lines ≡ attribute_values depends_of m = depends_given w.arena lines ∙ ap (filter_map (λ (l : Line). depends_of l.attribute)) (sym attributes_are) in
-      let v : conjunct_views Visibles w.arena lines ≡ attribute_values visible_of m = visible_given w.arena lines ∙ ap (filter_map (λ (l : Line). visible_of l.attribute)) (sym attributes_are) in
-      subst (λ ds. AreJoined mid e ((context (open_blocks 0 before)).dependencies ++ ds) (context (open_blocks 0 before)).visibles (attribute_values visible_of m)) d
-      (subst (λ vs. AreJoined mid e ((context (open_blocks 0 before)).dependencies ++ conjunct_views Dependencies w.arena lines) (context (open_blocks 0 before)).visibles vs) v j)
+      let d : conjunct_views Dependencies w.arena lines ≡ attribute_values depends_of m = depends_given w.arena lines
+      ∙ ap (filter_map (λ (l : Line). depends_of l.attribute)) (sym attributes_are) in
+      let v : conjunct_views Visibles w.arena lines ≡ attribute_values visible_of m = visible_given w.arena lines
+      ∙ ap (filter_map (λ (l : Line). visible_of l.attribute)) (sym attributes_are) in
+      subst (λ ds. AreJoined mid e ((context (open_blocks 0 before)).dependencies ++ ds) (context (open_blocks 0 before)).visibles
+      (attribute_values visible_of m)) d
+      (subst (λ vs. AreJoined mid e ((context (open_blocks 0 before)).dependencies ++ conjunct_views Dependencies w.arena lines)
+      (context (open_blocks 0 before)).visibles vs) v j)
 
   module _ (b : AreAppended mid far w.conditions.items new.conditions.items (dependencies_of (context (open_blocks 0 before)) m) (context (open_blocks 0 before)).visibles lines)
       (to_new : Grows far new.arena) (yes_same : new.yes ≡ w.yes) (no_same : new.no ≡ w.no) where
@@ -261,11 +296,19 @@ module _ (w new : GroupWalk) (texts : List (List ℕ)) (before : List Group) (m 
         → RepresentsAllConditions later texts new.conditions.items (length new.conditions.items) (reverse new.groups.items) (m ∷ before)
     groups_to later c groups h =
         subst (λ xs. RepresentsAllConditions later texts xs (length xs) (reverse new.groups.items) (m ∷ before)) (sym b.is)
-        (subst (λ cs. RepresentsAllConditions later texts (w.conditions.items ++ b.own) (length (w.conditions.items ++ b.own)) cs (m ∷ before)) (sym (ap reverse groups ∙ reverse_push w.groups.items c)) h)
+        (subst (λ cs. RepresentsAllConditions later texts (w.conditions.items ++ b.own) (length (w.conditions.items ++ b.own)) cs (m ∷ before))
+        (sym (ap reverse groups ∙ reverse_push w.groups.items c)) h)
 
     -- an end
     pub ended : (c : GroupConditions) → side_of m.head ≡ closing
-        → c ≡ record { dependency = or_yes w.yes (innermost_enclosing (reverse w.stack.items)).dependencies; visible = or_yes w.yes (innermost_enclosing (reverse w.stack.items)).visibles; ended = (innermost_enclosing (reverse w.stack.items)).title; first = length w.conditions.items }
+        → c ≡ record {
+          dependency = or_yes w.yes (innermost_enclosing (reverse w.stack.items)).dependencies;
+          visible = or_yes w.yes
+              (innermost_enclosing (reverse w.stack.items)).visibles;
+          ended = (innermost_enclosing (reverse w.stack.items)).title;
+          first = length
+              w.conditions.items;
+        }
         → new.groups.items ≡ w.groups.items ++ c ∷ [] → reverse new.stack.items ≡ drop 1 (reverse w.stack.items) → HasWalked texts new (m ∷ before)
     ended c side is groups stack = λ later g.
         let was = walked later (grows_on w.arena new.arena later to_all g) in
@@ -274,52 +317,66 @@ module _ (w new : GroupWalk) (texts : List (List ℕ)) (before : List Group) (m 
           yes_is = rw yes_same was.yes_is;
           no_is = rw no_same was.no_is;
           stack_is = rw (stack, popped m before side, yes_same) (outer_shown later texts w.yes (reverse w.stack.items) (open_blocks 0 before) was.stack_is);
-          groups_are = groups_to later c groups (pushed_shown later texts w.conditions.items b.own c (reverse w.groups.items) before m (ap (λ (x : GroupConditions). x.first) is) (record {
-            own_are = own_shown w.arena mid far later w.conditions.items new.conditions.items lines m (open_blocks 0 before) b to_mid (grows_on far new.arena later to_new g) held attributes_are;
-            held = held_on far later b.own (grows_on far new.arena later to_new g) b.held;
-            dependency_is = inl side;
-            visible_is = inl side;
-            ended_is = λ _. rw is enclosing.ends;
-          }) was.groups_are);
+          groups_are = groups_to later c groups (pushed_shown later texts w.conditions.items b.own c (reverse w.groups.items) before m
+              (ap (λ (x : GroupConditions). x.first) is) (record {
+                own_are = own_shown w.arena mid far later w.conditions.items new.conditions.items lines m (open_blocks 0 before) b to_mid
+                    (grows_on far new.arena later to_new g) held attributes_are;
+                held = held_on far later b.own (grows_on far new.arena later to_new g) b.held;
+                dependency_is = inl side;
+                visible_is = inl side;
+                ended_is = λ _. rw is enclosing.ends;
+              }) was.groups_are);
         }
 
     -- an entry, a block or a sourced file
-    pub entered : (c : GroupConditions) (o : Option EnclosingConditions) → (side_of m.head ≡ closing → ⊥) → AreJoined mid e (dependencies_of (context (open_blocks 0 before)) m) (context (open_blocks 0 before)).visibles (attribute_values visible_of m)
+    pub entered : (c : GroupConditions) (o : Option EnclosingConditions) → (side_of m.head ≡ closing → ⊥)
+        → AreJoined mid e (dependencies_of (context (open_blocks 0 before)) m) (context (open_blocks 0 before)).visibles (attribute_values visible_of m)
         → c ≡ record { dependency = or_yes w.yes e.dependencies; visible = or_yes w.yes e.visibles; ended = None; first = length w.conditions.items }
-        → new.groups.items ≡ w.groups.items ++ c ∷ [] → new.stack.items ≡ w.stack.items ++ option_to_list o → ((later : Exprs) → Grows new.arena later → RepresentsInside later texts w.yes m (open_blocks 0 before) o) → HasWalked texts new (m ∷ before)
+        → new.groups.items ≡ w.groups.items ++ c ∷ [] → new.stack.items ≡ w.stack.items ++ option_to_list o
+        → ((later : Exprs) → Grows new.arena later → RepresentsInside later texts w.yes m (open_blocks 0 before) o) → HasWalked texts new (m ∷ before)
     entered c o side j is groups stack opened = λ later g.
         let was = walked later (grows_on w.arena new.arena later to_all g) in
-        let k = joined_on mid later (grows_on mid new.arena later (grows_on mid far new.arena to_far to_new) g) e (dependencies_of (context (open_blocks 0 before)) m) (context (open_blocks 0 before)).visibles (attribute_values visible_of m) j in
+        let k = joined_on mid later (grows_on mid new.arena later (grows_on mid far new.arena to_far to_new) g) e
+        (dependencies_of (context (open_blocks 0 before)) m) (context (open_blocks 0 before)).visibles (attribute_values visible_of m) j in
         record {
           yes_is = rw yes_same was.yes_is;
           no_is = rw no_same was.no_is;
           stack_is = rw (stack, yes_same) (stack_entered later texts w.yes w.stack.items o m before side (opened later g) was.stack_is);
-          groups_are = groups_to later c groups (pushed_shown later texts w.conditions.items b.own c (reverse w.groups.items) before m (ap (λ (x : GroupConditions). x.first) is) (record {
-            own_are = own_shown w.arena mid far later w.conditions.items new.conditions.items lines m (open_blocks 0 before) b to_mid (grows_on far new.arena later to_new g) held attributes_are;
-            held = held_on far later b.own (grows_on far new.arena later to_new g) b.held;
-            dependency_is = inr (rw is (represents_all later e.dependencies w.yes (dependencies_of (context (open_blocks 0 before)) m) k.dependencies_are was.yes_is));
-            visible_is = inr (rw is (represents_all later e.visibles w.yes ((context (open_blocks 0 before)).visibles ++ attribute_values visible_of m) k.visibles_are was.yes_is));
-            ended_is = λ s. absurd (side s);
-          }) was.groups_are);
+          groups_are = groups_to later c groups (pushed_shown later texts w.conditions.items b.own c (reverse w.groups.items) before m
+              (ap (λ (x : GroupConditions). x.first) is) (record {
+                own_are = own_shown w.arena mid far later w.conditions.items new.conditions.items lines m (open_blocks 0 before) b to_mid
+                    (grows_on far new.arena later to_new g) held attributes_are;
+                held = held_on far later b.own (grows_on far new.arena later to_new g) b.held;
+                dependency_is = inr (rw is (represents_all later e.dependencies w.yes (dependencies_of (context (open_blocks 0 before)) m) k.dependencies_are
+                    was.yes_is));
+                visible_is = inr (rw is (represents_all later e.visibles w.yes ((context (open_blocks 0 before)).visibles ++ attribute_values visible_of m)
+                    k.visibles_are was.yes_is));
+                ended_is = λ s. absurd (side s);
+              }) was.groups_are);
         }
 
 -- what is shown stays so as the arena grows
-end_on : (old new : Exprs) (texts : List (List ℕ)) (t : Option ℕ) (d v : ℕ) (e : Option tree.Entry) → Grows old new → RepresentsEnd old texts t d v e → RepresentsEnd new texts t d v e
+end_on : (old new : Exprs) (texts : List (List ℕ)) (t : Option ℕ) (d v : ℕ) (e : Option tree.Entry) → Grows old new → RepresentsEnd old texts t d v e
+    → RepresentsEnd new texts t d v e
 end_on old new texts None d v e g h = h
-end_on old new texts (Some t) d v e g h = (h.0, h.1, node_held old new d g h.2, node_held old new v g h.3, rw (node_same old new d g h.2, node_same old new v g h.3) h.4)
+end_on old new texts (Some t) d v e g h =
+    (h.0, h.1, node_held old new d g h.2, node_held old new v g h.3, rw (node_same old new d g h.2, node_same old new v g h.3) h.4)
 
-pub around_on : (old new : Exprs) (texts : List (List ℕ)) (y : ℕ) (a : EnclosingConditions) (opened : List Group) → Grows old new → RepresentsEnclosing old texts y a opened → RepresentsEnclosing new texts y a opened
+pub around_on : (old new : Exprs) (texts : List (List ℕ)) (y : ℕ) (a : EnclosingConditions) (opened : List Group) → Grows old new
+    → RepresentsEnclosing old texts y a opened → RepresentsEnclosing new texts y a opened
 around_on old new texts y a opened g h = record {
   dependencies_are = conjoins_on old new g a.dependencies (context opened).dependencies h.dependencies_are;
   visibles_are = conjoins_on old new g a.visibles (context opened).visibles h.visibles_are;
   ends = end_on old new texts a.title (or_yes y a.dependencies) (or_yes y a.visibles) (menu_end_of opened) g h.ends;
 }
 
-pub inside_on : (old new : Exprs) (texts : List (List ℕ)) (y : ℕ) (m : Group) (opened : List Group) (o : Option EnclosingConditions) → Grows old new → RepresentsInside old texts y m opened o → RepresentsInside new texts y m opened o
+pub inside_on : (old new : Exprs) (texts : List (List ℕ)) (y : ℕ) (m : Group) (opened : List Group) (o : Option EnclosingConditions) → Grows old new
+    → RepresentsInside old texts y m opened o → RepresentsInside new texts y m opened o
 inside_on old new texts y m opened None g h = h
 inside_on old new texts y m opened (Some a) g h = (h.0, around_on old new texts y a (m ∷ opened) g h.1)
 
-pub what_on : (old new : Exprs) (names texts : List (List ℕ)) (c : CodeWhat) (w : GroupHead) → Grows old new → RepresentsHead old names texts c w → RepresentsHead new names texts c w
+pub what_on : (old new : Exprs) (names texts : List (List ℕ)) (c : CodeWhat) (w : GroupHead) → Grows old new → RepresentsHead old names texts c w
+    → RepresentsHead new names texts c w
 what_on old new names texts (codes.Config s) w g h = h
 what_on old new names texts codes.Choice w g h = h
 what_on old new names texts (codes.Menu t) w g h = h
@@ -334,9 +391,11 @@ what_on old new names texts codes.FileEnd w g h = h
 abbrev prompts_among : List Expr → List Expr → List Line → List Expr
 prompts_among ds vs lines = map (λ c. conjunction_of (ds ++ (visible_conjunct vs ++ option_to_list c))) (filter_map (λ (l : Line). prompt_of l.attribute) lines)
 
-prompt_one : (old far : Exprs) (ds vs : List Expr) (n : ℕ) (a : CodeAttribute) (o : ℕ) (os : List ℕ) (ls : List CodeLine) (rest : List Line) → o < length far.nodes → node_expr far o ≡ condition_view old ds vs a
+prompt_one : (old far : Exprs) (ds vs : List Expr) (n : ℕ) (a : CodeAttribute) (o : ℕ) (os : List ℕ) (ls : List CodeLine) (rest : List Line)
+    → o < length far.nodes → node_expr far o ≡ condition_view old ds vs a
     → RepresentsPrompt far (first_prompt ls os) (slice_get (prompts_among ds vs rest) 0)
-    → RepresentsPrompt far (first_prompt (record { number = n; attribute = a } ∷ ls) (o ∷ os)) (slice_get (prompts_among ds vs (record { number = n; attribute = attribute_in old a } ∷ rest)) 0)
+    → RepresentsPrompt far (first_prompt (record { number = n; attribute = a } ∷ ls) (o ∷ os))
+    (slice_get (prompts_among ds vs (record { number = n; attribute = attribute_in old a } ∷ rest)) 0)
 prompt_one old far ds vs n (attributes.Typed k) o os ls rest l e h = h
 prompt_one old far ds vs n (attributes.TypedPrompt k c) o os ls rest l e h = record { within = l; is = e }
 prompt_one old far ds vs n (attributes.TypedDefault k d) o os ls rest l e h = h
@@ -349,17 +408,21 @@ prompt_one old far ds vs n (attributes.Range r) o os ls rest l e h = h
 prompt_one old far ds vs n (attributes.Visible id) o os ls rest l e h = h
 prompt_one old far ds vs n attributes.Help o os ls rest l e h = h
 prompt_one old far ds vs n attributes.Modules o os ls rest l e h = h
+prompt_one old far ds vs n attributes.Optional o os ls rest l e h = h
 
-prompt_first : (old far : Exprs) (ds vs : List Expr) (ls : List CodeLine) (os : List ℕ) → All (λ i. i < length far.nodes) os → map (node_expr far) os ≡ map (line_condition old ds vs) ls
+prompt_first : (old far : Exprs) (ds vs : List Expr) (ls : List CodeLine) (os : List ℕ) → All (λ i. i < length far.nodes) os
+    → map (node_expr far) os ≡ map (line_condition old ds vs) ls
     → RepresentsPrompt far (first_prompt ls os) (slice_get (prompts_among ds vs (map (line_in old) ls)) 0)
 prompt_first old far ds vs [] os h e = tt
 prompt_first old far ds vs (l ∷ ls) [] h e = absurd (let k : 0 ≡ suc (length (map (line_condition old ds vs) ls)) = ap length e in cc)
 prompt_first old far ds vs (l ∷ ls) (o ∷ os) h e =
     let rest : map (node_expr far) os ≡ map (line_condition old ds vs) ls = cc in
     let here : node_expr far o ≡ line_condition old ds vs l = cc in
-    prompt_one old far ds vs l.number l.attribute o os ls (map (line_in old) ls) (h 0 o (omega arith)) here (prompt_first old far ds vs ls os (λ k d i. h (suc k) d (omega arith)) rest)
+    prompt_one old far ds vs l.number l.attribute o os ls (map (line_in old) ls) (h 0 o (omega arith)) here
+    (prompt_first old far ds vs ls os (λ k d i. h (suc k) d (omega arith)) rest)
 
-conditions_on : (old mid : Exprs) (ds vs : List Expr) (lines : List CodeLine) → Grows old mid → All (LineNodesExist old) lines → map (line_condition mid ds vs) lines ≡ map (line_condition old ds vs) lines
+conditions_on : (old mid : Exprs) (ds vs : List Expr) (lines : List CodeLine) → Grows old mid → All (LineNodesExist old) lines
+    → map (line_condition mid ds vs) lines ≡ map (line_condition old ds vs) lines
 conditions_on old mid ds vs [] g h = refl
 conditions_on old mid ds vs (l ∷ lines) g h =
     let a : AttributeNodesExist old l.attribute = h 0 l (omega arith) in
@@ -381,16 +444,21 @@ module _ (old mid far : Exprs) (before after : List ℕ) (ds vs : List Expr) (li
   own_is = ap (drop (length before)) b.is ∙ drop-append_seam before b.own
 
   pub prompt_there : (p : Option ℕ) (first : ℕ) → first ≡ length before → p ≡ first_prompt lines (drop first after) → IfSome p (λ i. i < length far.nodes)
-  prompt_there p first l e = subst (λ q. IfSome q (λ i. i < length far.nodes)) (sym (e ∙ ap (λ n. first_prompt lines (drop n after)) l ∙ ap (first_prompt lines) own_is)) (first_there (length far.nodes) lines b.own b.held)
+  prompt_there p first l e =
+      subst (λ q. IfSome q (λ i. i < length far.nodes)) (sym (e ∙ ap (λ n. first_prompt lines (drop n after)) l ∙ ap (first_prompt lines) own_is))
+      (first_there (length far.nodes) lines b.own b.held)
 
-  pub prompt_represents : (p : Option ℕ) (first : ℕ) → Grows old mid → All (LineNodesExist old) lines → first ≡ length before → p ≡ first_prompt lines (drop first after)
+  pub prompt_represents : (p : Option ℕ) (first : ℕ) → Grows old mid → All (LineNodesExist old) lines → first ≡ length before
+      → p ≡ first_prompt lines (drop first after)
       → RepresentsPrompt far p (slice_get (prompts_among ds vs (map (line_in old) lines)) 0)
   prompt_represents p first g held l e =
-      subst (λ q. RepresentsPrompt far q (slice_get (prompts_among ds vs (map (line_in old) lines)) 0)) (sym (e ∙ ap (λ n. first_prompt lines (drop n after)) l ∙ ap (first_prompt lines) own_is))
+      subst (λ q. RepresentsPrompt far q (slice_get (prompts_among ds vs (map (line_in old) lines)) 0))
+      (sym (e ∙ ap (λ n. first_prompt lines (drop n after)) l ∙ ap (first_prompt lines) own_is))
       (prompt_first old far ds vs lines b.own b.held (b.stand ∙ conditions_on old mid ds vs lines g held))
 
 -- the node of an `if` is there
-pub what_held : (exprs : Exprs) (names texts : List (List ℕ)) (c : CodeWhat) (w : GroupHead) → RepresentsHead exprs names texts c w → GroupHeadNodesExist (length exprs.nodes) c
+pub what_held : (exprs : Exprs) (names texts : List (List ℕ)) (c : CodeWhat) (w : GroupHead) → RepresentsHead exprs names texts c w
+    → GroupHeadNodesExist (length exprs.nodes) c
 what_held exprs names texts (codes.Config s) w h = tt
 what_held exprs names texts codes.Choice w h = tt
 what_held exprs names texts (codes.Menu t) w h = tt

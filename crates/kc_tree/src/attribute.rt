@@ -4,6 +4,8 @@ ghost use Rattle.kc_expr.specs.between.Arena.{Exprs};
 ghost use Rattle.kc_tree_model.specs.Statements.{type_of, prompt_of, default_of, range_of, is_modules as modules};
 ghost use Rattle.kc_statements.specs.between.StatementViews.{attribute_in, AttributeNodesExist, default_in, DefaultNodesExist};
 ghost use Rattle.kc_tree.specs.checker.Attributes.{aim_of};
+ghost use Rattle.kc_tree.specs.checker.ChoiceRows.{is_optional_code};
+ghost use Rattle.kc_tree.specs.checker.Kinds.{is_added_code};
 ghost use Rattle.kc_listing.specs.between.SymbolTable.{text_of_name};
 
 use kc_expr::NameId;
@@ -56,6 +58,23 @@ pub(crate) fn is_modules(attribute: &Attribute) -> bool
     ensures { (e : Exprs) → result ≡ modules (attribute_in e attribute.now) }
 {
     matches!(*attribute, Attribute::Modules)
+}
+
+/// Whether a later definition of a member may have an attribute.
+pub(crate) fn is_added(attribute: &Attribute) -> bool
+    ensures { result ≡ is_added_code attribute.now }
+{
+    matches!(
+        *attribute,
+        Attribute::Depends(_) | Attribute::Select(_) | Attribute::Imply(_) | Attribute::Help
+    )
+}
+
+/// Whether an attribute makes a choice optional.
+pub(crate) fn is_optional(attribute: &Attribute) -> bool
+    ensures { result ≡ is_optional_code attribute.now }
+{
+    matches!(*attribute, Attribute::Optional)
 }
 
 /// The name that an attribute selects or implies.

@@ -56,7 +56,7 @@ fn symbol_parts(
     requires few { AreFew walked.now }
     requires walk { (files : Files) × (root : List ℕ) × IsWalk walked.now files root }
     requires summary { (read : List Read) → RepresentsListing walked.now.listing read → IsSummary read summary.now }
-    ensures { (files : Files) (root : List ℕ) → IsWalk walked.now files root → IfOk result (AreSymbolParts walked.now.listing.names.arena (reading files root).read) }
+    ensures ok { (files : Files) (root : List ℕ) → IsWalk walked.now files root → IfOk result (AreSymbolParts walked.now.listing.names.arena (reading files root).read) }
 {
     let listing = &walked.listing;
     let symbols = summary.symbols.as_slice();
@@ -71,7 +71,7 @@ fn symbol_parts(
 fn choice_parts(alloc: Global, walked: &WalkedListing) -> Result<ChoiceParts, AllocError>
     requires few { AreFew walked.now }
     requires walk { (files : Files) × (root : List ℕ) × IsWalk walked.now files root }
-    ensures { (files : Files) (root : List ℕ) → IsWalk walked.now files root → IfOk result (AreChoiceParts walked.now.listing (reading files root).read) }
+    ensures ok { (files : Files) (root : List ℕ) → IsWalk walked.now files root → IfOk result (AreChoiceParts walked.now.listing (reading files root).read) }
 {
     let listing = &walked.listing;
     let groups = walked.groups.as_slice();
@@ -93,8 +93,8 @@ struct AllParts {
 
 /// The summary, the symbols and the choices. An `Err` means out of memory.
 fn all_parts(alloc: Global, walked: &WalkedListing) -> Result<AllParts, AllocError>
-    requires { (files : Files) × (root : List ℕ) × IsWalk walked.now files root }
-    ensures { (files : Files) (root : List ℕ) → IsWalk walked.now files root → IfOk result (AreAllParts walked.now.listing (reading files root).read) }
+    requires walk { (files : Files) × (root : List ℕ) × IsWalk walked.now files root }
+    ensures ok { (files : Files) (root : List ℕ) → IsWalk walked.now files root → IfOk result (AreAllParts walked.now.listing (reading files root).read) }
 {
     let summary = Summary::new(alloc, &walked.listing)?;
     Ok(AllParts {
@@ -159,7 +159,7 @@ fn gathered(walked: WalkedListing, parts: AllParts) -> Gathered
 /// The parts collected after a walk. An `Err` means out of memory.
 fn gathered_of(alloc: Global, walked: WalkedListing) -> Result<Gathered, AllocError>
     requires walk { (files : Files) × (root : List ℕ) × IsWalk walked files root }
-    ensures { (files : Files) (root : List ℕ) → IsWalk walked files root → IfOk result (IsGathering (reading files root).read) }
+    ensures ok { (files : Files) (root : List ℕ) → IsWalk walked files root → IfOk result (IsGathering (reading files root).read) }
 {
     let parts = all_parts(alloc, &walked)?;
     Ok(gathered(walked, parts))
@@ -167,8 +167,8 @@ fn gathered_of(alloc: Global, walked: WalkedListing) -> Result<Gathered, AllocEr
 
 /// The tree of what was read. An `Err` means out of memory.
 pub(crate) fn tree_of(alloc: Global, listing: Listing) -> Result<Tree, AllocError>
-    requires { IsOfTree listing }
-    ensures { (files : Files) (root : List ℕ) → first_tree_fault files root ≡ None → RepresentsListing listing (reading files root).read
+    requires of_tree { IsOfTree listing }
+    ensures ok { (files : Files) (root : List ℕ) → first_tree_fault files root ≡ None → RepresentsListing listing (reading files root).read
         → IfOk result (λ t. t.tree ≡ tree_of_files files root) }
 {
     let Ok(walked) = walk_all(alloc, listing) else {

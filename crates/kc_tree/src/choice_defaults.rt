@@ -4,7 +4,7 @@ ghost use Rattle.kc_listing.specs.between.ListingView.{LineNodesExist};
 ghost use Rattle.kc_tree_model.specs.Blocks.{Group as Read};
 ghost use Rattle.kc_tree_model.specs.Conditions.{groups_in_context};
 ghost use Rattle.kc_tree_model.specs.Contents.{contents_of};
-ghost use Rattle.kc_tree_model.specs.TreeFaults.{tree_faults};
+ghost use Rattle.kc_tree.specs.checker.FaultSearch.{HasNoFaults};
 ghost use Rattle.kc_tree.specs.checker.ChoiceDefaults.{group_default_rows, member_default_row, member_default_rows, default_value_view, AreDefaultsOf, IsWalkOf};
 
 use super::enclosing_choices::begins_choice;
@@ -33,8 +33,8 @@ fn value_of(attribute: &Attribute) -> Option<ExprId>
 
 /// The default that an attribute with a condition gives a choice: the symbol whose bare name it is.
 fn member_default(names: &SymbolTable, line: &Line, condition: ExprId) -> Option<MemberDefault>
-    requires { LineNodesExist names.now.arena line.now }
-    ensures { result ≡ member_default_row names.now line.now condition }
+    requires held { LineNodesExist names.now.arena line.now }
+    ensures value { result ≡ member_default_row names.now line.now condition }
 {
     let value = value_of(&line.attribute)?;
     let name = names.arena.bare_name(value)?;
@@ -112,7 +112,7 @@ pub(crate) fn member_defaults(
 ) -> Result<Keyed<MemberDefault>, AllocError>
     requires walked { (read : List Read) × IsWalkOf listing.now groups.now conditions.now read }
     requires few { length listing.now.groups.items < 2 ^ 32 }
-    ensures { (read : List Read) → IsWalkOf listing.now groups.now conditions.now read → tree_faults read ≡ []
+    ensures ok { (read : List Read) → IsWalkOf listing.now groups.now conditions.now read → HasNoFaults read
         → IfOk result (AreDefaultsOf listing.now (contents_of read) (groups_in_context read) (length (contents_of read).choices)) }
 {
     let mut found = Keyed::new(alloc);

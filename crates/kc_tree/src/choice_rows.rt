@@ -1,14 +1,16 @@
 //! The rows of choices.
 ghost use Rattle.std.specs.Prelude.{◌≡◌, ◌<◌, List, IfOk, filter, length, reverse};
+ghost use Rattle.std.specs.List.{list_any};
 ghost use Rattle.kc_expr.specs.between.Arena.{Exprs};
 ghost use Rattle.kc_tree_model.specs.Blocks.{Group as Read};
 ghost use Rattle.kc_tree_model.specs.Conditions.{groups_in_context};
 ghost use Rattle.kc_listing.specs.between.ListingView.{RepresentsListing};
-ghost use Rattle.kc_tree.specs.checker.ChoiceRows.{opens, choice_row, AreChoiceRows, IsGoneThrough};
+ghost use Rattle.kc_tree.specs.checker.ChoiceRows.{opens, is_optional_line, choice_row, AreChoiceRows, IsGoneThrough};
 ghost use Rattle.kc_tree.specs.checker.Conditioned.{own_conditions};
 ghost use Rattle.kc_tree.specs.checker.Summaries.{group_at, own_lines};
 ghost use Rattle.kc_tree.specs.checker.Walks.{RepresentsAllConditions};
 
+use super::attribute::is_optional;
 use super::enclosing_choices::begins_choice;
 use super::group_conditions::conditions_of;
 use super::group_lines::lines_of;
@@ -18,15 +20,23 @@ use kc_expr::ExprId;
 use kc_listing::{Group, Line, Listing};
 use std::alloc::{AllocError, Global};
 
+/// Whether some attribute makes the choice optional.
+fn has_optional(lines: &[Line]) -> bool
+    ensures { result ≡ list_any is_optional_line lines.now }
+{
+    lines.iter().any(|line| is_optional(&line.attribute))
+}
+
 /// The row of a choice that begins with a group, which has these attributes with these conditions.
 fn row_of(group: &Group, lines: &[Line], conditions: &[ExprId]) -> ChoiceRow
-    requires { length conditions.now ≡ length lines.now }
-    ensures { result ≡ choice_row group.now lines.now conditions.now }
+    requires many { length conditions.now ≡ length lines.now }
+    ensures value { result ≡ choice_row group.now lines.now conditions.now }
 {
     ChoiceRow {
         file: group.file,
         line: group.line,
         prompt: first_condition(lines, conditions),
+        optional: has_optional(lines),
     }
 }
 
@@ -39,7 +49,7 @@ fn row_at(
 ) -> ChoiceRow
     requires gone { IsGoneThrough listing.now groups.now conditions.now }
     requires here { i < length listing.now.groups.items }
-    ensures { result ≡ choice_row (group_at listing.now.groups.items i) (own_lines listing.now i) (own_conditions groups.now conditions.now i) }
+    ensures value { result ≡ choice_row (group_at listing.now.groups.items i) (own_lines listing.now i) (own_conditions groups.now conditions.now i) }
 {
     let lines = lines_of(listing, i);
     let own = conditions_of(groups, conditions, i);
@@ -53,8 +63,8 @@ pub(crate) fn choice_rows(
     groups: &[GroupConditions],
     conditions: &[ExprId],
 ) -> Result<Vec<ChoiceRow>, AllocError>
-    requires { IsGoneThrough listing.now groups.now conditions.now }
-    ensures { (exprs : Exprs) (read : List Read) → RepresentsListing listing.now read
+    requires visited { IsGoneThrough listing.now groups.now conditions.now }
+    ensures ok { (exprs : Exprs) (read : List Read) → RepresentsListing listing.now read
         → RepresentsAllConditions exprs listing.now.texts.items conditions.now (length conditions.now) (reverse groups.now) read
         → IfOk result (λ rows. AreChoiceRows exprs (filter opens (groups_in_context read)) rows.items) }
 {

@@ -75,6 +75,7 @@ fn if_of(attribute: &Attribute) -> Option<ExprId>
         Attribute::Visible(_) => None,
         Attribute::Help => None,
         Attribute::Modules => None,
+        Attribute::Optional => None,
     }
 }
 

@@ -79,8 +79,8 @@ fn target_name_of(attribute: &Attribute, forcing: ReverseKind) -> Option<NameId>
 
 /// The symbol that an attribute selects or implies, if an entry defines it.
 fn target_symbol_of(names: &SymbolTable, line: &Line, forcing: ReverseKind) -> Option<u32>
-    requires { LineNodesExist names.now.arena line.now }
-    ensures { result ≡ gathered_target names.now forcing line.now }
+    requires held { LineNodesExist names.now.arena line.now }
+    ensures value { result ≡ gathered_target names.now forcing line.now }
 {
     let name = target_name_of(&line.attribute, forcing)?;
     names.number_of(names.arena.name(name))
@@ -93,8 +93,8 @@ pub(crate) fn push_prompts(
     lines: &[Line],
     conditions: &[ExprId],
 ) -> Result<(), AllocError>
-    requires { length conditions.now ≡ length lines.now }
-    ensures { OnOk result (HasAppended (own_key symbol gathered_prompt) gathered_prompt found.old found.new lines.now conditions.now) }
+    requires many { length conditions.now ≡ length lines.now }
+    ensures ok { OnOk result (HasAppended (own_key symbol gathered_prompt) gathered_prompt found.old found.new lines.now conditions.now) }
 {
     for i in 0..lines.len() {
         if let Some(item) = prompt_of(&lines[i], conditions[i]) {
@@ -111,8 +111,8 @@ pub(crate) fn push_defaults(
     lines: &[Line],
     conditions: &[ExprId],
 ) -> Result<(), AllocError>
-    requires { length conditions.now ≡ length lines.now }
-    ensures { OnOk result (HasAppended (own_key symbol gathered_default) gathered_default found.old found.new lines.now conditions.now) }
+    requires many { length conditions.now ≡ length lines.now }
+    ensures ok { OnOk result (HasAppended (own_key symbol gathered_default) gathered_default found.old found.new lines.now conditions.now) }
 {
     for i in 0..lines.len() {
         if let Some(item) = default_of(&lines[i], conditions[i]) {
@@ -129,8 +129,8 @@ pub(crate) fn push_ranges(
     lines: &[Line],
     conditions: &[ExprId],
 ) -> Result<(), AllocError>
-    requires { length conditions.now ≡ length lines.now }
-    ensures { OnOk result (HasAppended (own_key symbol gathered_range) gathered_range found.old found.new lines.now conditions.now) }
+    requires many { length conditions.now ≡ length lines.now }
+    ensures ok { OnOk result (HasAppended (own_key symbol gathered_range) gathered_range found.old found.new lines.now conditions.now) }
 {
     for i in 0..lines.len() {
         if let Some(item) = range_of(&lines[i], conditions[i]) {
@@ -151,7 +151,7 @@ pub(crate) fn push_reverse_dependencies(
 ) -> Result<(), AllocError>
     requires many { length conditions.now ≡ length lines.now }
     requires held { All (LineNodesExist names.now.arena) lines.now }
-    ensures { OnOk result (HasAppended (aimed_at names.now forcing) (gathered_reverse_dependency names.now forcing symbol) found.old found.new lines.now conditions.now) }
+    ensures ok { OnOk result (HasAppended (aimed_at names.now forcing) (gathered_reverse_dependency names.now forcing symbol) found.old found.new lines.now conditions.now) }
 {
     for i in 0..lines.len() {
         if let Some(target) = target_symbol_of(names, &lines[i], forcing) {

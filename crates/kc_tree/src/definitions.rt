@@ -21,8 +21,8 @@ use std::alloc::{AllocError, Global};
 
 /// The dependency of a group.
 fn dependency_of(groups: &[GroupConditions], i: usize) -> ExprId
-    requires { i < length groups.now }
-    ensures { result ≡ (conditions_at groups.now i).dependency }
+    requires there { i < length groups.now }
+    ensures value { result ≡ (conditions_at groups.now i).dependency }
 {
     groups[i].dependency
 }
@@ -57,7 +57,7 @@ fn push_definition(
 ) -> Result<(), AllocError>
     requires many { length conditions.now ≡ length lines.now }
     requires held { All (LineNodesExist names.now.arena) lines.now }
-    ensures { OnOk result (HasDefinition names.now symbol found.old found.new lines.now conditions.now dependency) }
+    ensures ok { OnOk result (HasDefinition names.now symbol found.old found.new lines.now conditions.now dependency) }
 {
     push_prompts(&mut found.prompts, symbol, lines, conditions)?;
     push_defaults(&mut found.defaults, symbol, lines, conditions)?;
@@ -90,7 +90,7 @@ pub(crate) fn gather_attributes(
     conditions: &[ExprId],
 ) -> Result<Attributes, AllocError>
     requires walked { (read : List Read) × IsWalkOf listing.now groups.now conditions.now read }
-    ensures { (read : List Read) → IsWalkOf listing.now groups.now conditions.now read → IfOk result (AreAttributes listing.now.names.arena (contents_of read)) }
+    ensures ok { (read : List Read) → IsWalkOf listing.now groups.now conditions.now read → IfOk result (AreAttributes listing.now.names.arena (contents_of read)) }
 {
     let mut found = no_attributes(alloc);
     for i in 0..listing.groups.len() {

@@ -67,8 +67,8 @@ pub(crate) fn choices_enclosing(
     alloc: Global,
     listing: &Listing,
 ) -> Result<Vec<Option<u32>>, AllocError>
-    requires { length listing.now.groups.items < 2 ^ 32 }
-    ensures { (read : List Read) → RepresentsListing listing.now read → IfOk result (λ a. a.items ≡ map (enclosing_choice (contents_of read)) (groups_in_context read)) }
+    requires few { length listing.now.groups.items < 2 ^ 32 }
+    ensures ok { (read : List Read) → RepresentsListing listing.now read → IfOk result (λ a. a.items ≡ map (enclosing_choice (contents_of read)) (groups_in_context read)) }
 {
     let mut enclosing = Vec::with_capacity(alloc, listing.groups.len())?;
     let mut inside = Vec::new(alloc);

@@ -81,8 +81,8 @@ fn entry_of(
 
 /// The count of choices before the next group.
 pub(crate) fn count_choices(head: &GroupHead, choices: u32) -> u32
-    requires { choices + 1 < 2 ^ 32 }
-    ensures { result ≡ choices_after head.now choices }
+    requires few { choices + 1 < 2 ^ 32 }
+    ensures value { result ≡ choices_after head.now choices }
 {
     match *head {
         GroupHead::Choice => choices + 1,

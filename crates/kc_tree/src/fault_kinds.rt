@@ -14,19 +14,20 @@ use kc_statements::Attribute;
 use kc_tree_model::TreeKind;
 use kc_value::Kind;
 
-/// The fault of a definition, by what is known of its symbol.
+/// The fault of a definition, by what is known of its symbol; `may_follow` is set if it may follow that of a member.
 pub(crate) fn definition_fault(
     about: &SymbolSummary,
     is_member: bool,
     is_first: bool,
     is_modules: bool,
+    may_follow: bool,
 ) -> Option<TreeKind>
-    ensures { result ≡ definition_kind about.now is_member is_first is_modules }
+    ensures { result ≡ definition_kind about.now is_member is_first is_modules may_follow }
 {
     let other = is_other_kind(Kind::Bool, about.given);
     if is_first && about.kind().is_none() {
         Some(TreeKind::NoType)
-    } else if (is_member && other) || (!is_first && about.choice.is_some()) {
+    } else if (is_member && other) || (!is_first && about.choice.is_some() && !may_follow) {
         Some(TreeKind::ChoiceMember)
     } else if is_first && is_modules && other {
         Some(TreeKind::ModulesType)

@@ -44,7 +44,7 @@ impl Attributes {
     fn grouped(&self, alloc: Global, count: usize) -> Result<GroupedAttributes, AllocError>
         requires keys { HaveKeys count self.now }
         requires few { count < 2 ^ 32 }
-        ensures { IfOk result (AreGrouped count self.now) }
+        ensures ok { IfOk result (AreGrouped count self.now) }
     {
         Ok(GroupedAttributes {
             prompts: self.prompts.grouped(alloc, count)?,
@@ -104,7 +104,7 @@ impl Gathered {
     fn unit_numbers(&self, alloc: Global) -> Result<UnitNumbers, AllocError>
         requires few { length self.now.units.items < 2 ^ 32 }
         requires consistent { IsConsistent (gathered_tree self.now) }
-        ensures { IfOk result (λ n. HasUnits (gathered_tree self.now) n.symbols.items n.choices.items) }
+        ensures ok { IfOk result (λ n. HasUnits (gathered_tree self.now) n.symbols.items n.choices.items) }
     {
         let mut numbers = number_units(alloc, self.symbols.len(), self.choices.len(), &self.units)?;
         number_members(&self.symbols, &mut numbers);
@@ -115,7 +115,7 @@ impl Gathered {
     /// memory.
     fn lists(&self, alloc: Global) -> Result<Lists, AllocError>
         requires fits { GatheredFit self.now }
-        ensures { IfOk result (AreLists self.now) }
+        ensures ok { IfOk result (AreLists self.now) }
     {
         let choices = self.choices.len();
         Ok(Lists {
@@ -130,7 +130,7 @@ impl Gathered {
         requires fits { GatheredFit self.now }
         requires distinct { AreDistinct self.now.arena.names }
         requires consistent { IsConsistent (gathered_tree self.now) }
-        ensures { IfOk result (AreTables self.now) }
+        ensures ok { IfOk result (AreTables self.now) }
     {
         let names = self.arena.name_count();
         Ok(Tables {
@@ -184,7 +184,7 @@ impl Gathered {
         requires fits { GatheredFit self }
         requires distinct { AreDistinct self.arena.names }
         requires consistent { IsConsistent (gathered_tree self) }
-        ensures { IfOk result (λ t. t ≡ record { exprs = self.arena; tree = gathered_tree self }) }
+        ensures ok { IfOk result (λ t. t ≡ record { exprs = self.arena; tree = gathered_tree self }) }
     {
         let made = self.made(alloc)?;
         Ok(Tree::of(self.into_parts(made)))

@@ -7,8 +7,8 @@ use kc_expr::ExprId;
 
 /// Where the conditions of a group's attributes end.
 fn end_of(groups: &[GroupConditions], conditions: &[ExprId], i: usize) -> usize
-    requires { i < length groups.now }
-    ensures { result ≡ conditions_end groups.now conditions.now i }
+    requires there { i < length groups.now }
+    ensures value { result ≡ conditions_end groups.now conditions.now i }
 {
     if i + 1 < groups.len() {
         groups[i + 1].first
@@ -21,7 +21,7 @@ fn end_of(groups: &[GroupConditions], conditions: &[ExprId], i: usize) -> usize
 fn part(conditions: &[ExprId], from: usize, to: usize) -> &[ExprId]
     requires rising { from ≤ to }
     requires within { to ≤ length conditions.now }
-    ensures { result.now ≡ slice_range conditions.now from to }
+    ensures value { result.now ≡ slice_range conditions.now from to }
 {
     &conditions[from..to]
 }
@@ -34,7 +34,7 @@ pub(crate) fn conditions_of<'a>(
 ) -> &'a [ExprId]
     requires conditioned { IsConditioned groups.now conditions.now }
     requires here { i < length groups.now }
-    ensures { result.now ≡ own_conditions groups.now conditions.now i }
+    ensures value { result.now ≡ own_conditions groups.now conditions.now i }
 {
     part(conditions, groups[i].first, end_of(groups, conditions, i))
 }

@@ -7,8 +7,8 @@ use kc_listing::{Group, Line, Listing};
 
 /// Where the attributes of a group end.
 pub(crate) fn end_of(groups: &[Group], lines: &[Line], i: usize) -> usize
-    requires { i < length groups.now }
-    ensures { result ≡ attributes_end groups.now lines.now i }
+    requires there { i < length groups.now }
+    ensures value { result ≡ attributes_end groups.now lines.now i }
 {
     if i + 1 < groups.len() {
         groups[i + 1].attributes
@@ -21,7 +21,7 @@ pub(crate) fn end_of(groups: &[Group], lines: &[Line], i: usize) -> usize
 pub(crate) fn part(lines: &[Line], from: usize, to: usize) -> &[Line]
     requires rising { from ≤ to }
     requires within { to ≤ length lines.now }
-    ensures { result.now ≡ slice_range lines.now from to }
+    ensures value { result.now ≡ slice_range lines.now from to }
 {
     &lines[from..to]
 }

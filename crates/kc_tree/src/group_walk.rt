@@ -43,8 +43,8 @@ pub(crate) struct GroupWalk {
 
 /// The condition of the first prompt among attributes.
 pub(crate) fn first_condition(lines: &[Line], conditions: &[ExprId]) -> Option<ExprId>
-    requires { length conditions.now ≡ length lines.now }
-    ensures { result ≡ first_prompt lines.now conditions.now }
+    requires many { length conditions.now ≡ length lines.now }
+    ensures value { result ≡ first_prompt lines.now conditions.now }
 {
     for i in 0..lines.len() {
         if is_prompt_attribute(&lines[i].attribute) {
@@ -67,7 +67,7 @@ fn shown_condition(
     no: ExprId,
     prompt: Option<ExprId>,
 ) -> Result<ExprId, ExprFault>
-    requires { IfSome prompt (λ i. i < length arena.old.nodes) }
+    requires there { IfSome prompt (λ i. i < length arena.old.nodes) }
     ensures grows { Grows arena.old arena.new }
     ensures stands { IfOk result (λ s. (e : Option Expr) → RepresentsPrompt arena.old prompt e → Represents arena.old no (alone (constant N))
         → Represents arena.new s (unwrap_or (option_map shown e) (alone (constant N)))) }
@@ -84,7 +84,7 @@ fn inside_choice(
     no: ExprId,
     prompt: Option<ExprId>,
 ) -> Result<EnclosingConditions, ExprFault>
-    requires { IfSome prompt (λ i. i < length arena.old.nodes) }
+    requires there { IfSome prompt (λ i. i < length arena.old.nodes) }
     ensures grows { Grows arena.old arena.new }
     ensures shown { (texts : List (List ℕ)) (yes : ℕ) (m : Read) (opened : List Read)
         → m.head ≡ of_head choice → RepresentsPrompt arena.old prompt (slice_get (prompts_of (context opened) m) 0) → Represents arena.old no (alone (constant N))
@@ -250,8 +250,8 @@ impl GroupWalk {
 
     /// The condition of the first prompt among the newest attributes, whose conditions begin at a place.
     fn first_prompt_condition(&self, lines: &[Line], first: usize) -> Option<ExprId>
-        requires { length self.now.conditions.items ≡ first + length lines.now }
-        ensures { result ≡ first_prompt lines.now (drop first self.now.conditions.items) }
+        requires many { length self.now.conditions.items ≡ first + length lines.now }
+        ensures value { result ≡ first_prompt lines.now (drop first self.now.conditions.items) }
     {
         first_condition(lines, &self.conditions[first..])
     }

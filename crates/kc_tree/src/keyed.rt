@@ -44,7 +44,7 @@ impl<T: Copy> Keyed<T> {
     pub(crate) fn grouped(&self, alloc: Global, count: usize) -> Result<Grouped<T>, AllocError>
         requires keys { (i : ℕ) → i < length self.now.keys.items → slice_index self.now.keys.items i < count }
         requires few { count < 2 ^ 32 }
-        ensures { IfOk result (λ g. IsGrouped count self.now.keys.items self.now.items.items g.starts.items g.items.items) }
+        ensures ok { IfOk result (λ g. IsGrouped count self.now.keys.items self.now.items.items g.starts.items g.items.items) }
     {
         Grouped::new(alloc, count, &self.keys, &self.items)
     }

@@ -26,7 +26,7 @@ fn lines_at<'a>(groups: &[Group], lines: &'a [Line], i: usize) -> &'a [Line]
     requires here { i < length groups.now }
     requires rising { (group_at groups.now i).attributes ≤ attributes_end groups.now lines.now i }
     requires within { attributes_end groups.now lines.now i ≤ length lines.now }
-    ensures { result.now ≡ slice_range lines.now (group_at groups.now i).attributes (attributes_end groups.now lines.now i) }
+    ensures value { result.now ≡ slice_range lines.now (group_at groups.now i).attributes (attributes_end groups.now lines.now i) }
 {
     part(lines, groups[i].attributes, end_of(groups, lines, i))
 }
@@ -53,7 +53,7 @@ fn walk_through(
 
 /// Walks the whole listing. An `Err` is out of memory.
 pub(crate) fn walk_all(alloc: Global, listing: Listing) -> Result<WalkedListing, ExprFault>
-    requires { IsRepresented listing }
+    requires shown { IsRepresented listing }
     ensures shows { (read : List Read) → RepresentsListing listing read → IfOk result (λ w. RepresentsListing w.listing read) }
     ensures walked { (read : List Read) → RepresentsListing listing read
         → IfOk result (λ w. RepresentsAllConditions w.listing.names.arena w.listing.texts.items w.conditions.items (length w.conditions.items) (reverse w.groups.items) read) }

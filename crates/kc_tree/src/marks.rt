@@ -6,8 +6,8 @@ use kc_tree_model::Sym;
 
 /// Gives these symbols a mark.
 pub(crate) fn mark_members(marks: &mut Vec<u32>, members: &[Sym], mark: u32)
-    requires { All (λ s. s < length marks.old.items) members.now }
-    ensures { WereMarked marks.old.items members.now mark marks.new.items }
+    requires there { All (λ s. s < length marks.old.items) members.now }
+    ensures marked { WereMarked marks.old.items members.now mark marks.new.items }
 {
     for member in members {
         marks[member.number() as usize] = mark;

@@ -28,7 +28,7 @@ fn symbol_number_of_name(listing: &Listing, name: &str) -> Option<u32>
 fn is_selectable(listing: &Listing, symbols: &[SymbolSummary], name: &str) -> bool
     requires shown { IsRepresented listing.now }
     requires symbols { AreSymbolSummaries listing.now symbols.now }
-    ensures { (read : List Read) → RepresentsListing listing.now read → result ≡ selectable (contents_of read) name.now }
+    ensures value { (read : List Read) → RepresentsListing listing.now read → result ≡ selectable (contents_of read) name.now }
 {
     match symbol_number_of_name(listing, name) {
         Some(s) => match symbols[s as usize].kind() {
@@ -49,7 +49,7 @@ pub(crate) fn is_wrong_reverse_dependency(
     requires shown { IsRepresented listing.now }
     requires symbols { AreSymbolSummaries listing.now symbols.now }
     requires held { AttributeNodesExist listing.now.names.arena attribute.now }
-    ensures { (read : List Read) → RepresentsListing listing.now read → result ≡ wrong (contents_of read) kind (attribute_in listing.now.names.arena attribute.now) }
+    ensures value { (read : List Read) → RepresentsListing listing.now read → result ≡ wrong (contents_of read) kind (attribute_in listing.now.names.arena attribute.now) }
 {
     match target_name(attribute) {
         Some(name) => {
@@ -69,7 +69,7 @@ pub(crate) fn names_member(
     requires shown { IsRepresented listing.now }
     requires many { length marks.now ≡ length listing.now.names.symbols.items }
     requires held { DefaultNodesExist listing.now.names.arena valued.now }
-    ensures { (read : List Read) (members : List (List ℕ)) → RepresentsListing listing.now read → AreMarked (names_defined read) members marks.now mark
+    ensures value { (read : List Read) (members : List (List ℕ)) → RepresentsListing listing.now read → AreMarked (names_defined read) members marks.now mark
         → result ≡ is_some (member_named members (default_in listing.now.names.arena valued.now)) }
 {
     if !valued.single {

@@ -16,7 +16,7 @@ pub(crate) fn symbols_of_names(
     requires few { length symbols.now < 2 ^ 32 }
     requires there { (s : ℕ) (r : Row) → slice_get symbols.now s ≡ Some r → r.name < names }
     requires differ { (s t : ℕ) (r q : Row) → slice_get symbols.now s ≡ Some r → slice_get symbols.now t ≡ Some q → r.name ≡ q.name → s ≡ t }
-    ensures { IfOk result (λ table. IsTable names symbols.now (length symbols.now) table.items) }
+    ensures ok { IfOk result (λ table. IsTable names symbols.now (length symbols.now) table.items) }
 {
     let mut table = vec![in alloc; None; names]?;
     for s in 0..symbols.len() {

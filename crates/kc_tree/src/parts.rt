@@ -1,5 +1,6 @@
 //! The lists that store a tree: flat, with the items of one symbol or choice next to each other.
 ghost use Rattle.std.specs.Prelude.{◌≡◌, ◌<◌, ℕ, [], length, Some, slice_get, slice_index_or, option_map};
+ghost use Rattle.kc_tree_model.specs.Contents.{own_dependencies};
 ghost use Rattle.kc_tree_model.specs.TreeLookup.{unit_of, index_of_unit};
 ghost use Rattle.kc_tree_model.specs.declared.ids.Unit.TheVariants.{Choice as of_choice};
 ghost use Rattle.kc_tree_model.specs.declared.ids.Unit.TheVariants.{Symbol as SymbolUnit, Choice as ChoiceUnit};
@@ -21,12 +22,13 @@ pub(crate) struct SymbolRow {
     pub choice: Option<u32>,
 }
 
-/// A choice's place and the condition of its prompt.
+/// A choice's place, the condition of its prompt, and whether it is optional.
 #[derive(Clone, Copy)]
 pub(crate) struct ChoiceRow {
     pub file: u32,
     pub line: u32,
     pub prompt: Option<ExprId>,
+    pub optional: bool,
 }
 
 /// An entry; its title is a number among the titles.
@@ -73,6 +75,16 @@ pub(crate) struct Parts {
     pub symbol_of_name: Vec<Option<Sym>>,
 }
 
+/// The dependencies of a symbol: of a member the first, else all.
+fn own_dependencies(choice: Option<u32>, all: &[ExprId]) -> &[ExprId]
+    ensures { result.now ≡ own_dependencies choice all.now }
+{
+    match choice {
+        Some(_) if all.len() > 1 => &all[..1],
+        _ => all,
+    }
+}
+
 impl Parts {
     ghost use Rattle.kc_tree.specs.between.Views.{symbol_view, choice_view, entry_view, SymbolFits, ChoiceFits, EntryFits};
     ghost use Rattle.kc_tree.specs.checker.PartsView.{tree_from_rows};
@@ -100,7 +112,7 @@ impl Parts {
             ranges: self.ranges.get(s),
             selectors: self.selectors.get(s),
             impliers: self.impliers.get(s),
-            direct: self.direct.get(s),
+            direct: own_dependencies(row.choice, self.direct.get(s)),
         }
     }
 
@@ -121,6 +133,7 @@ impl Parts {
             members: self.members.get(c),
             prompt: row.prompt,
             defaults: self.member_defaults.get(c),
+            optional: row.optional,
         }
     }
 
@@ -149,15 +162,15 @@ impl Parts {
     pub(crate) fn name(&self, s: usize) -> &str
         requires kept { AreSoundParts self.now }
         requires there { s < length self.now.symbols.items }
-        ensures { option_map (λ t. t.name) (slice_get (tree_from_rows self.now).symbols s) ≡ Some result.now }
+        ensures value { option_map (λ t. t.name) (slice_get (tree_from_rows self.now).symbols s) ≡ Some result.now }
     {
         self.arena.name(self.symbols[s].name)
     }
 
     /// The title of a number.
     fn title(&self, index: u32) -> &str
-        requires { index < length self.now.titles.items }
-        ensures { result.now ≡ slice_index_or self.now.titles.items index [] }
+        requires there { index < length self.now.titles.items }
+        ensures value { result.now ≡ slice_index_or self.now.titles.items index [] }
     {
         self.titles[index as usize].as_str()
     }

@@ -33,7 +33,7 @@ pub fn read_tree(alloc: Global, texts: &Texts, root: &str) -> Result<Tree, TreeF
         Some(fault) => return Err(fault),
         None => {}
     }
-    match first_fault(alloc, &listing) {
+    match first_fault(alloc, texts.language(), &listing) {
         Ok(None) => {}
         Ok(Some(fault)) => return Err(fault),
         Err(_) => return Err(out_of_memory()),

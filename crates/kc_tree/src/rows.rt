@@ -49,7 +49,7 @@ pub(crate) fn symbol_rows(
 ) -> Result<Vec<SymbolRow>, AllocError>
     requires shown { IsRepresented listing.now }
     requires symbols { AreSymbolSummaries listing.now symbols.now }
-    ensures { (read : List Read) → RepresentsListing listing.now read → IfOk result (λ rows. AreRowsOf listing.now.names.arena (contents_of read) (names_defined read) rows.items) }
+    ensures ok { (read : List Read) → RepresentsListing listing.now read → IfOk result (λ rows. AreRowsOf listing.now.names.arena (contents_of read) (names_defined read) rows.items) }
 {
     let names = listing.names.symbols.as_slice();
     let groups = listing.groups.as_slice();

@@ -83,7 +83,7 @@ fn symbols_of(
     requires few { length listing.now.groups.items < 2 ^ 32 }
     requires enclosing { (read : List Read) → RepresentsListing listing.now read → enclosing.now ≡ map (enclosing_choice (contents_of read)) (groups_in_context read) }
     requires shown { IsRepresented listing.now }
-    ensures { (read : List Read) → RepresentsListing listing.now read → IfOk result (λ s. s.items ≡ symbol_summaries (contents_of read) (groups_in_context read)) }
+    ensures ok { (read : List Read) → RepresentsListing listing.now read → IfOk result (λ s. s.items ≡ symbol_summaries (contents_of read) (groups_in_context read)) }
 {
     let nothing = SymbolSummary {
         first: None,
@@ -133,7 +133,7 @@ fn members_of(
 impl Summary {
     /// The summary of a listing. An `Err` is out of memory, which 2^32 or more statements count as.
     pub(crate) fn new(alloc: Global, listing: &Listing) -> Result<Summary, AllocError>
-        requires { IsRepresented listing.now }
+        requires shown { IsRepresented listing.now }
         ensures summary { (read : List Read) → RepresentsListing listing.now read → IfOk result (IsSummary read) }
         ensures few { IfOk result (λ s. length listing.now.groups.items < 2 ^ 32) }
     {

@@ -26,7 +26,8 @@ pub struct ReverseDependency {
 }
 
 /// A symbol: its first place, its choice and its unit, and the attributes of all its definitions in reading order, each
-/// condition joined with the enclosing ones; `direct` has the dependency of each definition.
+/// condition joined with the enclosing ones; `direct` has the dependency of each definition, of a member that of its
+/// definition in the choice.
 #[derive(Clone, Copy)]
 pub struct Symbol<'a> {
     pub name: NameId,
@@ -50,7 +51,8 @@ pub struct MemberDefault {
     pub condition: ExprId,
 }
 
-/// A choice: its place and its unit, its members in order of definition, the condition of its prompt and its defaults.
+/// A choice: its place and its unit, its members in order of definition, the condition of its prompt, its defaults, and
+/// whether it is optional.
 #[derive(Clone, Copy)]
 pub struct Choice<'a> {
     pub file: u32,
@@ -59,4 +61,5 @@ pub struct Choice<'a> {
     pub members: &'a [Sym],
     pub prompt: Option<ExprId>,
     pub defaults: &'a [MemberDefault],
+    pub optional: bool,
 }

@@ -14,8 +14,6 @@ use kc_tree_model::{Sym, Unit};
 use std::marker::Model;
 
 /// The tree that files define. Contracts see the names and expressions of its arena, and the tree of the definition.
-///
-/// Every query takes constant time.
 #[derive(Drop)]
 pub struct Tree {
     parts: Parts,
@@ -43,8 +41,8 @@ impl Tree {
 
     /// The tree of its lists.
     pub(crate) fn of(parts: Parts) -> Tree
-        requires { AreSoundParts parts }
-        ensures { result ≡ record { exprs = parts.arena; tree = tree_from_rows parts } }
+        requires sound { AreSoundParts parts }
+        ensures value { result ≡ record { exprs = parts.arena; tree = tree_from_rows parts } }
     {
         Tree { parts }
     }
@@ -95,7 +93,7 @@ impl Tree {
 
     /// A unit, in the order of their numbers.
     pub fn unit(&self, u: u32) -> Unit
-        requires { u < length self.now.tree.units }
+        requires there { u < length self.now.tree.units }
         ensures unit { slice_get self.now.tree.units u ≡ Some result }
         ensures symbol { (s : ℕ) → result ≡ SymbolUnit s → s < length self.now.tree.symbols }
         ensures choice { (c : ℕ) → result ≡ ChoiceUnit c → c < length self.now.tree.choices }
@@ -105,7 +103,7 @@ impl Tree {
 
     /// A symbol, in order of first definition.
     pub fn symbol(&self, s: Sym) -> Symbol<'_>
-        requires { s < length self.now.tree.symbols }
+        requires there { s < length self.now.tree.symbols }
         ensures symbol { slice_get self.now.tree.symbols s ≡ Some (symbol_view self.now.exprs result) }
         ensures fits { SymbolFits self.now.exprs (length self.now.tree.symbols) result }
         ensures unit { result.unit ≡ unit_of self.now.tree s }
@@ -116,7 +114,7 @@ impl Tree {
 
     /// A choice, in order of their first lines.
     pub fn choice(&self, c: u32) -> Choice<'_>
-        requires { c < length self.now.tree.choices }
+        requires there { c < length self.now.tree.choices }
         ensures choice { slice_get self.now.tree.choices c ≡ Some (choice_view self.now.exprs result) }
         ensures fits { ChoiceFits self.now.exprs (length self.now.tree.symbols) result }
         ensures unit { result.unit ≡ index_of_unit self.now.tree (of_choice c) }
@@ -127,7 +125,7 @@ impl Tree {
 
     /// An entry, in reading order.
     pub fn entry(&self, i: usize) -> Entry<'_>
-        requires { i < length self.now.tree.entries }
+        requires there { i < length self.now.tree.entries }
         ensures entry { slice_get self.now.tree.entries i ≡ Some (entry_view self.now.exprs result) }
         ensures fits { EntryFits (length self.now.exprs.nodes) (length self.now.tree.symbols) (length self.now.tree.choices) result }
     {
@@ -159,15 +157,15 @@ impl Tree {
 
     /// The name of a symbol.
     pub fn name(&self, s: Sym) -> &str
-        requires { s < length self.now.tree.symbols }
-        ensures { option_map (λ t. t.name) (slice_get self.now.tree.symbols s) ≡ Some result.now }
+        requires there { s < length self.now.tree.symbols }
+        ensures value { option_map (λ t. t.name) (slice_get self.now.tree.symbols s) ≡ Some result.now }
     {
         self.parts.name(s.number() as usize)
     }
 
     /// The number of a symbol's unit: a member's is its choice.
     pub fn unit_of(&self, s: Sym) -> u32
-        requires { s < length self.now.tree.symbols }
+        requires there { s < length self.now.tree.symbols }
         ensures unit { result ≡ unit_of self.now.tree s }
         ensures within { result < length self.now.tree.units }
     {

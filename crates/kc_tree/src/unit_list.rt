@@ -44,7 +44,7 @@ pub(crate) fn units_of(
 ) -> Result<Vec<Unit>, AllocError>
     requires few { length listing.now.groups.items < 2 ^ 32 }
     requires symbols { AreSymbolSummaries listing.now symbols.now }
-    ensures { (read : List Read) → RepresentsListing listing.now read → IfOk result (λ units. units.items ≡ units_read (contents_of read)) }
+    ensures ok { (read : List Read) → RepresentsListing listing.now read → IfOk result (λ units. units.items ≡ units_read (contents_of read)) }
 {
     let mut units = Vec::new(alloc);
     let mut choices = 0;

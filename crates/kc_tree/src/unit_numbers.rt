@@ -27,7 +27,7 @@ pub(crate) fn number_units(
     requires symbols { (u s : ℕ) → slice_get units.now u ≡ Some (SymbolUnit s) → s < symbols }
     requires choices { (u c : ℕ) → slice_get units.now u ≡ Some (ChoiceUnit c) → c < choices }
     requires differ { (u w : ℕ) (unit : ToldUnit) → slice_get units.now u ≡ Some unit → slice_get units.now w ≡ Some unit → u ≡ w }
-    ensures { IfOk result (λ n. AreNumbered symbols choices units.now (length units.now) n.symbols.items n.choices.items) }
+    ensures ok { IfOk result (λ n. AreNumbered symbols choices units.now (length units.now) n.symbols.items n.choices.items) }
 {
     let mut of_symbol = vec![in alloc; 0; symbols]?;
     let mut of_choice = vec![in alloc; 0; choices]?;

@@ -1,3 +1,4 @@
+pub mod HelpLines
 pub mod Lookups
 pub mod TextsLemmas
 mod Rows
@@ -5,3 +6,5 @@ pub mod NestedTrees
 pub mod Consistency
 pub mod LineLaws
 pub mod NothingWanted
+pub mod StrictTrees
+pub mod MoreFiles

@@ -37,7 +37,8 @@ module _ (tree : Tree) (sound : IsConsistent tree) where
       position_or_len_is (is_same_unit unit) tree.units u unit (omega arith)
       (λ k h. elim (cases_Bool (is_same_unit unit (get_or tree.units k unit))) [
         | inl same ↦
-            let there : slice_get tree.units k ≡ Some unit = slice_get-get_or tree.units k unit (omega arith) ∙ ap Some (sym (unit_from unit (get_or tree.units k unit) same)) in
+            let there : slice_get tree.units k ≡ Some unit = slice_get-get_or tree.units k unit (omega arith)
+            ∙ ap Some (sym (unit_from unit (get_or tree.units k unit) same)) in
             let equal : k ≡ u = sound.units_differ k u unit there at in
             absurd (omega arith)
         | inr other ↦ other
@@ -52,13 +53,16 @@ module _ (tree : Tree) (sound : IsConsistent tree) where
       (λ k h. elim (cases_Bool (bytes_eq symbol.name (get_or tree.symbols k symbol).name)) [
         | inl same ↦
             let there : slice_get tree.symbols k ≡ Some (get_or tree.symbols k symbol) = slice_get-get_or tree.symbols k symbol (omega arith) in
-            let equal : k ≡ s = sound.names_differ k s (get_or tree.symbols k symbol) symbol there at (sym ((bytes_eq-Decides symbol.name (get_or tree.symbols k symbol).name).0 same)) in
+            let equal : k ≡ s = sound.names_differ k s (get_or tree.symbols k symbol) symbol there
+            at (sym ((bytes_eq-Decides symbol.name (get_or tree.symbols k symbol).name).0 same)) in
             absurd (omega arith)
         | inr other ↦ other
       ])
-      (λ h. ap (λ (t : Symbol). bytes_eq symbol.name t.name) (get_or_from_slice_get tree.symbols s symbol symbol at) ∙ (bytes_eq-Decides symbol.name symbol.name).1 refl) in
+      (λ h. ap (λ (t : Symbol). bytes_eq symbol.name t.name) (get_or_from_slice_get tree.symbols s symbol symbol at)
+      ∙ (bytes_eq-Decides symbol.name symbol.name).1 refl) in
       ap (λ k. index_if_found k (length tree.symbols)) place ∙ ap (λ t. cond t (Some s) None) (lt-ltb s (length tree.symbols) below)
 
   -- the number of a symbol's unit
-  pub unit_is : (s u : ℕ) (symbol : Symbol) (c : Option ℕ) → slice_get tree.symbols s ≡ Some symbol → symbol.choice ≡ c → slice_get tree.units u ≡ Some (unit_in s c) → unit_of tree s ≡ u
+  pub unit_is : (s u : ℕ) (symbol : Symbol) (c : Option ℕ) → slice_get tree.symbols s ≡ Some symbol → symbol.choice ≡ c
+      → slice_get tree.units u ≡ Some (unit_in s c) → unit_of tree s ≡ u
   unit_is s u symbol c at choice unit = ap (unit_of_symbol tree s) at ∙ ap (λ x. index_of_unit tree (unit_in s x)) choice ∙ place_is u (unit_in s c) unit

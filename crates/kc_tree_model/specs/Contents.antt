@@ -1,5 +1,6 @@
 -- The tree that a list of statements defines.
-use Rattle.std.specs.Prelude.{ℕ, suc, Bool, false, ◌&&◌, ◌==◌, List, [], ◌∷◌, ◌++◌, map, filter, filter_map, flat_map, slice_get, Option, Some, None, is_none, option_map, option_and_then, unwrap_or, bytes_eq, if◌then◌else◌}
+use Rattle.std.specs.Prelude.{ℕ, suc, Bool, false, ◌&&◌, ◌==◌, List, [], ◌∷◌, ◌++◌, map, filter, filter_map, flat_map, take, slice_get, Option, Some, None, is_none, option_map, option_and_then, unwrap_or, bytes_eq, if◌then◌else◌}
+use Rattle.std.specs.List.{list_any}
 use Rattle.kc_value.specs.declared.value.Kind.{Kind}
 use Rattle.kc_value.specs.declared.value.Kind.TheVariants.{Bool as Boolean}
 use Rattle.kc_expr.specs.Expr.{Expr, named, alone}
@@ -8,9 +9,9 @@ use Rattle.kc_tree_model.specs.Trees.{Default, Range, ReverseDependency, Symbol,
 use Rattle.kc_tree_model.specs.declared.ids.Unit.{Unit as TreeUnit}
 use Rattle.kc_tree_model.specs.declared.ids.Unit.TheVariants.{Symbol as of_symbol, Choice as of_choice}
 use Rattle.kc_tree_model.specs.Trees as tree
-use Rattle.kc_tree_model.specs.Statements.{Head, config, choice, menu, comment, ends, Attribute, DefaultAttribute, RangeAttribute, TargetAttribute, title_of_head, type_of, default_of, visible_of, range_of, select_of, imply_of}
+use Rattle.kc_tree_model.specs.Statements.{Head, config, choice, menu, comment, ends, Attribute, DefaultAttribute, RangeAttribute, TargetAttribute, title_of_head, type_of, default_of, visible_of, range_of, select_of, imply_of, is_optional}
 use Rattle.kc_tree_model.specs.declared.keyword.Block.TheVariants as blocks
-use Rattle.kc_tree_model.specs.Blocks.{Group, from_head, defined_name, opens_choice}
+use Rattle.kc_tree_model.specs.Blocks.{Group, Line, from_head, defined_name, opens_choice}
 use Rattle.kc_tree_model.specs.TreeFiles.{Files}
 use Rattle.kc_tree_model.specs.Limits.{names_defined}
 use Rattle.kc_tree_model.specs.Reading.{reading}
@@ -77,6 +78,11 @@ reverse_dependencies_by c p aims by = elim (index_of_name by c.names) [ None ↦
 abbrev pub reverse_dependencies_of : (Attribute → Option TargetAttribute) → Contents → List ℕ → GroupInContext → List ReverseDependency
 reverse_dependencies_of f c name p = elim (defined_name p.group) [ None ↦ [] | Some by ↦ reverse_dependencies_by c p (filter (λ (a : TargetAttribute). bytes_eq a.name name) (attribute_values f p.group)) by ]
 
+-- the dependencies of a symbol: of a member that of its first definition, which is in the choice, else those of all
+abbrev pub own_dependencies : {A : Type 0} → (choice : Option ℕ) → List A → List A
+own_dependencies None all = all
+own_dependencies (Some k) all = take 1 all
+
 -- a symbol, from all its definitions in reading order ("Menu entries"); without a type it counts as a bool
 abbrev pub symbol_of : Contents → List ℕ → Symbol
 symbol_of c name =
@@ -92,7 +98,7 @@ symbol_of c name =
       ranges = flat_map ranges_at own;
       selectors = flat_map (reverse_dependencies_of select_of c name) c.places;
       impliers = flat_map (reverse_dependencies_of imply_of c name) c.places;
-      direct = map (λ (p : GroupInContext). dependency_of p.enclosing p.group) own;
+      direct = own_dependencies (choice_of_symbol c name) (map (λ (p : GroupInContext). dependency_of p.enclosing p.group) own);
       choice = choice_of_symbol c name;
     }
 
@@ -123,6 +129,10 @@ member_default c p d =
     option_map (λ s. record { member = s; condition = attribute_condition p.enclosing p.group d.condition })
     (option_and_then (λ x. index_of_name x c.names) (member_named (member_names c p.group.number) d))
 
+-- whether a group has the attribute `optional`
+abbrev pub is_optional_group : Group → Bool
+is_optional_group g = list_any (λ (l : Line). is_optional l.attribute) g.attributes
+
 -- a choice, by the group that opens it ("Kconfig syntax", choices)
 abbrev pub choice_of : Contents → GroupInContext → Choice
 choice_of c p =
@@ -132,6 +142,7 @@ choice_of c p =
       members = filter_map (λ x. index_of_name x c.names) (member_names c p.group.number);
       prompt = slice_get (prompts_of p.enclosing p.group) 0;
       defaults = filter_map (member_default c p) (attribute_values default_of p.group);
+      optional = is_optional_group p.group;
     }
 
 -- a menu's beginning or end: its title, its dependency, its `visible if` joined with the enclosing ones

@@ -9,7 +9,7 @@ use Rattle.kc_expr.specs.Expr.{Expr, Operand, conditional}
 use Rattle.kc_expr.specs.Grammar.{read_expr, extent, quoted_text, operand_of_lexeme}
 use Rattle.kc_tree_model.specs.declared.fault.TreeKind.{TreeKind}
 use Rattle.kc_tree_model.specs.declared.fault.TreeKind.TheVariants.{BadToken, UnclosedQuote, Malformed, TooDeep, LeftOut, OutOfMemory}
-use Rattle.kc_tree_model.specs.Statements.{Head, config, choice, menu, condition, comment, source, mainmenu, ends, DefaultAttribute, TargetAttribute, Attribute, typed, typed_prompt, typed_default, prompt, default, depends, select, imply, range, visible, help, modules, Statement, head, attribute}
+use Rattle.kc_tree_model.specs.Statements.{Head, config, choice, menu, condition, comment, source, mainmenu, ends, DefaultAttribute, TargetAttribute, Attribute, typed, typed_prompt, typed_default, prompt, default, depends, select, imply, range, visible, help, modules, optional, Statement, head, attribute}
 use Rattle.kc_tree_model.specs.Keywords.{is_word_kind, is_quoted_kind, is_the_word, is_name}
 use Rattle.kc_tree_model.specs.declared.keyword.Keyword.{Keyword}
 use Rattle.kc_tree_model.specs.declared.keyword.Keyword.TheVariants as words
@@ -148,4 +148,5 @@ statement_of words.Visible ts = condition_line (codes "if") visible ts
 statement_of words.Help ts = no_more (attribute help) ts
 statement_of words.Modules ts = no_more (attribute modules) ts
 statement_of words.Option ts = option_line ts
+statement_of words.Optional ts = no_more (attribute optional) ts
 statement_of words.LeftOut ts = Err Malformed

@@ -1,6 +1,7 @@
 -- The first words of lines.
-use Rattle.std.specs.Prelude.{ℕ, Bool, true, false, not, ◌&&◌, ◌||◌, nat_lt, List, [], ◌∷◌, length, Option, Some, None, bytes_eq, codes, if◌then◌else◌}
+use Rattle.std.specs.Prelude.{ℕ, Bool, true, false, not, ◌&&◌, ◌||◌, nat_lt, List, [], ◌∷◌, length, Option, None, bytes_eq, codes, if◌then◌else◌}
 use Rattle.std.specs.List.{list_all}
+use Rattle.std.specs.Map.{lookup}
 use Rattle.kc_value.specs.declared.value.Kind.TheVariants.{Bool as Boolean, Tristate, Text, Int, Hex}
 use Rattle.kc_expr.specs.Token.{Lexeme}
 use Rattle.kc_expr.specs.declared.token.TokenKind.{TokenKind}
@@ -24,14 +25,13 @@ keywords =
     ∷ (codes "select", words.Select) ∷ (codes "imply", words.Imply) ∷ (codes "range", words.Range)
     ∷ (codes "visible", words.Visible) ∷ (codes "help", words.Help) ∷ (codes "---help---", words.Help)
     ∷ (codes "modules", words.Modules) ∷ (codes "option", words.Option)
-    ∷ (codes "def_int", words.LeftOut) ∷ (codes "def_hex", words.LeftOut) ∷ (codes "def_string", words.LeftOut)
+    ∷ (codes "def_int", words.DefaultType Int) ∷ (codes "def_hex", words.DefaultType Hex) ∷ (codes "def_string", words.DefaultType Text)
     ∷ (codes "rsource", words.LeftOut) ∷ (codes "osource", words.LeftOut) ∷ (codes "orsource", words.LeftOut)
-    ∷ (codes "optional", words.LeftOut) ∷ (codes "transitional", words.LeftOut) ∷ []
+    ∷ (codes "optional", words.Optional) ∷ (codes "transitional", words.LeftOut) ∷ []
 
 -- the entry of a table for a word
 abbrev pub keyword_in_table : {A : Type 0} → List (List ℕ × A) → List ℕ → Option A
-keyword_in_table [] x = None
-keyword_in_table (e ∷ es) x = if bytes_eq e.0 x then Some e.1 else keyword_in_table es x
+keyword_in_table table word = lookup (λ key. bytes_eq key word) table
 
 -- bare words
 abbrev pub is_word_kind : TokenKind → Bool

@@ -10,6 +10,7 @@ pub mod Blocks
 pub mod Placement
 pub mod Limits
 pub mod Reading
+pub mod MoreFiles
 pub mod Conditions
 pub mod Contents
 pub mod TreeFaults

@@ -2,6 +2,7 @@
 use Rattle.std.specs.Prelude.{ℕ, ◌+◌, Bool, false, not, ◌&&◌, ◌||◌, nat_le, nat_lt, List, [], ◌∷◌, ◌++◌, length, filter, filter_map, sum_by, Option, Some, None, is_some, bytes_eq, if◌then◌else◌}
 use Rattle.std.specs.List.{list_any}
 use Rattle.kc_value.specs.declared.limits.TheConstants.{MAX_SYMBOLS, MAX_CHOICES, MAX_FILES, MAX_TREE_BYTES, MAX_NAME_BYTES, MAX_OPEN_FILES, MAX_OPEN_BLOCKS}
+use Rattle.kc_expr.specs.declared.language.Language.{Language}
 use Rattle.kc_tree_model.specs.declared.fault.TreeKind.{TreeKind}
 use Rattle.kc_tree_model.specs.declared.fault.TreeKind.TheVariants.{MissingFile, SourceLoop, TooDeep, TooMany}
 use Rattle.kc_tree_model.specs.Statements.{Head, config, choice, block_of_head, Attribute, select, imply, Statement, head, attribute}
@@ -46,8 +47,9 @@ abbrev pub is_too_deep : List Group → Statement → Bool
 is_too_deep read (head h) = is_some (block_of_head h) && nat_le MAX_OPEN_BLOCKS (length (filter_map opened_block (open_blocks 0 read)))
 is_too_deep read (attribute a) = false
 
--- where files come from: the bytes of a path, its number among the files, and the first path
+-- where files come from: their language, the bytes of a path, its number among the files, and the first path
 pub record FileSource : Type 0 where
+  pub language : Language
   pub bytes : List ℕ → Option (List ℕ)
   pub number : List ℕ → ℕ
   pub root : List ℕ

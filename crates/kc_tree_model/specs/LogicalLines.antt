@@ -1,7 +1,10 @@
 -- From the bytes of a file to its logical lines: a backslash joins lines, and a help text is left out by indentation.
-use Rattle.std.specs.Prelude.{ℕ, zero, suc, ◌+◌, ◌-◌, ◌*◌, ◌/◌, Bool, true, false, ◌&&◌, ◌||◌, ◌==◌, nat_le, List, [], ◌∷◌, ◌++◌, length, map, take, drop, take_while, slice_index, Option, Some, None, Ok, Err, if◌then◌else◌}
+use Rattle.std.specs.Prelude.{ℕ, zero, suc, ◌+◌, ◌-◌, ◌*◌, ◌/◌, Bool, true, false, ◌&&◌, ◌||◌, ◌==◌, nat_le, List, [], ◌∷◌, ◌++◌, length, map, take, drop, take_while, slice_index, Option, Some, None, Result, Ok, Err, if◌then◌else◌}
 use Rattle.std.specs.List.{list_all}
 use Rattle.kc_expr.specs.Token.{is_white_byte, lexemes_from, Lexeme}
+use Rattle.kc_expr.specs.declared.fault.ExprFault.{ExprFault}
+use Rattle.kc_expr.specs.declared.language.Language.{Language}
+use Rattle.kc_expr.specs.declared.language.Language.TheVariants.{Strict}
 use Rattle.kc_tree_model.specs.Keywords.{keyword_of}
 use Rattle.kc_tree_model.specs.declared.keyword.Keyword.{Keyword}
 use Rattle.kc_tree_model.specs.declared.keyword.Keyword.TheVariants as words
@@ -95,9 +98,18 @@ is_help [] = false
 is_help (p ∷ []) = is_help_word (keyword_of p)
 is_help (p ∷ q ∷ rest) = false
 
--- a line whose one token is such a word begins a help text ("Menu attributes", help text)
+-- the same, of the tokens of a line, which may have a fault
+abbrev pub is_help_or_fault : Result (List Lexeme) ExprFault → Bool
+is_help_or_fault (Err e) = false
+is_help_or_fault (Ok ps) = is_help ps
+
+-- in a language a line whose one token is such a word begins a help text
+abbrev pub begins_help_in : Language → List ℕ → Bool
+begins_help_in language text = is_help_or_fault (lexemes_from language 0 0 text)
+
+-- a line whose one token is such a word begins a help text, in every language ("Menu attributes", help text)
 abbrev pub begins_help : List ℕ → Bool
-begins_help text = elim (lexemes_from 0 0 text) [ Err e ↦ false | Ok ps ↦ is_help ps ]
+begins_help text = begins_help_in Strict text
 
 -- the logical lines from line `number` on; `behind` and `help` count the physical lines still to pass over: those joined to the line before, then those of its help text
 abbrev pub logical_lines_from : (behind help number : ℕ) → List PhysicalLine → List LogicalLine

@@ -1,8 +1,11 @@
 -- Where statements and attributes are allowed, and which forms are left out ("Kconfig syntax").
-use Rattle.std.specs.Prelude.{Bool, true, false, not, List, [], ◌∷◌, Option, Some, None, is_some}
+use Rattle.std.specs.Prelude.{Bool, true, false, not, ◌&&◌, List, [], ◌∷◌, Option, Some, None, is_some}
 use Rattle.std.specs.List.{list_all}
 use Rattle.kc_value.specs.declared.value.Kind.TheVariants.{Bool as Boolean, Tristate}
+use Rattle.kc_value.specs.Kinds.{is_tri_kind}
 use Rattle.kc_expr.specs.Token.{Lexeme}
+use Rattle.kc_expr.specs.declared.language.Language.{Language}
+use Rattle.kc_expr.specs.declared.language.Language.TheVariants.{Strict, Linux}
 use Rattle.kc_tree_model.specs.declared.keyword.OpenEntry.{OpenEntry}
 use Rattle.kc_tree_model.specs.declared.keyword.OpenEntry.TheVariants as entries
 use Rattle.kc_tree_model.specs.Statements.{Head, config, choice, menu, comment}
@@ -43,6 +46,7 @@ allows_attribute entries.Choice words.Prompt = true
 allows_attribute entries.Choice words.Default = true
 allows_attribute entries.Choice words.Depends = true
 allows_attribute entries.Choice words.Help = true
+allows_attribute entries.Choice words.Optional = true
 allows_attribute entries.Menu words.Depends = true
 allows_attribute entries.Menu words.Visible = true
 allows_attribute entries.Comment words.Depends = true
@@ -78,14 +82,22 @@ first_is test (t ∷ ts) = test t
 abbrev pub is_glob_path : Lexeme → Bool
 is_glob_path t = elim (path_of t) [ None ↦ false | Some path ↦ is_glob path ]
 
--- forms that are left out: by their first word, and options, named and tristate choices, paths that are patterns
-abbrev pub is_left_out : List Group → Keyword → List Lexeme → Bool
-is_left_out read words.LeftOut ts = true
-is_left_out read words.Option ts = first_is is_left_out_option ts
-is_left_out read words.Choice ts = first_is (λ t. is_word_kind t.kind) ts
-is_left_out read words.Source ts = first_is is_glob_path ts
-is_left_out read (words.Type Tristate) ts = is_choice_open (open_entry read)
-is_left_out read k ts = false
+-- the strict language
+abbrev pub is_strict : Language → Bool
+is_strict Strict = true
+is_strict Linux = false
+
+-- forms that are left out: by their first word, and options, named and tristate choices, paths that are patterns; in the
+-- strict language also a default type that is neither bool nor tristate, and optional choices
+abbrev pub is_left_out : Language → List Group → Keyword → List Lexeme → Bool
+is_left_out language read words.LeftOut ts = true
+is_left_out language read words.Option ts = first_is is_left_out_option ts
+is_left_out language read words.Choice ts = first_is (λ t. is_word_kind t.kind) ts
+is_left_out language read words.Source ts = first_is is_glob_path ts
+is_left_out language read (words.Type Tristate) ts = is_choice_open (open_entry read)
+is_left_out language read (words.DefaultType k) ts = is_strict language && not (is_tri_kind k)
+is_left_out language read words.Optional ts = is_strict language
+is_left_out language read k ts = false
 
 -- an end keyword that matches no open block of its file
 abbrev pub is_stray_end : List Group → Keyword → Bool

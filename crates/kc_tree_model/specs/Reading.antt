@@ -3,6 +3,7 @@ use Rattle.std.specs.Prelude.{ℕ, zero, suc, Bool, true, false, not, nat_lt, Li
 use Rattle.std.specs.Str.{is_utf8}
 use Rattle.kc_expr.specs.Token.{Lexeme, lexemes_from}
 use Rattle.kc_expr.specs.declared.fault.ExprFault.{ExprFault}
+use Rattle.kc_expr.specs.declared.language.Language.{Language}
 use Rattle.kc_tree_model.specs.declared.fault.TreeKind.{TreeKind}
 use Rattle.kc_tree_model.specs.declared.fault.TreeKind.TheVariants.{NotUtf8, LineTooLong, UnknownStatement, Unclosed, StrayEnd, Misplaced, MissingFile, TooDeep, TooMany, LeftOut}
 use Rattle.kc_tree_model.specs.declared.fault.TreeFault.{TreeFault}
@@ -23,10 +24,10 @@ abbrev pub unless : Bool → TreeKind → Result (Unit {0}) TreeKind
 unless true k = Err k
 unless false k = Ok tt
 
--- the statement of a line with this keyword, after these groups, or the line's first fault
-abbrev pub statement_by_keyword : List Group → Keyword → List Lexeme → Result (Option Statement) TreeKind
-statement_by_keyword read k ts = do
-  left_out ← unless (is_left_out read k ts) LeftOut
+-- the statement of a line with this keyword in a language, after these groups, or the line's first fault
+abbrev pub statement_by_keyword : Language → List Group → Keyword → List Lexeme → Result (Option Statement) TreeKind
+statement_by_keyword language read k ts = do
+  left_out ← unless (is_left_out language read k ts) LeftOut
   misplaced ← unless (not (is_allowed read k)) Misplaced
   stray ← unless (is_stray_end read k) StrayEnd
   s ← statement_of k ts
@@ -35,27 +36,27 @@ statement_by_keyword read k ts = do
   Ok (Some s)
 
 -- a line whose first token is no keyword is unknown
-abbrev pub statement_by_word : List Group → List Lexeme → Option Keyword → Result (Option Statement) TreeKind
-statement_by_word read ts None = Err UnknownStatement
-statement_by_word read ts (Some k) = statement_by_keyword read k ts
+abbrev pub statement_by_word : Language → List Group → List Lexeme → Option Keyword → Result (Option Statement) TreeKind
+statement_by_word language read ts None = Err UnknownStatement
+statement_by_word language read ts (Some k) = statement_by_keyword language read k ts
 
 -- a line without tokens is no statement
-abbrev pub statement_of_tokens : List Group → List Lexeme → Result (Option Statement) TreeKind
-statement_of_tokens read [] = Ok None
-statement_of_tokens read (t ∷ ts) = statement_by_word read ts (keyword_of t)
+abbrev pub statement_of_tokens : Language → List Group → List Lexeme → Result (Option Statement) TreeKind
+statement_of_tokens language read [] = Ok None
+statement_of_tokens language read (t ∷ ts) = statement_by_word language read ts (keyword_of t)
 
 -- the faults of tokens come before all of these
-abbrev pub statement_or_fault : List Group → Result (List Lexeme) ExprFault → Result (Option Statement) TreeKind
-statement_or_fault read (Err e) = Err (kind_of_fault e.kind)
-statement_or_fault read (Ok ts) = statement_of_tokens read ts
+abbrev pub statement_or_fault : Language → List Group → Result (List Lexeme) ExprFault → Result (Option Statement) TreeKind
+statement_or_fault language read (Err e) = Err (kind_of_fault e.kind)
+statement_or_fault language read (Ok ts) = statement_of_tokens language read ts
 
 -- the statement of a logical line; a help line has none
-unfoldable pub statement_on_line : List Group → LogicalLine → Result (Option Statement) TreeKind
-statement_on_line read l =
+unfoldable pub statement_on_line : Language → List Group → LogicalLine → Result (Option Statement) TreeKind
+statement_on_line language read l =
     if nat_lt MAX_LINE_BYTES (length l.text) then Err LineTooLong
     else if not (is_utf8 l.text) then Err NotUtf8
     else if l.help then Ok None
-    else statement_or_fault read (lexemes_from 0 0 l.text)
+    else statement_or_fault language read (lexemes_from language 0 0 l.text)
 
 -- an attribute belongs to the newest group
 abbrev pub with_attribute : ℕ → Attribute → List Group → List Group
@@ -117,7 +118,7 @@ continue_after_line sub rest r at read (Ok s) = continue_after_statement sub res
 -- reads the lines of a file, after these groups
 abbrev pub read_lines : (sub : List ℕ → List Group → Outcome) → FileSource → ℕ → List LogicalLine → List Group → Outcome
 read_lines sub r file [] read = at_file_end file read (innermost read)
-read_lines sub r file (l ∷ ls) read = continue_after_line sub (read_lines sub r file ls) r (record { file = file; line = l.number }) read (statement_on_line read l)
+read_lines sub r file (l ∷ ls) read = continue_after_line sub (read_lines sub r file ls) r (record { file = file; line = l.number }) read (statement_on_line r.language read l)
 
 -- Reads a file, after these groups; `n` more files may be nested. At zero nothing is read: with the most open
 -- files, a `source` is TooDeep and its file isn't read.
@@ -132,7 +133,7 @@ read_root r (Some bytes) = if nat_lt MAX_TREE_BYTES (length bytes) then ended_by
 
 -- the reading of a tree from its first file on
 unfoldable pub reading : Files → List ℕ → Outcome
-reading files root = read_root (record { bytes = file_at files; number = index_of_file files; root = root }) (file_at files root)
+reading files root = read_root (record { language = files.language; bytes = file_at files; number = index_of_file files; root = root }) (file_at files root)
 
 -- the bytes of a path, none where it is absent
 abbrev pub bytes_or_none : Files → List ℕ → List ℕ
@@ -140,7 +141,7 @@ bytes_or_none files path = elim (file_at files path) [ None ↦ [] | Some bytes 
 
 -- the reading where an absent path is an empty file
 unfoldable pub lenient_reading : Files → List ℕ → Outcome
-lenient_reading files root = read_root (record { bytes = λ path. Some (bytes_or_none files path); number = index_of_file files; root = root }) (Some (bytes_or_none files root))
+lenient_reading files root = read_root (record { language = files.language; bytes = λ path. Some (bytes_or_none files path); number = index_of_file files; root = root }) (Some (bytes_or_none files root))
 
 -- the absent paths that this reading meets, the first too, once each, in order of first sight
 unfoldable pub wanted_by : Files → List ℕ → List (List ℕ)

@@ -47,6 +47,7 @@ pub data Attribute : Type 0 where
   visible : Expr → Attribute
   help : Attribute
   modules : Attribute
+  optional : Attribute
 
 -- a statement: the meaning of one line
 pub data Statement : Type 0 where
@@ -130,3 +131,8 @@ imply_of a = None
 abbrev pub is_modules : Attribute → Bool
 is_modules modules = true
 is_modules a = false
+
+-- the mark of an optional choice
+abbrev pub is_optional : Attribute → Bool
+is_optional optional = true
+is_optional a = false

@@ -1,5 +1,5 @@
 -- A tree: symbols, choices, entries and units, each condition joined with the enclosing ones.
-use Rattle.std.specs.Prelude.{ℕ, List, Option}
+use Rattle.std.specs.Prelude.{ℕ, Bool, List, Option}
 use Rattle.kc_value.specs.declared.value.Kind.{Kind}
 use Rattle.kc_expr.specs.Expr.{Expr, Operand}
 use Rattle.kc_tree_model.specs.declared.ids.Unit.{Unit as TreeUnit}
@@ -21,7 +21,8 @@ pub record ReverseDependency : Type 0 where
   pub condition : Expr
 
 -- a symbol: its first place, and the attributes of all its definitions in reading order, each condition joined with
--- the enclosing ones; `direct` has the dependency of each definition, and `choice` the number of its choice
+-- the enclosing ones; `direct` has the dependency of each definition, of a member that of its definition in the choice, and
+-- `choice` has the number of its choice
 pub record Symbol : Type 0 where
   pub name : List ℕ
   pub kind : Kind
@@ -40,13 +41,14 @@ pub record MemberDefault : Type 0 where
   pub member : ℕ
   pub condition : Expr
 
--- a choice: its place, and its members by their numbers among the symbols, in order of definition
+-- a choice: its place, its members by their numbers among the symbols, in order of definition, and whether it is optional
 pub record Choice : Type 0 where
   pub file : ℕ
   pub line : ℕ
   pub members : List ℕ
   pub prompt : Option Expr
   pub defaults : List MemberDefault
+  pub optional : Bool
 
 -- an entry in reading order; a menu's second condition is its `visible if`, joined with the enclosing ones
 pub data Entry : Type 0 where

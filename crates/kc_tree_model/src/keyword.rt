@@ -23,7 +23,7 @@ pub enum Keyword {
     End(Block),
     /// `bool`, `tristate`, `string`, `int` or `hex`.
     Type(Kind),
-    /// `def_bool` or `def_tristate`.
+    /// `def_bool`, `def_tristate`, `def_string`, `def_int` or `def_hex`.
     DefaultType(Kind),
     Prompt,
     Default,
@@ -35,6 +35,7 @@ pub enum Keyword {
     Help,
     Modules,
     Option,
+    Optional,
     /// A word of the language that this project leaves out.
     LeftOut,
 }

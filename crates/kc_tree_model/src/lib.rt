@@ -12,7 +12,8 @@ pub use fault::{TreeFault, TreeKind};
 pub use ids::{Sym, Unit};
 pub use keyword::{Block, Keyword, OpenEntry};
 pub use laws::{
-    each_file_is_read, lines_are_of_the_grammar, nothing_is_missing_after_wanted,
+    each_file_is_read, help_begins_in_every_language, lines_are_of_the_grammar,
+    linux_reads_strict_trees, more_files_change_nothing, nothing_is_missing_after_wanted,
     reading_is_a_nested_tree, trees_are_consistent,
 };
 pub use texts::Texts;

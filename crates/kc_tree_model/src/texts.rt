@@ -1,46 +1,63 @@
 //! The files of a tree.
 ghost use Rattle.std.specs.Prelude.{◌≡◌, ◌↔◌, [], length, IsTrue, OnOk, OnErr, option_map};
-ghost use Rattle.kc_tree_model.specs.TreeFiles.{with_file, file_at, index_of_file, path_at, HasDistinctPaths};
+ghost use Rattle.kc_tree_model.specs.TreeFiles.{strict_files, with_file, file_at, index_of_file, path_at, HasDistinctPaths};
 
 use indexmap::IndexMap;
+use kc_expr::Language;
 use kc_value::Seed;
 use std::alloc::{AllocError, Global};
 use std::marker::Model;
 
-/// Paths and their bytes, in order of insertion.
+/// Paths and their bytes, in order of insertion, and the language in which the files are written.
 #[derive(Drop)]
 pub struct Texts {
     alloc: Global,
+    language: Language,
     files: IndexMap<String, Vec<u8>, Seed>,
 }
 
 impl Model for Texts {
-    ghost use Rattle.std.specs.Prelude.{map};
     ghost use Rattle.kc_tree_model.specs.TreeFiles.{Files};
 
     ghost Value = { Files };
 
-    ghost use Rattle.kc_tree_model.specs.checker.TextsView.{file_of};
+    ghost use Rattle.kc_tree_model.specs.checker.TextsView.{files_of};
 
-    ghost view = { λ a. map file_of a.files.entries };
+    ghost view = { λ a. files_of a.language a.files.entries };
 }
 
 impl Texts {
-    /// No files; their paths are hashed by the fixed seed.
+    /// No files, of the strict language; their paths are hashed by the fixed seed.
     pub fn new(alloc: Global) -> Texts
-        ensures { result ≡ [] }
+        ensures { result ≡ strict_files [] }
     {
         Texts::with_seed(alloc, Seed::fixed())
     }
 
-    /// No files; their paths are hashed by this seed.
+    /// No files, of the strict language; their paths are hashed by this seed.
     pub fn with_seed(alloc: Global, seed: Seed) -> Texts
-        ensures { result ≡ [] }
+        ensures { result ≡ strict_files [] }
+    {
+        Texts::with_language(alloc, seed, Language::Strict)
+    }
+
+    /// No files, of this language; their paths are hashed by this seed.
+    pub fn with_language(alloc: Global, seed: Seed, language: Language) -> Texts
+        ensures language { result.language ≡ language }
+        ensures empty { result.list ≡ [] }
     {
         Texts {
             alloc,
+            language,
             files: IndexMap::with_hasher(alloc, seed),
         }
+    }
+
+    /// The language in which the files are written.
+    pub fn language(&self) -> Language
+        ensures { result ≡ self.now.language }
+    {
+        self.language
     }
 
     /// The seed by which the paths are hashed. Whoever reads the files hashes their names by it too.
@@ -91,7 +108,7 @@ impl Texts {
 
     /// The number of files; no two have one path.
     pub fn len(&self) -> usize
-        ensures len { result ≡ length self.now }
+        ensures len { result ≡ length self.now.list }
         ensures distinct { HasDistinctPaths self.now }
     {
         self.files.len()
@@ -99,7 +116,7 @@ impl Texts {
 
     /// Whether there are no files.
     pub fn is_empty(&self) -> bool
-        ensures { IsTrue result ↔ (self.now ≡ []) }
+        ensures { IsTrue result ↔ (self.now.list ≡ []) }
     {
         self.len() == 0
     }

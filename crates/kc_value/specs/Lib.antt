@@ -2,6 +2,7 @@ pub mod Kinds
 pub mod Number
 pub mod NumberGrammar
 pub mod Streams
+pub mod Reading
 pub mod Quoted
 pub mod Testing
 pub mod Tri

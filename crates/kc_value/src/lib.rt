@@ -4,6 +4,7 @@
 mod limits;
 mod number;
 mod quoted;
+mod reading;
 mod seed;
 mod streams;
 mod testing;
@@ -17,6 +18,7 @@ pub use limits::{
 };
 pub use number::{hex_of, int_of, loose_number_of, number_text, number_texts_are_the_grammars};
 pub use quoted::{closing_quote, push_escaped, quoted_texts_read_back, read_quoted, unescape};
+pub use reading::{ReadBytes, ReadEnd, read_up_to};
 pub use seed::Seed;
 pub use streams::{Failed, FromRead, Sink, Source, ToWrite};
 pub use testing::{Bounded, Script, Then};

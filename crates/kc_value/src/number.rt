@@ -13,7 +13,7 @@ use std::alloc::{AllocError, Global};
 fn push_digit(value: u64, byte: u8, base: u32) -> Option<u64>
     requires low { 2 ≤ base }
     requires high { base ≤ 36 }
-    ensures { result ≡ with_digit base (2 ^ 64) value byte }
+    ensures value { result ≡ with_digit base (2 ^ 64) value byte }
 {
     let digit = char::from(byte).to_digit(base)?;
     value.checked_mul(base as u64)?.checked_add(digit as u64)
@@ -23,7 +23,7 @@ fn push_digit(value: u64, byte: u8, base: u32) -> Option<u64>
 fn digits(text: &[u8], base: u32) -> Option<u64>
     requires low { 2 ≤ base }
     requires high { base ≤ 36 }
-    ensures { result ≡ magnitude base (2 ^ 64) text.now }
+    ensures value { result ≡ magnitude base (2 ^ 64) text.now }
 {
     if text.is_empty() {
         return None;
@@ -106,7 +106,7 @@ pub fn number_texts_are_the_grammars()
 /// The one text of a number of an int or a hex symbol, without leading zeros: decimal digits after a minus where it
 /// is negative, or `0x` and lower-case hex digits. An `Err` means out of memory.
 pub fn number_text(alloc: Global, kind: Kind, value: i128) -> Result<String, AllocError>
-    requires { IsPrintable kind value }
+    requires fits { IsPrintable kind value }
     ensures text { IfOk result (λ t. string_bytes t ≡ number_spelling kind value) }
     ensures reads_back { IfOk result (λ t. number_of_text kind (string_bytes t) ≡ Some value) }
 {

@@ -1,5 +1,5 @@
 -- The result of reading and settling texts.
-use Rattle.std.proofs.Common.{◌≡◌, ℕ, List, Some, None, length, ◌≢◌, ap, ◌⊎◌, inl, inr, Result, Ok, Err, IfOk, IfErr, refl, ◌∙◌}
+use Rattle.std.proofs.Common.{◌≡◌, ℕ, List, Some, None, length, ◌≢◌, ap, ◌⊎◌, inl, inr, Result, Ok, Err, IfOk, IfErr, refl}
 use Rattle.kc_tree_model.specs.TreeFiles.{Files}
 use Rattle.kc_tree_model.specs.Trees.{Tree}
 use Rattle.kc_tree_model.specs.TreeFaults.{first_tree_fault}
@@ -19,7 +19,8 @@ use Rattle.kmin_jobs.specs.between.RunErrors.{status_of}
 use Rattle.kmin_jobs.specs.between.TreeStops.{StopsAtTexts, at_texts, for_memory, settle_status, settle_lines}
 
 -- a tree that isn't settled ends a run by its cycle, or for lack of memory
-pub settle_stops : (texts : Files) (first : List ℕ) (tree : Tree) (fault : SettleFault) (stop : RunError) → first_tree_fault texts first ≡ None → tree ≡ tree_of_files texts first
+pub settle_stops : (texts : Files) (first : List ℕ) (tree : Tree) (fault : SettleFault) (stop : RunError) → first_tree_fault texts first ≡ None
+    → tree ≡ tree_of_files texts first
     → ReportsTreeCycle (length tree.units) (dependencies tree) fault → status_of stop ≡ settle_status fault
     → StopsAtTexts texts first (status_of stop) (settle_lines texts first tree fault)
 settle_stops texts first tree (Cycle units) stop read same cycle status = at_texts _ (cyclic tree units.items read same cycle.0 cycle.1 refl) status refl

@@ -1,14 +1,13 @@
 -- The answers of commands.
-use Rattle.std.proofs.Common.{◌≡◌, ◌≢◌, ℕ, zero, suc, ◌≤◌, ◌⊎◌, inl, inr, append-nil, List, [], ◌∷◌, ◌++◌, Option, Result, Ok, Err, IfOk, IfErr, map, refl, sym, ap, ◌∙◌, subst, arith}
-use Rattle.std.specs.Borrow.{Bor}
+use Rattle.std.proofs.Common.{◌≡◌, ◌≢◌, ℕ, zero, suc, ◌≤◌, ◌⊎◌, inl, inr, append-nil, List, [], ◌∷◌, ◌++◌, Option, Result, Ok, Err, Vec, IfOk, IfErr, refl, sym, subst, arith}
+use Rattle.std.specs.declared.alloc.AllocError.{AllocError}
+use Rattle.std.specs.declared.alloc.Global.{Global}
 use Rattle.std.specs.List.{flat_map}
-use Rattle.kc_tree_model.specs.TreeFiles.{Files, file_at}
+use Rattle.kc_tree_model.specs.TreeFiles.{Files, strict_files}
 use Rattle.kc_tree_model.specs.Trees.{Tree}
-use Rattle.kc_system.specs.Solutions.{UniquelySolves}
-use Rattle.kc_rules_model.specs.Rule.{rule}
 use Rattle.kc_rules_model.specs.declared.profile.Profile.{Profile}
 use Rattle.kc_rules.specs.declared.rules.Settled.{Settled}
-use Rattle.kc_rules.specs.SettledViews.{tree_of_settled, profile_of}
+use Rattle.kc_rules.specs.between.SettledViews.{tree_of_settled, profile_of}
 use Rattle.kc_dotconfig_model.specs.ConfigLines.{LineMeaning}
 use Rattle.kc_dotconfig_model.specs.ConfigFiles.{empty_assignment}
 use Rattle.kc_rules_model.specs.declared.values.UnitValue.{UnitValue}
@@ -16,12 +15,15 @@ use Rattle.kc_dotconfig.specs.Configured.{Configured, IsSolved, tree_in}
 use Rattle.kc_minimal_model.specs.Differences.{Difference, differences}
 use Rattle.kmin_words.specs.Jobs.{Settings, Task, over, compare, paths_of}
 use Rattle.kmin_words.specs.declared.job.Verb.{Verb}
+use Rattle.kmin_words.specs.declared.job.Verb.TheVariants.{Min}
+use Rattle.kc_minimal_model.specs.CanonicalText.{IsCanonicalText}
+use Rattle.kc_rules_model.specs.declared.values.UserValue.{UserValue}
 use Rattle.kmin_jobs.specs.declared.run_error.RunError.{RunError}
 use Rattle.kmin_jobs.specs.declared.verb_texts.AnswerText.{AnswerText}
 use Rattle.kmin_jobs.specs.FileContents.{FileContent, AreTextsBelow}
 use Rattle.kmin_jobs.specs.Reports.{notice_lines, output_line, last_lines}
 use Rattle.kmin_jobs.specs.StandardError.{TakesLines}
-use Rattle.kmin_jobs.specs.Answers.{AreAccepted, Resolve, Answer, FilesMean, files_assignment, of_files, of_comparison, text_of_verb, difference_line, status_of_differences}
+use Rattle.kmin_jobs.specs.Answers.{AreAccepted, Resolve, Answer, files_assignment, of_files, of_comparison, IsTextOfVerb, difference_line, status_of_differences}
 use Rattle.kmin_jobs.specs.Stops.{Stops, StopsAmongFiles, at_tree, among_files, for_memory}
 use Rattle.kmin_jobs.specs.Stops as stops
 use Rattle.kmin_jobs.specs.between.Loaded.{AreLoaded}
@@ -34,7 +36,8 @@ use Rattle.kmin_jobs.proofs.Sequences.{mean_again}
 -- the solution that a configuration of a known tree has
 pub resolved : (content_of : List ℕ → FileContent) (settings : Settings) (config : Configured) (settled : Settled) (paths : List (List ℕ)) (taken taken_after : Option (List ℕ)) (failed failed_after : ℕ)
     → config.system ≡ settled → profile_of settled ≡ settings.profile → IsSolved config
-    → (l : AreLoaded content_of settings.prefix (tree_of_settled settled) paths (empty_assignment (tree_of_settled settled)) config.users taken failed taken_after failed_after)
+    → (l : AreLoaded content_of settings.prefix (tree_of_settled settled) paths (empty_assignment (tree_of_settled settled)) config.users taken failed
+    taken_after failed_after)
     → Resolve content_of settings (tree_of_settled settled) paths l.meanings config.values
 resolved content_of settings config settled paths taken taken_after failed failed_after e p s l =
     let gives = rw e at s.gives in
@@ -42,16 +45,28 @@ resolved content_of settings config settled paths taken taken_after failed faile
 
 pub answers_files : (content_of : List ℕ → FileContent) (settings : Settings) (verb : Verb) (config : Configured) (settled : Settled) (paths : List (List ℕ)) (text : List ℕ) (taken taken_after : Option (List ℕ)) (failed failed_after : ℕ)
     → config.system ≡ settled → profile_of settled ≡ settings.profile → IsSolved config
-    → AreLoaded content_of settings.prefix (tree_of_settled settled) paths (empty_assignment (tree_of_settled settled)) config.users taken failed taken_after failed_after
-    → text ≡ text_of_verb settings (tree_in config) config.users config.values verb
-    → (notices : List (List ℕ)) × ((texts : Files) → AreAccepted texts settings.tree (tree_of_settled settled) → Answer content_of settings texts (over verb paths) text 0 notices)
+    → AreLoaded content_of settings.prefix (tree_of_settled settled) paths (empty_assignment (tree_of_settled settled)) config.users taken failed taken_after
+    failed_after
+    → IsTextOfVerb settings (tree_in config) config.users config.values verb text
+    → (notices : List (List ℕ)) × ((texts : Files) → AreAccepted texts settings.tree (tree_of_settled settled)
+    → Answer content_of settings texts (over verb paths) text 0 notices)
     × TakesLines taken failed notices taken_after failed_after
 answers_files content_of settings verb config settled paths text taken taken_after failed failed_after e p s l t =
-    let same : text ≡ text_of_verb settings (tree_of_settled settled) (files_assignment (tree_of_settled settled) l.meanings) config.values verb = rw (← l.users_are, ← e) t in (
+    let same : IsTextOfVerb settings (tree_of_settled settled) (files_assignment (tree_of_settled settled) l.meanings) config.values verb text =
+    rw (← l.users_are, ← e) t in (
       notice_lines paths l.meanings,
-      (λ texts accepted. of_files (tree_of_settled settled) verb paths l.meanings config.values refl accepted (resolved content_of settings config settled paths taken taken_after failed failed_after e p s l) same refl refl),
+      (λ texts accepted. of_files (tree_of_settled settled) verb paths l.meanings config.values refl accepted
+          (resolved content_of settings config settled paths taken taken_after failed failed_after e p s l) same refl refl),
       l.reported,
     )
+
+-- the text of `min`, if it is made
+pub canonical_text : (prefix : List ℕ) (profile : Profile) (tree : Tree) (users : List (Option UserValue)) (values : List UnitValue) (verb : Verb) (r : Result (Vec ℕ Global) AllocError)
+    → verb ≡ Min
+    → IfOk r (λ text. IsCanonicalText prefix profile tree values text.items)
+    → IfOk r (λ text. (settings : Settings) → settings.prefix ≡ prefix → settings.profile ≡ profile → IsTextOfVerb settings tree users values verb text.items)
+canonical_text prefix profile tree users values verb (Err e) m h = tt
+canonical_text prefix profile tree users values verb (Ok text) m h = λ settings p q. rw (m, p, q) h
 
 -- the status of a comparison is 0 or 1
 pub status_at_most_one : (ds : List Difference) → status_of_differences ds ≤ 1
@@ -59,60 +74,72 @@ status_at_most_one [] = omega arith
 status_at_most_one (d ∷ ds) = omega arith
 
 resolve_again : (content_of others : List ℕ → FileContent) (settings : Settings) (tree : Tree) (paths : List (List ℕ)) (meanings : List (List LineMeaning)) (values : List UnitValue)
-    → ((path : List ℕ) → others path ≡ content_of path) → Resolve others settings tree paths meanings values → Resolve content_of settings tree paths meanings values
+    → ((path : List ℕ) → others path ≡ content_of path) → Resolve others settings tree paths meanings values
+    → Resolve content_of settings tree paths meanings values
 resolve_again content_of others settings tree paths meanings values same r =
     record { mean = mean_again content_of others settings.prefix tree paths meanings same r.mean; gives = r.gives }
 
 pub answers_comparison : (content_of others : List ℕ → FileContent) (settings : Settings) (left right : Configured) (settled : Settled) (a b : List ℕ) (text : List ℕ) (status : ℕ) (taken middle taken_after : Option (List ℕ)) (failed failed_middle failed_after : ℕ)
     → ((path : List ℕ) → others path ≡ content_of path)
     → left.system ≡ settled → right.system ≡ settled → profile_of settled ≡ settings.profile → IsSolved left → IsSolved right
-    → AreLoaded content_of settings.prefix (tree_of_settled settled) (a ∷ []) (empty_assignment (tree_of_settled settled)) left.users taken failed middle failed_middle
-    → AreLoaded others settings.prefix (tree_of_settled settled) (b ∷ []) (empty_assignment (tree_of_settled settled)) right.users middle failed_middle taken_after failed_after
+    → AreLoaded content_of settings.prefix (tree_of_settled settled) (a ∷ []) (empty_assignment (tree_of_settled settled)) left.users taken failed middle
+    failed_middle
+    → AreLoaded others settings.prefix (tree_of_settled settled) (b ∷ []) (empty_assignment (tree_of_settled settled)) right.users middle failed_middle
+    taken_after failed_after
     → text ≡ flat_map (difference_line (tree_in left)) (differences (tree_in left) left.values right.values)
     → status ≡ status_of_differences (differences (tree_in left) left.values right.values)
-    → (notices : List (List ℕ)) × ((texts : Files) → AreAccepted texts settings.tree (tree_of_settled settled) → Answer content_of settings texts (compare a b) text status notices)
+    → (notices : List (List ℕ)) × ((texts : Files) → AreAccepted texts settings.tree (tree_of_settled settled)
+    → Answer content_of settings texts (compare a b) text status notices)
     × TakesLines taken failed notices taken_after failed_after
 answers_comparison content_of others settings left right settled a b text status taken middle taken_after failed failed_middle failed_after same l r p sl sr hl hr t s = (
   notice_lines (a ∷ []) hl.meanings ++ notice_lines (b ∷ []) hr.meanings,
   (λ texts accepted. of_comparison (tree_of_settled settled) a b hl.meanings hr.meanings left.values right.values refl accepted
       (resolved content_of settings left settled (a ∷ []) taken middle failed failed_middle l p sl hl)
-      (resolve_again content_of others settings (tree_of_settled settled) (b ∷ []) hr.meanings right.values same (resolved others settings right settled (b ∷ []) middle taken_after failed_middle failed_after r p sr hr))
+      (resolve_again content_of others settings (tree_of_settled settled) (b ∷ []) hr.meanings right.values same
+      (resolved others settings right settled (b ∷ []) middle taken_after failed_middle failed_after r p sr hr))
       (rw (← l) t) (rw (← l) s) refl),
   lines_append taken middle failed failed_middle _ _ taken_after failed_after hl.reported hr.reported,
 )
 
 -- no texts
-pub below_none : (content_of : List ℕ → FileContent) (root : List ℕ) → AreTextsBelow content_of root []
-below_none content_of root path bytes e = cc
+pub below_none : (content_of : List ℕ → FileContent) (root : List ℕ) → AreTextsBelow content_of root (strict_files [])
+below_none content_of root = record { language = refl; content = λ path bytes e. cc }
 
 -- a job ends where its tree does
-pub tree_stops_job : (content_of : List ℕ → FileContent) (settings : Settings) (task : Task) (texts : Files) (status : ℕ) (lines : List (List ℕ)) → AreTextsBelow content_of settings.root texts
+pub tree_stops_job : (content_of : List ℕ → FileContent) (settings : Settings) (task : Task) (texts : Files) (status : ℕ) (lines : List (List ℕ))
+    → AreTextsBelow content_of settings.root texts
     → StopsAtTexts texts settings.tree status lines → Stops content_of settings task status lines
 tree_stops_job content_of settings task texts status lines below (tree_stops.at_texts line r s e) = at_tree texts line below r s e
 tree_stops_job content_of settings task texts status lines below (tree_stops.for_memory s e) = for_memory s e
 
 -- what is known of files stays
 among_again : (content_of others : List ℕ → FileContent) (prefix : List ℕ) (tree : Tree) (paths : List (List ℕ)) (status : ℕ) (lines : List (List ℕ))
-    → ((path : List ℕ) → others path ≡ content_of path) → StopsAmongFiles others prefix tree paths status lines → StopsAmongFiles content_of prefix tree paths status lines
+    → ((path : List ℕ) → others path ≡ content_of path) → StopsAmongFiles others prefix tree paths status lines
+    → StopsAmongFiles content_of prefix tree paths status lines
 among_again content_of others prefix tree paths status lines same (stops.at_file front back path line meanings p m s e) =
-    stops.at_file front back path line meanings p (mean_again content_of others prefix tree front meanings same m) (subst (λ content. stops.StopsAtFile content prefix tree path status line) (same path) s) e
+    stops.at_file front back path line meanings p (mean_again content_of others prefix tree front meanings same m)
+    (subst (λ content. stops.StopsAtFile content prefix tree path status line) (same path) s) e
 among_again content_of others prefix tree paths status lines same (stops.for_memory front back meanings p m s e) =
     stops.for_memory front back meanings p (mean_again content_of others prefix tree front meanings same m) s e
 
 answer_again : (content_of others : List ℕ → FileContent) (settings : Settings) (texts : Files) (task : Task) (text : List ℕ) (status : ℕ) (notices : List (List ℕ))
-    → ((path : List ℕ) → others path ≡ content_of path) → Answer others settings texts task text status notices → Answer content_of settings texts task text status notices
+    → ((path : List ℕ) → others path ≡ content_of path) → Answer others settings texts task text status notices
+    → Answer content_of settings texts task text status notices
 answer_again content_of others settings texts task text status notices same (of_files tree verb paths meanings values k a r t s n) =
     of_files tree verb paths meanings values k a (resolve_again content_of others settings tree paths meanings values same r) t s n
 answer_again content_of others settings texts task text status notices same (of_comparison tree left right lm rm v w k a r q t s n) =
-    of_comparison tree left right lm rm v w k a (resolve_again content_of others settings tree (left ∷ []) lm v same r) (resolve_again content_of others settings tree (right ∷ []) rm w same q) t s n
+    of_comparison tree left right lm rm v w k a (resolve_again content_of others settings tree (left ∷ []) lm v same r)
+    (resolve_again content_of others settings tree (right ∷ []) rm w same q) t s n
 
 -- the answer of a job, or its end, over the texts that were gathered
 module _ (content_of others : List ℕ → FileContent) (settings : Settings) (task : Task) (tree : Tree) (texts : Files) (same : (path : List ℕ) → others path ≡ content_of path)
     (below : AreTextsBelow content_of settings.root texts) (accepted : AreAccepted texts settings.tree tree)
     (taken middle taken_after : Option (List ℕ)) (failed failed_middle failed_after : ℕ) (before : TakesLines taken failed [] middle failed_middle) where
   pub job_answers : (r : Result AnswerText RunError)
-      → IfOk r (λ answer. (notices : List (List ℕ)) × ((texts : Files) → AreAccepted texts settings.tree tree → Answer others settings texts task answer.text.items answer.status notices) × TakesLines middle failed_middle notices taken_after failed_after)
-      → IfOk r (λ answer. (texts : Files) × (notices : List (List ℕ)) × AreTextsBelow content_of settings.root texts × Answer content_of settings texts task answer.text.items answer.status notices × TakesLines taken failed notices taken_after failed_after)
+      → IfOk r (λ answer. (notices : List (List ℕ)) × ((texts : Files) → AreAccepted texts settings.tree tree
+      → Answer others settings texts task answer.text.items answer.status notices) × TakesLines middle failed_middle notices taken_after failed_after)
+      → IfOk r (λ answer. (texts : Files) × (notices : List (List ℕ)) × AreTextsBelow content_of settings.root texts × Answer content_of settings texts task
+      answer.text.items answer.status notices × TakesLines taken failed notices taken_after failed_after)
   job_answers (Err stop) h = tt
   job_answers (Ok answer) h = (
     texts,
@@ -123,8 +150,10 @@ module _ (content_of others : List ℕ → FileContent) (settings : Settings) (t
   )
 
   pub job_stops : (r : Result AnswerText RunError)
-      → IfErr r (λ stop. (lines : List (List ℕ)) × StopsAmongFiles others settings.prefix tree (paths_of task) (status_of stop) lines × TakesLines middle failed_middle lines taken_after failed_after)
-      → IfErr r (λ stop. (lines : List (List ℕ)) × Stops content_of settings task (status_of stop) lines × TakesLines taken failed lines taken_after failed_after)
+      → IfErr r (λ stop. (lines : List (List ℕ)) × StopsAmongFiles others settings.prefix tree (paths_of task) (status_of stop) lines × TakesLines middle
+      failed_middle lines taken_after failed_after)
+      → IfErr r (λ stop. (lines : List (List ℕ)) × Stops content_of settings task (status_of stop) lines × TakesLines taken failed lines taken_after
+      failed_after)
   job_stops (Ok answer) h = tt
   job_stops (Err stop) h = (
     h.0,
@@ -134,9 +163,11 @@ module _ (content_of others : List ℕ → FileContent) (settings : Settings) (t
 
 -- nothing more was reported
 pub lines_kept : (before middle after : Option (List ℕ)) (failed failed_middle failed_after : ℕ) (lines : List (List ℕ))
-    → TakesLines before failed lines middle failed_middle → TakesLines middle failed_middle [] after failed_after → TakesLines before failed lines after failed_after
+    → TakesLines before failed lines middle failed_middle → TakesLines middle failed_middle [] after failed_after
+    → TakesLines before failed lines after failed_after
 lines_kept before middle after failed failed_middle failed_after lines h k =
-    subst (λ all. TakesLines before failed all after failed_after) (append-nil lines) (lines_append before middle failed failed_middle lines [] after failed_after h k)
+    subst (λ all. TakesLines before failed all after failed_after) (append-nil lines)
+    (lines_append before middle failed failed_middle lines [] after failed_after h k)
 
 -- a status of an answer is 0 or 1
 small : (n : ℕ) → n ≤ 1 → (n ≡ 0) ⊎ (n ≡ 1)
@@ -148,8 +179,10 @@ pub no_other_status : (n : ℕ) → n ≤ 1 → (n ≢ 0) × (n ≢ 1) → ⊥
 no_other_status n h k = elim (small n h) [ inl e ↦ k.0 e | inr e ↦ k.1 e ]
 
 -- a write of an answer failed
-pub write_stops : (content_of : List ℕ → FileContent) (settings : Settings) (task : Task) (text : List ℕ) (made status : ℕ) (taken middle taken_after : Option (List ℕ)) (failed failed_middle failed_after : ℕ) → status ≡ 5
-    → (texts : Files) × (notices : List (List ℕ)) × AreTextsBelow content_of settings.root texts × Answer content_of settings texts task text made notices × TakesLines taken failed notices middle failed_middle
+pub write_stops : (content_of : List ℕ → FileContent) (settings : Settings) (task : Task) (text : List ℕ) (made status : ℕ) (taken middle taken_after : Option (List ℕ)) (failed failed_middle failed_after : ℕ)
+    → status ≡ 5
+    → (texts : Files) × (notices : List (List ℕ)) × AreTextsBelow content_of settings.root texts × Answer content_of settings texts task text made notices
+    × TakesLines taken failed notices middle failed_middle
     → TakesLines middle failed_middle (output_line ∷ []) taken_after failed_after
     → (lines : List (List ℕ)) × Stops content_of settings task status lines × TakesLines taken failed (lines ++ last_lines status) taken_after failed_after
 write_stops content_of settings task text made status taken middle taken_after failed failed_middle failed_after e w h = (
@@ -160,9 +193,14 @@ write_stops content_of settings task text made status taken middle taken_after f
 )
 
 -- a job ended, and its last line is reported
-pub job_ends : (content_of : List ℕ → FileContent) (settings : Settings) (task : Task) (stop : RunError) (status : ℕ) (taken middle taken_after : Option (List ℕ)) (failed failed_middle failed_after : ℕ) → status ≡ status_of stop
+pub job_ends : (content_of : List ℕ → FileContent) (settings : Settings) (task : Task) (stop : RunError) (status : ℕ) (taken middle taken_after : Option (List ℕ)) (failed failed_middle failed_after : ℕ)
+    → status ≡ status_of stop
     → (lines : List (List ℕ)) × Stops content_of settings task (status_of stop) lines × TakesLines taken failed lines middle failed_middle
     → TakesLines middle failed_middle (last_lines status) taken_after failed_after
     → (lines : List (List ℕ)) × Stops content_of settings task status lines × TakesLines taken failed (lines ++ last_lines status) taken_after failed_after
-job_ends content_of settings task stop status taken middle taken_after failed failed_middle failed_after e w h =
-    (w.0, subst (λ n. Stops content_of settings task n w.0) (sym e) w.1, lines_append taken middle failed failed_middle w.0 (last_lines status) taken_after failed_after w.2 h)
+job_ends content_of settings task stop status taken middle taken_after failed failed_middle failed_after e w h = (
+  w.0,
+  subst (λ n. Stops content_of settings task n w.0) (sym e) w.1,
+  lines_append taken middle failed failed_middle w.0 (last_lines status) taken_after
+      failed_after w.2 h,
+)

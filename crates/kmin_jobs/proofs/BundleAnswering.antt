@@ -1,12 +1,12 @@
 -- The answers of bundles.
-use Rattle.std.proofs.Common.{◌≡◌, ℕ, List, [], ◌∷◌, ◌++◌, Option, Some, Result, Ok, Err, Vec, IfOk, IfErr, codes, refl, sym, ap, ◌∙◌, subst, append-nil}
+use Rattle.std.proofs.Common.{◌≡◌, ℕ, List, [], ◌∷◌, ◌++◌, Option, Some, Result, Ok, Err, Vec, IfOk, IfErr, codes, refl, sym, subst}
 use Rattle.std.specs.declared.alloc.Global.{Global}
 use Rattle.kc_tree_model.specs.Trees.{Tree}
 use Rattle.kc_rules_model.specs.declared.profile.Profile.TheVariants.{Present}
 use Rattle.kc_rules_model.specs.declared.values.UnitValue.{UnitValue}
 use Rattle.kc_rules_model.specs.declared.values.UserValue.{UserValue}
 use Rattle.kc_rules.specs.declared.rules.Settled.{Settled}
-use Rattle.kc_rules.specs.SettledViews.{tree_of_settled, profile_of}
+use Rattle.kc_rules.specs.between.SettledViews.{tree_of_settled, profile_of}
 use Rattle.kc_dotconfig_model.specs.ConfigLines.{LineMeaning}
 use Rattle.kc_dotconfig_model.specs.ConfigFiles.{overlay, empty_assignment}
 use Rattle.kc_dotconfig.specs.declared.fragment.Fragment.{Fragment}
@@ -16,11 +16,11 @@ use Rattle.kc_dotconfig.specs.ReadResults.{IsReadAs}
 use Rattle.kc_minimal_model.specs.FullFile.{full_file}
 use Rattle.kmin_words.specs.declared.job.Verb.TheVariants.{Full}
 use Rattle.kmin_jobs.specs.declared.run_error.RunError.{RunError}
-use Rattle.kmin_jobs.specs.Reports.{notice_lines, output_line, last_lines}
+use Rattle.kmin_jobs.specs.Reports.{notice_lines, last_lines}
 use Rattle.kmin_jobs.specs.StandardError.{TakesLines}
 use Rattle.kmin_jobs.specs.Answers.{AreAccepted, Resolve, of_files}
 use Rattle.kmin_jobs.specs.Stops.{StopsAmongFiles}
-use Rattle.kmin_jobs.specs.Bundles.{IsBundle, ReadsToEnd}
+use Rattle.kmin_jobs.specs.Bundles.{IsBundle}
 use Rattle.kmin_jobs.specs.BundleAnswers.{AnswersBundle, StopsInBundle, StopsOnBundle, at_tree, in_configuration, at_write, bundle_content, bundle_files, bundle_settings}
 use Rattle.kmin_jobs.specs.BundleAnswers as bundles
 use Rattle.kmin_jobs.specs.between.Loaded.{AreLoaded}
@@ -34,7 +34,8 @@ use Rattle.kmin_jobs.proofs.Answering.{resolved}
 -- a configuration in memory that wasn't read
 pub memory_stops : (text rest prefix plain : List ℕ) (tree : Tree) (path : List ℕ) (after : Option (List ℕ)) (read_failed read_failed_after status : ℕ) (taken taken_after : Option (List ℕ)) (failed failed_after : ℕ)
     → prefix ≡ plain → rest ≡ text → StopsLoad prefix tree path (Some rest) after read_failed read_failed_after status taken failed taken_after failed_after
-    → (lines : List (List ℕ)) × StopsAmongFiles (bundle_content text) plain tree (path ∷ []) status lines × TakesLines taken failed lines taken_after failed_after
+    → (lines : List (List ℕ)) × StopsAmongFiles (bundle_content text) plain tree (path ∷ []) status lines × TakesLines taken failed lines taken_after
+    failed_after
 memory_stops text rest prefix plain tree path after f g status taken taken_after failed failed_after p e h =
     let k : StopsLoad plain tree path (Some text) after f g status taken failed taken_after failed_after = rw (p, e) at h in
     stopped_path (bundle_content text) (bundle_content text) plain tree status taken failed taken_after failed_after path refl
@@ -42,7 +43,8 @@ memory_stops text rest prefix plain tree path after f g status taken taken_after
 
 -- a configuration in memory that was read
 pub memory_loaded : (text rest prefix plain : List ℕ) (tree : Tree) (path : List ℕ) (after : Option (List ℕ)) (before users : List (Option UserValue)) (fragment : Fragment) (taken taken_after : Option (List ℕ)) (failed failed_after : ℕ)
-    → prefix ≡ plain → rest ≡ text → IsReadAs prefix tree (Some rest) after fragment → TakesLines taken failed (fragment_notices path fragment) taken_after failed_after
+    → prefix ≡ plain → rest ≡ text → IsReadAs prefix tree (Some rest) after fragment
+    → TakesLines taken failed (fragment_notices path fragment) taken_after failed_after
     → users ≡ overlay (users_of tree fragment.assigns.items) before
     → AreLoaded (bundle_content text) plain tree (path ∷ []) before users taken failed taken_after failed_after
 memory_loaded text rest prefix plain tree path after before users fragment taken taken_after failed failed_after p e h t u =
@@ -53,14 +55,18 @@ memory_loaded text rest prefix plain tree path after before users fragment taken
 -- the full file of a configuration
 pub full_answers : (text prefix bytes : List ℕ) (config : Configured) (settled : Settled) (taken taken_after : Option (List ℕ)) (failed failed_after : ℕ)
     → config.system ≡ settled → prefix ≡ codes "CONFIG_" → IsSolved config
-    → AreLoaded (bundle_content text) (codes "CONFIG_") (tree_of_settled settled) (codes "config" ∷ []) (empty_assignment (tree_of_settled settled)) config.users taken failed taken_after failed_after
+    → AreLoaded (bundle_content text) (codes "CONFIG_") (tree_of_settled settled) (codes "config" ∷ []) (empty_assignment (tree_of_settled settled))
+    config.users taken failed taken_after failed_after
     → bytes ≡ full_file prefix (tree_in config) config.values
-    → (meanings : List (List LineMeaning)) × (values : List UnitValue) × Resolve (bundle_content text) (record bundle_settings { profile = profile_of settled }) (tree_of_settled settled) (codes "config" ∷ []) meanings values
-    × (bytes ≡ full_file (codes "CONFIG_") (tree_of_settled settled) values) × TakesLines taken failed (notice_lines (codes "config" ∷ []) meanings) taken_after failed_after
+    → (meanings : List (List LineMeaning)) × (values : List UnitValue) × Resolve (bundle_content text) (record bundle_settings { profile = profile_of settled })
+    (tree_of_settled settled) (codes "config" ∷ []) meanings values
+    × (bytes ≡ full_file (codes "CONFIG_") (tree_of_settled settled) values) × TakesLines taken failed (notice_lines (codes "config" ∷ []) meanings) taken_after
+    failed_after
 full_answers text prefix bytes config settled taken taken_after failed failed_after e p s l b = (
   l.meanings,
   config.values,
-  resolved (bundle_content text) (record bundle_settings { profile = profile_of settled }) config settled (codes "config" ∷ []) taken taken_after failed failed_after e refl s l,
+  resolved (bundle_content text) (record bundle_settings { profile = profile_of settled }) config settled (codes "config" ∷ []) taken taken_after failed
+      failed_after e refl s l,
   rw (← e, ← p) b,
   l.reported,
 )
@@ -80,8 +86,10 @@ module _ (bundle tree configuration : List ℕ) (parts : IsBundle bundle tree co
   module _ (rules : Settled) (accepted : AreAccepted (bundle_files tree) (codes "Kconfig") (tree_of_settled rules)) (profile : profile_of rules ≡ Present)
       (taken middle taken_after : Option (List ℕ)) (failed failed_middle failed_after : ℕ) (before : TakesLines taken failed [] middle failed_middle) where
     pub bundle_answers : (r : Result (Vec ℕ Global) RunError)
-        → IfOk r (λ text. (meanings : List (List LineMeaning)) × (values : List UnitValue) × Resolve (bundle_content configuration) (record bundle_settings { profile = profile_of rules }) (tree_of_settled rules) (codes "config" ∷ []) meanings values
-        × (text.items ≡ full_file (codes "CONFIG_") (tree_of_settled rules) values) × TakesLines middle failed_middle (notice_lines (codes "config" ∷ []) meanings) taken_after failed_after)
+        → IfOk r (λ text. (meanings : List (List LineMeaning)) × (values : List UnitValue) × Resolve (bundle_content configuration)
+        (record bundle_settings { profile = profile_of rules }) (tree_of_settled rules) (codes "config" ∷ []) meanings values
+        × (text.items ≡ full_file (codes "CONFIG_") (tree_of_settled rules) values) × TakesLines middle failed_middle
+        (notice_lines (codes "config" ∷ []) meanings) taken_after failed_after)
         → IfOk r (λ text. (notices : List (List ℕ)) × AnswersBundle bundle text.items notices × TakesLines taken failed notices taken_after failed_after)
     bundle_answers (Err stop) h = tt
     bundle_answers (Ok text) h =
@@ -92,16 +100,26 @@ module _ (bundle tree configuration : List ℕ) (parts : IsBundle bundle tree co
         )
 
     pub configuration_stopped : (r : Result (Vec ℕ Global) RunError)
-        → IfErr r (λ stop. (lines : List (List ℕ)) × StopsAmongFiles (bundle_content configuration) (codes "CONFIG_") (tree_of_settled rules) (codes "config" ∷ []) (status_of stop) lines × TakesLines middle failed_middle lines taken_after failed_after)
+        → IfErr r (λ stop. (lines : List (List ℕ)) × StopsAmongFiles (bundle_content configuration) (codes "CONFIG_") (tree_of_settled rules)
+        (codes "config" ∷ []) (status_of stop) lines × TakesLines middle failed_middle lines taken_after failed_after)
         → IfErr r (λ stop. (lines : List (List ℕ)) × StopsInBundle bundle (status_of stop) lines × TakesLines taken failed lines taken_after failed_after)
     configuration_stopped (Ok text) h = tt
-    configuration_stopped (Err stop) h =
-        (h.0, in_configuration tree configuration (tree_of_settled rules) parts accepted h.1, lines_append taken middle failed failed_middle [] h.0 taken_after failed_after before h.2)
+    configuration_stopped (Err stop) h = (
+      h.0,
+      in_configuration tree configuration (tree_of_settled rules) parts accepted h.1,
+      lines_append taken middle failed failed_middle [] h.0 taken_after
+          failed_after before h.2,
+    )
 
 -- a run on a bundle ended, and its last line is reported
-pub bundle_ends : (left left_after : Option (List ℕ)) (stop : RunError) (status : ℕ) (taken middle taken_after : Option (List ℕ)) (failed failed_middle failed_after : ℕ) → status ≡ status_of stop
+pub bundle_ends : (left left_after : Option (List ℕ)) (stop : RunError) (status : ℕ) (taken middle taken_after : Option (List ℕ)) (failed failed_middle failed_after : ℕ)
+    → status ≡ status_of stop
     → (lines : List (List ℕ)) × StopsOnBundle left left_after (status_of stop) lines × TakesLines taken failed lines middle failed_middle
     → TakesLines middle failed_middle (last_lines status) taken_after failed_after
     → (lines : List (List ℕ)) × StopsOnBundle left left_after status lines × TakesLines taken failed (lines ++ last_lines status) taken_after failed_after
-bundle_ends left left_after stop status taken middle taken_after failed failed_middle failed_after e w h =
-    (w.0, subst (λ n. StopsOnBundle left left_after n w.0) (sym e) w.1, lines_append taken middle failed failed_middle w.0 (last_lines status) taken_after failed_after w.2 h)
+bundle_ends left left_after stop status taken middle taken_after failed failed_middle failed_after e w h = (
+  w.0,
+  subst (λ n. StopsOnBundle left left_after n w.0) (sym e) w.1,
+  lines_append taken middle failed failed_middle w.0 (last_lines status) taken_after
+      failed_after w.2 h,
+)

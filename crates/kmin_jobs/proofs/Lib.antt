@@ -3,6 +3,7 @@ pub mod LineLaws
 pub mod Cutting
 pub mod Accepting
 pub mod Gathering
+pub mod KnownTrees
 pub mod NamedLines
 pub mod Taking
 pub mod CycleLines

@@ -7,7 +7,7 @@ use Rattle.kc_tree_model.specs.Trees.{Tree}
 use Rattle.kc_rules_model.specs.declared.values.UnitValue.{UnitValue}
 use Rattle.kc_rules_model.specs.SymbolValues.{value_of_symbol}
 use Rattle.kc_rules_model.specs.Reports.{symbol_numbers}
-use Rattle.kc_minimal.specs.DifferenceViews.{difference_view}
+use Rattle.kc_minimal.specs.between.DifferenceViews.{difference_view}
 use Rattle.kc_minimal.specs.declared.differing.Difference.{Difference as ToldDifference}
 use Rattle.kc_minimal_model.specs.Differences.{Difference, is_same_value, difference_at, differences}
 use Rattle.kmin_jobs.specs.Answers.{difference_line}
@@ -22,17 +22,20 @@ pub line_more : {A : Type 0} (f : A → List ℕ) (xs : List A) (k : ℕ) (d : A
     → text ≡ flat_map f (take k xs) → after ≡ text ++ f (get_or xs k d) → after ≡ flat_map f (take (k + 1) xs)
 line_more f xs k d text after h e a =
     let n : k + 1 ≡ suc k = omega arith in
-    rw n (a ∙ ap (λ z. z ++ f (get_or xs k d)) e ∙ sym (ap (flat_map f) (take-suc xs k d h) ∙ flat_map_append f (take k xs) (get_or xs k d ∷ []) ∙ ap (λ z. flat_map f (take k xs) ++ z) (append-nil (f (get_or xs k d)))))
+    rw n (a ∙ ap (λ z. z ++ f (get_or xs k d)) e ∙ sym (ap (flat_map f) (take-suc xs k d h) ∙ flat_map_append f (take k xs) (get_or xs k d ∷ [])
+    ∙ ap (λ z. flat_map f (take k xs) ++ z) (append-nil (f (get_or xs k d)))))
 
 -- each difference has the values of its symbol
-has_values_of : (tree : Tree) (v w : List UnitValue) (s : ℕ) (a b : SymbolValue) (d : Difference) (same : Bool) → value_of_symbol tree v s ≡ Some a → value_of_symbol tree w s ≡ Some b
+has_values_of : (tree : Tree) (v w : List UnitValue) (s : ℕ) (a b : SymbolValue) (d : Difference) (same : Bool) → value_of_symbol tree v s ≡ Some a
+    → value_of_symbol tree w s ≡ Some b
     → (if same then None else Some (record { symbol = s; left = a; right = b })) ≡ Some d → difference_line tree d ≡ line_between tree v w d.symbol
 has_values_of tree v w s a b d true e f h = cc
 has_values_of tree v w s a b d false e f h =
     let same : record { symbol = s; left = a; right = b } ≡ d = cc in
     rw (← same) (rw (e, f) refl)
 
-pub has_values : (tree : Tree) (v w : List UnitValue) (s : ℕ) (a b : Option SymbolValue) (d : Difference) → value_of_symbol tree v s ≡ a → value_of_symbol tree w s ≡ b
+pub has_values : (tree : Tree) (v w : List UnitValue) (s : ℕ) (a b : Option SymbolValue) (d : Difference) → value_of_symbol tree v s ≡ a
+    → value_of_symbol tree w s ≡ b
     → difference_at s a b ≡ Some d → difference_line tree d ≡ line_between tree v w d.symbol
 has_values tree v w s None b d e f h = cc
 has_values tree v w s (Some a) None d e f h = cc
@@ -43,9 +46,11 @@ abbrev found_at : Tree → List UnitValue → List UnitValue → ℕ → Option 
 found_at tree v w s = difference_at s (value_of_symbol tree v s) (value_of_symbol tree w s)
 
 -- the lines of differences by their symbols
-lines_of : (tree : Tree) (v w : List UnitValue) (found : Option Difference) (rest : List Difference) → ((d : Difference) → found ≡ Some d → difference_line tree d ≡ line_between tree v w d.symbol)
+lines_of : (tree : Tree) (v w : List UnitValue) (found : Option Difference) (rest : List Difference)
+    → ((d : Difference) → found ≡ Some d → difference_line tree d ≡ line_between tree v w d.symbol)
     → flat_map (difference_line tree) rest ≡ flat_map (λ (d : ToldDifference). line_between tree v w d.symbol) (map difference_view rest)
-    → flat_map (difference_line tree) (cons_option found rest) ≡ flat_map (λ (d : ToldDifference). line_between tree v w d.symbol) (map difference_view (cons_option found rest))
+    → flat_map (difference_line tree) (cons_option found rest) ≡ flat_map (λ (d : ToldDifference). line_between tree v w d.symbol)
+    (map difference_view (cons_option found rest))
 lines_of tree v w None rest h e = e
 lines_of tree v w (Some d) rest h e = rw (h d refl, e) refl
 

@@ -9,9 +9,8 @@ use Rattle.kc_tree_model.specs.Trees.{Tree}
 use Rattle.kc_rules_model.specs.declared.values.UserValue.{UserValue}
 use Rattle.kc_dotconfig_model.specs.declared.fault.LoadKind.{LoadKind}
 use Rattle.kc_dotconfig_model.specs.declared.fault.LoadKind.TheVariants.{Malformed, NotUtf8, LineTooLong, TooManyLines, Read, OutOfMemory, TooLarge}
-use Rattle.kc_dotconfig_model.specs.declared.notice.Notice.{Notice}
 use Rattle.kc_dotconfig_model.specs.ConfigLines.{LineMeaning}
-use Rattle.kc_dotconfig_model.specs.ConfigFiles.{file_assignment, overlay, empty_assignment, notices_from}
+use Rattle.kc_dotconfig_model.specs.ConfigFiles.{file_assignment, overlay, notices_from}
 use Rattle.kc_dotconfig_model.specs.LoadFaults.{IsFirstFault, complete}
 use Rattle.kc_dotconfig.specs.declared.fragment.Fragment.{Fragment}
 use Rattle.kc_dotconfig.specs.Configured.{Configured}
@@ -29,7 +28,7 @@ use Rattle.kmin_jobs.specs.Stops.{StopsAtFile, StopsAmongFiles, refused, unread}
 use Rattle.kmin_jobs.specs.between.Loaded.{IsLoaded, AreLoaded}
 use Rattle.kmin_jobs.specs.between.LoadStops.{StopsLoad, StopsAtPath, at_file, for_memory, fragment_notices, load_lines, load_status}
 use Rattle.kmin_jobs.specs.between.RunErrors.{status_of}
-use Rattle.kmin_jobs.proofs.Taking.{lines_append, lines_one}
+use Rattle.kmin_jobs.proofs.Taking.{lines_append}
 
 -- the bytes that were read of an opened file begin what is known of it; at its end they are all of it
 pub rest_of : (content : FileContent) (before after : Option (List ℕ)) (bytes : List ℕ) → OpensAs content (Some before) → Consumes before after bytes
@@ -68,17 +67,18 @@ module _ (content : FileContent) (prefix : List ℕ) (tree : Tree) (path : List 
       → TakesLines taken failed (fragment_notices path fragment) taken_after failed_after
       → IsLoaded content prefix tree path fragment taken failed taken_after failed_after
   loaded_from taken taken_after failed failed_after fragment r t = record {
-    bytes = r.told;
-    meanings = r.sayings;
-    matches = whole_content content before after r.told opens r.consumed r.ended;
+    bytes = r.known;
+    meanings = r.meanings;
+    matches = whole_content content before after r.known opens r.consumed r.ended;
     accepted = r.accepted;
     means = r.says;
     users = r.users;
-    reported = subst (λ lines. TakesLines taken failed lines taken_after failed_after) (notices_are path fragment r.sayings r.noted) t;
+    reported = subst (λ lines. TakesLines taken failed lines taken_after failed_after) (notices_are path fragment r.meanings r.noted) t;
   }
 
   refused_sides : (bytes : List ℕ) (kind : LoadKind) (number : ℕ) → Consumes before after bytes
-      → (IsAtEnd after × IsFirstFault prefix tree complete bytes kind number) ⊎ ((rest : List ℕ) → IsFirstFault prefix tree complete (bytes ++ rest) kind number)
+      → (IsAtEnd after × IsFirstFault prefix tree complete bytes kind number)
+      ⊎ ((rest : List ℕ) → IsFirstFault prefix tree complete (bytes ++ rest) kind number)
       → 4 ≡ load_status kind → load_lines path number kind ≡ fault_line path number kind ∷ []
       → StopsAtPath content prefix tree path (load_status kind) (load_lines path number kind)
   refused_sides bytes kind number h (inl k) s l =
@@ -90,14 +90,14 @@ module _ (content : FileContent) (prefix : List ℕ) (tree : Tree) (path : List 
   refused_file : (kind : LoadKind) (number : ℕ) → IsRefused prefix tree before after kind number
       → 4 ≡ load_status kind → load_lines path number kind ≡ fault_line path number kind ∷ []
       → StopsAtPath content prefix tree path (load_status kind) (load_lines path number kind)
-  refused_file kind number r s l = refused_sides r.told kind number r.consumed r.first s l
+  refused_file kind number r s l = refused_sides r.known kind number r.consumed r.first s l
 
   by_kind : (read_failed read_failed_after : ℕ) (kind : LoadKind) (number : ℕ) → ReportsFault prefix tree before after read_failed read_failed_after kind number
       → StopsAtPath content prefix tree path (load_status kind) (load_lines path number kind)
   by_kind f g OutOfMemory number t = for_memory refl refl
   by_kind f g Read number t =
-      let w = rest_of content before after t.0.told opens t.0.consumed in
-      at_file (fault_line path number Read) (unread t.0.told w.0 number w.1 t.0.first refl refl) refl
+      let w = rest_of content before after t.0.known opens t.0.consumed in
+      at_file (fault_line path number Read) (unread t.0.known w.0 number w.1 t.0.first refl refl) refl
   by_kind f g Malformed number t = refused_file Malformed number t refl refl
   by_kind f g NotUtf8 number t = refused_file NotUtf8 number t refl refl
   by_kind f g LineTooLong number t = refused_file LineTooLong number t refl refl
@@ -108,15 +108,20 @@ module _ (content : FileContent) (prefix : List ℕ) (tree : Tree) (path : List 
   pub stopped_at : (read_failed read_failed_after status : ℕ) (taken taken_after : Option (List ℕ)) (failed failed_after : ℕ)
       → StopsLoad prefix tree path before after read_failed read_failed_after status taken failed taken_after failed_after
       → (lines : List (List ℕ)) × StopsAtPath content prefix tree path status lines × TakesLines taken failed lines taken_after failed_after
-  stopped_at f g status taken taken_after failed failed_after s =
-      (load_lines path s.number s.kind, subst (λ n. StopsAtPath content prefix tree path n (load_lines path s.number s.kind)) (sym s.status_is) (by_kind f g s.kind s.number s.fault), s.reported)
+  stopped_at f g status taken taken_after failed failed_after s = (
+    load_lines path s.number s.kind,
+    subst (λ n. StopsAtPath content prefix tree path n (load_lines path s.number s.kind)) (sym s.status_is)
+        (by_kind f g s.kind s.number s.fault),
+    s.reported,
+  )
 
 -- meanings by what is known of the same files
 pub mean_again : (content_of others : List ℕ → FileContent) (prefix : List ℕ) (tree : Tree) (paths : List (List ℕ)) (meanings : List (List LineMeaning))
     → ((path : List ℕ) → others path ≡ content_of path) → FilesMean others prefix tree paths meanings → FilesMean content_of prefix tree paths meanings
 mean_again content_of others prefix tree paths meanings same none = none
 mean_again content_of others prefix tree paths meanings same (file path bytes more own rest matches accepted means h) =
-    file path bytes more own rest (subst (λ content. MatchContent content bytes) (same path) matches) accepted means (mean_again content_of others prefix tree more rest same h)
+    file path bytes more own rest (subst (λ content. MatchContent content bytes) (same path) matches) accepted means
+    (mean_again content_of others prefix tree more rest same h)
 
 -- files after files
 mean_append : (content_of : List ℕ → FileContent) (prefix : List ℕ) (tree : Tree) (ys : List (List ℕ)) (ns : List (List LineMeaning)) (xs : List (List ℕ)) (ms : List (List LineMeaning))
@@ -149,7 +154,8 @@ loaded_one content_of others prefix tree path before after fragment taken taken_
 }
 
 pub loaded_none : (content_of : List ℕ → FileContent) (prefix : List ℕ) (tree : Tree) (paths : List (Bor (List ℕ))) (before users : List (Option UserValue)) (taken : Option (List ℕ)) (failed : ℕ)
-    → length paths ≡ 0 → users ≡ before → AreLoaded content_of prefix tree (map (λ (path : Bor (List ℕ)). path.now) paths) before users taken failed taken failed
+    → length paths ≡ 0 → users ≡ before → AreLoaded content_of prefix tree (map (λ (path : Bor (List ℕ)). path.now) paths) before users taken failed taken
+    failed
 loaded_none content_of prefix tree paths before users taken failed n e =
     rw (nil_from_length paths n) (record { meanings = []; mean = none; users_are = e; reported = taking.none })
 
@@ -161,7 +167,8 @@ loaded_append content_of others prefix tree xs ys before between after taken mid
   meanings = h.meanings ++ k.meanings;
   mean = mean_append content_of prefix tree ys k.meanings xs h.meanings (mean_again content_of others prefix tree ys k.meanings same k.mean) h.mean;
   users_are = k.users_are ∙ ap (λ users. overlaid_by tree users k.meanings) h.users_are ∙ sym (overlaid_append tree before h.meanings k.meanings);
-  reported = subst (λ lines. TakesLines taken failed lines taken_after failed_after) (sym (notices_append content_of prefix tree ys k.meanings xs h.meanings h.mean))
+  reported =
+      subst (λ lines. TakesLines taken failed lines taken_after failed_after) (sym (notices_append content_of prefix tree ys k.meanings xs h.meanings h.mean))
       (lines_append taken middle failed failed_middle _ _ taken_after failed_after h.reported k.reported);
 }
 
@@ -174,7 +181,8 @@ loaded_rest content_of others prefix tree xs ys all before between taken middle 
     rw s (loaded_append content_of others prefix tree xs ys before between config.users taken middle taken_after failed failed_middle failed_after same h k)
 
 -- at the one file of these
-path_stops : (content_of others : List ℕ → FileContent) (prefix : List ℕ) (tree : Tree) (path : List ℕ) (status : ℕ) (lines : List (List ℕ)) → others path ≡ content_of path
+path_stops : (content_of others : List ℕ → FileContent) (prefix : List ℕ) (tree : Tree) (path : List ℕ) (status : ℕ) (lines : List (List ℕ))
+    → others path ≡ content_of path
     → StopsAtPath (others path) prefix tree path status lines → StopsAmongFiles content_of prefix tree (path ∷ []) status lines
 path_stops content_of others prefix tree path status lines same (at_file line s e) =
     stops.at_file [] [] path line [] refl none (subst (λ content. StopsAtFile content prefix tree path status line) same s) e
@@ -246,7 +254,8 @@ both_ok (Ok x) P Q R f h k = f x h k
 both_ok (Err e) P Q R f h k = tt
 
 -- an error made of memory that was refused
-pub memory_err : {T : Type 0} (r : Result T RunError) (P : RunError → Type 0) → IsErr r × IsErrAnd r (λ stop. stop ≡ Memory) → ((stop : RunError) → status_of stop ≡ 6 → P stop) → IfErr r P
+pub memory_err : {T : Type 0} (r : Result T RunError) (P : RunError → Type 0) → IsErr r × IsErrAnd r (λ stop. stop ≡ Memory)
+    → ((stop : RunError) → status_of stop ≡ 6 → P stop) → IfErr r P
 memory_err (Ok x) P h f = tt
 memory_err (Err stop) P h f = f stop (ap status_of h.1)
 
@@ -255,10 +264,12 @@ pub paths_next : (paths : List (Bor (List ℕ))) (k : ℕ) (d : Bor (List ℕ)) 
     → map (λ (path : Bor (List ℕ)). path.now) (take (k + 1) paths) ≡ map (λ (path : Bor (List ℕ)). path.now) (take k paths) ++ ((get_or paths k d).now ∷ [])
 paths_next paths k d h =
     let n : k + 1 ≡ suc k = omega arith in
-    rw n (ap (map (λ (path : Bor (List ℕ)). path.now)) (take-suc paths k d h) ∙ map-append (λ (path : Bor (List ℕ)). path.now) (take k paths) (get_or paths k d ∷ []))
+    rw n (ap (map (λ (path : Bor (List ℕ)). path.now)) (take-suc paths k d h)
+    ∙ map-append (λ (path : Bor (List ℕ)). path.now) (take k paths) (get_or paths k d ∷ []))
 
 pub paths_at : (paths : List (Bor (List ℕ))) (k : ℕ) (d : Bor (List ℕ)) → k < length paths
-    → map (λ (path : Bor (List ℕ)). path.now) paths ≡ map (λ (path : Bor (List ℕ)). path.now) (take k paths) ++ ((get_or paths k d).now ∷ [] ++ map (λ (path : Bor (List ℕ)). path.now) (drop (suc k) paths))
+    → map (λ (path : Bor (List ℕ)). path.now) paths ≡ map (λ (path : Bor (List ℕ)). path.now) (take k paths)
+    ++ ((get_or paths k d).now ∷ [] ++ map (λ (path : Bor (List ℕ)). path.now) (drop (suc k) paths))
 paths_at paths k d h =
     ap (map (λ (path : Bor (List ℕ)). path.now)) (sym (take-append-drop k paths)) ∙ map-append (λ (path : Bor (List ℕ)). path.now) (take k paths) (drop k paths)
     ∙ ap (λ ps. map (λ (path : Bor (List ℕ)). path.now) (take k paths) ++ map (λ (path : Bor (List ℕ)). path.now) ps) (drop-cons paths k d h)

@@ -24,7 +24,8 @@ pub whole_part : (before middle after : Option (List ℕ)) (failed failed_middle
 whole_part before middle after failed failed_middle failed_after text more h k = record {
   written = length text + k.written;
   within = let w = k.within in omega (arith, length-append text more);
-  appends = subst (λ bytes. Appends before after bytes) (sym (take-append-add text more k.written)) (Appends-trans before middle after text (take k.written more) h.appends k.appends);
+  appends = subst (λ bytes. Appends before after bytes) (sym (take-append-add text more k.written))
+      (Appends-trans before middle after text (take k.written more) h.appends k.appends);
   rose = subst (λ n. Rises n failed_after) h.unfailed k.rose;
 }
 
@@ -49,16 +50,20 @@ flat_map_next : {A : Type 0} (f : A → List ℕ) (xs : List A) (i : ℕ) (d : A
     → flat_map f (take (i + 1) xs) ≡ flat_map f (take i xs) ++ f (get_or xs i d)
 flat_map_next f xs i d h =
     let n : i + 1 ≡ suc i = omega arith in
-    rw n (ap (flat_map f) (take-suc xs i d h) ∙ flat_map-append f (take i xs) (get_or xs i d ∷ []) ∙ ap (λ z. flat_map f (take i xs) ++ z) (append-nil (f (get_or xs i d))))
+    rw n (ap (flat_map f) (take-suc xs i d h) ∙ flat_map-append f (take i xs) (get_or xs i d ∷ [])
+    ∙ ap (λ z. flat_map f (take i xs) ++ z) (append-nil (f (get_or xs i d))))
 
 -- one text more of a list
-pub whole_next : {A : Type 0} (f : A → List ℕ) (xs : List A) (i : ℕ) (d : A) (before middle after : Option (List ℕ)) (failed failed_middle failed_after : ℕ) → i < length xs
+pub whole_next : {A : Type 0} (f : A → List ℕ) (xs : List A) (i : ℕ) (d : A) (before middle after : Option (List ℕ)) (failed failed_middle failed_after : ℕ)
+    → i < length xs
     → TakesWhole before failed (flat_map f (take i xs)) middle failed_middle → TakesWhole middle failed_middle (f (get_or xs i d)) after failed_after
     → TakesWhole before failed (flat_map f (take (i + 1) xs)) after failed_after
 whole_next f xs i d before middle after failed failed_middle failed_after n h k =
-    subst (λ text. TakesWhole before failed text after failed_after) (sym (flat_map_next f xs i d n)) (whole_whole before middle after failed failed_middle failed_after _ _ h k)
+    subst (λ text. TakesWhole before failed text after failed_after) (sym (flat_map_next f xs i d n))
+    (whole_whole before middle after failed failed_middle failed_after _ _ h k)
 
-pub part_next : {A : Type 0} (f : A → List ℕ) (xs : List A) (i : ℕ) (d : A) (before middle after : Option (List ℕ)) (failed failed_middle failed_after : ℕ) → i < length xs
+pub part_next : {A : Type 0} (f : A → List ℕ) (xs : List A) (i : ℕ) (d : A) (before middle after : Option (List ℕ)) (failed failed_middle failed_after : ℕ)
+    → i < length xs
     → TakesWhole before failed (flat_map f (take i xs)) middle failed_middle → TakesPart middle failed_middle (f (get_or xs i d)) after failed_after
     → TakesPart before failed (flat_map f xs) after failed_after
 part_next f xs i d before middle after failed failed_middle failed_after n h k =
@@ -77,11 +82,13 @@ pub lines_append : (before middle : Option (List ℕ)) (failed failed_middle : �
 lines_append before middle failed failed_middle lines more after failed_after h none =
     subst (λ all. TakesLines before failed all middle failed_middle) (sym (append-nil lines)) h
 lines_append before middle failed failed_middle lines more after failed_after h (one_more some all line last final failed_last failed_final k t e) =
-    one_more (lines ++ some) (lines ++ all) line last final failed_last failed_final (lines_append before middle failed failed_middle lines some last failed_last h k) t
+    one_more (lines ++ some) (lines ++ all) line last final failed_last failed_final
+    (lines_append before middle failed failed_middle lines some last failed_last h k) t
     (ap (λ all. lines ++ all) e ∙ sym (append_assoc lines some (line ∷ [])))
 
 -- one line more of a list
-pub lines_next : {A : Type 0} (f : A → List ℕ) (xs : List A) (i : ℕ) (d : A) (before middle after : Option (List ℕ)) (failed failed_middle failed_after : ℕ) → i < length xs
+pub lines_next : {A : Type 0} (f : A → List ℕ) (xs : List A) (i : ℕ) (d : A) (before middle after : Option (List ℕ)) (failed failed_middle failed_after : ℕ)
+    → i < length xs
     → TakesLines before failed (map f (take i xs)) middle failed_middle → TakesLine middle failed_middle (f (get_or xs i d)) after failed_after
     → TakesLines before failed (map f (take (i + 1) xs)) after failed_after
 lines_next f xs i d before middle after failed failed_middle failed_after n h k =

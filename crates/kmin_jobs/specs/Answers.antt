@@ -15,7 +15,7 @@ use Rattle.kc_dotconfig_model.specs.ConfigFiles.{FileMeans, file_assignment, ove
 use Rattle.kc_dotconfig_model.specs.ConfigLines.{LineMeaning}
 use Rattle.kc_dotconfig_model.specs.LoadFaults.{IsAccepted}
 use Rattle.kc_dotconfig_model.specs.Missed.{missed}
-use Rattle.kc_minimal_model.specs.MinimalFile.{minimal_file}
+use Rattle.kc_minimal_model.specs.CanonicalText.{IsCanonicalText}
 use Rattle.kc_minimal_model.specs.FullFile.{full_file}
 use Rattle.kc_minimal_model.specs.Differences.{Difference, differences}
 use Rattle.kc_minimal_model.specs.Spelling.{spelled}
@@ -61,12 +61,12 @@ abbrev pub difference_line : Tree → Difference → List ℕ
 difference_line tree d = name_at tree d.symbol ++ (codes ": " ++ (spelled d.left.kind d.left.text
     ++ (codes " -> " ++ (spelled d.right.kind d.right.text ++ 10 ∷ []))))
 
--- the text of each verb, over a tree, its assignment and its values
-abbrev pub text_of_verb : Settings → Tree → List (Option UserValue) → List UnitValue → Verb → List ℕ
-text_of_verb settings tree users values Min = minimal_file settings.prefix settings.profile tree values
-text_of_verb settings tree users values Full = full_file settings.prefix tree values
-text_of_verb settings tree users values Missed = flat_map (name_line [] tree) (missed tree users values)
-text_of_verb settings tree users values Check = flat_map (name_line (codes "unmet ") tree) (unmet tree values)
+-- A text is that of a verb, over a tree, its assignment and its values: for `min` the canonical file of the values.
+abbrev pub IsTextOfVerb : Settings → Tree → List (Option UserValue) → List UnitValue → Verb → (text : List ℕ) → Type 0
+IsTextOfVerb settings tree users values Min text = IsCanonicalText settings.prefix settings.profile tree values text
+IsTextOfVerb settings tree users values Full text = text ≡ full_file settings.prefix tree values
+IsTextOfVerb settings tree users values Missed text = text ≡ flat_map (name_line [] tree) (missed tree users values)
+IsTextOfVerb settings tree users values Check text = text ≡ flat_map (name_line (codes "unmet ") tree) (unmet tree values)
 
 -- 1 where there are differences
 abbrev pub status_of_differences : List Difference → ℕ
@@ -78,7 +78,7 @@ status_of_differences (d ∷ ds) = 1
 pub data Answer (content_of : List ℕ → FileContent) (settings : Settings) (texts : Files) (task : Task) (text : List ℕ) (status : ℕ) (notices : List (List ℕ)) : Type 0 where
   of_files : (tree : Tree) (verb : Verb) (paths : List (List ℕ)) (meanings : List (List LineMeaning)) (values : List UnitValue)
       → task ≡ over verb paths → AreAccepted texts settings.tree tree → Resolve content_of settings tree paths meanings values
-      → text ≡ text_of_verb settings tree (files_assignment tree meanings) values verb → status ≡ 0
+      → IsTextOfVerb settings tree (files_assignment tree meanings) values verb text → status ≡ 0
       → notices ≡ notice_lines paths meanings → Answer content_of settings texts task text status notices
   of_comparison : (tree : Tree) (left right : List ℕ) (left_meanings right_meanings : List (List LineMeaning)) (v w : List UnitValue)
       → task ≡ compare left right → AreAccepted texts settings.tree tree

@@ -1,8 +1,9 @@
 -- The answer to a bundle, and when a bundle is refused.
 use Rattle.std.specs.Prelude.{◌≡◌, ℕ, ◌<◌, List, [], ◌∷◌, ◌++◌, Option, Some, take, length, codes}
 use Rattle.std.specs.Io.KnownBytes.{Appends, Consumes}
+use Rattle.kc_value.specs.declared.limits.TheConstants.{MAX_BUNDLE_BYTES}
 use Rattle.kc_tree_model.specs.Trees.{Tree}
-use Rattle.kc_tree_model.specs.TreeFiles.{Files}
+use Rattle.kc_tree_model.specs.TreeFiles.{Files, strict_files}
 use Rattle.kc_rules_model.specs.declared.profile.Profile.TheVariants.{Present}
 use Rattle.kc_dotconfig_model.specs.declared.fault.LoadKind.{LoadKind}
 use Rattle.kc_dotconfig_model.specs.declared.fault.LoadKind.TheVariants.{Read, TooLarge}
@@ -24,7 +25,7 @@ bundle_task = over Full (codes "config" ∷ [])
 
 -- the one file of a bundle's tree
 abbrev pub bundle_files : List ℕ → Files
-bundle_files tree = (codes "Kconfig", tree) ∷ []
+bundle_files tree = strict_files ((codes "Kconfig", tree) ∷ [])
 
 -- the one configuration of a bundle
 abbrev pub bundle_content : List ℕ → List ℕ → FileContent
@@ -62,7 +63,7 @@ pub data StopsInBundle (bundle : List ℕ) (status : ℕ) (lines : List (List �
 
 -- Reading a bundle and answering it ends so: it has too many bytes, a read fails, it has no answer, or a write fails.
 pub data StopsOnBundle (left left_after : Option (List ℕ)) (status : ℕ) (lines : List (List ℕ)) : Type 0 where
-  too_large : (bytes : List ℕ) → Consumes left left_after bytes → 67108864 < length bytes → status ≡ 4 → lines ≡ large_line ∷ []
+  too_large : (bytes : List ℕ) → Consumes left left_after bytes → MAX_BUNDLE_BYTES < length bytes → status ≡ 4 → lines ≡ large_line ∷ []
       → StopsOnBundle left left_after status lines
   unread : status ≡ 5 → lines ≡ unread_line ∷ [] → StopsOnBundle left left_after status lines
   in_bundle : (bundle : List ℕ) → ReadsToEnd left left_after bundle → StopsInBundle bundle status lines

@@ -1,5 +1,7 @@
 -- The known content of files.
-use Rattle.std.specs.Prelude.{◌≡◌, ℕ, List, ◌∷◌, ◌++◌, Option, Some, None, take}
+use Rattle.std.specs.Prelude.{◌≡◌, ℕ, ◌+◌, List, ◌∷◌, ◌++◌, Option, Some, None, take}
+use Rattle.kc_value.specs.declared.limits.TheConstants.{MAX_TREE_BYTES}
+use Rattle.kc_expr.specs.declared.language.Language.TheVariants.{Strict}
 use Rattle.kc_tree_model.specs.TreeFiles.{Files, file_at}
 
 -- what is known about a path: nothing, that there is no such file, or its bytes
@@ -16,18 +18,19 @@ OpensAs (Some (Some bytes)) reader = reader ≡ Some (Some bytes)
 abbrev pub MatchContent : FileContent → List ℕ → Type 0
 MatchContent None bytes = Unit {0}
 MatchContent (Some None) bytes = ⊥
-MatchContent (Some (Some told)) bytes = bytes ≡ told
+MatchContent (Some (Some content)) bytes = bytes ≡ content
 
--- the same, but a file past the limit of a tree is known by its first 67,108,865 bytes
+-- the same, but a file past the limit of a tree is known by its first `MAX_TREE_BYTES` bytes and one more
 abbrev pub MatchContentStart : FileContent → List ℕ → Type 0
 MatchContentStart None bytes = Unit {0}
 MatchContentStart (Some None) bytes = ⊥
-MatchContentStart (Some (Some told)) bytes = bytes ≡ take 67108865 told
+MatchContentStart (Some (Some content)) bytes = bytes ≡ take (MAX_TREE_BYTES + 1) content
 
 -- where a path of a tree lies: below its root
 abbrev pub path_below : List ℕ → List ℕ → List ℕ
 path_below root path = root ++ 47 ∷ path
 
--- each text of a tree matches the known content of its path below the root
-abbrev pub AreTextsBelow : (List ℕ → FileContent) → List ℕ → Files → Type 0
-AreTextsBelow content_of root texts = (path bytes : List ℕ) → file_at texts path ≡ Some bytes → MatchContentStart (content_of (path_below root path)) bytes
+-- the texts of a tree are in the strict language, and each matches the known content of its path below the root
+pub record AreTextsBelow (content_of : List ℕ → FileContent) (root : List ℕ) (texts : Files) : Type 0 where
+  pub language : texts.language ≡ Strict
+  pub content : (path bytes : List ℕ) → file_at texts path ≡ Some bytes → MatchContentStart (content_of (path_below root path)) bytes

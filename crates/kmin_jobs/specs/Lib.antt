@@ -3,6 +3,7 @@ pub mod Reports
 pub mod Bundles
 pub mod FileContents
 pub mod Answers
+pub mod KnownTrees
 pub mod Stops
 pub mod BundleAnswers
 pub mod PartialAnswers

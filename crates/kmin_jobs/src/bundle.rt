@@ -9,45 +9,37 @@ use crate::lines::first_line;
 use crate::report::{Report, write_report};
 use crate::run_error::RunError;
 use kc_dotconfig::LoadKind;
-use kc_value::{Sink, Source};
+use kc_value::{MAX_BUNDLE_BYTES, ReadBytes, ReadEnd, Sink, Source, read_up_to};
 use std::alloc::Global;
-
-/// The most bytes of a bundle.
-const MAX_BYTES: usize = 67_108_864;
-
-/// How many bytes are read at once.
-const BLOCK: usize = 8192;
 
 /// The line that ends the tree.
 const MARKER: &[u8] = b"%%";
 
-/// Reads all that a reader has left. Where a read fails, and where that is more than `MAX_BYTES` bytes, this is reported.
+/// Reads all that a reader has left. Where a read fails, and where that is more than `MAX_BUNDLE_BYTES` bytes, this is reported.
 pub(crate) fn read_whole<S: Source, E: Sink>(
     alloc: Global,
     source: &mut S,
     err: &mut E,
 ) -> Result<Vec<u8>, RunError>
     ensures ok { IfOk result (λ text. ReadsToEnd (S.left source.old) (S.left source.new) text.items) }
-    ensures within { IfOk result (λ text. length text.items ≤ MAX_BYTES) }
+    ensures within { IfOk result (λ text. length text.items ≤ MAX_BUNDLE_BYTES) }
     ensures unfailed { OnOk result (S.failures source.new ≡ S.failures source.old) }
     ensures unreported { OnOk result (TakesLines (E.taken err.old) (E.failures err.old) [] (E.taken err.new) (E.failures err.new)) }
     ensures failed { result ≡ Err RunError.Failed → Rises (S.failures source.old) (S.failures source.new) }
     ensures stopped { IfErr result (λ stop. (lines : List (List ℕ)) × StopsOnBundle (S.left source.old) (S.left source.new) (status_of stop) lines × TakesLines (E.taken err.old) (E.failures err.old) lines (E.taken err.new) (E.failures err.new)) }
 {
-    let mut text = Vec::new(alloc);
-    let mut block = [0; BLOCK];
-    while text.len() <= MAX_BYTES {
-        let Ok(count) = source.read_some(&mut block) else {
-            report_bundle(LoadKind::Read, err);
-            return Err(RunError::Failed);
-        };
-        if count == 0 {
-            return Ok(text);
+    let ReadBytes { bytes, end } = read_up_to(alloc, source, MAX_BUNDLE_BYTES + 1, 0)?;
+    match end {
+        ReadEnd::AtEnd => Ok(bytes),
+        ReadEnd::AtLimit => {
+            report_bundle(LoadKind::TooLarge, err);
+            Err(RunError::Configuration)
         }
-        text.extend_from_slice(&block[..count])?;
+        ReadEnd::AtFailure => {
+            report_bundle(LoadKind::Read, err);
+            Err(RunError::Failed)
+        }
     }
-    report_bundle(LoadKind::TooLarge, err);
-    Err(RunError::Configuration)
 }
 
 /// Reports a fault of a bundle as a whole.

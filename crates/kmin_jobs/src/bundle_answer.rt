@@ -1,7 +1,8 @@
 //! The answer to a bundle.
 ghost use Rattle.std.specs.Prelude.{◌≡◌, ◌≢◌, ◌≤◌, ◌⊎◌, ◌∷◌, [], List, ℕ, codes, length, IfOk, IfErr, OnOk};
 ghost use Rattle.std.specs.Io.KnownBytes.{Appends};
-ghost use Rattle.kc_rules.specs.SettledViews.{tree_of_settled, profile_of};
+ghost use Rattle.kc_value.specs.declared.limits.TheConstants.{MAX_BUNDLE_BYTES};
+ghost use Rattle.kc_rules.specs.between.SettledViews.{tree_of_settled, profile_of};
 ghost use Rattle.kc_rules_model.specs.declared.profile.Profile.TheVariants.{Present};
 ghost use Rattle.kc_rules_model.specs.declared.values.UnitValue.{UnitValue};
 ghost use Rattle.kc_dotconfig_model.specs.ConfigLines.{LineMeaning};
@@ -36,7 +37,7 @@ pub(crate) fn run_bundle<I: Source, O: Sink, E: Sink>(
     out: &mut O,
     err: &mut E,
 ) -> Result<(), RunError>
-    ensures ok { OnOk result ((bundle text : List ℕ) × (notices : List (List ℕ)) × ReadsToEnd (I.left input.old) (I.left input.new) bundle × (length bundle ≤ 67108864) × AnswersBundle bundle text notices × Appends (O.taken out.old) (O.taken out.new) text × TakesLines (E.taken err.old) (E.failures err.old) notices (E.taken err.new) (E.failures err.new)) }
+    ensures ok { OnOk result ((bundle text : List ℕ) × (notices : List (List ℕ)) × ReadsToEnd (I.left input.old) (I.left input.new) bundle × (length bundle ≤ MAX_BUNDLE_BYTES) × AnswersBundle bundle text notices × Appends (O.taken out.old) (O.taken out.new) text × TakesLines (E.taken err.old) (E.failures err.old) notices (E.taken err.new) (E.failures err.new)) }
     ensures unfailed { OnOk result ((I.failures input.new ≡ I.failures input.old) × (O.failures out.new ≡ O.failures out.old)) }
     ensures failed { result ≡ Err RunError.Failed → Rises (I.failures input.old) (I.failures input.new) ⊎ Rises (O.failures out.old) (O.failures out.new) }
     ensures part { result ≡ Err RunError.Failed → (O.taken out.new ≡ O.taken out.old) ⊎ WritesPart (I.left input.old) (I.left input.new) (O.taken out.old) (O.taken out.new) }

@@ -4,6 +4,7 @@
 mod bundle;
 mod bundle_answer;
 mod files;
+mod laws;
 mod lines;
 mod loading;
 mod memory_reader;
@@ -19,5 +20,6 @@ mod trees;
 mod verb_texts;
 
 pub use files::Files;
+pub use laws::known_files_determine_the_tree;
 pub use running::run;
 pub use serving::serve;

@@ -5,17 +5,14 @@ ghost use Rattle.kc_dotconfig_model.specs.ConfigFiles.{file_lines};
 ghost use Rattle.kmin_jobs.specs.Bundles.{BeginsWithLine};
 ghost use Rattle.kmin_jobs.specs.between.LineEnds.{begins_after_line, is_inline};
 
+use bstr::ByteSlice;
+
 /// How many bytes there are before the first newline.
 fn line_length(text: &[u8]) -> usize
     ensures run { result ≡ prefix_len is_inline text.now }
     ensures within { result ≤ length text.now }
 {
-    for (index, byte) in text.iter().enumerate() {
-        if *byte == b'\n' {
-            return index;
-        }
-    }
-    text.len()
+    text.find_byte(b'\n').unwrap_or(text.len())
 }
 
 /// Parts a text before its first newline.

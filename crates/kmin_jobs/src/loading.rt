@@ -1,9 +1,9 @@
 //! Configuration files over a settled tree.
 ghost use Rattle.std.specs.Prelude.{◌≡◌, ◌∷◌, [], List, ℕ, map, IfOk, IfErr};
 ghost use Rattle.std.specs.Borrow.{Bor};
-ghost use Rattle.kc_rules.specs.SettledViews.{tree_of_settled};
+ghost use Rattle.kc_rules.specs.between.SettledViews.{tree_of_settled};
 ghost use Rattle.kc_dotconfig_model.specs.ConfigFiles.{empty_assignment};
-ghost use Rattle.kc_dotconfig_model.specs.Prefixes.{prefix_bytes};
+ghost use Rattle.kc_dotconfig_model.specs.between.Prefixes.{prefix_bytes};
 ghost use Rattle.kc_dotconfig.specs.Configured.{IsSolved};
 ghost use Rattle.kc_dotconfig.specs.Fragments.{FitsTree, notice_pair};
 ghost use Rattle.kc_dotconfig.specs.ReadResults.{IsReadAs};

@@ -1,13 +1,12 @@
 //! Guesses which files a file sources, before it is read. A wrong guess only opens a file in vain.
+use crate::lines::first_line;
+use bstr::ByteSlice;
 use kc_tree::Texts;
-use memchr::{memchr, memmem};
+use kc_value::MAX_FILES;
 use std::alloc::{AllocError, Global};
 
 /// The word that a line begins with which sources a file.
 const SOURCE: &[u8] = b"source";
-
-/// The most paths guessed for one file: as many files as a tree may have.
-const MAX_PATHS: usize = 4096;
 
 /// The absent paths that file `number` of the texts sources; `None` after the last file.
 pub(crate) fn absent_paths_of_file(
@@ -22,12 +21,12 @@ pub(crate) fn absent_paths_of_file(
     Ok(Some(absent_paths(alloc, texts, bytes)?))
 }
 
-/// The absent paths that the lines of a file source, up to `MAX_PATHS`.
+/// The absent paths that the lines of a file source, up to `MAX_FILES`.
 fn absent_paths(alloc: Global, texts: &Texts, bytes: &[u8]) -> Result<Vec<String>, AllocError> {
     let mut paths = Vec::new(alloc);
-    for place in memmem::find_iter(bytes, SOURCE) {
+    for place in bytes.find_iter(SOURCE) {
         push_absent(alloc, texts, sourced_path(bytes, place), &mut paths)?;
-        if paths.len() >= MAX_PATHS {
+        if paths.len() >= MAX_FILES {
             break;
         }
     }
@@ -62,8 +61,8 @@ fn sourced_path(bytes: &[u8], place: usize) -> Option<&str> {
 
 /// The bytes up to the first newline.
 fn line_from(bytes: &[u8]) -> &[u8] {
-    match memchr(b'\n', bytes) {
-        Some(end) => bytes.get(..end).unwrap_or(bytes),
+    match first_line(bytes) {
+        Some((line, _)) => line,
         None => bytes,
     }
 }

@@ -133,8 +133,8 @@ fn write_unit<W: Sink>(tree: &Tree, unit: u32, sink: &mut W) -> Result<(), Write
 
 /// The name of a choice's first member.
 fn member_name(tree: &Tree, choice: u32) -> &str
-    requires { choice < length tree.now.tree.choices }
-    ensures { result.now ≡ first_member_name tree.now.tree (slice_get tree.now.tree.choices choice) }
+    requires there { choice < length tree.now.tree.choices }
+    ensures value { result.now ≡ first_member_name tree.now.tree (slice_get tree.now.tree.choices choice) }
 {
     match tree.choice(choice).members.first() {
         Some(symbol) => name_of(tree, *symbol),

@@ -1,6 +1,7 @@
 //! The program: words, a bundle or a job, an answer and a status.
 ghost use Rattle.std.specs.Prelude.{◌≡◌, ◌≢◌, ◌≤◌, ◌⊎◌, ◌++◌, [], List, ℕ, length};
 ghost use Rattle.std.specs.Io.KnownBytes.{Appends};
+ghost use Rattle.kc_value.specs.declared.limits.TheConstants.{MAX_BUNDLE_BYTES};
 ghost use Rattle.kmin_jobs.specs.Bundles.{ReadsToEnd};
 ghost use Rattle.kmin_jobs.specs.BundleAnswers.{AnswersBundle, StopsOnBundle, WritesPart};
 ghost use Rattle.kmin_jobs.specs.Reports.{last_lines};
@@ -33,7 +34,7 @@ pub fn run<F: Files, I: Source, O: Sink, E: Sink>(
     ensures accepted_words { words.now ≡ [] → (result ≢ 1) × (result ≢ 2) }
 
     // Without words, status 0: it read a bundle of the size that is allowed to its end, wrote its full file and nothing else, no read or write failed, and the notices of the configuration are reported.
-    ensures done { words.now ≡ [] → result ≡ 0 → (bundle text : List ℕ) × (notices : List (List ℕ)) × ReadsToEnd (I.left input.old) (I.left input.new) bundle × (length bundle ≤ 67108864) × AnswersBundle bundle text notices × Appends (O.taken out.old) (O.taken out.new) text × TakesLines (E.taken err.old) (E.failures err.old) notices (E.taken err.new) (E.failures err.new) }
+    ensures done { words.now ≡ [] → result ≡ 0 → (bundle text : List ℕ) × (notices : List (List ℕ)) × ReadsToEnd (I.left input.old) (I.left input.new) bundle × (length bundle ≤ MAX_BUNDLE_BYTES) × AnswersBundle bundle text notices × Appends (O.taken out.old) (O.taken out.new) text × TakesLines (E.taken err.old) (E.failures err.old) notices (E.taken err.new) (E.failures err.new) }
     ensures unfailed { words.now ≡ [] → result ≡ 0 → (I.failures input.new ≡ I.failures input.old) × (O.failures out.new ≡ O.failures out.old) }
 
     // On every other status the lines of what ended the run are reported.

@@ -3,7 +3,7 @@ ghost use Rattle.std.specs.Prelude.{◌≡◌, ◌≢◌, ◌≤◌, ◌⊎◌, 
 ghost use Rattle.std.specs.Borrow.{Bor};
 ghost use Rattle.std.specs.Io.KnownBytes.{Appends};
 ghost use Rattle.kc_tree_model.specs.TreeFiles as trees;
-ghost use Rattle.kc_rules.specs.SettledViews.{tree_of_settled, profile_of};
+ghost use Rattle.kc_rules.specs.between.SettledViews.{tree_of_settled, profile_of};
 ghost use Rattle.kmin_words.specs.Jobs.{settings_view, task_view, over, compare, paths_of};
 ghost use Rattle.kmin_jobs.specs.Answers.{Answer, AreAccepted};
 ghost use Rattle.kmin_jobs.specs.FileContents.{AreTextsBelow};

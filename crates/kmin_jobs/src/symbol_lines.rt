@@ -2,7 +2,7 @@
 ghost use Rattle.std.specs.Prelude.{◌≡◌, ◌++◌, ◌∷◌, [], IfOk, OnOk, map};
 ghost use Rattle.std.specs.List.{flat_map};
 ghost use Rattle.kc_expr.specs.Lookup.{symbol_value_of};
-ghost use Rattle.kc_rules.specs.SettledViews.{tree_of_settled};
+ghost use Rattle.kc_rules.specs.between.SettledViews.{tree_of_settled};
 ghost use Rattle.kc_minimal_model.specs.Spelling.{spelled};
 ghost use Rattle.kmin_jobs.specs.Answers.{name_line};
 ghost use Rattle.kmin_jobs.specs.Reports.{name_at};

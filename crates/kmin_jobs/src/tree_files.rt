@@ -8,17 +8,11 @@ use crate::files::Files;
 use crate::prefetch::absent_paths_of_file;
 use crate::trees::read_texts;
 use kc_tree::{Texts, Tree, TreeFault, TreeKind, wanted};
-use kc_value::Source;
+use kc_value::{MAX_FILES, MAX_TREE_BYTES, ReadBytes, ReadEnd, Source, read_up_to};
 use std::alloc::{AllocError, Global};
 
 /// The most bytes of a file that are read: one more than a tree may have.
-const MAX_BYTES: usize = 67_108_865;
-
-/// How many bytes are read at once.
-const BLOCK: usize = 8192;
-
-/// The most files that are opened ahead, and at once: as many as a tree may have.
-const MAX_FILES: u32 = 4096;
+const MAX_FILE_BYTES: usize = MAX_TREE_BYTES + 1;
 
 /// The most readings of a tree's files before one without a new file. Each finds paths that are one file deeper, and no
 /// more than 32 files are open at a time.
@@ -42,8 +36,8 @@ impl Room {
     /// Room for a whole tree.
     fn whole() -> Room {
         Room {
-            files: MAX_FILES,
-            bytes: MAX_BYTES,
+            files: MAX_FILES as u32,
+            bytes: MAX_FILE_BYTES,
         }
     }
 
@@ -137,7 +131,7 @@ fn open_ahead<F: Files>(
     ensures same { (path : List ℕ) → F.content_of files.new path ≡ F.content_of files.old path }
     ensures below { AreTextsBelow (F.content_of files.old) root.now texts.new }
 {
-    for number in 0..MAX_FILES {
+    for number in 0..MAX_FILES as u32 {
         if room.is_used() {
             return Ok(());
         }
@@ -237,33 +231,25 @@ fn read_below<F: Files>(
     place.push_str(path)?;
     match files.reader_for(&place) {
         Some(mut reader) => {
-            let room = files.size_of(&reader).min(MAX_BYTES);
+            let room = files.size_of(&reader).min(MAX_FILE_BYTES);
             read_front(alloc, &mut reader, room)
         }
         None => Ok(None),
     }
 }
 
-/// All bytes of a reader, or the first `MAX_BYTES` of more; nothing where a read fails. `room` is for how many bytes room is
+/// All bytes of a reader, or the first `MAX_FILE_BYTES` of more; nothing where a read fails. `room` is for how many bytes room is
 /// made at once.
 fn read_front<S: Source>(
     alloc: Global,
     source: &mut S,
     room: usize,
 ) -> Result<Option<Vec<u8>>, AllocError>
-    ensures bytes { IfOk result (λ found. IfSome found (λ bytes. Consumes (S.left source.old) (S.left source.new) bytes.items × (length bytes.items ≤ MAX_BYTES) × ((length bytes.items ≡ MAX_BYTES) ⊎ IsAtEnd (S.left source.new)))) }
+    ensures bytes { IfOk result (λ found. IfSome found (λ bytes. Consumes (S.left source.old) (S.left source.new) bytes.items × (length bytes.items ≤ MAX_FILE_BYTES) × ((length bytes.items ≡ MAX_FILE_BYTES) ⊎ IsAtEnd (S.left source.new)))) }
 {
-    let mut bytes = Vec::with_capacity(alloc, room)?;
-    let mut block = [0; BLOCK];
-    while bytes.len() < MAX_BYTES {
-        let most = (MAX_BYTES - bytes.len()).min(BLOCK);
-        let Ok(count) = source.read_some(&mut block[..most]) else {
-            return Ok(None);
-        };
-        if count == 0 {
-            return Ok(Some(bytes));
-        }
-        bytes.extend_from_slice(&block[..count])?;
+    let ReadBytes { bytes, end } = read_up_to(alloc, source, MAX_FILE_BYTES, room)?;
+    match end {
+        ReadEnd::AtEnd | ReadEnd::AtLimit => Ok(Some(bytes)),
+        ReadEnd::AtFailure => Ok(None),
     }
-    Ok(Some(bytes))
 }

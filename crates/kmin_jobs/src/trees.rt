@@ -1,7 +1,7 @@
 //! Reads and settles a tree, and reports why it is refused.
 ghost use Rattle.std.specs.Prelude.{◌≡◌, ◌∷◌, [], ℕ, List, IfOk, IfErr, OnOk, unwrap_or, slice_get};
 ghost use Rattle.kc_tree_model.specs.TreeFiles.{path_at};
-ghost use Rattle.kc_rules.specs.SettledViews.{tree_of_settled, profile_of};
+ghost use Rattle.kc_rules.specs.between.SettledViews.{tree_of_settled, profile_of};
 ghost use Rattle.kmin_jobs.specs.Answers.{AreAccepted};
 ghost use Rattle.kmin_jobs.specs.Reports.{path_or_first, tree_fault_line, cycle_line, cycle_place, unit_place};
 ghost use Rattle.kmin_jobs.specs.StandardError.{TakesLine, TakesLines};

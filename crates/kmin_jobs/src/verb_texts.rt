@@ -4,10 +4,10 @@ ghost use Rattle.kc_rules_model.specs.Reports.{unmet};
 ghost use Rattle.kc_dotconfig_model.specs.Missed.{missed};
 ghost use Rattle.std.specs.List.{flat_map};
 ghost use Rattle.kc_minimal_model.specs.Differences.{differences};
-ghost use Rattle.kc_rules.specs.SettledViews.{profile_of};
+ghost use Rattle.kc_rules.specs.between.SettledViews.{profile_of};
 ghost use Rattle.kc_dotconfig.specs.Configured.{tree_in};
-ghost use Rattle.kc_dotconfig_model.specs.Prefixes as prefixes;
-ghost use Rattle.kmin_jobs.specs.Answers.{name_line, text_of_verb, difference_line, status_of_differences};
+ghost use Rattle.kc_dotconfig_model.specs.between.Prefixes as prefixes;
+ghost use Rattle.kmin_jobs.specs.Answers.{name_line, IsTextOfVerb, difference_line, status_of_differences};
 ghost use Rattle.kmin_words.specs.Jobs.{Settings};
 
 use crate::symbol_lines::{difference_lines, name_lines};
@@ -30,7 +30,7 @@ pub(crate) fn text_of(
     config: &Config<'_>,
     prefix: &Prefix,
 ) -> Result<Vec<u8>, AllocError>
-    ensures { IfOk result (λ text. (settings : Settings) → settings.prefix ≡ prefixes.prefix_bytes prefix.now → settings.profile ≡ profile_of config.now.system → text.items ≡ text_of_verb settings (tree_in config.now) config.now.users config.now.values verb) }
+    ensures { IfOk result (λ text. (settings : Settings) → settings.prefix ≡ prefixes.prefix_bytes prefix.now → settings.profile ≡ profile_of config.now.system → IsTextOfVerb settings (tree_in config.now) config.now.users config.now.values verb text.items) }
 {
     match verb {
         Verb::Min => minimal_text(alloc, config, prefix),

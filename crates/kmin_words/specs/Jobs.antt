@@ -2,7 +2,7 @@
 use Rattle.std.specs.Prelude.{ℕ, List, [], ◌∷◌, map}
 use Rattle.std.specs.Borrow.{Bor}
 use Rattle.kc_rules_model.specs.declared.profile.Profile.{Profile}
-use Rattle.kc_dotconfig_model.specs.Prefixes.{prefix_bytes}
+use Rattle.kc_dotconfig_model.specs.between.Prefixes.{prefix_bytes}
 use Rattle.kmin_words.specs.declared.job.Verb.{Verb}
 use Rattle.kmin_words.specs.declared.job.Settings.{Settings as DeclaredSettings}
 use Rattle.kmin_words.specs.declared.job.Task.{Task as DeclaredTask}

@@ -8,10 +8,10 @@ use Rattle.kc_dotconfig_model.specs.between.LineMeanings.{line_meaning, file_mea
 
 -- the function gives the meaning of each line, and of no other
 abbrev pub LinesAreRead : Type 0
-LinesAreRead = (prefix : List ℕ) (tree : Tree) (line : List ℕ) (saying : LineMeaning) → is_prefix prefix ≡ true
-    → (line_meaning prefix tree line ≡ Some saying) ↔ Means prefix tree line saying
+LinesAreRead = (prefix : List ℕ) (tree : Tree) (line : List ℕ) (meaning : LineMeaning) → is_prefix prefix ≡ true
+    → (line_meaning prefix tree line ≡ Some meaning) ↔ Means prefix tree line meaning
 
 -- the function gives the meanings of the lines of each file, and of no other
 abbrev pub FilesAreRead : Type 0
-FilesAreRead = (prefix : List ℕ) (tree : Tree) (bytes : List ℕ) (sayings : List LineMeaning) → is_prefix prefix ≡ true
-    → (file_meanings prefix tree bytes ≡ Some sayings) ↔ FileMeans prefix tree bytes sayings
+FilesAreRead = (prefix : List ℕ) (tree : Tree) (bytes : List ℕ) (meanings : List LineMeaning) → is_prefix prefix ≡ true
+    → (file_meanings prefix tree bytes ≡ Some meanings) ↔ FileMeans prefix tree bytes meanings

@@ -137,7 +137,7 @@ line_meaning prefix tree line = of_value prefix tree line (value_parts prefix li
 
 -- a line's meaning before those of the other lines, unless one is malformed
 abbrev pub with_rest : Option LineMeaning → Option (List LineMeaning) → Option (List LineMeaning)
-with_rest (Some saying) (Some sayings) = Some (saying ∷ sayings)
+with_rest (Some meaning) (Some meanings) = Some (meaning ∷ meanings)
 with_rest _ _ = None
 
 -- the meanings of lines, unless one is malformed

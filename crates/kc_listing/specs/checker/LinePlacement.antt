@@ -1,6 +1,7 @@
 -- Where lines are allowed, by their keywords.
 use Rattle.std.specs.Prelude.{◌-◌, Bool, true, false, not, ◌==◌, List, length, filter_map, slice_get, Option, Some, None, if◌then◌else◌}
 use Rattle.kc_expr.specs.Token.{Lexeme}
+use Rattle.kc_expr.specs.declared.language.Language.{Language}
 use Rattle.kc_tree_model.specs.declared.fault.TreeKind.{TreeKind}
 use Rattle.kc_tree_model.specs.declared.fault.TreeKind.TheVariants.{LeftOut, Misplaced, StrayEnd}
 use Rattle.kc_tree_model.specs.declared.keyword.Keyword.{Keyword}
@@ -60,5 +61,5 @@ abbrev pub entry_kept : List CodeGroup → Option OpenEntry
 entry_kept groups = entry_of_group (slice_get groups (length groups - 1))
 
 -- the fault of a line that comes before those of its form
-abbrev pub fault_before : List Group → Keyword → List Lexeme → Option TreeKind
-fault_before read k ts = if is_left_out read k ts then Some LeftOut else if not (is_allowed read k) then Some Misplaced else if is_stray_end read k then Some StrayEnd else None
+abbrev pub fault_before : Language → List Group → Keyword → List Lexeme → Option TreeKind
+fault_before language read k ts = if is_left_out language read k ts then Some LeftOut else if not (is_allowed read k) then Some Misplaced else if is_stray_end read k then Some StrayEnd else None

@@ -26,7 +26,7 @@ RepresentsOpenBlocks texts os gs = ⊥
 
 -- where bytes come from
 unfoldable pub file_source_of : SourceFiles → FileSource
-file_source_of f = record { bytes = λ path. if f.absent_is_empty then Some (bytes_or_none f.texts.now path) else file_at f.texts.now path; number = index_of_file f.texts.now; root = f.root.now }
+file_source_of f = record { language = f.texts.now.language; bytes = λ path. if f.absent_is_empty then Some (bytes_or_none f.texts.now path) else file_at f.texts.now path; number = index_of_file f.texts.now; root = f.root.now }
 
 -- what is open and the counts
 pub record IsCounted (r : FileSource) (texts : List (List ℕ)) (opened : List OpenBlock) (choices files bytes : ℕ) (read : List Group) : Type 0 where

@@ -2,6 +2,7 @@
 use Rattle.std.specs.Prelude.{◌≡◌, ◌⊎◌, ℕ, ◌+◌, ◌<◌, ◌≤◌, Bool, true, false, List, length, drop, take_while, Option, Some, None, is_some, Result, Ok, Err, nat_lt, if◌then◌else◌}
 use Rattle.std.specs.Str.{is_utf8}
 use denote.Bor.{Bor}
+use Rattle.kc_expr.specs.declared.language.Language.{Language}
 use Rattle.kc_value.specs.declared.limits.TheConstants.{MAX_LINE_BYTES}
 use Rattle.kc_tree_model.specs.declared.fault.TreeFault.{TreeFault}
 use Rattle.kc_tree_model.specs.declared.fault.TreeKind.{TreeKind}
@@ -12,7 +13,7 @@ use Rattle.kc_tree_model.specs.Blocks.{Group, of_head, file_end, innermost}
 use Rattle.kc_tree_model.specs.Limits.{FileSource, source_fault, bytes_in, is_too_deep, is_too_many}
 use Rattle.kc_tree_model.specs.Reading.{Outcome, read_lines, read_file, statement_on_line, with_statement, with_group, with_attribute, path_to_read, at_file_end, continue_after_statement}
 use Rattle.kc_listing.specs.between.ListingView.{RepresentsListing}
-use Rattle.kc_listing.specs.checker.LinePlaces.{is_of_help}
+use Rattle.kc_lines.specs.between.LinePlaces.{is_of_help}
 use Rattle.kc_listing.specs.checker.Faults.{IsMemory}
 use Rattle.kc_listing.specs.checker.StateViews.{Describes, at_line}
 use Rattle.kc_listing.specs.declared.state.ReaderState.{ReaderState}
@@ -26,14 +27,14 @@ line_here number text = record { number = number; text = text; help = false }
 -- a line has a statement, and whether a help text follows
 pub record HasStatement (r : FileSource) (file line : ℕ) (text : List ℕ) (before : List Group) (help : Bool) (new : ReaderState) : Type 0 where
   pub statement : Option Statement
-  pub says : statement_on_line before (line_here line text) ≡ Ok statement
+  pub says : statement_on_line r.language before (line_here line text) ≡ Ok statement
   pub no_path : path_to_read statement ≡ None
   pub begins : begins_help text ≡ help
   pub describes : Describes r new (with_statement (at_line file line) statement before)
 
 -- a line is a `source`, which isn't appended yet
 pub record IsSource (r : FileSource) (line : ℕ) (text path : List ℕ) (before : List Group) (new : ReaderState) : Type 0 where
-  pub says : statement_on_line before (line_here line text) ≡ Ok (Some (head (source path)))
+  pub says : statement_on_line r.language before (line_here line text) ≡ Ok (Some (head (source path)))
   pub begins : begins_help text ≡ false
   pub describes : Describes r new before
 
@@ -45,7 +46,7 @@ StepRead r file line text before new (Source path) = IsSource r line text path b
 -- the result of a call that reads a line
 abbrev pub LineRead : FileSource → ℕ → ℕ → List ℕ → List Group → ReaderState → Result Step TreeKind → Type 0
 LineRead r file line text before new (Ok s) = StepRead r file line text before new s
-LineRead r file line text before new (Err k) = (k ≡ OutOfMemory) ⊎ ((statement_on_line before (line_here line text) ≡ Err k) × RepresentsListing new.listing before)
+LineRead r file line text before new (Err k) = (k ≡ OutOfMemory) ⊎ ((statement_on_line r.language before (line_here line text) ≡ Err k) × RepresentsListing new.listing before)
 
 -- the reading ended with this fault; what was read up to it is shown
 abbrev pub IsEnded : FileSource → Outcome → ReaderState → TreeFault → Type 0
@@ -131,7 +132,7 @@ FileOfRead r depth file before new result = (path : List ℕ) → file.number �
 -- the text of a line, or the fault of its bytes
 abbrev pub IsText : List ℕ → Result (Bor (List ℕ)) TreeKind → Type 0
 IsText bytes (Ok t) = (nat_lt MAX_LINE_BYTES (length bytes) ≡ false) × (is_utf8 bytes ≡ true) × (t.now ≡ bytes)
-IsText bytes (Err k) = (r : List Group) → (number : ℕ) → (help : Bool) → statement_on_line r (record { number = number; text = bytes; help = help }) ≡ Err k
+IsText bytes (Err k) = (language : Language) (read : List Group) (number : ℕ) (help : Bool) → statement_on_line language read (record { number = number; text = bytes; help = help }) ≡ Err k
 
 -- how many lines from a place on are of a help text that is indented so far
 abbrev pub indented : ℕ → List ℕ → ℕ → ℕ

@@ -3,7 +3,8 @@ use Rattle.std.specs.Prelude.{◌≡◌, ℕ, ◌<◌, false, List, ◌++◌, le
 use Rattle.std.specs.List.{list_any}
 use Rattle.kc_tree_model.specs.Trees.{Tree, Entry}
 use Rattle.kc_rules_model.specs.declared.values.UnitValue.{UnitValue}
-use Rattle.kc_minimal_model.specs.FullFile.{entry_texts, full_file}
+use Rattle.kc_minimal_model.specs.FullFile.{full_file}
+use Rattle.kc_minimal_model.specs.between.EntryTexts.{entry_texts}
 use Rattle.kc_minimal.specs.declared.full.Draft.{Draft}
 
 -- what was written and what these entries write is the full file, and the symbols that were defined are marked

@@ -1,10 +1,10 @@
 -- The attributes of a stored tree, as the rules have them.
 use Rattle.std.specs.Prelude.{ℕ, ◌<◌, All, Bool, not, ◌&&◌, Option, Some, None, find, List, length, if◌then◌else◌}
-use Rattle.std.specs.Option.{option_map, option_and_then}
+use Rattle.std.specs.Option.{option_map, option_and_then, option_or}
 use Rattle.kc_tree_model.specs.Trees.{Choice, MemberDefault}
 use Rattle.kc_rules_model.specs.Kinds.{is_n}
 use Rattle.kc_rules_model.specs.SymbolValues.{condition}
-use Rattle.kc_rules_model.specs.Rule.{is_visible_member, is_shown, or_else}
+use Rattle.kc_rules_model.specs.Rule.{is_visible_member, is_shown}
 use Rattle.kc_expr.specs.between.Arena.{Exprs}
 use Rattle.kc_tree_model.specs.Trees.{Tree}
 use Rattle.kc_tree.specs.between.Views.{RangeFits}
@@ -40,9 +40,13 @@ is_open tree values d = not (is_n (condition tree values d.condition)) && is_vis
 abbrev pub default_member_of : Tree → List UnitValue → List MemberDefault → Option ℕ
 default_member_of tree values ds = option_map (λ (d : MemberDefault). d.member) (find (is_open tree values) ds)
 
+-- the selection of a choice without a user's
+abbrev pub selection_without_user_of : Tree → Choice → List UnitValue → Option ℕ
+selection_without_user_of tree choice values = if choice.optional then None else option_or (default_member_of tree values choice.defaults) (find (is_visible_member tree values) choice.members)
+
 -- the rule of a choice, with the user's member
 abbrev pub choice_rule_of : Tree → Choice → Option ℕ → List UnitValue → Option ℕ
 choice_rule_of tree choice user values =
     if is_shown tree values choice
-    then or_else (option_and_then (λ s. if is_visible_member tree values s then Some s else None) user) (or_else (default_member_of tree values choice.defaults) (find (is_visible_member tree values) choice.members))
+    then option_or (option_and_then (λ s. if is_visible_member tree values s then Some s else None) user) (selection_without_user_of tree choice values)
     else None

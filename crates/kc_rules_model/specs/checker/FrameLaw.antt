@@ -1,6 +1,6 @@
 -- A unit's value depends on the values of its dependencies alone.
 use Rattle.std.proofs.Common.{◌≡◌, inl, inr, ℕ, suc, ◌+◌, ◌<◌, ◌≤◌, Bool, true, false, not, ◌&&◌, ◌||◌, ◌==◌, cond, IsTrue, List, [], ◌∷◌, ◌++◌, Option, Some, None, IfSome, slice_get, length, zero, refl, sym, ◌∙◌, ap, subst, unwrap_or, map, filter, find, pos, ℤ, int_lt, is_some, arith}
-use Rattle.std.specs.Option.{option_map, option_and_then}
+use Rattle.std.specs.Option.{option_map, option_and_then, option_or}
 use Rattle.std.specs.List.{AllByRecursion, flat_map, cons_option, list_any, range_with_len, Contains}
 use Rattle.std.proofs.lemmas.Bool.{cases_lt, cases_eq, false≢true, or_cases, or_left, or_right, eqb-true, eq-eqb}
 use Rattle.std.proofs.lemmas.Option.{slice_get_past}
@@ -26,7 +26,7 @@ use Rattle.kc_value.specs.Tri.{y_for_m}
 use Rattle.kc_value.specs.Kinds.{is_bool, is_tristate, is_tri_kind}
 use Rattle.kc_value.specs.Number.{number_of_text, number_spelling}
 use Rattle.kc_rules_model.specs.SymbolValues.{condition, environment, value_of_symbol, value_in_unit, tri_symbol_value, tri_if_selected, member_of, tri_of, text_of}
-use Rattle.kc_rules_model.specs.Rule.{conditions, reverse_dependency_limit, is_visible, expression_text, default_tri, is_within, clamped, promoted, modules_value, visibility, unassigned_value, base, selected, implied, implied_effect, leaves_no_m, direct_dependency, active_default, active_range, assigned_tri, assigned_text, assigned_member, tri_rule, string_rule, number_rule, number_default, default_text, visible_text, symbol_rule, choice_rule, is_shown, or_else, is_visible_member, rule, rule_of_unit, rule_of_symbol, rule_of_choice}
+use Rattle.kc_rules_model.specs.Rule.{conditions, reverse_dependency_limit, is_visible, expression_text, default_tri, is_within, clamped, promoted, modules_value, visibility, unassigned_value, base, selected, implied, implied_effect, leaves_no_m, direct_dependency, active_default, active_range, assigned_tri, assigned_text, assigned_member, tri_rule, string_rule, number_rule, number_default, default_text, visible_text, symbol_rule, choice_rule, is_shown, is_visible_member, rule, rule_of_unit, rule_of_symbol, rule_of_choice}
 use Rattle.kc_rules_model.specs.Dependencies.{units_named, units_of_reverse_dependencies, needed_by_symbol, needed_by_choice, needed_by, needed_by_symbol_at, needed_by_choice_at, dependencies, names_in_member_prompts, names_in_prompts, names_in_prompt}
 use Rattle.kc_expr.specs.NamesIn.{names_in, operand_names}
 use Rattle.kc_rules_model.specs.Shapes.{user_fits, unit_user_fits, choice_user_fits}
@@ -326,7 +326,7 @@ module _ (tree : Tree) (v w : List UnitValue) where
       let a1 = parts _ (P ++ D) Q e in
       let a2 = parts _ P D a1.0 in
       let ms = members_agree choice.members a1.1 in
-      let F : Bool → Option ℕ → Option ℕ → Option ℕ → Option ℕ = λ shown user by_default first. cond shown (or_else user (or_else by_default first)) None in
+      let F : Bool → Option ℕ → Option ℕ → Option ℕ → Option ℕ = λ shown user by_default first. cond shown (option_or user (cond choice.optional None (option_or by_default first))) None in
       let U : List UnitValue → Option ℕ = λ values. option_and_then (λ s. cond (is_visible_member tree values s) (Some s) None) (assigned_member x) in
       let B : List UnitValue → Option ℕ = λ values. option_map (λ (d : MemberDefault). d.member) (find (λ (d : MemberDefault). not (is_n (condition tree values d.condition)) && is_visible_member tree values d.member) choice.defaults) in
       let M : List UnitValue → Option ℕ = λ values. find (is_visible_member tree values) choice.members in

@@ -1,6 +1,6 @@
 -- A unit's value that differs from that without a user value is given again by itself as user value.
 use Rattle.std.proofs.Common.{◌≡◌, ◌≢◌, inl, inr, ℕ, Bool, true, false, not, ◌&&◌, ◌||◌, cond, IsTrue, List, Option, Some, None, IfSome, slice_get, length, refl, sym, ◌∙◌, ap, unwrap_or, pos}
-use Rattle.std.specs.Option.{option_and_then}
+use Rattle.std.specs.Option.{option_and_then, option_or}
 use Rattle.std.proofs.lemmas.Bool.{true≢false, false≢true, cases_Bool}
 use Rattle.kc_value.specs.declared.tri.Tri.{Tri}
 use Rattle.kc_value.specs.declared.tri.Tri.TheVariants.{N, M, Y}
@@ -20,7 +20,7 @@ use Rattle.kc_rules_model.specs.Kinds.{is_m, is_n}
 use Rattle.kc_value.specs.Tri.{y_for_m}
 use Rattle.kc_value.specs.Kinds.{is_bool, is_tristate, is_tri_kind}
 use Rattle.kc_value.specs.Number.{number_of_text}
-use Rattle.kc_rules_model.specs.Rule.{rule, rule_of_unit, rule_of_symbol, rule_of_choice, symbol_rule, tri_rule, string_rule, number_rule, choice_rule, as_user, is_visible, visibility, modules_value, unassigned_value, selected, leaves_no_m, default_text, number_default, is_within, active_range, or_else, is_shown, is_visible_member}
+use Rattle.kc_rules_model.specs.Rule.{rule, rule_of_unit, rule_of_symbol, rule_of_choice, symbol_rule, tri_rule, string_rule, number_rule, choice_rule, as_user, is_visible, visibility, modules_value, unassigned_value, selected, leaves_no_m, default_text, number_default, is_within, active_range, is_shown, is_visible_member}
 use Rattle.kc_rules_model.specs.Shapes.{user_fits, unit_user_fits, symbol_user_fits, choice_user_fits, tri_fits}
 
 abbrev pub promoted_if : Bool → Tri → Tri
@@ -99,8 +99,8 @@ number_kept true within t d h = go (within t) h where
   go false h = absurd (h refl)
 number_kept false within t d h = absurd (h refl)
 
-pub member_kept : (shown seen : Bool) (s : ℕ) (other : Option ℕ) → cond shown (or_else (cond seen (Some s) None) other) None ≢ cond shown (or_else None other) None
-    → cond shown (or_else (cond seen (Some s) None) other) None ≡ Some s
+pub member_kept : (shown seen : Bool) (s : ℕ) (other : Option ℕ) → cond shown (option_or (cond seen (Some s) None) other) None ≢ cond shown (option_or None other) None
+    → cond shown (option_or (cond seen (Some s) None) other) None ≡ Some s
 member_kept true true s other h = refl
 member_kept true false s other h = absurd (h refl)
 member_kept false seen s other h = absurd (h refl)

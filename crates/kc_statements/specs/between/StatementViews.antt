@@ -6,7 +6,7 @@ use Rattle.kc_expr.specs.Expr.{Expr, Operand, alone, constant}
 use Rattle.kc_expr.specs.between.Operand.{operand_alone}
 use Rattle.kc_tree_model.specs.declared.fault.TreeKind.{TreeKind}
 use Rattle.kc_tree_model.specs.declared.fault.TreeKind.TheVariants.{OutOfMemory}
-use Rattle.kc_tree_model.specs.Statements.{Head, config, choice, menu, condition, comment, source, mainmenu, ends, DefaultAttribute, TargetAttribute, RangeAttribute, Attribute, typed, typed_prompt, typed_default, prompt, default, depends, select, imply, range, visible, help, modules, Statement, head, attribute}
+use Rattle.kc_tree_model.specs.Statements.{Head, config, choice, menu, condition, comment, source, mainmenu, ends, DefaultAttribute, TargetAttribute, RangeAttribute, Attribute, typed, typed_prompt, typed_default, prompt, default, depends, select, imply, range, visible, help, modules, optional, Statement, head, attribute}
 use Rattle.kc_statements.specs.declared.statement.Head.{Head as CodeHead}
 use Rattle.kc_statements.specs.declared.statement.Head.TheVariants as heads
 use Rattle.kc_statements.specs.declared.statement.DefaultAttribute.{DefaultAttribute as CodeValued}
@@ -60,6 +60,7 @@ attribute_in e (attributes.Range r) = range (range_in e r)
 attribute_in e (attributes.Visible id) = visible (node_expr e id)
 attribute_in e attributes.Help = help
 attribute_in e attributes.Modules = modules
+attribute_in e attributes.Optional = optional
 
 -- a statement that closes the open entry
 abbrev pub head_in : Exprs → CodeHead → Head
@@ -116,6 +117,7 @@ AttributeNodesExist e (attributes.Range r) = RangeNodesExist e r
 AttributeNodesExist e (attributes.Visible id) = NodeExists e id
 AttributeNodesExist e attributes.Help = Unit {0}
 AttributeNodesExist e attributes.Modules = Unit {0}
+AttributeNodesExist e attributes.Optional = Unit {0}
 
 -- all numbers of a statement that opens or ends an entry are those of nodes of the arena
 abbrev pub HeadNodesExist : Exprs → CodeHead → Type 0

@@ -60,6 +60,7 @@ choice_view exprs k = record {
   members = k.members.now;
   prompt = option_map (node_expr exprs) k.prompt;
   defaults = map (member_default_view exprs) k.defaults.now;
+  optional = k.optional;
 }
 
 -- an entry

@@ -1,8 +1,12 @@
 -- The rows of choices.
-use Rattle.std.specs.Prelude.{◌≡◌, ℕ, ◌<◌, Bool, List, [], ◌∷◌, length, reverse, slice_get, Some, option_map}
+use Rattle.std.specs.Prelude.{◌≡◌, ℕ, ◌<◌, Bool, true, false, List, [], ◌∷◌, length, reverse, slice_get, Some, option_map}
+use Rattle.std.specs.List.{list_any}
 use Rattle.kc_expr.specs.between.Arena.{Exprs, node_expr}
+use Rattle.kc_statements.specs.declared.statement.Attribute.{Attribute as CodeAttribute}
+use Rattle.kc_statements.specs.declared.statement.Attribute.TheVariants as attributes
 use Rattle.kc_tree_model.specs.Blocks.{Group, opens_choice}
 use Rattle.kc_tree_model.specs.Conditions.{GroupInContext, prompts_of}
+use Rattle.kc_tree_model.specs.Contents.{is_optional_group}
 use Rattle.kc_listing.specs.declared.listing.Group.{Group as CodeGroup}
 use Rattle.kc_listing.specs.declared.listing.Line.{Line as CodeLine}
 use Rattle.kc_listing.specs.declared.listing.Listing.{Listing}
@@ -19,9 +23,18 @@ pub record IsGoneThrough (l : Listing) (groups : List GroupConditions) (conditio
   pub shows : RepresentsListing l read
   pub walked : RepresentsAllConditions exprs l.texts.items conditions (length conditions) (reverse groups) read
 
+-- the attribute `optional`
+abbrev pub is_optional_code : CodeAttribute → Bool
+is_optional_code attributes.Optional = true
+is_optional_code a = false
+
+-- whether a line makes a choice optional
+abbrev pub is_optional_line : CodeLine → Bool
+is_optional_line l = is_optional_code l.attribute
+
 -- the row of a choice that begins with a group, which has these attributes with these conditions
 abbrev pub choice_row : CodeGroup → List CodeLine → List ℕ → ChoiceRow
-choice_row g ls cs = record { file = g.file; line = g.line; prompt = first_prompt ls cs }
+choice_row g ls cs = record { file = g.file; line = g.line; prompt = first_prompt ls cs; optional = list_any is_optional_line ls }
 
 -- whether a choice begins at a place
 abbrev pub opens : GroupInContext → Bool
@@ -32,6 +45,7 @@ pub record IsChoiceRow (exprs : Exprs) (p : GroupInContext) (r : ChoiceRow) : Ty
   pub file_is : r.file ≡ p.group.at.file
   pub line_is : r.line ≡ p.group.at.line
   pub prompt_is : option_map (node_expr exprs) r.prompt ≡ slice_get (prompts_of p.enclosing p.group) 0
+  pub optional_is : r.optional ≡ is_optional_group p.group
   pub held : (i : ℕ) → r.prompt ≡ Some i → i < length exprs.nodes
 
 -- rows represent the choices that begin at these places

@@ -25,6 +25,7 @@ if_view (attributes.Range r) = r.condition
 if_view (attributes.Visible id) = None
 if_view attributes.Help = None
 if_view attributes.Modules = None
+if_view attributes.Optional = None
 
 -- whether it is a prompt
 abbrev pub is_prompt : CodeAttribute → Bool

@@ -1,9 +1,10 @@
 -- How far the search for faults has come.
-use Rattle.std.specs.Prelude.{◌≡◌, ℕ, ◌≤◌, List, flat_map, length, slice_get, slice_index, None}
+use Rattle.std.specs.Prelude.{◌≡◌, ℕ, ◌≤◌, List, [], flat_map, length, slice_get, slice_index, None}
+use Rattle.kc_expr.specs.declared.language.Language.{Language}
 use Rattle.kc_tree_model.specs.Blocks.{Group}
 use Rattle.kc_tree_model.specs.Conditions.{groups_in_context}
 use Rattle.kc_tree_model.specs.Contents.{contents_of}
-use Rattle.kc_tree_model.specs.TreeFaults.{faults_of_group}
+use Rattle.kc_tree_model.specs.TreeFaults.{faults_of_group, tree_faults}
 use Rattle.kc_listing.specs.declared.listing.Listing.{Listing}
 use Rattle.kc_listing.specs.between.ListingView.{RepresentsListing}
 use Rattle.kc_tree.specs.checker.GroupedItems.{IsGrouped}
@@ -27,5 +28,9 @@ abbrev pub AreSmall : List ℕ → ℕ → Type 0
 AreSmall marks most = (s : ℕ) → slice_index marks s ≤ most
 
 -- no group before this one has a fault
-abbrev pub HaveNoFault : Listing → ℕ → Type 0
-HaveNoFault l i = (read : List Group) → RepresentsListing l read → slice_get (flat_map (faults_of_group (contents_of read)) (groups_in_context (read_before i read))) 0 ≡ None
+abbrev pub HaveNoFault : Language → Listing → ℕ → Type 0
+HaveNoFault language l i = (read : List Group) → RepresentsListing l read → slice_get (flat_map (faults_of_group language (contents_of read)) (groups_in_context (read_before i read))) 0 ≡ None
+
+-- what was read has no fault in some language
+abbrev pub HasNoFaults : List Group → Type 0
+HasNoFaults read = (language : Language) × (tree_faults language read ≡ [])

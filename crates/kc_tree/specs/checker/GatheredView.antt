@@ -1,6 +1,7 @@
 -- The tree that the collected lists represent.
 use Rattle.std.specs.Prelude.{ℕ, [], map, option_map, slice_index_or}
 use Rattle.kc_expr.specs.between.Arena.{node_expr}
+use Rattle.kc_tree_model.specs.Contents.{own_dependencies}
 use Rattle.kc_tree_model.specs.Trees as tree
 use Rattle.kc_tree_model.specs.Trees.{Tree}
 use Rattle.kc_tree.specs.between.Views.{default_view, range_view, reverse_dependency_view, member_default_view}
@@ -22,7 +23,7 @@ symbol_gathered g s r = record {
   ranges = map (range_view g.arena) (items_of s g.attributes.ranges.keys.items g.attributes.ranges.items.items);
   selectors = map (reverse_dependency_view g.arena) (items_of s g.attributes.selectors.keys.items g.attributes.selectors.items.items);
   impliers = map (reverse_dependency_view g.arena) (items_of s g.attributes.impliers.keys.items g.attributes.impliers.items.items);
-  direct = map (node_expr g.arena) (items_of s g.attributes.direct.keys.items g.attributes.direct.items.items);
+  direct = own_dependencies r.choice (map (node_expr g.arena) (items_of s g.attributes.direct.keys.items g.attributes.direct.items.items));
   choice = r.choice;
 }
 
@@ -34,6 +35,7 @@ choice_gathered g c r = record {
   members = items_of c g.members.keys.items g.members.items.items;
   prompt = option_map (node_expr g.arena) r.prompt;
   defaults = map (member_default_view g.arena) (items_of c g.member_defaults.keys.items g.member_defaults.items.items);
+  optional = r.optional;
 }
 
 abbrev pub gathered_tree : Gathered → Tree

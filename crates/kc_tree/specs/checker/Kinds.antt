@@ -1,5 +1,11 @@
 -- The first of kinds of faults, by tests.
-use Rattle.std.specs.Prelude.{Bool, not, ◌&&◌, ◌||◌, Option, Some, None, is_none, is_some, if◌then◌else◌}
+use Rattle.std.specs.Prelude.{Bool, true, false, List, not, ◌&&◌, ◌||◌, Option, Some, None, is_none, is_some, if◌then◌else◌}
+use Rattle.std.specs.List.{list_all}
+use Rattle.kc_expr.specs.declared.language.Language.{Language}
+use Rattle.kc_expr.specs.declared.language.Language.TheVariants.{Strict, Linux}
+use Rattle.kc_statements.specs.declared.statement.Attribute.{Attribute as CodeAttribute}
+use Rattle.kc_statements.specs.declared.statement.Attribute.TheVariants as attributes
+use Rattle.kc_listing.specs.declared.listing.Line.{Line as CodeLine}
 use Rattle.kc_value.specs.declared.value.Kind.{Kind}
 use Rattle.kc_value.specs.declared.value.Kind.TheVariants.{Bool as Boolean}
 use Rattle.kc_tree_model.specs.declared.fault.TreeKind.{TreeKind}
@@ -9,11 +15,28 @@ use Rattle.kc_tree_model.specs.TreeFaults.{is_other_kind, kind_or_bool, is_shape
 use Rattle.kc_value.specs.Kinds.{is_number}
 use Rattle.kc_tree.specs.declared.summary.SymbolSummary.{SymbolSummary}
 
+-- an attribute that a later definition of a member may have
+abbrev pub is_added_code : CodeAttribute → Bool
+is_added_code (attributes.Depends id) = true
+is_added_code (attributes.Select s) = true
+is_added_code (attributes.Imply s) = true
+is_added_code attributes.Help = true
+is_added_code a = false
+
+-- a line of such an attribute
+abbrev pub is_added_line : CodeLine → Bool
+is_added_line l = is_added_code l.attribute
+
+-- whether a definition with these attributes may follow that of a member
+abbrev pub may_follow_code : Language → (is_member : Bool) → List CodeLine → Bool
+may_follow_code Strict is_member ls = false
+may_follow_code Linux is_member ls = not is_member && list_all is_added_line ls
+
 -- the fault of a definition, by what is known of its symbol
-abbrev pub definition_kind : SymbolSummary → (is_member is_first is_modules : Bool) → Option TreeKind
-definition_kind about is_member is_first is_modules =
+abbrev pub definition_kind : SymbolSummary → (is_member is_first is_modules may_follow : Bool) → Option TreeKind
+definition_kind about is_member is_first is_modules may_follow =
     if is_first && is_none (kind_or_bool about.given (is_some about.choice)) then Some NoType
-    else if (is_member && is_other_kind Boolean about.given) || (not is_first && is_some about.choice) then Some ChoiceMember
+    else if (is_member && is_other_kind Boolean about.given) || (not is_first && is_some about.choice && not may_follow) then Some ChoiceMember
     else if is_first && is_modules && is_other_kind Boolean about.given then Some ModulesType
     else None
 

@@ -1,6 +1,7 @@
 -- The tree that stored lists represent.
 use Rattle.std.specs.Prelude.{ℕ, suc, List, [], ◌∷◌, map, option_map, slice_index_or}
 use Rattle.kc_expr.specs.between.Arena.{Exprs, node_expr}
+use Rattle.kc_tree_model.specs.Contents.{own_dependencies}
 use Rattle.kc_tree_model.specs.Trees as tree
 use Rattle.kc_tree_model.specs.Trees.{Tree}
 use Rattle.kc_tree.specs.between.Views.{default_view, range_view, reverse_dependency_view, member_default_view}
@@ -23,7 +24,7 @@ symbol_from_row p s r = record {
   ranges = map (range_view p.arena) (items_at p.ranges.starts.items p.ranges.items.items s);
   selectors = map (reverse_dependency_view p.arena) (items_at p.selectors.starts.items p.selectors.items.items s);
   impliers = map (reverse_dependency_view p.arena) (items_at p.impliers.starts.items p.impliers.items.items s);
-  direct = map (node_expr p.arena) (items_at p.direct.starts.items p.direct.items.items s);
+  direct = own_dependencies r.choice (map (node_expr p.arena) (items_at p.direct.starts.items p.direct.items.items s));
   choice = r.choice;
 }
 
@@ -35,6 +36,7 @@ choice_from_row p c r = record {
   members = items_at p.members.starts.items p.members.items.items c;
   prompt = option_map (node_expr p.arena) r.prompt;
   defaults = map (member_default_view p.arena) (items_at p.member_defaults.starts.items p.member_defaults.items.items c);
+  optional = r.optional;
 }
 
 -- an entry, by its row

@@ -4,7 +4,7 @@ use Rattle.kc_value.specs.declared.tri.Tri.TheVariants.{N}
 use Rattle.kc_expr.specs.between.Arena.{Exprs, Represents, node_expr, Grows}
 use Rattle.kc_expr.specs.Expr.{Expr, alone, constant}
 use Rattle.kc_tree_model.specs.Trees as tree
-use Rattle.kc_tree_model.specs.Statements.{Attribute, typed, typed_prompt, typed_default, prompt, default, depends, select, imply, range, visible, help, modules, prompt_of, visible_of}
+use Rattle.kc_tree_model.specs.Statements.{Attribute, typed, typed_prompt, typed_default, prompt, default, depends, select, imply, range, visible, help, modules, optional, prompt_of, visible_of}
 use Rattle.kc_tree_model.specs.Blocks.{Group, Line, closing, side_of, open_blocks}
 use Rattle.kc_tree_model.specs.Conditions.{conjunction_of, visible_conjunct, attribute_values, dependencies_of, dependency_of, context, GroupInContext, group_in_context}
 use Rattle.kc_tree_model.specs.Contents.{menu_end_of}
@@ -27,6 +27,7 @@ if_of_attribute (range r) = r.condition
 if_of_attribute (visible e) = None
 if_of_attribute help = None
 if_of_attribute modules = None
+if_of_attribute optional = None
 
 -- the condition of an attribute in an entry with these dependencies, among these `visible if`s
 abbrev pub condition_among : List Expr → List Expr → Attribute → Expr

@@ -1,4 +1,5 @@
 -- A tree that is read without a fault is consistent.
+use Rattle.kc_expr.specs.declared.language.Language.{Language}
 use Rattle.kc_tree_model.specs.Statements.{DefaultAttribute, default_of}
 use Rattle.std.proofs.Common.{◌≡◌, ℕ, ◌<◌, true, List, [], Option, Some, None, refl, ap, sym, ◌∙◌, subst, length, filter, not, cond, Bool, false}
 use Rattle.std.specs.Prelude.{slice_get, filter_map, flat_map, ◌==◌, option_map, option_and_then}
@@ -29,19 +30,22 @@ use Rattle.std.specs.Str.{is_utf8}
 use Rattle.std.proofs.lemmas.Str.{is_utf8-from_IsUtf8}
 
 -- the members of a choice
-member_number : (c : Contents) (n s : ℕ) → Has s (filter_map (λ x. index_of_name x c.names) (member_names c n)) → (q : GroupInContext) × (x : List ℕ) × Has q c.places × (defined_name q.group ≡ Some x) × (q.enclosing.choice ≡ Some n) × (index_of_name x c.names ≡ Some s)
+member_number : (c : Contents) (n s : ℕ) → Has s (filter_map (λ x. index_of_name x c.names) (member_names c n))
+    → (q : GroupInContext) × (x : List ℕ) × Has q c.places × (defined_name q.group ≡ Some x) × (q.enclosing.choice ≡ Some n) × (index_of_name x c.names ≡ Some s)
 member_number c n s h =
     let a = has-filter_map (λ x. index_of_name x c.names) (member_names c n) s h in
     let b = has-filter_map (λ (p : GroupInContext). defined_name p.group) (filter (is_member_of n) c.places) a.0 a.1 in
     let d = has-filter (is_member_of n) c.places b.0 b.1 in
     (b.0, a.0, d.0, b.2, member_is n b.0 d.1, a.2)
 
-number_of_member : (c : Contents) (n s : ℕ) (q : GroupInContext) (x : List ℕ) → Has q c.places → defined_name q.group ≡ Some x → q.enclosing.choice ≡ Some n → index_of_name x c.names ≡ Some s → Has s (filter_map (λ x. index_of_name x c.names) (member_names c n))
+number_of_member : (c : Contents) (n s : ℕ) (q : GroupInContext) (x : List ℕ) → Has q c.places → defined_name q.group ≡ Some x → q.enclosing.choice ≡ Some n
+    → index_of_name x c.names ≡ Some s → Has s (filter_map (λ x. index_of_name x c.names) (member_names c n))
 number_of_member c n s q x h e m k =
     filter_map-has (λ x. index_of_name x c.names) (member_names c n) x s
-    (filter_map-has (λ (p : GroupInContext). defined_name p.group) (filter (is_member_of n) c.places) q x (filter-has (is_member_of n) c.places q h (is_member n q m)) e) k
+    (filter_map-has (λ (p : GroupInContext). defined_name p.group) (filter (is_member_of n) c.places) q x
+    (filter-has (is_member_of n) c.places q h (is_member n q m)) e) k
 
-module _ (c : Contents) (s : IsSound c) (none : (p : GroupInContext) → Has p c.places → faults_of_group c p ≡ []) where
+module _ (language : Language) (c : Contents) (s : IsSound c) (none : (p : GroupInContext) → Has p c.places → faults_of_group language c p ≡ []) where
   words : (i : ℕ) (symbol : Symbol) → slice_get (symbols_of c) i ≡ Some symbol → (0 < length symbol.name) × (list_all is_name_byte symbol.name ≡ true)
   words i symbol h =
       let r = symbol_at c i symbol h in
@@ -58,7 +62,8 @@ module _ (c : Contents) (s : IsSound c) (none : (p : GroupInContext) → Has p c
   unfolding units_of
   units_differ u w unit h k = unique_in c s unit c.places u w s.numbers h k
 
-  symbol_units : (u i : ℕ) → slice_get (units_of c) u ≡ Some (of_symbol i) → (symbol : Symbol) × (slice_get (symbols_of c) i ≡ Some symbol) × (symbol.choice ≡ None)
+  symbol_units : (u i : ℕ) → slice_get (units_of c) u ≡ Some (of_symbol i)
+      → (symbol : Symbol) × (slice_get (symbols_of c) i ≡ Some symbol) × (symbol.choice ≡ None)
   unfolding unit_at
   symbol_units u i h =
       let p = unit_place c u (of_symbol i) h in
@@ -73,13 +78,15 @@ module _ (c : Contents) (s : IsSound c) (none : (p : GroupInContext) → Has p c
       let q = number_at c s k p.0.group.number n in
       (choice_of c q.0, choice_there_at c k q.0 q.1)
 
-  own_units : (i : ℕ) (symbol : Symbol) → slice_get (symbols_of c) i ≡ Some symbol → symbol.choice ≡ None → (u : ℕ) × (slice_get (units_of c) u ≡ Some (of_symbol i))
+  own_units : (i : ℕ) (symbol : Symbol) → slice_get (symbols_of c) i ≡ Some symbol → symbol.choice ≡ None
+      → (u : ℕ) × (slice_get (units_of c) u ≡ Some (of_symbol i))
   own_units i symbol h e =
       let r = symbol_at c i symbol h in
       let p = first_defined c s r.0 (has-at r.0 c.names i r.1) in
       unit_listed c p.0 (of_symbol i) p.1 (symbol_unit_at c p.0 r.0 i p.2 p.3 (choice_of_name c r.0 symbol None r.2 e) (place_is c s r.0 i r.1))
 
-  units_of_members : (i k : ℕ) (symbol : Symbol) → slice_get (symbols_of c) i ≡ Some symbol → symbol.choice ≡ Some k → (u : ℕ) × (slice_get (units_of c) u ≡ Some (of_choice k))
+  units_of_members : (i k : ℕ) (symbol : Symbol) → slice_get (symbols_of c) i ≡ Some symbol → symbol.choice ≡ Some k
+      → (u : ℕ) × (slice_get (units_of c) u ≡ Some (of_choice k))
   units_of_members i k symbol h e =
       let r = symbol_at c i symbol h in
       let m = choice_around c r.0 k (choice_of_name c r.0 symbol (Some k) r.2 e) in
@@ -91,71 +98,85 @@ module _ (c : Contents) (s : IsSound c) (none : (p : GroupInContext) → Has p c
   bool_members i k symbol h e =
       let r = symbol_at c i symbol h in
       let m = choice_around c r.0 k (choice_of_name c r.0 symbol (Some k) r.2 e) in
-      sym (ap (λ (x : Symbol). x.kind) r.2) ∙ member_kind c none m.0 r.0 m.1 m.2 m.3 m.4
+      sym (ap (λ (x : Symbol). x.kind) r.2) ∙ member_kind language c none m.0 r.0 m.1 m.2 m.3 m.4
 
-  members : (k i : ℕ) (choice : Choice) → slice_get (choices_of c) k ≡ Some choice → list_any (λ m. m == i) choice.members ≡ true → (symbol : Symbol) × (slice_get (symbols_of c) i ≡ Some symbol) × (symbol.choice ≡ Some k)
+  members : (k i : ℕ) (choice : Choice) → slice_get (choices_of c) k ≡ Some choice → list_any (λ m. m == i) choice.members ≡ true
+      → (symbol : Symbol) × (slice_get (symbols_of c) i ≡ Some symbol) × (symbol.choice ≡ Some k)
   members k i x h e =
       let p = choice_at c k x h in
       let m = member_number c p.0.group.number i (has-any i (filter_map (λ x. index_of_name x c.names) (member_names c p.0.group.number)) (subst (λ (x : Choice). list_any (λ m. m == i) x.members ≡ true) (sym p.2) e)) in
-      (symbol_of c m.1, symbol_there c i m.1 (place-get m.1 c.names i m.5), choice_of_member c s none m.0 m.1 p.0.group.number k m.2 m.3 m.4 (at_number c s k p.0 p.1))
+      (symbol_of c m.1, symbol_there c i m.1 (place-get m.1 c.names i m.5), choice_of_member language c s none m.0 m.1 p.0.group.number k m.2 m.3 m.4 (at_number c s k p.0 p.1))
 
-  listed : (i k : ℕ) (symbol : Symbol) → slice_get (symbols_of c) i ≡ Some symbol → symbol.choice ≡ Some k → (choice : Choice) × (slice_get (choices_of c) k ≡ Some choice) × (list_any (λ m. m == i) choice.members ≡ true)
+  listed : (i k : ℕ) (symbol : Symbol) → slice_get (symbols_of c) i ≡ Some symbol → symbol.choice ≡ Some k
+      → (choice : Choice) × (slice_get (choices_of c) k ≡ Some choice) × (list_any (λ m. m == i) choice.members ≡ true)
   listed i k symbol h e =
       let r = symbol_at c i symbol h in
       let m = choice_around c r.0 k (choice_of_name c r.0 symbol (Some k) r.2 e) in
-      let p = number_at c s k m.1 (number-get m.1 c.choices k m.5) in
-      (choice_of c p.0, choice_there_at c k p.0 p.1, any-has i (filter_map (λ x. index_of_name x c.names) (member_names c p.0.group.number)) (number_of_member c p.0.group.number i m.0 r.0 m.2 m.3 (m.4 ∙ ap Some (sym p.2)) (place_is c s r.0 i r.1)))
+      let p = number_at c s k m.1 (number-get m.1 c.choices k m.5) in (
+        choice_of c p.0,
+        choice_there_at c k p.0 p.1,
+        any-has i (filter_map (λ x. index_of_name x c.names) (member_names c p.0.group.number))
+            (number_of_member c p.0.group.number i m.0 r.0 m.2 m.3 (m.4 ∙ ap Some (sym p.2)) (place_is c s r.0 i r.1)),
+      )
 
 -- a default of a choice is of a member
 mapped_from : {A B : Type 0} (f : A → B) (o : Option A) (y : B) → option_map f o ≡ Some y → (x : A) × (o ≡ Some x) × (f x ≡ y)
 mapped_from f None y h = cc
 mapped_from f (Some x) y h = (x, refl, cc)
 
-named_member : (members : List (List ℕ)) (b : Bool) (o : Option (List ℕ)) (x : List ℕ) → cond b (option_and_then (name_among members) o) None ≡ Some x → Has x members
+named_member : (members : List (List ℕ)) (b : Bool) (o : Option (List ℕ)) (x : List ℕ) → cond b (option_and_then (name_among members) o) None ≡ Some x
+    → Has x members
 named_member members true o x h =
     let a = and_then_some (name_among members) o x h in
     let b = mapped_from (λ _. a.0) (index_of_name a.0 members) x a.2 in
     subst (λ y. Has y members) b.2 (has-at a.0 members b.0 (place-get a.0 members b.0 b.1))
 named_member members false o x h = cc
 
-default_of_member : (c : Contents) (p : GroupInContext) (v : DefaultAttribute) (d : MemberDefault) → member_default c p v ≡ Some d → Has d.member (filter_map (λ x. index_of_name x c.names) (member_names c p.group.number))
+default_of_member : (c : Contents) (p : GroupInContext) (v : DefaultAttribute) (d : MemberDefault) → member_default c p v ≡ Some d
+    → Has d.member (filter_map (λ x. index_of_name x c.names) (member_names c p.group.number))
 default_of_member c p v d h =
     let a = mapped_from (λ s. record { member = s; condition = attribute_condition p.enclosing p.group v.condition }) _ d h in
     let b = and_then_some (λ x. index_of_name x c.names) (member_named (member_names c p.group.number) v) a.0 a.1 in
     let m : Has b.0 (member_names c p.group.number) = named_member (member_names c p.group.number) v.single (bare_name v.value) b.0 b.1 in
-    subst (λ n. Has n (filter_map (λ x. index_of_name x c.names) (member_names c p.group.number))) (ap (λ (y : MemberDefault). y.member) a.2) (filter_map-has (λ x. index_of_name x c.names) (member_names c p.group.number) b.0 a.0 m b.2)
+    subst (λ n. Has n (filter_map (λ x. index_of_name x c.names) (member_names c p.group.number))) (ap (λ (y : MemberDefault). y.member) a.2)
+    (filter_map-has (λ x. index_of_name x c.names) (member_names c p.group.number) b.0 a.0 m b.2)
 
-default_members : (c : Contents) (k : ℕ) (x : Choice) → slice_get (choices_of c) k ≡ Some x → list_all (λ (d : MemberDefault). list_any (λ m. m == d.member) x.members) x.defaults ≡ true
+default_members : (c : Contents) (k : ℕ) (x : Choice) → slice_get (choices_of c) k ≡ Some x
+    → list_all (λ (d : MemberDefault). list_any (λ m. m == d.member) x.members) x.defaults ≡ true
 default_members c k x h =
     let p = choice_at c k x h in
     subst (λ (y : Choice). list_all (λ (d : MemberDefault). list_any (λ m. m == d.member) y.members) y.defaults ≡ true) p.2
     (all_pass (λ (d : MemberDefault). list_any (λ m. m == d.member) (choice_of c p.0).members) (choice_of c p.0).defaults
-    (λ d e. let r = has-filter_map (member_default c p.0) (attribute_values default_of p.0.group) d e in any-has d.member (choice_of c p.0).members (default_of_member c p.0 r.0 d r.2)))
+    (λ d e. let r = has-filter_map (member_default c p.0) (attribute_values default_of p.0.group) d e in any-has d.member (choice_of c p.0).members
+    (default_of_member c p.0 r.0 d r.2)))
 
 -- the own texts of defaults are one line of UTF-8
 default_is_plain : (c : Contents) (s : IsSound c) (p : GroupInContext) (d : Default) → Has p c.places → Has d (defaults_at p) → IsPlainText (own_text d.value)
 default_is_plain c s p d h k =
-    let a = has_mapped (λ (v : DefaultAttribute). record { value = v.value; condition = attribute_condition p.enclosing p.group v.condition }) (attribute_values default_of p.group) d k in
+    let a = has_mapped (λ (v : DefaultAttribute). record { value = v.value; condition = attribute_condition p.enclosing p.group v.condition })
+    (attribute_values default_of p.group) d k in
     let b = has-filter_map (λ (l : Line). default_of l.attribute) p.group.attributes a.0 a.1 in
     subst (λ (y : Default). IsPlainText (own_text y.value)) a.2 (value_of_group p.group.attributes b.0 a.0 (s.values p h) b.1 b.2)
 
-defaults_pass : (test : Default → Bool) → ((d : Default) → IsPlainText (own_text d.value) → test d ≡ true) → (c : Contents) (s : IsSound c) (i : ℕ) (symbol : Symbol) → slice_get (symbols_of c) i ≡ Some symbol → list_all test symbol.defaults ≡ true
+defaults_pass : (test : Default → Bool) → ((d : Default) → IsPlainText (own_text d.value) → test d ≡ true)
+    → (c : Contents) (s : IsSound c) (i : ℕ) (symbol : Symbol) → slice_get (symbols_of c) i ≡ Some symbol → list_all test symbol.defaults ≡ true
 defaults_pass test holds c s i symbol h =
     let r = symbol_at c i symbol h in
     subst (λ (y : Symbol). list_all test y.defaults ≡ true) r.2
     (all_pass test (symbol_of c r.0).defaults
-    (λ d e. let a = has_flat_map defaults_at (definitions_of c r.0) d e in holds d (default_is_plain c s a.0 d (has-filter (defines r.0) c.places a.0 a.1).0 a.2)))
+    (λ d e. let a = has_flat_map defaults_at (definitions_of c r.0) d e in holds d
+    (default_is_plain c s a.0 d (has-filter (defines r.0) c.places a.0 a.1).0 a.2)))
 
 -- the reading and the checks of a tree without a fault
 no_reading_fault : (o : Option TreeFault) (t : Option TreeFault) → elim o as (λ _. Option TreeFault) [ None ↦ t | Some f ↦ Some f ] ≡ None → t ≡ None
 no_reading_fault None t h = h
 no_reading_fault (Some f) t h = cc
 
-no_faults : (files : Files) (root : List ℕ) → first_tree_fault files root ≡ None → (p : GroupInContext) → Has p (contents_of (reading files root).read).places → faults_of_group (contents_of (reading files root).read) p ≡ []
+no_faults : (files : Files) (root : List ℕ) → first_tree_fault files root ≡ None → (p : GroupInContext) → Has p (contents_of (reading files root).read).places → faults_of_group files.language (contents_of (reading files root).read) p ≡ []
 unfolding first_tree_fault tree_faults
 no_faults files root h p k =
     let read = (reading files root).read in
-    nothing_at (faults_of_group (contents_of read)) (contents_of read).places p (no_first (flat_map (faults_of_group (contents_of read)) (contents_of read).places) (no_reading_fault (reading files root).fault _ h)) k
+    nothing_at (faults_of_group files.language (contents_of read)) (contents_of read).places p (no_first (flat_map (faults_of_group files.language (contents_of read)) (contents_of read).places) (no_reading_fault (reading files root).fault _ h)) k
 
 pub tree_is_consistent : (files : Files) (root : List ℕ) → first_tree_fault files root ≡ None → IsConsistent (tree_of_files files root)
 unfolding tree_of_files tree_of_groups symbols_of choices_of choice_places units_of unit_at
@@ -164,16 +185,16 @@ tree_is_consistent files root h =
     let s = sound_contents (reading files root).read (is_read files root) in
     let none = no_faults files root h in
     record {
-      words = words c s none;
-      names_differ = names_differ c s none;
-      units_differ = units_differ c s none;
-      symbol_units = symbol_units c s none;
-      choice_units = choice_units c s none;
-      own_units = own_units c s none;
-      units_of_members = units_of_members c s none;
-      bool_members = bool_members c s none;
-      members = members c s none;
-      listed = listed c s none;
+      words = words files.language c s none;
+      names_differ = names_differ files.language c s none;
+      units_differ = units_differ files.language c s none;
+      symbol_units = symbol_units files.language c s none;
+      choice_units = choice_units files.language c s none;
+      own_units = own_units files.language c s none;
+      units_of_members = units_of_members files.language c s none;
+      bool_members = bool_members files.language c s none;
+      members = members files.language c s none;
+      listed = listed files.language c s none;
       default_members = default_members c;
       one_line = defaults_pass (λ (d : Default). not (has_newline (own_text d.value))) (λ d plain. ap not plain.0) c s;
       own_utf8 = defaults_pass (λ (d : Default). is_utf8 (own_text d.value)) (λ d plain. is_utf8-from_IsUtf8 (own_text d.value) plain.1) c s;

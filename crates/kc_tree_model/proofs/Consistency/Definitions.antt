@@ -1,7 +1,10 @@
 -- The definitions of a tree without a fault, and what is known of its contents.
 use Rattle.std.proofs.Common.{◌≡◌, inl, inr, ℕ, Bool, true, false, not, ◌&&◌, ◌||◌, List, [], ◌∷◌, ◌++◌, Option, Some, None, refl, ap, sym, ◌∙◌, subst, map, filter}
-use Rattle.std.specs.Prelude.{slice_get, filter_map, flat_map, unwrap_or, is_some, bytes_eq, ◌==◌}
+use Rattle.std.specs.List.{list_all}
+use Rattle.std.specs.Prelude.{slice_get, filter_map, flat_map, unwrap_or, is_some, is_none, bytes_eq, ◌==◌}
 use Rattle.std.proofs.lemmas.Bool.{eqb-true}
+use Rattle.kc_expr.specs.declared.language.Language.{Language}
+use Rattle.kc_expr.specs.declared.language.Language.TheVariants.{Strict, Linux}
 use Rattle.kc_value.specs.declared.value.Kind.{Kind}
 use Rattle.kc_value.specs.declared.value.Kind.TheVariants.{Bool as Boolean, Tristate, Text, Int, Hex}
 use Rattle.kc_tree_model.specs.declared.fault.TreeKind.{TreeKind}
@@ -10,10 +13,10 @@ use Rattle.kc_tree_model.specs.declared.fault.TreeFault.{TreeFault}
 use Rattle.kc_tree_model.specs.Trees.{Symbol, Choice}
 use Rattle.kc_tree_model.specs.declared.ids.Unit.{Unit as TreeUnit}
 use Rattle.kc_tree_model.specs.Statements.{config}
-use Rattle.kc_tree_model.specs.Blocks.{Group, of_head, file_end, from_head, defined_name, opens_choice}
+use Rattle.kc_tree_model.specs.Blocks.{Group, Line, of_head, file_end, from_head, defined_name, opens_choice}
 use Rattle.kc_tree_model.specs.Conditions.{GroupInContext}
 use Rattle.kc_tree_model.specs.Contents.{Contents, contents_of, defines, first_definition, type_given, choice_of_symbol, symbol_of, choice_of, is_first_definition, unit_of_head}
-use Rattle.kc_tree_model.specs.TreeFaults.{when, is_other_kind, definition_faults, faults_of_head, faults_of_group}
+use Rattle.kc_tree_model.specs.TreeFaults.{when, is_other_kind, is_added_attribute, may_follow_member, definition_faults, faults_of_head, faults_of_group}
 use Rattle.kc_tree_model.proofs.Consistency.Lists.{Has, has-filter_map, filter_map-has, same_text, text_same, Differ, has-once, once-has, Differ-once}
 use Rattle.kc_tree_model.proofs.Consistency.Places.{IsWord, NamesWord, AreValues, values_of_group, IsRead, group-placed, placed-group, word_of_group, NumbersDiffer, numbers_differ, choice_read, what_of_name}
 
@@ -55,21 +58,29 @@ pub not_not : (b : Bool) → not b ≡ false → b ≡ true
 not_not true h = refl
 not_not false h = cc
 
-module _ (c : Contents) (none : (p : GroupInContext) → Has p c.places → faults_of_group c p ≡ []) where
+module _ (language : Language) (c : Contents) (none : (p : GroupInContext) → Has p c.places → faults_of_group language c p ≡ []) where
   -- a definition has no fault of its own
-  pub sound : (p : GroupInContext) (name : List ℕ) → Has p c.places → defined_name p.group ≡ Some name → definition_faults c p name ≡ []
+  pub sound : (p : GroupInContext) (name : List ℕ) → Has p c.places → defined_name p.group ≡ Some name → definition_faults language c p name ≡ []
   sound p name h e =
       let what : p.group.head ≡ of_head (config name) = what_of_name p.group.head name e in
-      let here : faults_of_head c p (config name) ≡ [] = sym (ap (λ w. elim w as (λ _. List TreeFault) [ of_head x ↦ faults_of_head c p x | file_end ↦ [] ]) what) ∙ none p h in
-      nothing_mapped (λ k. record { file = Some p.group.at.file; line = p.group.at.line; kind = k }) (definition_faults c p name) (nothing_left _ _ here).0
+      let here : faults_of_head language c p (config name) ≡ [] = sym (ap (λ w. elim w as (λ _. List TreeFault) [ of_head x ↦ faults_of_head language c p x | file_end ↦ [] ]) what) ∙ none p h in
+      nothing_mapped (λ k. record { file = Some p.group.at.file; line = p.group.at.line; kind = k }) (definition_faults language c p name) (nothing_left _ _ here).0
 
   pub member_rule : (p : GroupInContext) (name : List ℕ) → Has p c.places → defined_name p.group ≡ Some name
-      → ((is_some p.enclosing.choice && is_other_kind Boolean (type_given c name)) ≡ false) × ((not (is_first_definition c name p) && is_some (choice_of_symbol c name)) ≡ false)
+      → ((is_some p.enclosing.choice && is_other_kind Boolean (type_given c name)) ≡ false) × ((not (is_first_definition c name p) && is_some (choice_of_symbol c name) && not (may_follow_member language p)) ≡ false)
   member_rule p name h e = neither _ _ (not_when _ ChoiceMember (nothing_left _ _ (nothing_left _ _ (sound p name h e)).0).1)
 
-  -- a definition of a symbol with a member is its first
-  pub is_first : (p : GroupInContext) (name : List ℕ) (k : ℕ) → Has p c.places → defined_name p.group ≡ Some name → choice_of_symbol c name ≡ Some k → is_first_definition c name p ≡ true
-  is_first p name k h e m = not_not _ (left_false _ _ (member_rule p name h e).1 (ap is_some m))
+  -- a definition in a choice may follow no other
+  follows_none : (p : GroupInContext) (n : ℕ) → p.enclosing.choice ≡ Some n → not (may_follow_member language p) ≡ true
+  follows_none p n m = by_language language
+    where
+      by_language : (l : Language) → not (may_follow_member l p) ≡ true
+      by_language Strict = refl
+      by_language Linux = ap (λ o. not (is_none o && list_all (λ (l : Line). is_added_attribute l.attribute) p.group.attributes)) m
+
+  -- a member's definition in a choice is its symbol's first
+  pub is_first : (p : GroupInContext) (name : List ℕ) (k n : ℕ) → Has p c.places → defined_name p.group ≡ Some name → choice_of_symbol c name ≡ Some k → p.enclosing.choice ≡ Some n → is_first_definition c name p ≡ true
+  is_first p name k n h e m i = not_not _ (left_false _ _ (left_false _ _ (member_rule p name h e).1 (follows_none p n i)) (ap is_some m))
 
   pub no_other_kind : (k : Option Kind) → is_other_kind Boolean k ≡ false → unwrap_or k Boolean ≡ Boolean
   no_other_kind None h = refl
@@ -79,7 +90,8 @@ module _ (c : Contents) (none : (p : GroupInContext) → Has p c.places → faul
   no_other_kind (Some Int) h = cc
   no_other_kind (Some Hex) h = cc
 
-  pub member_kind : (p : GroupInContext) (name : List ℕ) (n : ℕ) → Has p c.places → defined_name p.group ≡ Some name → p.enclosing.choice ≡ Some n → unwrap_or (type_given c name) Boolean ≡ Boolean
+  pub member_kind : (p : GroupInContext) (name : List ℕ) (n : ℕ) → Has p c.places → defined_name p.group ≡ Some name → p.enclosing.choice ≡ Some n
+      → unwrap_or (type_given c name) Boolean ≡ Boolean
   member_kind p name n h e m = no_other_kind (type_given c name) (right_false _ _ (member_rule p name h e).0 (ap is_some m))
 
 -- `defines` and `is_first_definition`, as facts
@@ -97,14 +109,17 @@ defining p name h = by_name (defined_name p.group) h
     by_name None k = cc
     by_name (Some x) k = text_same x name cc
 
-pub first_number : (c : Contents) (name : List ℕ) (p : GroupInContext) → is_first_definition c name p ≡ true → (g : Group) × (first_definition c name ≡ Some g) × (g.number ≡ p.group.number)
+pub first_number : (c : Contents) (name : List ℕ) (p : GroupInContext) → is_first_definition c name p ≡ true
+    → (g : Group) × (first_definition c name ≡ Some g) × (g.number ≡ p.group.number)
 first_number c name p h = by_first (first_definition c name) refl h
   where
-    by_first : (o : Option Group) → first_definition c name ≡ o → elim o [ None ↦ false | Some g ↦ g.number == p.group.number ] ≡ true → (g : Group) × (first_definition c name ≡ Some g) × (g.number ≡ p.group.number)
+    by_first : (o : Option Group) → first_definition c name ≡ o → elim o [ None ↦ false | Some g ↦ g.number == p.group.number ] ≡ true
+        → (g : Group) × (first_definition c name ≡ Some g) × (g.number ≡ p.group.number)
     by_first None e k = cc
     by_first (Some g) e k = (g, e, eqb-true g.number p.group.number k)
 
-pub one_number : (c : Contents) (name : List ℕ) (p q : GroupInContext) → is_first_definition c name p ≡ true → is_first_definition c name q ≡ true → p.group.number ≡ q.group.number
+pub one_number : (c : Contents) (name : List ℕ) (p q : GroupInContext) → is_first_definition c name p ≡ true → is_first_definition c name q ≡ true
+    → p.group.number ≡ q.group.number
 one_number c name p q h k =
     let a = first_number c name p h in
     let b = first_number c name q k in
@@ -136,7 +151,8 @@ pub record IsSound (c : Contents) : Type 0 where
   pub named : (p : GroupInContext) (name : List ℕ) → Has p c.places → defined_name p.group ≡ Some name → Has name c.names
   pub values : (p : GroupInContext) → Has p c.places → AreValues p.group.attributes
   pub choices : c.choices ≡ map (λ (p : GroupInContext). p.group.number) (filter (λ (p : GroupInContext). opens_choice p.group) c.places)
-  pub choice_there : (p : GroupInContext) (n : ℕ) → Has p c.places → p.enclosing.choice ≡ Some n → (q : GroupInContext) × Has q c.places × (q.group.number ≡ n) × (opens_choice q.group ≡ true)
+  pub choice_there : (p : GroupInContext) (n : ℕ) → Has p c.places → p.enclosing.choice ≡ Some n
+      → (q : GroupInContext) × Has q c.places × (q.group.number ≡ n) × (opens_choice q.group ≡ true)
 
 pub sound_contents : (read : List Group) → IsRead read → IsSound (contents_of read)
 sound_contents read r = record {

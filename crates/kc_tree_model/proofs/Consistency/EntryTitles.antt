@@ -42,33 +42,43 @@ same_title d e x title first second k = let same : d ≡ e = cc in let both : So
 no_title : (d e : Entry) (title : List ℕ) → title_of_entry d ≡ None → title_of_entry e ≡ Some title → Some d ≡ Some e → ⊥
 no_title d e title first second k = let same : d ≡ e = cc in let both : None ≡ Some title = sym first ∙ ap title_of_entry same ∙ second in cc
 
-menu_plain : (f : List ℕ → Expr → Expr → Entry) → ((t : List ℕ) (d v : Expr) → title_of_entry (f t d v) ≡ Some t) → (dependency visible : Expr) (w : GroupHead) → IsPlain w → (e : Entry) (title : List ℕ) → title_of_entry e ≡ Some title
+menu_plain : (f : List ℕ → Expr → Expr → Entry) → ((t : List ℕ) (d v : Expr) → title_of_entry (f t d v) ≡ Some t) → (dependency visible : Expr) (w : GroupHead)
+    → IsPlain w → (e : Entry) (title : List ℕ) → title_of_entry e ≡ Some title
     → (o : Option (List ℕ)) → from_head title_of_head w ≡ o → option_map (λ t. f t dependency visible) o ≡ Some e → IsPlainText title
 menu_plain f has d v w plain e title told None is k = cc
 menu_plain f has d v w plain e title told (Some t) is k = subst IsPlainText (same_title (f t d v) e t title (has t d v) told k) (plain t (menu_title w t is))
 
-numbered : (f : ℕ → Entry) → ((n : ℕ) → title_of_entry (f n) ≡ None) → (e : Entry) (title : List ℕ) → title_of_entry e ≡ Some title → (o : Option ℕ) → option_map f o ≡ Some e → ⊥
+numbered : (f : ℕ → Entry) → ((n : ℕ) → title_of_entry (f n) ≡ None) → (e : Entry) (title : List ℕ) → title_of_entry e ≡ Some title → (o : Option ℕ)
+    → option_map f o ≡ Some e → ⊥
 numbered f none e title told None k = cc
 numbered f none e title told (Some n) k = no_title (f n) e title (none n) told k
 
-end_plain : (opened : List Group) → ((g : Group) → Has g opened → IsPlain g.head) → (e : Entry) (title : List ℕ) → title_of_entry e ≡ Some title → menu_end_of opened ≡ Some e → IsPlainText title
+end_plain : (opened : List Group) → ((g : Group) → Has g opened → IsPlain g.head) → (e : Entry) (title : List ℕ) → title_of_entry e ≡ Some title
+    → menu_end_of opened ≡ Some e → IsPlainText title
 end_plain [] plain e title told k = cc
-end_plain (g ∷ outer) plain e title told k = menu_plain menu_ends (λ t d v. refl) _ _ g.head (plain g (inl refl)) e title told (from_head title_of_head g.head) refl k
+end_plain (g ∷ outer) plain e title told k =
+    menu_plain menu_ends (λ t d v. refl) _ _ g.head (plain g (inl refl)) e title told (from_head title_of_head g.head) refl k
 
-entry_plain : (c : Contents) (p : GroupInContext) (w : GroupHead) → p.group.head ≡ w → IsPlain p.group.head → ((g : Group) → Has g p.opened → IsPlain g.head) → (e : Entry) (title : List ℕ) → title_of_entry e ≡ Some title → from_head (entry_of_head c p) w ≡ Some e → IsPlainText title
+entry_plain : (c : Contents) (p : GroupInContext) (w : GroupHead) → p.group.head ≡ w → IsPlain p.group.head → ((g : Group) → Has g p.opened → IsPlain g.head)
+    → (e : Entry) (title : List ℕ) → title_of_entry e ≡ Some title → from_head (entry_of_head c p) w ≡ Some e → IsPlainText title
 entry_plain c p (of_head (config name)) is plain opened e title told k = absurd (numbered definition (λ n. refl) e title told _ k)
 entry_plain c p (of_head choice) is plain opened e title told k = absurd (numbered choice_begins (λ n. refl) e title told _ k)
-entry_plain c p (of_head (menu x)) is plain opened e title told k = menu_plain menu_begins (λ t d v. refl) _ _ p.group.head plain e title told (from_head title_of_head p.group.head) refl k
-entry_plain c p (of_head (comment x)) is plain opened e title told k = subst IsPlainText (same_title _ e x title refl told k) (plain x (ap (from_head title_in) is))
+entry_plain c p (of_head (menu x)) is plain opened e title told k =
+    menu_plain menu_begins (λ t d v. refl) _ _ p.group.head plain e title told (from_head title_of_head p.group.head) refl k
+entry_plain c p (of_head (comment x)) is plain opened e title told k =
+    subst IsPlainText (same_title _ e x title refl told k) (plain x (ap (from_head title_in) is))
 entry_plain c p (of_head (ends blocks.Menu)) is plain opened e title told k = end_plain p.opened opened e title told k
 entry_plain c p w is plain opened e title told k = cc
 
 -- in each tree of files
-pub entry_titles_plain : (files : Files) (root : List ℕ) (k : ℕ) (e : Entry) (title : List ℕ) → slice_get (tree_of_files files root).entries k ≡ Some e → title_of_entry e ≡ Some title → IsPlainText title
+pub entry_titles_plain : (files : Files) (root : List ℕ) (k : ℕ) (e : Entry) (title : List ℕ) → slice_get (tree_of_files files root).entries k ≡ Some e
+    → title_of_entry e ≡ Some title → IsPlainText title
 unfolding tree_of_files tree_of_groups
 entry_titles_plain files root k e title at told =
     let read = (reading files root).read in
     let c = contents_of (reading files root).read in
     let plain = titles_plain files root in
-    let from = has-filter_map (λ (p : GroupInContext). from_head (entry_of_head (contents_of (reading files root).read) p) p.group.head) c.places e (has-at e _ k at) in
-    entry_plain c from.0 from.0.group.head refl (plain_of_group from.0.group read plain (group-placed from.0 read from.1)) (λ g h. plain_of_group g read plain (opened_read from.0 read g from.1 h)) e title told from.2
+    let from = has-filter_map (λ (p : GroupInContext). from_head (entry_of_head (contents_of (reading files root).read) p) p.group.head) c.places e
+    (has-at e _ k at) in
+    entry_plain c from.0 from.0.group.head refl (plain_of_group from.0.group read plain (group-placed from.0 read from.1))
+    (λ g h. plain_of_group g read plain (opened_read from.0 read g from.1 h)) e title told from.2

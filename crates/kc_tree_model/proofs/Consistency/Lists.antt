@@ -47,7 +47,8 @@ map-get f [] i x h = cc
 map-get f (y ∷ ys) zero x h = let e : y ≡ x = cc in ap (λ z. Some (f z)) e
 map-get f (y ∷ ys) (suc i) x h = map-get f ys i x h
 
-filter_by : {A : Type 0} (test : A → Bool) (y : A) (ys : List A) (x : A) (b : Bool) → test y ≡ b → (Has x (filter test ys) → Has x ys × (test x ≡ true)) → Has x (cond b (y ∷ filter test ys) (filter test ys)) → Has x (y ∷ ys) × (test x ≡ true)
+filter_by : {A : Type 0} (test : A → Bool) (y : A) (ys : List A) (x : A) (b : Bool) → test y ≡ b → (Has x (filter test ys) → Has x ys × (test x ≡ true))
+    → Has x (cond b (y ∷ filter test ys) (filter test ys)) → Has x (y ∷ ys) × (test x ≡ true)
 filter_by test y ys x true e ih (inl k) = (inl k, ap test (sym k) ∙ e)
 filter_by test y ys x true e ih (inr k) = let r = ih k in (inr r.0, r.1)
 filter_by test y ys x false e ih k = let r = ih k in (inr r.0, r.1)
@@ -56,7 +57,8 @@ pub has-filter : {A : Type 0} (test : A → Bool) (xs : List A) (x : A) → Has 
 has-filter test [] x h = absurd h
 has-filter test (y ∷ ys) x h = filter_by test y ys x (test y) refl (has-filter test ys x) h
 
-into_filter_by : {A : Type 0} (test : A → Bool) (y : A) (ys : List A) (x : A) (b : Bool) → test y ≡ b → test x ≡ true → (Has x ys → Has x (filter test ys)) → Has x (y ∷ ys) → Has x (cond b (y ∷ filter test ys) (filter test ys))
+into_filter_by : {A : Type 0} (test : A → Bool) (y : A) (ys : List A) (x : A) (b : Bool) → test y ≡ b → test x ≡ true → (Has x ys → Has x (filter test ys))
+    → Has x (y ∷ ys) → Has x (cond b (y ∷ filter test ys) (filter test ys))
 into_filter_by test y ys x true e h ih (inl k) = inl k
 into_filter_by test y ys x true e h ih (inr k) = inr (ih k)
 into_filter_by test y ys x false e h ih (inl k) = let same : test y ≡ test x = ap test k in cc
@@ -66,7 +68,8 @@ pub filter-has : {A : Type 0} (test : A → Bool) (xs : List A) (x : A) → Has 
 filter-has test [] x h e = absurd h
 filter-has test (y ∷ ys) x h e = into_filter_by test y ys x (test y) refl e (λ k. filter-has test ys x k e) h
 
-filter_map_by : {A B : Type 0} (f : A → Option B) (x : A) (xs : List A) (y : B) (o : Option B) → f x ≡ o → (Has y (filter_map f xs) → (z : A) × Has z xs × (f z ≡ Some y)) → Has y (cons_option o (filter_map f xs)) → (z : A) × Has z (x ∷ xs) × (f z ≡ Some y)
+filter_map_by : {A B : Type 0} (f : A → Option B) (x : A) (xs : List A) (y : B) (o : Option B) → f x ≡ o
+    → (Has y (filter_map f xs) → (z : A) × Has z xs × (f z ≡ Some y)) → Has y (cons_option o (filter_map f xs)) → (z : A) × Has z (x ∷ xs) × (f z ≡ Some y)
 filter_map_by f x xs y None e ih h = let r = ih h in (r.0, inr r.1, r.2)
 filter_map_by f x xs y (Some w) e ih (inl k) = (x, inl refl, e ∙ ap Some k)
 filter_map_by f x xs y (Some w) e ih (inr k) = let r = ih k in (r.0, inr r.1, r.2)
@@ -75,7 +78,8 @@ pub has-filter_map : {A B : Type 0} (f : A → Option B) (xs : List A) (y : B) �
 has-filter_map f [] y h = absurd h
 has-filter_map f (x ∷ xs) y h = filter_map_by f x xs y (f x) refl (has-filter_map f xs y) h
 
-into_filter_map_by : {A B : Type 0} (f : A → Option B) (x : A) (xs : List A) (z : A) (y : B) (o : Option B) → f x ≡ o → f z ≡ Some y → (Has z xs → Has y (filter_map f xs)) → Has z (x ∷ xs) → Has y (cons_option o (filter_map f xs))
+into_filter_map_by : {A B : Type 0} (f : A → Option B) (x : A) (xs : List A) (z : A) (y : B) (o : Option B) → f x ≡ o → f z ≡ Some y
+    → (Has z xs → Has y (filter_map f xs)) → Has z (x ∷ xs) → Has y (cons_option o (filter_map f xs))
 into_filter_map_by f x xs z y None e h ih (inl k) = let same : f x ≡ f z = ap f k in cc
 into_filter_map_by f x xs z y None e h ih (inr k) = ih k
 into_filter_map_by f x xs z y (Some w) e h ih (inl k) = let same : f x ≡ f z = ap f k in inl cc
@@ -106,7 +110,8 @@ all_pass test (x ∷ xs) h = pass_both (test x) (list_all test xs) (h x (inl ref
 -- what an element of joined lists comes from
 pub has_flat_map : {A B : Type 0} (f : A → List B) (xs : List A) (y : B) → Has y (flat_map f xs) → (x : A) × Has x xs × Has y (f x)
 has_flat_map f [] y h = absurd h
-has_flat_map f (x ∷ xs) y h = elim (has-append y (f x) (flat_map f xs) h) [ inl a ↦ (x, inl refl, a) | inr b ↦ let r = has_flat_map f xs y b in (r.0, inr r.1, r.2) ]
+has_flat_map f (x ∷ xs) y h =
+    elim (has-append y (f x) (flat_map f xs) h) [ inl a ↦ (x, inl refl, a) | inr b ↦ let r = has_flat_map f xs y b in (r.0, inr r.1, r.2) ]
 
 -- a place within a list
 pub get_below : {A : Type 0} (xs : List A) (i : ℕ) (x : A) → slice_get xs i ≡ Some x → i < length xs
@@ -149,7 +154,8 @@ first_is_not_later i h = let e : 0 ≡ suc i = cc in omega arith
 one_less : (i j : ℕ) → Some (suc i) ≡ Some (suc j) → Some i ≡ Some j
 one_less i j h = let e : suc i ≡ suc j = cc in ap Some (omega arith)
 
-place_by : (x y : List ℕ) (ys : List (List ℕ)) (b : Bool) (o : Option ℕ) (i : ℕ) → bytes_eq x y ≡ b → ((j : ℕ) → o ≡ Some j → slice_get ys j ≡ Some x) → cond b (Some 0) (option_map suc o) ≡ Some i → slice_get (y ∷ ys) i ≡ Some x
+place_by : (x y : List ℕ) (ys : List (List ℕ)) (b : Bool) (o : Option ℕ) (i : ℕ) → bytes_eq x y ≡ b → ((j : ℕ) → o ≡ Some j → slice_get ys j ≡ Some x)
+    → cond b (Some 0) (option_map suc o) ≡ Some i → slice_get (y ∷ ys) i ≡ Some x
 place_by x y ys true o zero e ih h = ap Some (sym (same_text x y e))
 place_by x y ys true o (suc i) e ih h = absurd (first_is_not_later i h)
 place_by x y ys false None i e ih h = cc
@@ -189,7 +195,11 @@ at_most_once x (y ∷ ys) (suc i) (suc j) d h k = ap suc (at_most_once x ys i j 
 
 pub Differ-append : {A : Type 0} (xs : List A) (x : A) → Differ xs → (Has x xs → ⊥) → Differ (xs ++ x ∷ [])
 Differ-append [] x d n = ((λ h. h), tt)
-Differ-append (y ∷ ys) x d n = ((λ h. elim (has-append y ys (x ∷ []) h) [ inl a ↦ d.0 a | inr b ↦ elim b [ inl e ↦ n (inl (sym e)) | inr e ↦ e ] ]), Differ-append ys x d.1 (λ h. n (inr h)))
+Differ-append (y ∷ ys) x d n = (
+  (λ h. elim (has-append y ys (x ∷ []) h) [ inl a ↦ d.0 a | inr b ↦ elim b [ inl e ↦ n (inl (sym e)) | inr e ↦ e ] ]),
+  Differ-append ys x d.1
+      (λ h. n (inr h)),
+)
 
 -- each name once
 among-has : (x : List ℕ) (xs : List (List ℕ)) → Has x xs → is_in_list x xs ≡ true
@@ -205,7 +215,8 @@ has-among x (y ∷ ys) h = among_by (bytes_eq y x) refl h (has-among x ys)
     among_by true e h ih = inl (same_text y x e)
     among_by false e h ih = inr (ih h)
 
-once_by : (x y : List ℕ) (xs : List (List ℕ)) (b : Bool) → (Has y (without_repeats xs) → Has y xs) → Has y (cond b (without_repeats xs) (without_repeats xs ++ x ∷ [])) → Has y (x ∷ xs)
+once_by : (x y : List ℕ) (xs : List (List ℕ)) (b : Bool) → (Has y (without_repeats xs) → Has y xs)
+    → Has y (cond b (without_repeats xs) (without_repeats xs ++ x ∷ [])) → Has y (x ∷ xs)
 once_by x y xs true ih h = inr (ih h)
 once_by x y xs false ih h = elim (has-append y (without_repeats xs) (x ∷ []) h) [ inl a ↦ inr (ih a) | inr b ↦ elim b [ inl e ↦ inl e | inr e ↦ absurd e ] ]
 
@@ -213,7 +224,8 @@ pub has-once : (y : List ℕ) (xs : List (List ℕ)) → Has y (without_repeats 
 has-once y [] h = h
 has-once y (x ∷ xs) h = once_by x y xs (is_in_list x xs) (has-once y xs) h
 
-into_once_by : (x y : List ℕ) (xs : List (List ℕ)) (b : Bool) → is_in_list x xs ≡ b → (Has y xs → Has y (without_repeats xs)) → Has y (x ∷ xs) → Has y (cond b (without_repeats xs) (without_repeats xs ++ x ∷ []))
+into_once_by : (x y : List ℕ) (xs : List (List ℕ)) (b : Bool) → is_in_list x xs ≡ b → (Has y xs → Has y (without_repeats xs)) → Has y (x ∷ xs)
+    → Has y (cond b (without_repeats xs) (without_repeats xs ++ x ∷ []))
 into_once_by x y xs true e ih (inl k) = ih (subst (λ z. Has z xs) k (has-among x xs e))
 into_once_by x y xs true e ih (inr k) = ih k
 into_once_by x y xs false e ih (inl k) = append-has_right y (without_repeats xs) (x ∷ []) (inl k)
@@ -223,7 +235,8 @@ pub once-has : (y : List ℕ) (xs : List (List ℕ)) → Has y xs → Has y (wit
 once-has y [] h = h
 once-has y (x ∷ xs) h = into_once_by x y xs (is_in_list x xs) refl (once-has y xs) h
 
-differ_by : (x : List ℕ) (xs : List (List ℕ)) (b : Bool) → is_in_list x xs ≡ b → Differ (without_repeats xs) → Differ (cond b (without_repeats xs) (without_repeats xs ++ x ∷ []))
+differ_by : (x : List ℕ) (xs : List (List ℕ)) (b : Bool) → is_in_list x xs ≡ b → Differ (without_repeats xs)
+    → Differ (cond b (without_repeats xs) (without_repeats xs ++ x ∷ []))
 differ_by x xs true e d = d
 differ_by x xs false e d = Differ-append (without_repeats xs) x d (λ h. let k : is_in_list x xs ≡ true = among-has x xs (has-once x xs h) in cc)
 
@@ -232,7 +245,8 @@ Differ-once [] = tt
 Differ-once (x ∷ xs) = differ_by x xs (is_in_list x xs) refl (Differ-once xs)
 
 -- the place of a number among numbers
-number_by : (n k : ℕ) (ks : List ℕ) (b : Bool) (o : Option ℕ) (i : ℕ) → (k == n) ≡ b → ((j : ℕ) → o ≡ Some j → slice_get ks j ≡ Some n) → cond b (Some 0) (option_map suc o) ≡ Some i → slice_get (k ∷ ks) i ≡ Some n
+number_by : (n k : ℕ) (ks : List ℕ) (b : Bool) (o : Option ℕ) (i : ℕ) → (k == n) ≡ b → ((j : ℕ) → o ≡ Some j → slice_get ks j ≡ Some n)
+    → cond b (Some 0) (option_map suc o) ≡ Some i → slice_get (k ∷ ks) i ≡ Some n
 number_by n k ks true o zero e ih h = ap Some (eqb-true k n e)
 number_by n k ks true o (suc i) e ih h = absurd (first_is_not_later i h)
 number_by n k ks false None i e ih h = cc

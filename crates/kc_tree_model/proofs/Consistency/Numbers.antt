@@ -31,34 +31,51 @@ below_choices c s n k h =
 
 -- a selector and an implier is a symbol
 reverse_dependency_numbered : (p : GroupInContext) (aims : List TargetAttribute) (o : Option ℕ) (f : ReverseDependency)
-    → Has f (elim o as (λ _. List ReverseDependency) [ None ↦ [] | Some s ↦ map (λ (a : TargetAttribute). record { by = s; condition = attribute_condition p.enclosing p.group a.condition }) aims ]) → o ≡ Some f.by
+    → Has f (elim o as (λ _. List ReverseDependency) [
+      | None ↦ []
+      | Some s ↦ map
+          (λ (a : TargetAttribute). record { by = s; condition = attribute_condition p.enclosing p.group a.condition }) aims
+    ]) → o ≡ Some f.by
 reverse_dependency_numbered p aims None f h = absurd h
 reverse_dependency_numbered p aims (Some s) f h =
     let a = has_mapped (λ (a : TargetAttribute). record { by = s; condition = attribute_condition p.enclosing p.group a.condition }) aims f h in
     ap (λ (y : ReverseDependency). Some y.by) a.2
 
 reverse_dependencies_from : (g : Attribute → Option TargetAttribute) (c : Contents) (name : List ℕ) (p : GroupInContext) (o : Option (List ℕ)) (f : ReverseDependency)
-    → Has f (elim o as (λ _. List ReverseDependency) [ None ↦ [] | Some by ↦ reverse_dependencies_by c p (filter (λ (a : TargetAttribute). bytes_eq a.name name) (attribute_values g p.group)) by ]) → f.by < length (symbols_of c)
+    → Has f (elim o as (λ _. List ReverseDependency) [
+      | None ↦ []
+      | Some by ↦ reverse_dependencies_by c p
+          (filter (λ (a : TargetAttribute). bytes_eq a.name name) (attribute_values g p.group)) by
+    ]) → f.by < length (symbols_of c)
 reverse_dependencies_from g c name p None f h = absurd h
-reverse_dependencies_from g c name p (Some by) f h = below_symbols c by f.by (reverse_dependency_numbered p (filter (λ (a : TargetAttribute). bytes_eq a.name name) (attribute_values g p.group)) (index_of_name by c.names) f h)
+reverse_dependencies_from g c name p (Some by) f h =
+    below_symbols c by f.by (reverse_dependency_numbered p (filter (λ (a : TargetAttribute). bytes_eq a.name name) (attribute_values g p.group))
+    (index_of_name by c.names) f h)
 
-reverse_dependencies_below : (g : Attribute → Option TargetAttribute) (c : Contents) (name : List ℕ) → list_all (λ (f : ReverseDependency). nat_lt f.by (length (symbols_of c))) (flat_map (reverse_dependencies_of g c name) c.places) ≡ true
+reverse_dependencies_below : (g : Attribute → Option TargetAttribute) (c : Contents) (name : List ℕ)
+    → list_all (λ (f : ReverseDependency). nat_lt f.by (length (symbols_of c))) (flat_map (reverse_dependencies_of g c name) c.places) ≡ true
 reverse_dependencies_below g c name =
     all_pass (λ (f : ReverseDependency). nat_lt f.by (length (symbols_of c))) (flat_map (reverse_dependencies_of g c name) c.places)
-    (λ f h. let r = has_flat_map (reverse_dependencies_of g c name) c.places f h in lt-ltb f.by (length (symbols_of c)) (reverse_dependencies_from g c name r.0 (defined_name r.0.group) f r.2))
+    (λ f h. let r = has_flat_map (reverse_dependencies_of g c name) c.places f h in lt-ltb f.by (length (symbols_of c))
+    (reverse_dependencies_from g c name r.0 (defined_name r.0.group) f r.2))
 
-pub selectors_there : (c : Contents) → IsSound c → (i : ℕ) (symbol : Symbol) → slice_get (symbols_of c) i ≡ Some symbol → list_all (λ (f : ReverseDependency). nat_lt f.by (length (symbols_of c))) symbol.selectors ≡ true
+pub selectors_there : (c : Contents) → IsSound c → (i : ℕ) (symbol : Symbol) → slice_get (symbols_of c) i ≡ Some symbol
+    → list_all (λ (f : ReverseDependency). nat_lt f.by (length (symbols_of c))) symbol.selectors ≡ true
 selectors_there c s i symbol h =
     let r = symbol_at c i symbol h in
-    subst (λ (y : Symbol). list_all (λ (f : ReverseDependency). nat_lt f.by (length (symbols_of c))) y.selectors ≡ true) r.2 (reverse_dependencies_below select_of c r.0)
+    subst (λ (y : Symbol). list_all (λ (f : ReverseDependency). nat_lt f.by (length (symbols_of c))) y.selectors ≡ true) r.2
+    (reverse_dependencies_below select_of c r.0)
 
-pub impliers_there : (c : Contents) → IsSound c → (i : ℕ) (symbol : Symbol) → slice_get (symbols_of c) i ≡ Some symbol → list_all (λ (f : ReverseDependency). nat_lt f.by (length (symbols_of c))) symbol.impliers ≡ true
+pub impliers_there : (c : Contents) → IsSound c → (i : ℕ) (symbol : Symbol) → slice_get (symbols_of c) i ≡ Some symbol
+    → list_all (λ (f : ReverseDependency). nat_lt f.by (length (symbols_of c))) symbol.impliers ≡ true
 impliers_there c s i symbol h =
     let r = symbol_at c i symbol h in
-    subst (λ (y : Symbol). list_all (λ (f : ReverseDependency). nat_lt f.by (length (symbols_of c))) y.impliers ≡ true) r.2 (reverse_dependencies_below imply_of c r.0)
+    subst (λ (y : Symbol). list_all (λ (f : ReverseDependency). nat_lt f.by (length (symbols_of c))) y.impliers ≡ true) r.2
+    (reverse_dependencies_below imply_of c r.0)
 
 -- a choice is a unit
-pub units_of_choices : (c : Contents) → IsSound c → (k : ℕ) (x : Choice) → slice_get (choices_of c) k ≡ Some x → (u : ℕ) × (slice_get (units_of c) u ≡ Some (of_choice k))
+pub units_of_choices : (c : Contents) → IsSound c → (k : ℕ) (x : Choice) → slice_get (choices_of c) k ≡ Some x
+    → (u : ℕ) × (slice_get (units_of c) u ≡ Some (of_choice k))
 units_of_choices c s k x h =
     let p = choice_at c k x h in
     let there = choice_place c k p.0 p.1 in
@@ -76,46 +93,58 @@ choice_of_entry e = None
 no_number : (test : Entry → Option ℕ) (d e : Entry) (n : ℕ) → test d ≡ None → test e ≡ Some n → Some d ≡ Some e → ⊥
 no_number test d e n none told k = let same : d ≡ e = cc in let both : None ≡ Some n = sym none ∙ ap test same ∙ told in cc
 
-no_numbers : (test : Entry → Option ℕ) (f : ℕ → Entry) → ((m : ℕ) → test (f m) ≡ None) → (e : Entry) (n : ℕ) → test e ≡ Some n → (o : Option ℕ) → option_map f o ≡ Some e → ⊥
+no_numbers : (test : Entry → Option ℕ) (f : ℕ → Entry) → ((m : ℕ) → test (f m) ≡ None) → (e : Entry) (n : ℕ) → test e ≡ Some n → (o : Option ℕ)
+    → option_map f o ≡ Some e → ⊥
 no_numbers test f none e n told None k = cc
 no_numbers test f none e n told (Some m) k = no_number test (f m) e n (none m) told k
 
-no_menu : (test : Entry → Option ℕ) (f : List ℕ → Expr → Expr → Entry) → ((t : List ℕ) (d v : Expr) → test (f t d v) ≡ None) → (dependency visible : Expr) (e : Entry) (n : ℕ) → test e ≡ Some n
+no_menu : (test : Entry → Option ℕ) (f : List ℕ → Expr → Expr → Entry) → ((t : List ℕ) (d v : Expr) → test (f t d v) ≡ None)
+    → (dependency visible : Expr) (e : Entry) (n : ℕ) → test e ≡ Some n
     → (o : Option (List ℕ)) → option_map (λ t. f t dependency visible) o ≡ Some e → ⊥
 no_menu test f none d v e n told None k = cc
 no_menu test f none d v e n told (Some t) k = no_number test (f t d v) e n (none t d v) told k
 
-no_end : (test : Entry → Option ℕ) → ((t : List ℕ) (d v : Expr) → test (menu_ends t d v) ≡ None) → (opened : List Group) (e : Entry) (n : ℕ) → test e ≡ Some n → menu_end_of opened ≡ Some e → ⊥
+no_end : (test : Entry → Option ℕ) → ((t : List ℕ) (d v : Expr) → test (menu_ends t d v) ≡ None) → (opened : List Group) (e : Entry) (n : ℕ) → test e ≡ Some n
+    → menu_end_of opened ≡ Some e → ⊥
 no_end test none [] e n told k = cc
 no_end test none (g ∷ outer) e n told k = no_menu test menu_ends none _ _ e n told (from_head title_of_head g.head) k
 
-numbered : (test : Entry → Option ℕ) (f : ℕ → Entry) → ((m : ℕ) → test (f m) ≡ Some m) → (e : Entry) (n : ℕ) → test e ≡ Some n → (o : Option ℕ) → option_map f o ≡ Some e → o ≡ Some n
+numbered : (test : Entry → Option ℕ) (f : ℕ → Entry) → ((m : ℕ) → test (f m) ≡ Some m) → (e : Entry) (n : ℕ) → test e ≡ Some n → (o : Option ℕ)
+    → option_map f o ≡ Some e → o ≡ Some n
 numbered test f some e n told None k = cc
 numbered test f some e n told (Some m) k = let same : f m ≡ e = cc in sym (some m) ∙ ap test same ∙ told
 
-symbol_entry : (c : Contents) (p : GroupInContext) (w : GroupHead) (e : Entry) (n : ℕ) → symbol_of_entry e ≡ Some n → from_head (entry_of_head c p) w ≡ Some e → n < length (symbols_of c)
-symbol_entry c p (of_head (config name)) e n told k = below_symbols c name n (numbered symbol_of_entry definition (λ m. refl) e n told (index_of_name name c.names) k)
+symbol_entry : (c : Contents) (p : GroupInContext) (w : GroupHead) (e : Entry) (n : ℕ) → symbol_of_entry e ≡ Some n → from_head (entry_of_head c p) w ≡ Some e
+    → n < length (symbols_of c)
+symbol_entry c p (of_head (config name)) e n told k =
+    below_symbols c name n (numbered symbol_of_entry definition (λ m. refl) e n told (index_of_name name c.names) k)
 symbol_entry c p (of_head choice) e n told k = absurd (no_numbers symbol_of_entry choice_begins (λ m. refl) e n told _ k)
-symbol_entry c p (of_head (menu x)) e n told k = absurd (no_menu symbol_of_entry menu_begins (λ t d v. refl) _ _ e n told (from_head title_of_head p.group.head) k)
+symbol_entry c p (of_head (menu x)) e n told k =
+    absurd (no_menu symbol_of_entry menu_begins (λ t d v. refl) _ _ e n told (from_head title_of_head p.group.head) k)
 symbol_entry c p (of_head (comment x)) e n told k = absurd (no_number symbol_of_entry _ e n refl told k)
 symbol_entry c p (of_head (ends blocks.Menu)) e n told k = absurd (no_end symbol_of_entry (λ t d v. refl) p.opened e n told k)
 symbol_entry c p w e n told k = cc
 
-choice_entry : (c : Contents) → IsSound c → (p : GroupInContext) (w : GroupHead) (e : Entry) (n : ℕ) → choice_of_entry e ≡ Some n → from_head (entry_of_head c p) w ≡ Some e → n < length (choices_of c)
+choice_entry : (c : Contents) → IsSound c → (p : GroupInContext) (w : GroupHead) (e : Entry) (n : ℕ) → choice_of_entry e ≡ Some n
+    → from_head (entry_of_head c p) w ≡ Some e → n < length (choices_of c)
 choice_entry c s p (of_head (config name)) e n told k = absurd (no_numbers choice_of_entry definition (λ m. refl) e n told _ k)
-choice_entry c s p (of_head choice) e n told k = below_choices c s p.group.number n (numbered choice_of_entry choice_begins (λ m. refl) e n told (choice_number c p.group.number) k)
-choice_entry c s p (of_head (menu x)) e n told k = absurd (no_menu choice_of_entry menu_begins (λ t d v. refl) _ _ e n told (from_head title_of_head p.group.head) k)
+choice_entry c s p (of_head choice) e n told k =
+    below_choices c s p.group.number n (numbered choice_of_entry choice_begins (λ m. refl) e n told (choice_number c p.group.number) k)
+choice_entry c s p (of_head (menu x)) e n told k =
+    absurd (no_menu choice_of_entry menu_begins (λ t d v. refl) _ _ e n told (from_head title_of_head p.group.head) k)
 choice_entry c s p (of_head (comment x)) e n told k = absurd (no_number choice_of_entry _ e n refl told k)
 choice_entry c s p (of_head (ends blocks.Menu)) e n told k = absurd (no_end choice_of_entry (λ t d v. refl) p.opened e n told k)
 choice_entry c s p w e n told k = cc
 
 -- what the entries name is there
-pub entry_symbols : (c : Contents) → IsSound c → (k n : ℕ) → slice_get (filter_map (λ (p : GroupInContext). from_head (entry_of_head c p) p.group.head) c.places) k ≡ Some (definition n) → n < length (symbols_of c)
+pub entry_symbols : (c : Contents) → IsSound c → (k n : ℕ)
+    → slice_get (filter_map (λ (p : GroupInContext). from_head (entry_of_head c p) p.group.head) c.places) k ≡ Some (definition n) → n < length (symbols_of c)
 entry_symbols c s k n at =
     let r = has-filter_map (λ (p : GroupInContext). from_head (entry_of_head c p) p.group.head) c.places (definition n) (has-at (definition n) _ k at) in
     symbol_entry c r.0 r.0.group.head (definition n) n refl r.2
 
-pub entry_choices : (c : Contents) → IsSound c → (k n : ℕ) → slice_get (filter_map (λ (p : GroupInContext). from_head (entry_of_head c p) p.group.head) c.places) k ≡ Some (choice_begins n) → n < length (choices_of c)
+pub entry_choices : (c : Contents) → IsSound c → (k n : ℕ)
+    → slice_get (filter_map (λ (p : GroupInContext). from_head (entry_of_head c p) p.group.head) c.places) k ≡ Some (choice_begins n) → n < length (choices_of c)
 entry_choices c s k n at =
     let r = has-filter_map (λ (p : GroupInContext). from_head (entry_of_head c p) p.group.head) c.places (choice_begins n) (has-at (choice_begins n) _ k at) in
     choice_entry c s r.0 r.0.group.head (choice_begins n) n refl r.2

@@ -4,6 +4,7 @@ use Rattle.kc_value.specs.Quoted.{unescaped}
 use Rattle.kc_expr.specs.Token.{Lexeme, lexemes_from}
 use Rattle.kc_expr.specs.Grammar.{between_quotes, quoted_text}
 use Rattle.kc_expr.proofs.TokenTexts.{AllTexts, texts_of_line}
+use Rattle.kc_expr.specs.declared.language.Language.{Language}
 use Rattle.kc_tree_model.specs.TreeLookup.{has_newline}
 use Rattle.kc_tree_model.specs.LogicalLines.{PhysicalLine, LogicalLine, with_first_byte, split_at_newlines, without_last, without_return, physical_lines, is_continued, joined_bytes, continuation_count, logical_lines_from, lines_of}
 
@@ -38,10 +39,12 @@ one_if false xs ys h k = k
 one_unescaped : (escaped : Bool) (xs : List ℕ) → has_newline xs ≡ false → has_newline (unescaped escaped xs) ≡ false
 one_unescaped true [] h = refl
 one_unescaped false [] h = refl
-one_unescaped true (x ∷ xs) h = let r = neither (x == 10) (has_newline xs) h in none_of (x == 10) (has_newline (unescaped false xs)) r.0 (one_unescaped false xs r.1)
+one_unescaped true (x ∷ xs) h =
+    let r = neither (x == 10) (has_newline xs) h in none_of (x == 10) (has_newline (unescaped false xs)) r.0 (one_unescaped false xs r.1)
 one_unescaped false (x ∷ xs) h =
     let r = neither (x == 10) (has_newline xs) h in
-    one_if (x == 92) (unescaped true xs) (x ∷ unescaped false xs) (one_unescaped true xs r.1) (none_of (x == 10) (has_newline (unescaped false xs)) r.0 (one_unescaped false xs r.1))
+    one_if (x == 92) (unescaped true xs) (x ∷ unescaped false xs) (one_unescaped true xs r.1)
+    (none_of (x == 10) (has_newline (unescaped false xs)) r.0 (one_unescaped false xs r.1))
 
 -- physical lines have no newline
 AreOne : List PhysicalLine → Type 0
@@ -53,7 +56,8 @@ unfolding AreOne
 one_before b [] e h = (none_of (b == 10) false e refl, tt)
 one_before b (l ∷ ls) e h = (none_of (b == 10) (has_newline l.text) e h.0, h.1)
 
-one_cut_by : (b : ℕ) (ls : List PhysicalLine) (t : Bool) → (b == 10) ≡ t → AreOne ls → AreOne (cond t (record { text = []; ended = true } ∷ ls) (with_first_byte b ls))
+one_cut_by : (b : ℕ) (ls : List PhysicalLine) (t : Bool) → (b == 10) ≡ t → AreOne ls
+    → AreOne (cond t (record { text = []; ended = true } ∷ ls) (with_first_byte b ls))
 unfolding AreOne
 one_cut_by b ls true e h = (refl, h)
 one_cut_by b ls false e h = one_before b ls e h
@@ -63,7 +67,8 @@ unfolding AreOne
 one_cut [] = tt
 one_cut (b ∷ bs) = one_cut_by b (split_at_newlines bs) (b == 10) refl (one_cut bs)
 
-one_returned : (l : PhysicalLine) (b : Bool) → has_newline l.text ≡ false → has_newline ((cond b (record { text = without_last l.text; ended = true }) l).text) ≡ false
+one_returned : (l : PhysicalLine) (b : Bool) → has_newline l.text ≡ false
+    → has_newline ((cond b (record { text = without_last l.text; ended = true }) l).text) ≡ false
 one_returned l true h = one_take _ l.text h
 one_returned l false h = h
 
@@ -75,7 +80,9 @@ one_physical (l ∷ ls) h = (one_returned l _ h.0, one_physical ls h.1)
 one_joined : (ls : List PhysicalLine) → AreOne ls → has_newline (joined_bytes ls) ≡ false
 unfolding AreOne
 one_joined [] h = refl
-one_joined (l ∷ ls) h = one_if (is_continued l) (without_last l.text ++ joined_bytes ls) l.text (one_append (without_last l.text) (joined_bytes ls) (one_take _ l.text h.0) (one_joined ls h.1)) h.0
+one_joined (l ∷ ls) h =
+    one_if (is_continued l) (without_last l.text ++ joined_bytes ls) l.text
+    (one_append (without_last l.text) (joined_bytes ls) (one_take _ l.text h.0) (one_joined ls h.1)) h.0
 
 -- nor have logical lines
 abbrev pub AreOneLine : List LogicalLine → Type 0
@@ -100,9 +107,10 @@ OneText text = has_newline text ≡ false
 abbrev ArePieces : List Lexeme → Type 0
 ArePieces ts = AllTexts OneText ts
 
-pub one_lexed : (bytes : List ℕ) (ts : List Lexeme) → has_newline bytes ≡ false → lexemes_from 0 0 bytes ≡ Ok ts → ArePieces ts
-one_lexed bytes ts one h = texts_of_line OneText one_take (λ x xs k. (neither (x == 10) (has_newline xs) k).1) 0 0 bytes ts one h
+pub one_lexed : (language : Language) (bytes : List ℕ) (ts : List Lexeme) → has_newline bytes ≡ false → lexemes_from language 0 0 bytes ≡ Ok ts → ArePieces ts
+one_lexed language bytes ts one h = texts_of_line language OneText one_take (λ x xs k. (neither (x == 10) (has_newline xs) k).1) 0 0 bytes ts one h
 
 -- nor has the text that a quoted token represents
 pub one_quoted : (text : List ℕ) → has_newline text ≡ false → has_newline (quoted_text text) ≡ false
-one_quoted text h = one_unescaped false (between_quotes text) (one_if _ (take (length text - 2) (drop 1 text)) text (one_take _ (drop 1 text) (one_drop 1 text h)) h)
+one_quoted text h =
+    one_unescaped false (between_quotes text) (one_if _ (take (length text - 2) (drop 1 text)) text (one_take _ (drop 1 text) (one_drop 1 text h)) h)

@@ -18,8 +18,13 @@ use Rattle.kc_tree_model.proofs.NestedTrees.LineFits.{IsValueOf}
 taken_same : (y z : ParsedExpr) (r : Result ParsedExpr TreeKind) → r ≡ Ok y → r ≡ Ok z → y ≡ z
 taken_same y z r h k = cc
 
-taken_by : (ts : List Lexeme) (r : Result Expr (ExprKind × List Lexeme)) (x : ParsedExpr) → read_expr (extent ts) ≡ r → elim r as (λ _. Result ParsedExpr TreeKind) [ Ok e ↦ Ok (record { expr = e; single = length (extent ts) == 1; rest = drop (length (extent ts)) ts }) | Err f ↦ Err (kind_of_fault f.0) ] ≡ Ok x → read_expr (extent ts) ≡ Ok x.expr
-taken_by ts (Ok e) x h k = let same : record { expr = e; single = length (extent ts) == 1; rest = drop (length (extent ts)) ts } ≡ x = taken_same (record { expr = e; single = length (extent ts) == 1; rest = drop (length (extent ts)) ts }) x (Ok (record { expr = e; single = length (extent ts) == 1; rest = drop (length (extent ts)) ts })) refl k in h ∙ ap (λ (y : ParsedExpr). Ok y.expr) same
+taken_by : (ts : List Lexeme) (r : Result Expr (ExprKind × List Lexeme)) (x : ParsedExpr) → read_expr (extent ts) ≡ r
+    → elim r as (λ _. Result ParsedExpr TreeKind) [ Ok e ↦ Ok (record { expr = e; single = length (extent ts) == 1; rest = drop (length (extent ts)) ts }) | Err f ↦ Err (kind_of_fault f.0) ] ≡ Ok x
+    → read_expr (extent ts) ≡ Ok x.expr
+taken_by ts (Ok e) x h k =
+    let same : record { expr = e; single = length (extent ts) == 1; rest = drop (length (extent ts)) ts } ≡ x = taken_same
+    (record { expr = e; single = length (extent ts) == 1; rest = drop (length (extent ts)) ts }) x
+    (Ok (record { expr = e; single = length (extent ts) == 1; rest = drop (length (extent ts)) ts })) refl k in h ∙ ap (λ (y : ParsedExpr). Ok y.expr) same
 taken_by ts (Err f) x h k = cc
 
 lexemes_front : (P : List ℕ → Type 0) (ts us : List Lexeme) → AllTexts P (ts ++ us) → AllTexts P ts
@@ -33,7 +38,8 @@ extent_by P false t us h k = (h, k)
 of_extent : (P : List ℕ → Type 0) (ts : List Lexeme) → AllTexts P ts → AllTexts P (extent ts)
 of_extent P [] a = tt
 of_extent P (t ∷ []) a = a
-of_extent P (t ∷ u ∷ ts) a = extent_by P ((is_operand_kind t.kind || is_close t.kind) && is_operand_kind u.kind) t (extent (u ∷ ts)) a.0 (of_extent P (u ∷ ts) a.1)
+of_extent P (t ∷ u ∷ ts) a =
+    extent_by P ((is_operand_kind t.kind || is_close t.kind) && is_operand_kind u.kind) t (extent (u ∷ ts)) a.0 (of_extent P (u ∷ ts) a.1)
 
 module _ (P : List ℕ → Type 0) (nothing : P []) (unquoted : (text : List ℕ) → P text → P (quoted_text text)) where
   of_named : (o : Option Tri) (text : List ℕ) → P text → P (own_text (alone (constant_else o (named text))))
@@ -45,8 +51,11 @@ module _ (P : List ℕ → Type 0) (nothing : P []) (unquoted : (text : List ℕ
   of_quoted (Some t) text h = nothing
 
   of_operand : (k : TokenKind) (text : List ℕ) (a : Operand) → P text → operand_of_kind k text ≡ Some a → P (own_text (alone a))
-  of_operand Word text a h e = let same : constant_else (letter_value text) (named text) ≡ a = cc in subst (λ x. P (own_text (alone x))) same (of_named (letter_value text) text h)
-  of_operand Quoted text a h e = let same : constant_else (letter_value (quoted_text text)) (quoted (quoted_text text)) ≡ a = cc in subst (λ x. P (own_text (alone x))) same (of_quoted (letter_value (quoted_text text)) (quoted_text text) (unquoted text h))
+  of_operand Word text a h e =
+      let same : constant_else (letter_value text) (named text) ≡ a = cc in subst (λ x. P (own_text (alone x))) same (of_named (letter_value text) text h)
+  of_operand Quoted text a h e =
+      let same : constant_else (letter_value (quoted_text text)) (quoted (quoted_text text)) ≡ a = cc in subst (λ x. P (own_text (alone x))) same
+      (of_quoted (letter_value (quoted_text text)) (quoted_text text) (unquoted text h))
   of_operand (Relation op) text a h e = cc
   of_operand Not text a h e = cc
   of_operand And text a h e = cc
@@ -64,7 +73,8 @@ module _ (P : List ℕ → Type 0) (nothing : P []) (unquoted : (text : List ℕ
   of_expr (negation t k h q) a = nothing
   of_expr (parentheses {ts = ts} o c k h m q) a = of_expr h (lexemes_front P ts (c ∷ []) (subst (AllTexts P) q a).1)
 
-  pub own_text_of_value : (tokens : Result (List Lexeme) ExprFault) (value : Expr) → ((ts : List Lexeme) → tokens ≡ Ok ts → AllTexts P ts) → IsValueOf tokens value → P (own_text value)
+  pub own_text_of_value : (tokens : Result (List Lexeme) ExprFault) (value : Expr) → ((ts : List Lexeme) → tokens ≡ Ok ts → AllTexts P ts)
+      → IsValueOf tokens value → P (own_text value)
   own_text_of_value tokens value all v =
       let pieces : AllTexts P v.rest = (all (v.first ∷ v.rest) v.stand).1 in
       let reads : read_expr (extent v.rest) ≡ Ok v.taken.expr = taken_by v.rest (read_expr (extent v.rest)) v.taken refl v.read_as in

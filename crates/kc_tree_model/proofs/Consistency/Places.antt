@@ -3,6 +3,7 @@ use Rattle.std.proofs.Common.{◌≡◌, inl, inr, ◌⊎◌, ℕ, zero, suc, �
 use Rattle.std.specs.Prelude.{nat_lt}
 use Rattle.std.specs.List.{list_all}
 use Rattle.kc_expr.specs.Token.{Lexeme}
+use Rattle.kc_expr.specs.declared.language.Language.{Language}
 use Rattle.kc_tree_model.specs.TreeLookup.{is_name_byte, own_text, has_newline}
 use Rattle.kc_tree_model.specs.TreeFiles.{Files}
 use Rattle.kc_tree_model.specs.LogicalLines.{LogicalLine}
@@ -49,36 +50,39 @@ word_of_name t h =
     let c = both_true _ _ b.1 in
     (below 0 (length t.text) c.0, c.1)
 
-word_given : (read : List Group) (l : LogicalLine) (h : Head) → statement_on_line read l ≡ Ok (Some (head h)) → NamesWord (of_head h)
-word_given read l (config name) e = let r = line_names read l name e in subst IsWord r.1 (word_of_name r.0 r.2)
-word_given read l choice e = tt
-word_given read l (menu title) e = tt
-word_given read l (condition c) e = tt
-word_given read l (comment title) e = tt
-word_given read l (source path) e = tt
-word_given read l mainmenu e = tt
-word_given read l (ends b) e = tt
+word_given : (language : Language) (read : List Group) (l : LogicalLine) (h : Head) → statement_on_line language read l ≡ Ok (Some (head h)) → NamesWord (of_head h)
+word_given language read l (config name) e = let r = line_names language read l name e in subst IsWord r.1 (word_of_name r.0 r.2)
+word_given language read l choice e = tt
+word_given language read l (menu title) e = tt
+word_given language read l (condition c) e = tt
+word_given language read l (comment title) e = tt
+word_given language read l (source path) e = tt
+word_given language read l mainmenu e = tt
+word_given language read l (ends b) e = tt
 
-values_given : (read : List Group) (l : LogicalLine) (a : Attribute) → has_newline l.text ≡ false → statement_on_line read l ≡ Ok (Some (attribute a)) → (d : DefaultAttribute) → default_of a ≡ Some d → IsPlainText (own_text d.value)
-values_given read l a one e d m = value_is_plain l.text d.value (one, line_utf8 read l (Some (attribute a)) e) (line_values read l a d m e)
+values_given : (language : Language) (read : List Group) (l : LogicalLine) (a : Attribute) → has_newline l.text ≡ false → statement_on_line language read l ≡ Ok (Some (attribute a)) → (d : DefaultAttribute) → default_of a ≡ Some d → IsPlainText (own_text d.value)
+values_given language read l a one e d m = value_is_plain language l.text d.value (one, line_utf8 language read l (Some (attribute a)) e) (line_values language read l a d m e)
 
-AreValues-append : (ls : List Line) (l : Line) → AreValues ls → ((d : DefaultAttribute) → default_of l.attribute ≡ Some d → IsPlainText (own_text d.value)) → AreValues (ls ++ l ∷ [])
+AreValues-append : (ls : List Line) (l : Line) → AreValues ls → ((d : DefaultAttribute) → default_of l.attribute ≡ Some d → IsPlainText (own_text d.value))
+    → AreValues (ls ++ l ∷ [])
 AreValues-append [] l h k = (k, tt)
 AreValues-append (x ∷ xs) l h k = (h.0, AreValues-append xs l h.1 k)
 
-attribute_read : (read : List Group) (line : ℕ) (a : Attribute) → ((d : DefaultAttribute) → default_of a ≡ Some d → IsPlainText (own_text d.value)) → IsRead read → IsRead (with_attribute line a read)
+attribute_read : (read : List Group) (line : ℕ) (a : Attribute) → ((d : DefaultAttribute) → default_of a ≡ Some d → IsPlainText (own_text d.value)) → IsRead read
+    → IsRead (with_attribute line a read)
 attribute_read [] line a v h = tt
 attribute_read (g ∷ before) line a v h = (h.0, h.1, AreValues-append g.attributes (record { number = line; attribute = a }) h.2 v, h.3)
 
-pub value_of_group : (ls : List Line) (l : Line) (d : DefaultAttribute) → AreValues ls → Has l ls → default_of l.attribute ≡ Some d → IsPlainText (own_text d.value)
+pub value_of_group : (ls : List Line) (l : Line) (d : DefaultAttribute) → AreValues ls → Has l ls → default_of l.attribute ≡ Some d
+    → IsPlainText (own_text d.value)
 value_of_group [] l d v h e = absurd h
 value_of_group (x ∷ xs) l d v (inl k) e = v.0 d (ap (λ (y : Line). default_of y.attribute) k ∙ e)
 value_of_group (x ∷ xs) l d v (inr k) e = value_of_group xs l d v.1 k e
 
-line_read : (read : List Group) (at : Position) (l : LogicalLine) (s : Option Statement) → IsRead read → has_newline l.text ≡ false → statement_on_line read l ≡ Ok s → IsRead (with_statement at s read)
-line_read read at l None h one e = h
-line_read read at l (Some (head x)) h one e = (refl, word_given read l x e, tt, h)
-line_read read at l (Some (attribute a)) h one e = attribute_read read at.line a (values_given read l a one e) h
+line_read : (language : Language) (read : List Group) (at : Position) (l : LogicalLine) (s : Option Statement) → IsRead read → has_newline l.text ≡ false → statement_on_line language read l ≡ Ok s → IsRead (with_statement at s read)
+line_read language read at l None h one e = h
+line_read language read at l (Some (head x)) h one e = (refl, word_given language read l x e, tt, h)
+line_read language read at l (Some (attribute a)) h one e = attribute_read read at.line a (values_given language read l a one e) h
 
 pub is_read : (files : Files) (root : List ℕ) → IsRead (reading files root).read
 is_read files root = reading_keeps IsRead (record { by_line = line_read; by_end = λ read at h. (refl, tt, tt, h) }) tt files root
@@ -86,12 +90,20 @@ is_read files root = reading_keeps IsRead (record { by_line = line_read; by_end 
 -- a place has its group, and a group its place
 pub group-placed : (p : GroupInContext) (read : List Group) → Has p (groups_in_context read) → Has p.group read
 group-placed p [] h = absurd h
-group-placed p (g ∷ before) h = elim (has-append p (groups_in_context before) (group_in_context (open_blocks 0 before) g ∷ []) h) [ inl a ↦ inr (group-placed p before a) | inr b ↦ elim b [ inl e ↦ inl (ap (λ (x : GroupInContext). x.group) e) | inr e ↦ absurd e ] ]
+group-placed p (g ∷ before) h =
+    elim (has-append p (groups_in_context before) (group_in_context (open_blocks 0 before) g ∷ []) h)
+    [ inl a ↦ inr (group-placed p before a) | inr b ↦ elim b [ inl e ↦ inl (ap (λ (x : GroupInContext). x.group) e) | inr e ↦ absurd e ] ]
 
 pub placed-group : (g : Group) (read : List Group) → Has g read → (p : GroupInContext) × Has p (groups_in_context read) × (p.group ≡ g)
 placed-group g [] h = absurd h
-placed-group g (x ∷ before) (inl e) = (group_in_context (open_blocks 0 before) x, append-has_right (group_in_context (open_blocks 0 before) x) (groups_in_context before) (group_in_context (open_blocks 0 before) x ∷ []) (inl refl), e)
-placed-group g (x ∷ before) (inr h) = let r = placed-group g before h in (r.0, append-has_left r.0 (groups_in_context before) (group_in_context (open_blocks 0 before) x ∷ []) r.1, r.2)
+placed-group g (x ∷ before) (inl e) = (
+  group_in_context (open_blocks 0 before) x,
+  append-has_right (group_in_context (open_blocks 0 before) x) (groups_in_context before)
+      (group_in_context (open_blocks 0 before) x ∷ []) (inl refl),
+  e,
+)
+placed-group g (x ∷ before) (inr h) =
+    let r = placed-group g before h in (r.0, append-has_left r.0 (groups_in_context before) (group_in_context (open_blocks 0 before) x ∷ []) r.1, r.2)
 
 -- words and numbers of groups
 pub word_of_group : (g : Group) (read : List Group) → IsRead read → Has g read → NamesWord g.head
@@ -114,16 +126,23 @@ abbrev pub NumbersDiffer : List GroupInContext → Type 0
 NumbersDiffer [] = Unit {0}
 NumbersDiffer (p ∷ ps) = ((q : GroupInContext) → Has q ps → p.group.number ≡ q.group.number → ⊥) × NumbersDiffer ps
 
-NumbersDiffer-append : (ps : List GroupInContext) (p : GroupInContext) → NumbersDiffer ps → ((q : GroupInContext) → Has q ps → q.group.number ≡ p.group.number → ⊥) → NumbersDiffer (ps ++ p ∷ [])
+NumbersDiffer-append : (ps : List GroupInContext) (p : GroupInContext) → NumbersDiffer ps
+    → ((q : GroupInContext) → Has q ps → q.group.number ≡ p.group.number → ⊥) → NumbersDiffer (ps ++ p ∷ [])
 NumbersDiffer-append [] p d n = ((λ q h e. h), tt)
 NumbersDiffer-append (x ∷ xs) p d n = (
-  (λ q h e. elim (has-append q xs (p ∷ []) h) [ inl a ↦ d.0 q a e | inr b ↦ elim b [ inl k ↦ n x (inl refl) (e ∙ sym (ap (λ (y : GroupInContext). y.group.number) k)) | inr k ↦ k ] ]),
+  (λ q h e. elim (has-append q xs (p ∷ []) h) [
+    | inl a ↦ d.0 q a e
+    | inr b ↦ elim b
+        [ inl k ↦ n x (inl refl) (e ∙ sym (ap (λ (y : GroupInContext). y.group.number) k)) | inr k ↦ k ]
+  ]),
   NumbersDiffer-append xs p d.1 (λ q h e. n q (inr h) e),
 )
 
 pub numbers_differ : (read : List Group) → IsRead read → NumbersDiffer (groups_in_context read)
 numbers_differ [] r = tt
-numbers_differ (g ∷ before) r = NumbersDiffer-append (groups_in_context before) (group_in_context (open_blocks 0 before) g) (numbers_differ before r.3) (λ q h e. let k : q.group.number < length before = number_below q.group before r.3 (group-placed q before h) in omega (arith, e, r.0))
+numbers_differ (g ∷ before) r =
+    NumbersDiffer-append (groups_in_context before) (group_in_context (open_blocks 0 before) g) (numbers_differ before r.3)
+    (λ q h e. let k : q.group.number < length before = number_below q.group before r.3 (group-placed q before h) in omega (arith, e, r.0))
 
 pub same_place : (ps : List GroupInContext) (p q : GroupInContext) → NumbersDiffer ps → Has p ps → Has q ps → p.group.number ≡ q.group.number → p ≡ q
 same_place [] p q d h k e = absurd h
@@ -133,7 +152,9 @@ same_place (x ∷ xs) p q d (inr a) (inl b) e = absurd (d.0 p a (ap (λ (y : Gro
 same_place (x ∷ xs) p q d (inr a) (inr b) e = same_place xs p q d.1 a b e
 
 -- the choice that encloses a place was read
-open_by : (s : Side) (g x : Group) (n : ℕ) (gs : List Group) → ((m : ℕ) → Has x (open_blocks m gs) → Has x gs) → Has x (elim s [ opening ↦ elim n [ zero ↦ g ∷ open_blocks 0 gs | suc m ↦ open_blocks m gs ] | closing ↦ open_blocks (suc n) gs | inside ↦ open_blocks n gs ]) → Has x (g ∷ gs)
+open_by : (s : Side) (g x : Group) (n : ℕ) (gs : List Group) → ((m : ℕ) → Has x (open_blocks m gs) → Has x gs)
+    → Has x (elim s [ opening ↦ elim n [ zero ↦ g ∷ open_blocks 0 gs | suc m ↦ open_blocks m gs ] | closing ↦ open_blocks (suc n) gs | inside ↦ open_blocks n gs ])
+    → Has x (g ∷ gs)
 open_by opening g x zero gs ih (inl e) = inl e
 open_by opening g x zero gs ih (inr h) = inr (ih 0 h)
 open_by opening g x (suc m) gs ih h = inr (ih m h)
@@ -144,7 +165,8 @@ pub has-open_blocks : (x : Group) (n : ℕ) (gs : List Group) → Has x (open_bl
 has-open_blocks x n [] h = h
 has-open_blocks x n (g ∷ gs) h = open_by (side_of g.head) g x n gs (λ m k. has-open_blocks x m gs k) h
 
-within_by : (w : GroupHead) (enclosing : Context) (g : Group) (n : ℕ) → g.head ≡ w → (inner_context_of_group_head w enclosing g).choice ≡ Some n → ((g.number ≡ n) × (opens_choice g ≡ true)) ⊎ (enclosing.choice ≡ Some n)
+within_by : (w : GroupHead) (enclosing : Context) (g : Group) (n : ℕ) → g.head ≡ w → (inner_context_of_group_head w enclosing g).choice ≡ Some n
+    → ((g.number ≡ n) × (opens_choice g ≡ true)) ⊎ (enclosing.choice ≡ Some n)
 within_by (of_head (config name)) enclosing g n e h = inr h
 within_by (of_head choice) enclosing g n e h = inl (cc, ap (λ w. is_some_block blocks.Choice (from_head block_of_head w)) e)
 within_by (of_head (menu title)) enclosing g n e h = inr h
@@ -157,17 +179,29 @@ within_by file_end enclosing g n e h = inr h
 
 choice-context : (gs : List Group) (n : ℕ) → (context gs).choice ≡ Some n → (x : Group) × Has x gs × (x.number ≡ n) × (opens_choice x ≡ true)
 choice-context [] n h = cc
-choice-context (g ∷ gs) n h = elim (within_by g.head (context gs) g n refl h) [ inl a ↦ (g, inl refl, a.0, a.1) | inr b ↦ let r = choice-context gs n b in (r.0, inr r.1, r.2, r.3) ]
+choice-context (g ∷ gs) n h =
+    elim (within_by g.head (context gs) g n refl h) [ inl a ↦ (g, inl refl, a.0, a.1) | inr b ↦ let r = choice-context gs n b in (r.0, inr r.1, r.2, r.3) ]
 
-pub choice_read : (p : GroupInContext) (read : List Group) (n : ℕ) → Has p (groups_in_context read) → p.enclosing.choice ≡ Some n → (q : GroupInContext) × Has q (groups_in_context read) × (q.group.number ≡ n) × (opens_choice q.group ≡ true)
+pub choice_read : (p : GroupInContext) (read : List Group) (n : ℕ) → Has p (groups_in_context read) → p.enclosing.choice ≡ Some n
+    → (q : GroupInContext) × Has q (groups_in_context read) × (q.group.number ≡ n) × (opens_choice q.group ≡ true)
 choice_read p [] n h e = absurd h
 choice_read p (g ∷ before) n h e = elim (has-append p (groups_in_context before) (group_in_context (open_blocks 0 before) g ∷ []) h) [
-  | inl a ↦ (let r = choice_read p before n a e in (r.0, append-has_left r.0 (groups_in_context before) (group_in_context (open_blocks 0 before) g ∷ []) r.1, r.2, r.3))
+  | inl a ↦ (let r = choice_read p before n a e in (
+    r.0,
+    append-has_left r.0 (groups_in_context before) (group_in_context (open_blocks 0 before) g ∷ []) r.1,
+    r.2,
+    r.3,
+  ))
   | inr b ↦ elim b [
     | inl k ↦ (
         let c = choice-context (open_blocks 0 before) n (ap (λ (y : GroupInContext). y.enclosing.choice) k ∙ e) in
-        let r = placed-group c.0 before (has-open_blocks c.0 0 before c.1) in
-        (r.0, append-has_left r.0 (groups_in_context before) (group_in_context (open_blocks 0 before) g ∷ []) r.1, ap (λ (y : Group). y.number) r.2 ∙ c.2, ap opens_choice r.2 ∙ c.3))
+        let r = placed-group c.0 before (has-open_blocks c.0 0 before c.1) in (
+          r.0,
+          append-has_left r.0 (groups_in_context before) (group_in_context (open_blocks 0 before) g ∷ []) r.1,
+          ap (λ (y : Group). y.number) r.2
+              ∙ c.2,
+          ap opens_choice r.2 ∙ c.3,
+        ))
     | inr k ↦ absurd k
   ]
 ]

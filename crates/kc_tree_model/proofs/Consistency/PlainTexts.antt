@@ -5,6 +5,7 @@ use Rattle.kc_expr.specs.Expr.{Expr}
 use Rattle.kc_expr.specs.Grammar.{quoted_text}
 use Rattle.kc_expr.specs.Token.{Lexeme, lexemes_from}
 use Rattle.kc_expr.proofs.TokenTexts.{AllTexts}
+use Rattle.kc_expr.specs.declared.language.Language.{Language}
 use Rattle.kc_tree_model.specs.TreeLookup.{own_text, has_newline}
 use Rattle.kc_tree_model.proofs.NestedTrees.LineFits.{IsValueOf}
 use Rattle.kc_tree_model.proofs.Consistency.OneLine.{one_lexed, one_quoted, OneText}
@@ -22,13 +23,13 @@ both_texts : (ts : List Lexeme) → AllTexts OneText ts → AllTexts IsUtf8 ts �
 both_texts [] one u = tt
 both_texts (t ∷ ts) one u = ((one.0, u.0), both_texts ts one.1 u.1)
 
-plain_tokens : (line : List ℕ) (ts : List Lexeme) → IsPlainText line → lexemes_from 0 0 line ≡ Ok ts → AllTexts IsPlainText ts
-plain_tokens line ts h e = both_texts ts (one_lexed line ts h.0 e) (utf8_tokens line ts h.1 e)
+plain_tokens : (language : Language) (line : List ℕ) (ts : List Lexeme) → IsPlainText line → lexemes_from language 0 0 line ≡ Ok ts → AllTexts IsPlainText ts
+plain_tokens language line ts h e = both_texts ts (one_lexed language line ts h.0 e) (utf8_tokens language line ts h.1 e)
 
 -- the own text of a value that is read of a line
-pub value_is_plain : (line : List ℕ) (value : Expr) → IsPlainText line → IsValueOf (lexemes_from 0 0 line) value → IsPlainText (own_text value)
-value_is_plain line value h v = own_text_of_value IsPlainText (refl, IsUtf8-nil) plain_quoted (lexemes_from 0 0 line) value (λ ts e. plain_tokens line ts h e) v
+pub value_is_plain : (language : Language) (line : List ℕ) (value : Expr) → IsPlainText line → IsValueOf (lexemes_from language 0 0 line) value → IsPlainText (own_text value)
+value_is_plain language line value h v = own_text_of_value IsPlainText (refl, IsUtf8-nil) plain_quoted (lexemes_from language 0 0 line) value (λ ts e. plain_tokens language line ts h e) v
 
 -- the text of a quoted token of a line
-pub title_is_plain : (line : List ℕ) (first t : Lexeme) (us : List Lexeme) → IsPlainText line → lexemes_from 0 0 line ≡ Ok (first ∷ t ∷ us) → IsPlainText (quoted_text t.text)
-title_is_plain line first t us h e = plain_quoted t.text (plain_tokens line (first ∷ t ∷ us) h e).1.0
+pub title_is_plain : (language : Language) (line : List ℕ) (first t : Lexeme) (us : List Lexeme) → IsPlainText line → lexemes_from language 0 0 line ≡ Ok (first ∷ t ∷ us) → IsPlainText (quoted_text t.text)
+title_is_plain language line first t us h e = plain_quoted t.text (plain_tokens language line (first ∷ t ∷ us) h e).1.0

@@ -3,6 +3,7 @@ use Rattle.std.proofs.Common.{◌≡◌, inl, inr, ℕ, zero, suc, Bool, true, f
 use Rattle.std.specs.Prelude.{slice_get, filter_map, option_map, option_and_then, is_none, ◌==◌}
 use Rattle.std.specs.List.{cons_option}
 use Rattle.std.proofs.lemmas.Bool.{eqb-true, eq-eqb}
+use Rattle.kc_expr.specs.declared.language.Language.{Language}
 use Rattle.kc_expr.specs.Lookup.{index_of_name}
 use Rattle.kc_tree_model.specs.Trees.{Symbol, Choice}
 use Rattle.kc_tree_model.specs.declared.ids.Unit.{Unit as TreeUnit}
@@ -17,7 +18,8 @@ use Rattle.kc_tree_model.proofs.Consistency.Places.{NumbersDiffer, same_place, w
 use Rattle.kc_tree_model.proofs.Consistency.Definitions.{IsSound, choice_places, choices_of, defined, defining, is_first, one_number, symbols_of, unit_at, units_of}
 
 -- the symbol at a place, and its name
-pub symbol_at : (c : Contents) (s : ℕ) (symbol : Symbol) → slice_get (symbols_of c) s ≡ Some symbol → (name : List ℕ) × (slice_get c.names s ≡ Some name) × (symbol_of c name ≡ symbol)
+pub symbol_at : (c : Contents) (s : ℕ) (symbol : Symbol) → slice_get (symbols_of c) s ≡ Some symbol
+    → (name : List ℕ) × (slice_get c.names s ≡ Some name) × (symbol_of c name ≡ symbol)
 unfolding symbols_of
 symbol_at c s symbol h = get-map (symbol_of c) c.names s symbol h
 
@@ -25,11 +27,13 @@ pub symbol_there : (c : Contents) (s : ℕ) (name : List ℕ) → slice_get c.na
 unfolding symbols_of
 symbol_there c s name h = map-get (symbol_of c) c.names s name h
 
-pub choice_of_name : (c : Contents) (name : List ℕ) (symbol : Symbol) (o : Option ℕ) → symbol_of c name ≡ symbol → symbol.choice ≡ o → choice_of_symbol c name ≡ o
+pub choice_of_name : (c : Contents) (name : List ℕ) (symbol : Symbol) (o : Option ℕ) → symbol_of c name ≡ symbol → symbol.choice ≡ o
+    → choice_of_symbol c name ≡ o
 choice_of_name c name symbol o e h = ap (λ (s : Symbol). s.choice) e ∙ h
 
 -- the choice at a place, and the place of its group
-pub choice_at : (c : Contents) (k : ℕ) (x : Choice) → slice_get (choices_of c) k ≡ Some x → (p : GroupInContext) × (slice_get (choice_places c) k ≡ Some p) × (choice_of c p ≡ x)
+pub choice_at : (c : Contents) (k : ℕ) (x : Choice) → slice_get (choices_of c) k ≡ Some x
+    → (p : GroupInContext) × (slice_get (choice_places c) k ≡ Some p) × (choice_of c p ≡ x)
 unfolding choices_of
 choice_at c k x h = get-map (choice_of c) (choice_places c) k x h
 
@@ -37,17 +41,24 @@ pub choice_there_at : (c : Contents) (k : ℕ) (p : GroupInContext) → slice_ge
 unfolding choices_of
 choice_there_at c k p h = map-get (choice_of c) (choice_places c) k p h
 
-pub number_at : (c : Contents) (s : IsSound c) (k n : ℕ) → slice_get c.choices k ≡ Some n → (p : GroupInContext) × (slice_get (choice_places c) k ≡ Some p) × (p.group.number ≡ n)
+pub number_at : (c : Contents) (s : IsSound c) (k n : ℕ) → slice_get c.choices k ≡ Some n
+    → (p : GroupInContext) × (slice_get (choice_places c) k ≡ Some p) × (p.group.number ≡ n)
 unfolding choice_places
-number_at c s k n h = get-map (λ (p : GroupInContext). p.group.number) (filter (λ (p : GroupInContext). opens_choice p.group) c.places) k n (ap (λ ks. slice_get ks k) (sym s.choices) ∙ h)
+number_at c s k n h =
+    get-map (λ (p : GroupInContext). p.group.number) (filter (λ (p : GroupInContext). opens_choice p.group) c.places) k n
+    (ap (λ ks. slice_get ks k) (sym s.choices) ∙ h)
 
-pub at_number : (c : Contents) (s : IsSound c) (k : ℕ) (p : GroupInContext) → slice_get (choice_places c) k ≡ Some p → slice_get c.choices k ≡ Some p.group.number
+pub at_number : (c : Contents) (s : IsSound c) (k : ℕ) (p : GroupInContext) → slice_get (choice_places c) k ≡ Some p
+    → slice_get c.choices k ≡ Some p.group.number
 unfolding choice_places
-at_number c s k p h = ap (λ ks. slice_get ks k) s.choices ∙ map-get (λ (p : GroupInContext). p.group.number) (filter (λ (p : GroupInContext). opens_choice p.group) c.places) k p h
+at_number c s k p h =
+    ap (λ ks. slice_get ks k) s.choices ∙ map-get (λ (p : GroupInContext). p.group.number) (filter (λ (p : GroupInContext). opens_choice p.group) c.places) k p
+    h
 
 pub choice_place : (c : Contents) (k : ℕ) (p : GroupInContext) → slice_get (choice_places c) k ≡ Some p → Has p c.places × (opens_choice p.group ≡ true)
 unfolding choice_places
-choice_place c k p h = has-filter (λ (p : GroupInContext). opens_choice p.group) c.places p (has-at p (filter (λ (p : GroupInContext). opens_choice p.group) c.places) k h)
+choice_place c k p h =
+    has-filter (λ (p : GroupInContext). opens_choice p.group) c.places p (has-at p (filter (λ (p : GroupInContext). opens_choice p.group) c.places) k h)
 
 pub has_mapped : {A B : Type 0} (f : A → B) (xs : List A) (y : B) → Has y (map f xs) → (x : A) × Has x xs × (f x ≡ y)
 has_mapped f [] y h = absurd h
@@ -60,11 +71,15 @@ mapped_has f (y ∷ ys) x (inl e) = inl (ap f e)
 mapped_has f (y ∷ ys) x (inr h) = inr (mapped_has f ys x h)
 
 -- no two choices have one number
-pub differ_by_number : (test : GroupInContext → Bool) (p : GroupInContext) (ps : List GroupInContext) (b : Bool) → ((q : GroupInContext) → Has q ps → p.group.number ≡ q.group.number → ⊥) → Differ (map (λ (p : GroupInContext). p.group.number) (filter test ps)) → Differ (map (λ (p : GroupInContext). p.group.number) (cond b (p ∷ filter test ps) (filter test ps)))
-differ_by_number test p ps true n d = ((λ h. let r = has_mapped (λ (p : GroupInContext). p.group.number) (filter test ps) p.group.number h in n r.0 (has-filter test ps r.0 r.1).0 (sym r.2)), d)
+pub differ_by_number : (test : GroupInContext → Bool) (p : GroupInContext) (ps : List GroupInContext) (b : Bool)
+    → ((q : GroupInContext) → Has q ps → p.group.number ≡ q.group.number → ⊥) → Differ (map (λ (p : GroupInContext). p.group.number) (filter test ps))
+    → Differ (map (λ (p : GroupInContext). p.group.number) (cond b (p ∷ filter test ps) (filter test ps)))
+differ_by_number test p ps true n d =
+    ((λ h. let r = has_mapped (λ (p : GroupInContext). p.group.number) (filter test ps) p.group.number h in n r.0 (has-filter test ps r.0 r.1).0 (sym r.2)), d)
 differ_by_number test p ps false n d = d
 
-pub numbers_of_choices : (test : GroupInContext → Bool) (ps : List GroupInContext) → NumbersDiffer ps → Differ (map (λ (p : GroupInContext). p.group.number) (filter test ps))
+pub numbers_of_choices : (test : GroupInContext → Bool) (ps : List GroupInContext) → NumbersDiffer ps
+    → Differ (map (λ (p : GroupInContext). p.group.number) (filter test ps))
 numbers_of_choices test [] d = tt
 numbers_of_choices test (p ∷ ps) d = differ_by_number test p ps (test p) d.0 (numbers_of_choices test ps d.1)
 
@@ -76,7 +91,8 @@ pub and_then_some : {A B : Type 0} (f : A → Option B) (o : Option A) (y : B) �
 and_then_some f None y h = cc
 and_then_some f (Some x) y h = (x, refl, h)
 
-pub choice_around : (c : Contents) (name : List ℕ) (k : ℕ) → choice_of_symbol c name ≡ Some k → (p : GroupInContext) × (n : ℕ) × Has p c.places × (defined_name p.group ≡ Some name) × (p.enclosing.choice ≡ Some n) × (choice_number c n ≡ Some k)
+pub choice_around : (c : Contents) (name : List ℕ) (k : ℕ) → choice_of_symbol c name ≡ Some k
+    → (p : GroupInContext) × (n : ℕ) × Has p c.places × (defined_name p.group ≡ Some name) × (p.enclosing.choice ≡ Some n) × (choice_number c n ≡ Some k)
 choice_around c name k h =
     let a = and_then_some (choice_number c) (slice_get (filter_map (λ (p : GroupInContext). p.enclosing.choice) (definitions_of c name)) 0) k h in
     let b = first_of_filter_map (λ (p : GroupInContext). p.enclosing.choice) (definitions_of c name) a.0 a.1 in
@@ -108,7 +124,8 @@ pub if_some : (b : Bool) (o : Option TreeUnit) (y : TreeUnit) → cond b o None 
 if_some true o y h = (refl, h)
 if_some false o y h = cc
 
-pub symbol_unit : (c : Contents) (p : GroupInContext) (w : GroupHead) (s : ℕ) → p.group.head ≡ w → from_head (unit_of_head c p) w ≡ Some (of_symbol s) → IsSymbolUnit c p s
+pub symbol_unit : (c : Contents) (p : GroupInContext) (w : GroupHead) (s : ℕ) → p.group.head ≡ w → from_head (unit_of_head c p) w ≡ Some (of_symbol s)
+    → IsSymbolUnit c p s
 symbol_unit c p (of_head (config name)) s e h =
     let a = if_some (is_first_definition c name p && is_none (choice_of_symbol c name)) _ (of_symbol s) h in
     let b = two_true (is_first_definition c name p) (is_none (choice_of_symbol c name)) a.0 in
@@ -116,7 +133,8 @@ symbol_unit c p (of_head (config name)) s e h =
     let made : of_symbol d.0 ≡ of_symbol s = d.2 in
     let same : d.0 ≡ s = cc in
     record { name = name; names_it = ap (from_head name_of_head) e; first = b.0; alone = is_nothing (choice_of_symbol c name) b.1; number = d.1 ∙ ap Some same }
-symbol_unit c p (of_head choice) s e h = let d = mapped_some of_choice (choice_number c p.group.number) (of_symbol s) h in let k : of_choice d.0 ≡ of_symbol s = d.2 in cc
+symbol_unit c p (of_head choice) s e h =
+    let d = mapped_some of_choice (choice_number c p.group.number) (of_symbol s) h in let k : of_choice d.0 ≡ of_symbol s = d.2 in cc
 symbol_unit c p (of_head (menu title)) s e h = cc
 symbol_unit c p (of_head (condition x)) s e h = cc
 symbol_unit c p (of_head (comment title)) s e h = cc
@@ -125,11 +143,13 @@ symbol_unit c p (of_head mainmenu) s e h = cc
 symbol_unit c p (of_head (ends b)) s e h = cc
 symbol_unit c p file_end s e h = cc
 
-pub choice_unit : (c : Contents) (p : GroupInContext) (w : GroupHead) (k : ℕ) → p.group.head ≡ w → from_head (unit_of_head c p) w ≡ Some (of_choice k) → choice_number c p.group.number ≡ Some k
+pub choice_unit : (c : Contents) (p : GroupInContext) (w : GroupHead) (k : ℕ) → p.group.head ≡ w → from_head (unit_of_head c p) w ≡ Some (of_choice k)
+    → choice_number c p.group.number ≡ Some k
 choice_unit c p (of_head (config name)) k e h =
     let a = if_some (is_first_definition c name p && is_none (choice_of_symbol c name)) _ (of_choice k) h in
     let d = mapped_some of_symbol (index_of_name name c.names) (of_choice k) a.1 in cc
-choice_unit c p (of_head choice) k e h = let d = mapped_some of_choice (choice_number c p.group.number) (of_choice k) h in let same : d.0 ≡ k = cc in d.1 ∙ ap Some same
+choice_unit c p (of_head choice) k e h =
+    let d = mapped_some of_choice (choice_number c p.group.number) (of_choice k) h in let same : d.0 ≡ k = cc in d.1 ∙ ap Some same
 choice_unit c p (of_head (menu title)) k e h = cc
 choice_unit c p (of_head (condition x)) k e h = cc
 choice_unit c p (of_head (comment title)) k e h = cc
@@ -139,7 +159,8 @@ choice_unit c p (of_head (ends b)) k e h = cc
 choice_unit c p file_end k e h = cc
 
 -- one unit is at one place
-pub same_unit : (c : Contents) (s : IsSound c) (v : TreeUnit) (p q : GroupInContext) → unit_at c p ≡ Some v → unit_at c q ≡ Some v → p.group.number ≡ q.group.number
+pub same_unit : (c : Contents) (s : IsSound c) (v : TreeUnit) (p q : GroupInContext) → unit_at c p ≡ Some v → unit_at c q ≡ Some v
+    → p.group.number ≡ q.group.number
 unfolding unit_at
 same_unit c s (of_symbol n) p q h k =
     let a = symbol_unit c p p.group.head n refl h in
@@ -153,16 +174,20 @@ same_unit c s (of_choice n) p q h k =
     let b = number-get q.group.number c.choices n (choice_unit c q q.group.head n refl k) in
     cc
 
-pub unique_by : (c : Contents) (s : IsSound c) (v : TreeUnit) (p : GroupInContext) (ps : List GroupInContext) (o : Option TreeUnit) (i j : ℕ) → unit_at c p ≡ o → ((q : GroupInContext) → Has q ps → p.group.number ≡ q.group.number → ⊥)
+pub unique_by : (c : Contents) (s : IsSound c) (v : TreeUnit) (p : GroupInContext) (ps : List GroupInContext) (o : Option TreeUnit) (i j : ℕ) → unit_at c p ≡ o
+    → ((q : GroupInContext) → Has q ps → p.group.number ≡ q.group.number → ⊥)
     → ((m n : ℕ) → slice_get (filter_map (unit_at c) ps) m ≡ Some v → slice_get (filter_map (unit_at c) ps) n ≡ Some v → m ≡ n)
     → slice_get (cons_option o (filter_map (unit_at c) ps)) i ≡ Some v → slice_get (cons_option o (filter_map (unit_at c) ps)) j ≡ Some v → i ≡ j
 unique_by c s v p ps None i j e d ih h k = ih i j h k
 unique_by c s v p ps (Some y) zero zero e d ih h k = refl
-unique_by c s v p ps (Some y) zero (suc j) e d ih h k = let r = has-filter_map (unit_at c) ps v (has-at v (filter_map (unit_at c) ps) j k) in absurd (d r.0 r.1 (same_unit c s v p r.0 (e ∙ h) r.2))
-unique_by c s v p ps (Some y) (suc i) zero e d ih h k = let r = has-filter_map (unit_at c) ps v (has-at v (filter_map (unit_at c) ps) i h) in absurd (d r.0 r.1 (same_unit c s v p r.0 (e ∙ k) r.2))
+unique_by c s v p ps (Some y) zero (suc j) e d ih h k =
+    let r = has-filter_map (unit_at c) ps v (has-at v (filter_map (unit_at c) ps) j k) in absurd (d r.0 r.1 (same_unit c s v p r.0 (e ∙ h) r.2))
+unique_by c s v p ps (Some y) (suc i) zero e d ih h k =
+    let r = has-filter_map (unit_at c) ps v (has-at v (filter_map (unit_at c) ps) i h) in absurd (d r.0 r.1 (same_unit c s v p r.0 (e ∙ k) r.2))
 unique_by c s v p ps (Some y) (suc i) (suc j) e d ih h k = ap suc (ih i j h k)
 
-pub unique_in : (c : Contents) (s : IsSound c) (v : TreeUnit) (ps : List GroupInContext) (i j : ℕ) → NumbersDiffer ps → slice_get (filter_map (unit_at c) ps) i ≡ Some v → slice_get (filter_map (unit_at c) ps) j ≡ Some v → i ≡ j
+pub unique_in : (c : Contents) (s : IsSound c) (v : TreeUnit) (ps : List GroupInContext) (i j : ℕ) → NumbersDiffer ps
+    → slice_get (filter_map (unit_at c) ps) i ≡ Some v → slice_get (filter_map (unit_at c) ps) j ≡ Some v → i ≡ j
 unique_in c s v [] i j d h k = cc
 unique_in c s v (p ∷ ps) i j d h k = unique_by c s v p ps (unit_at c p) i j refl d.0 (λ m n a b. unique_in c s v ps m n d.1 a b) h k
 
@@ -176,7 +201,8 @@ unfolding units_of
 unit_place c u v h = has-filter_map (unit_at c) c.places v (has-at v (filter_map (unit_at c) c.places) u h)
 
 -- the first definition of a symbol outside choices
-pub symbol_unit_at : (c : Contents) (p : GroupInContext) (name : List ℕ) (s : ℕ) → defined_name p.group ≡ Some name → is_first_definition c name p ≡ true → choice_of_symbol c name ≡ None → index_of_name name c.names ≡ Some s → unit_at c p ≡ Some (of_symbol s)
+pub symbol_unit_at : (c : Contents) (p : GroupInContext) (name : List ℕ) (s : ℕ) → defined_name p.group ≡ Some name → is_first_definition c name p ≡ true
+    → choice_of_symbol c name ≡ None → index_of_name name c.names ≡ Some s → unit_at c p ≡ Some (of_symbol s)
 unfolding unit_at
 symbol_unit_at c p name s e f n k =
     ap (from_head (unit_of_head c p)) (what_of_name p.group.head name e)
@@ -184,19 +210,26 @@ symbol_unit_at c p name s e f n k =
     ∙ ap (λ o. cond (is_none o) (option_map of_symbol (index_of_name name c.names)) None) n
     ∙ ap (option_map of_symbol) k
 
-pub choice_unit_at : (c : Contents) (p : GroupInContext) (k : ℕ) → opens_choice p.group ≡ true → choice_number c p.group.number ≡ Some k → unit_at c p ≡ Some (of_choice k)
+pub choice_unit_at : (c : Contents) (p : GroupInContext) (k : ℕ) → opens_choice p.group ≡ true → choice_number c p.group.number ≡ Some k
+    → unit_at c p ≡ Some (of_choice k)
 unfolding unit_at
 choice_unit_at c p k e h = ap (from_head (unit_of_head c p)) (what_of_choice p.group.head e) ∙ ap (option_map of_choice) h
 
 -- a symbol has a first definition
-pub first_defined : (c : Contents) (s : IsSound c) (name : List ℕ) → Has name c.names → (p : GroupInContext) × Has p c.places × (defined_name p.group ≡ Some name) × (is_first_definition c name p ≡ true)
+pub first_defined : (c : Contents) (s : IsSound c) (name : List ℕ) → Has name c.names
+    → (p : GroupInContext) × Has p c.places × (defined_name p.group ≡ Some name) × (is_first_definition c name p ≡ true)
 first_defined c s name h =
     let d = s.defined_once name h in
     let in_own : Has d.0 (definitions_of c name) = filter-has (defines name) c.places d.0 d.1 (defining d.0 name d.2) in
     let f = first_of_some (definitions_of c name) d.0 in_own in
     let r = has-filter (defines name) c.places f.0 (has-at f.0 (definitions_of c name) 0 f.1) in
-    let first : first_definition c name ≡ Some f.0.group = ap (option_map (λ (p : GroupInContext). p.group)) f.1 in
-    (f.0, r.0, defined f.0 name r.1, ap (λ o. elim o as (λ _. Bool) [ None ↦ false | Some g ↦ g.number == f.0.group.number ]) first ∙ eq-eqb f.0.group.number f.0.group.number refl)
+    let first : first_definition c name ≡ Some f.0.group = ap (option_map (λ (p : GroupInContext). p.group)) f.1 in (
+      f.0,
+      r.0,
+      defined f.0 name r.1,
+      ap (λ o. elim o as (λ _. Bool) [ None ↦ false | Some g ↦ g.number == f.0.group.number ]) first
+          ∙ eq-eqb f.0.group.number f.0.group.number refl,
+    )
 
 -- the number of a name
 pub place_is : (c : Contents) → IsSound c → (name : List ℕ) (i : ℕ) → slice_get c.names i ≡ Some name → index_of_name name c.names ≡ Some i
@@ -220,20 +253,24 @@ member_is n q h = by_choice q.enclosing.choice h
     by_choice (Some m) k = ap Some (eqb-true m n k)
 
 -- a member's symbol has the choice
-pub choice_of_member : (c : Contents) (s : IsSound c) (none : (p : GroupInContext) → Has p c.places → faults_of_group c p ≡ []) (q : GroupInContext) (name : List ℕ) (n k : ℕ) → Has q c.places → defined_name q.group ≡ Some name → q.enclosing.choice ≡ Some n → slice_get c.choices k ≡ Some n → choice_of_symbol c name ≡ Some k
-choice_of_member c s none q name n k h e m at_k =
+pub choice_of_member : (language : Language) (c : Contents) (s : IsSound c) (none : (p : GroupInContext) → Has p c.places → faults_of_group language c p ≡ []) (q : GroupInContext) (name : List ℕ) (n k : ℕ) → Has q c.places → defined_name q.group ≡ Some name → q.enclosing.choice ≡ Some n → slice_get c.choices k ≡ Some n → choice_of_symbol c name ≡ Some k
+choice_of_member language c s none q name n k h e m at_k =
     let own : Has q (definitions_of c name) = filter-has (defines name) c.places q h (defining q name e) in
-    let some : Has n (filter_map (λ (p : GroupInContext). p.enclosing.choice) (definitions_of c name)) = filter_map-has (λ (p : GroupInContext). p.enclosing.choice) (definitions_of c name) q n own m in
+    let some : Has n (filter_map (λ (p : GroupInContext). p.enclosing.choice) (definitions_of c name)) = filter_map-has
+    (λ (p : GroupInContext). p.enclosing.choice) (definitions_of c name) q n own m in
     let f = first_of_some (filter_map (λ (p : GroupInContext). p.enclosing.choice) (definitions_of c name)) n some in
     let b = first_of_filter_map (λ (p : GroupInContext). p.enclosing.choice) (definitions_of c name) f.0 f.1 in
     let d = has-filter (defines name) c.places b.0 b.1 in
     let there = s.choice_there b.0 f.0 d.0 b.2 in
-    let in_choices : Has f.0 c.choices = subst (Has f.0) (sym s.choices) (subst (λ x. Has x (map (λ (p : GroupInContext). p.group.number) (filter (λ (p : GroupInContext). opens_choice p.group) c.places))) there.2 (mapped_has (λ (p : GroupInContext). p.group.number) (filter (λ (p : GroupInContext). opens_choice p.group) c.places) there.0 (filter-has (λ (p : GroupInContext). opens_choice p.group) c.places there.0 there.1 there.3))) in
+    let in_choices : Has f.0 c.choices = subst (Has f.0) (sym s.choices)
+    (subst (λ x. Has x (map (λ (p : GroupInContext). p.group.number) (filter (λ (p : GroupInContext). opens_choice p.group) c.places))) there.2
+    (mapped_has (λ (p : GroupInContext). p.group.number) (filter (λ (p : GroupInContext). opens_choice p.group) c.places) there.0
+    (filter-has (λ (p : GroupInContext). opens_choice p.group) c.places there.0 there.1 there.3))) in
     let j = has-number f.0 c.choices in_choices in
     let numbered : choice_number c f.0 ≡ Some j.0 = j.1 in
     let found : choice_of_symbol c name ≡ choice_number c f.0 = ap (option_and_then (choice_number c)) f.1 in
     let has_choice : choice_of_symbol c name ≡ Some j.0 = cc in
-    let same : q ≡ b.0 = same_place c.places q b.0 s.numbers h d.0 (one_number c name q b.0 (is_first c none q name j.0 h e has_choice) (is_first c none b.0 name j.0 d.0 (defined b.0 name d.1) has_choice)) in
+    let same : q ≡ b.0 = same_place c.places q b.0 s.numbers h d.0 (one_number c name q b.0 (is_first language c none q name j.0 n h e has_choice m) (is_first language c none b.0 name j.0 f.0 d.0 (defined b.0 name d.1) has_choice b.2)) in
     let one_choice : q.enclosing.choice ≡ b.0.enclosing.choice = ap (λ (p : GroupInContext). p.enclosing.choice) same in
     let theirs : b.0.enclosing.choice ≡ Some f.0 = b.2 in
     let number : n ≡ f.0 = let x : Some n ≡ Some f.0 = cc in cc in

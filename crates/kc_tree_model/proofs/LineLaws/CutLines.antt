@@ -24,8 +24,10 @@ pub cut_lines : (bytes : List ℕ) → AreLines bytes (split_at_newlines bytes)
 cut_lines [] = none
 cut_lines (b ∷ bs) = by_test (b == 10) refl (cut_lines bs)
   where
-    by_test : (t : Bool) → (b == 10) ≡ t → AreLines bs (split_at_newlines bs) → AreLines (b ∷ bs) (cond t (record { text = []; ended = true } ∷ split_at_newlines bs) (with_first_byte b (split_at_newlines bs)))
-    by_test true e h = subst (λ c. AreLines (c ∷ bs) (record { text = []; ended = true } ∷ split_at_newlines bs)) (sym (eqb-true b 10 e)) (line {text = []} refl h)
+    by_test : (t : Bool) → (b == 10) ≡ t → AreLines bs (split_at_newlines bs)
+        → AreLines (b ∷ bs) (cond t (record { text = []; ended = true } ∷ split_at_newlines bs) (with_first_byte b (split_at_newlines bs)))
+    by_test true e h =
+        subst (λ c. AreLines (c ∷ bs) (record { text = []; ended = true } ∷ split_at_newlines bs)) (sym (eqb-true b 10 e)) (line {text = []} refl h)
     by_test false e h = front_byte b e h
 
 -- and into no others
@@ -34,13 +36,16 @@ cut_last [] some one = absurd (omega arith)
 cut_last (b ∷ []) some one = let e = (neither (b == 10) false one).0 in ap (λ t. cond t (record { text = []; ended = true } ∷ []) (with_first_byte b [])) e
 cut_last (b ∷ c ∷ cs) some one =
     let r = neither (b == 10) (has_newline (c ∷ cs)) one in
-    ap (λ t. cond t (record { text = []; ended = true } ∷ split_at_newlines (c ∷ cs)) (with_first_byte b (split_at_newlines (c ∷ cs)))) r.0 ∙ ap (with_first_byte b) (cut_last (c ∷ cs) (omega arith) r.1)
+    ap (λ t. cond t (record { text = []; ended = true } ∷ split_at_newlines (c ∷ cs)) (with_first_byte b (split_at_newlines (c ∷ cs)))) r.0
+    ∙ ap (with_first_byte b) (cut_last (c ∷ cs) (omega arith) r.1)
 
-cut_line : (text bytes : List ℕ) → has_newline text ≡ false → split_at_newlines (text ++ 10 ∷ bytes) ≡ record { text = text; ended = true } ∷ split_at_newlines bytes
+cut_line : (text bytes : List ℕ) → has_newline text ≡ false
+    → split_at_newlines (text ++ 10 ∷ bytes) ≡ record { text = text; ended = true } ∷ split_at_newlines bytes
 cut_line [] bytes one = refl
 cut_line (b ∷ bs) bytes one =
     let r = neither (b == 10) (has_newline bs) one in
-    ap (λ t. cond t (record { text = []; ended = true } ∷ split_at_newlines (bs ++ 10 ∷ bytes)) (with_first_byte b (split_at_newlines (bs ++ 10 ∷ bytes)))) r.0 ∙ ap (with_first_byte b) (cut_line bs bytes r.1)
+    ap (λ t. cond t (record { text = []; ended = true } ∷ split_at_newlines (bs ++ 10 ∷ bytes)) (with_first_byte b (split_at_newlines (bs ++ 10 ∷ bytes)))) r.0
+    ∙ ap (with_first_byte b) (cut_line bs bytes r.1)
 
 pub lines_cut : {bytes : List ℕ} {ls : List PhysicalLine} → AreLines bytes ls → split_at_newlines bytes ≡ ls
 lines_cut none = refl

@@ -37,13 +37,15 @@ taken_none : (test : PhysicalLine → Bool) (rest : List PhysicalLine) → first
 taken_none test [] e = refl
 taken_none test (l ∷ ls) e = ap length (take_while-cons test l ls ∙ ap (λ t. cond t (l ∷ take_while test ls) []) e)
 
-taken_front : (test : PhysicalLine → Bool) (front rest : List PhysicalLine) → list_all test front ≡ true → first_passes test rest ≡ false → length (take_while test (front ++ rest)) ≡ length front
+taken_front : (test : PhysicalLine → Bool) (front rest : List PhysicalLine) → list_all test front ≡ true → first_passes test rest ≡ false
+    → length (take_while test (front ++ rest)) ≡ length front
 taken_front test [] rest all e = taken_none test rest e
 taken_front test (l ∷ ls) rest all e =
     let p = and_parts (test l) (list_all test ls) all in
     ap length (take_while-cons test l (ls ++ rest) ∙ ap (λ t. cond t (l ∷ take_while test (ls ++ rest)) []) p.0) ∙ ap suc (taken_front test ls rest p.1 e)
 
-len_by : (b : Bool) (n : ℕ) (help rest : List PhysicalLine) → (n == 0) ≡ b → list_all (is_of_help n) help ≡ true → begins_of_help n rest ≡ false → cond b 0 (length (take_while (reaches n) (help ++ rest))) ≡ length help
+len_by : (b : Bool) (n : ℕ) (help rest : List PhysicalLine) → (n == 0) ≡ b → list_all (is_of_help n) help ≡ true → begins_of_help n rest ≡ false
+    → cond b 0 (length (take_while (reaches n) (help ++ rest))) ≡ length help
 len_by true n help rest e all stops = sym (column_none help (subst (λ k. list_all (is_of_help k) help ≡ true) (eqb-true n 0 e) all))
 len_by false n help rest e all stops =
     let some : 0 < n = above n (eqb-false n 0 e) in
@@ -57,9 +59,12 @@ pub help_count : (help rest : List PhysicalLine) → IsHelpText help rest → he
 help_count help rest h = len_by (first_indentation (help ++ rest) == 0) (first_indentation (help ++ rest)) help rest refl h.within h.ends
 
 -- the lines of a help text are passed
-pub help_passed : (n : ℕ) (help rest : List PhysicalLine) → logical_lines_from 0 (length help) n (help ++ rest) ≡ help_lines n help ++ logical_lines_from 0 0 (n + length help) rest
+pub help_passed : (n : ℕ) (help rest : List PhysicalLine)
+    → logical_lines_from 0 (length help) n (help ++ rest) ≡ help_lines n help ++ logical_lines_from 0 0 (n + length help) rest
 help_passed n [] rest = ap (λ k. logical_lines_from 0 0 k rest) (omega arith)
-help_passed n (l ∷ ls) rest = ap (λ x. record { number = n; text = l.text; help = true } ∷ x) (help_passed (n + 1) ls rest ∙ ap (λ k. help_lines (n + 1) ls ++ logical_lines_from 0 0 k rest) (omega arith))
+help_passed n (l ∷ ls) rest =
+    ap (λ x. record { number = n; text = l.text; help = true } ∷ x) (help_passed (n + 1) ls rest
+    ∙ ap (λ k. help_lines (n + 1) ls ++ logical_lines_from 0 0 k rest) (omega arith))
 
 -- the help text at the front of lines
 pub record Help (all : List PhysicalLine) : Type 0 where
@@ -80,7 +85,15 @@ parted test [] = record { front = []; rest = []; parts = refl; passes = refl; st
 parted test (l ∷ ls) = by_test (test l) refl (parted test ls)
   where
     by_test : (t : Bool) → test l ≡ t → Parted test ls → Parted test (l ∷ ls)
-    by_test true e p = record { front = l ∷ p.front; rest = p.rest; parts = ap (λ x. l ∷ x) p.parts; passes = ap (λ t. t && list_all test p.front) e ∙ p.passes; stops = p.stops }
+    by_test true e p =
+        record {
+          front = l ∷ p.front;
+          rest = p.rest;
+          parts = ap (λ x. l ∷ x) p.parts;
+          passes = ap (λ t. t && list_all test p.front) e
+              ∙ p.passes;
+          stops = p.stops;
+        }
     by_test false e p = record { front = []; rest = l ∷ ls; parts = refl; passes = refl; stops = e }
 
 begins_is_first : (n : ℕ) (rest : List PhysicalLine) → first_passes (is_of_help n) rest ≡ false → begins_of_help n rest ≡ false

@@ -11,8 +11,10 @@ some_joined (joins e j) = omega arith
 -- the bytes of the line
 pub joined_text : {rest ls : List PhysicalLine} {text : List ℕ} → IsJoined rest ls text → joined_bytes (ls ++ rest) ≡ text
 joined_text {rest = rest} (alone {l = l} e) = ap (λ t. cond t (without_last l.text ++ joined_bytes rest) l.text) e
-joined_text {rest = rest} (at_end {l = l} e k) = ap (λ t. cond t (without_last l.text ++ joined_bytes rest) l.text) e ∙ ap (λ r. without_last l.text ++ joined_bytes r) k ∙ append-nil (without_last l.text)
-joined_text {rest = rest} (joins {l = l} {ls = ls} e j) = ap (λ t. cond t (without_last l.text ++ joined_bytes (ls ++ rest)) l.text) e ∙ ap (λ t. without_last l.text ++ t) (joined_text j)
+joined_text {rest = rest} (at_end {l = l} e k) =
+    ap (λ t. cond t (without_last l.text ++ joined_bytes rest) l.text) e ∙ ap (λ r. without_last l.text ++ joined_bytes r) k ∙ append-nil (without_last l.text)
+joined_text {rest = rest} (joins {l = l} {ls = ls} e j) =
+    ap (λ t. cond t (without_last l.text ++ joined_bytes (ls ++ rest)) l.text) e ∙ ap (λ t. without_last l.text ++ t) (joined_text j)
 
 -- how many lines it takes
 taken_alone : (l : PhysicalLine) (ls : List PhysicalLine) → is_continued l ≡ false → continuation_count (l ∷ ls) ≡ 0
@@ -49,5 +51,6 @@ front_of l [] = by_test (is_continued l) refl
 front_of l (m ∷ ms) = by_test (is_continued l) refl (front_of m ms)
   where
     by_test : (t : Bool) → is_continued l ≡ t → Front (m ∷ ms) → Front (l ∷ m ∷ ms)
-    by_test true e f = record { front = l ∷ f.front; rest = f.rest; text = without_last l.text ++ f.text; parts = ap (λ x. l ∷ x) f.parts; is_joined = joins e f.is_joined }
+    by_test true e f =
+        record { front = l ∷ f.front; rest = f.rest; text = without_last l.text ++ f.text; parts = ap (λ x. l ∷ x) f.parts; is_joined = joins e f.is_joined }
     by_test false e f = record { front = l ∷ []; rest = m ∷ ms; text = l.text; parts = refl; is_joined = alone e }

@@ -17,17 +17,27 @@ passed_over (suc behind) zero n [] = refl
 passed_over (suc behind) (suc help) n [] = refl
 passed_over (suc behind) help n (l ∷ ls) = passed_over behind help (n + 1) ls ∙ ap (λ k. logical_lines_from 0 help k (drop behind ls)) (omega arith)
 
-first_logical : (n : ℕ) (ls : List PhysicalLine) → 0 < length ls → logical_lines_from 0 0 n ls ≡ record { number = n; text = joined_bytes ls; help = false } ∷ logical_lines_from 0 (cond (begins_help (joined_bytes ls)) (help_line_count (drop (suc (continuation_count ls)) ls)) 0) (n + suc (continuation_count ls)) (drop (suc (continuation_count ls)) ls)
+first_logical : (n : ℕ) (ls : List PhysicalLine) → 0 < length ls
+    → logical_lines_from 0 0 n ls ≡ record { number = n; text = joined_bytes ls; help = false } ∷ logical_lines_from 0 (cond (begins_help (joined_bytes ls)) (help_line_count (drop (suc (continuation_count ls)) ls)) 0) (n + suc (continuation_count ls)) (drop (suc (continuation_count ls)) ls)
 first_logical n [] some = absurd (omega arith)
-first_logical n (l ∷ ls) some = ap (λ r. record { number = n; text = joined_bytes (l ∷ ls); help = false } ∷ r) (passed_over (continuation_count (l ∷ ls)) (cond (begins_help (joined_bytes (l ∷ ls))) (help_line_count (drop (continuation_count (l ∷ ls)) ls)) 0) (n + 1) ls ∙ ap (λ k. logical_lines_from 0 (cond (begins_help (joined_bytes (l ∷ ls))) (help_line_count (drop (continuation_count (l ∷ ls)) ls)) 0) k (drop (continuation_count (l ∷ ls)) ls)) (omega arith))
+first_logical n (l ∷ ls) some =
+    ap (λ r. record { number = n; text = joined_bytes (l ∷ ls); help = false } ∷ r)
+    (passed_over (continuation_count (l ∷ ls)) (cond (begins_help (joined_bytes (l ∷ ls))) (help_line_count (drop (continuation_count (l ∷ ls)) ls)) 0)
+    (n + 1) ls ∙ ap (λ k. logical_lines_from 0 (cond (begins_help (joined_bytes (l ∷ ls))) (help_line_count (drop (continuation_count (l ∷ ls)) ls)) 0) k
+    (drop (continuation_count (l ∷ ls)) ls)) (omega arith))
 
 -- the line at the front, and what is left
-front_logical : (n : ℕ) (front rest : List PhysicalLine) (text : List ℕ) → IsJoined rest front text → logical_lines_from 0 0 n (front ++ rest) ≡ record { number = n; text = text; help = false } ∷ logical_lines_from 0 (cond (begins_help text) (help_line_count rest) 0) (n + length front) rest
+front_logical : (n : ℕ) (front rest : List PhysicalLine) (text : List ℕ) → IsJoined rest front text
+    → logical_lines_from 0 0 n (front ++ rest) ≡ record { number = n; text = text; help = false } ∷ logical_lines_from 0 (cond (begins_help text) (help_line_count rest) 0) (n + length front) rest
 front_logical n front rest text j =
     first_logical n (front ++ rest) (omega (arith, some_joined j, length-append front rest))
-    ∙ ap (λ t. record { number = n; text = t; help = false } ∷ logical_lines_from 0 (cond (begins_help t) (help_line_count (drop (suc (continuation_count (front ++ rest))) (front ++ rest))) 0) (n + suc (continuation_count (front ++ rest))) (drop (suc (continuation_count (front ++ rest))) (front ++ rest))) (joined_text j)
-    ∙ ap (λ k. record { number = n; text = text; help = false } ∷ logical_lines_from 0 (cond (begins_help text) (help_line_count (drop k (front ++ rest))) 0) (n + k) (drop k (front ++ rest))) (joined_count j)
-    ∙ ap (λ r. record { number = n; text = text; help = false } ∷ logical_lines_from 0 (cond (begins_help text) (help_line_count r) 0) (n + length front) r) (drop-append_seam front rest)
+    ∙ ap (λ t. record { number = n; text = t; help = false } ∷ logical_lines_from 0
+    (cond (begins_help t) (help_line_count (drop (suc (continuation_count (front ++ rest))) (front ++ rest))) 0)
+    (n + suc (continuation_count (front ++ rest))) (drop (suc (continuation_count (front ++ rest))) (front ++ rest))) (joined_text j)
+    ∙ ap (λ k. record { number = n; text = text; help = false } ∷ logical_lines_from 0 (cond (begins_help text) (help_line_count (drop k (front ++ rest))) 0)
+    (n + k) (drop k (front ++ rest))) (joined_count j)
+    ∙ ap (λ r. record { number = n; text = text; help = false } ∷ logical_lines_from 0 (cond (begins_help text) (help_line_count r) 0) (n + length front) r)
+    (drop-append_seam front rest)
 
 -- they are read so
 pub logical_only : {n : ℕ} {ps : List PhysicalLine} {ls : List LogicalLine} → AreLogical n ps ls → logical_lines_from 0 0 n ps ≡ ls
@@ -38,15 +48,18 @@ logical_only {n = n} (line {front = front} {rest = rest} {text = text} j other m
     ∙ ap (λ x. record { number = n; text = text; help = false } ∷ x) (logical_only more)
 logical_only {n = n} (with_help {front = front} {help = help} {rest = rest} {text = text} j begins h more) =
     front_logical n front (help ++ rest) text j
-    ∙ ap (λ t. record { number = n; text = text; help = false } ∷ logical_lines_from 0 (cond t (help_line_count (help ++ rest)) 0) (n + length front) (help ++ rest)) begins
+    ∙ ap (λ t. record { number = n; text = text; help = false } ∷ logical_lines_from 0 (cond t (help_line_count (help ++ rest)) 0) (n + length front)
+    (help ++ rest)) begins
     ∙ ap (λ k. record { number = n; text = text; help = false } ∷ logical_lines_from 0 k (n + length front) (help ++ rest)) (help_count help rest h)
-    ∙ ap (λ x. record { number = n; text = text; help = false } ∷ x) (help_passed (n + length front) help rest ∙ ap (λ x. help_lines (n + length front) help ++ x) (logical_only more))
+    ∙ ap (λ x. record { number = n; text = text; help = false } ∷ x) (help_passed (n + length front) help rest
+    ∙ ap (λ x. help_lines (n + length front) help ++ x) (logical_only more))
 
 -- and all lines are some
 abbrev Lines : ℕ → List PhysicalLine → Type 0
 Lines n ps = (ls : List LogicalLine) × AreLogical n ps ls
 
-behind_front : (n : ℕ) (f : PhysicalLine) (ps : List PhysicalLine) → ((m : ℕ) (qs : List PhysicalLine) → length qs ≤ length ps → Lines m qs) → Front (f ∷ ps) → Lines n (f ∷ ps)
+behind_front : (n : ℕ) (f : PhysicalLine) (ps : List PhysicalLine) → ((m : ℕ) (qs : List PhysicalLine) → length qs ≤ length ps → Lines m qs) → Front (f ∷ ps)
+    → Lines n (f ∷ ps)
 behind_front n f ps rec x = by_help (begins_help x.text) refl
   where
     size : length x.rest ≤ length ps
@@ -54,13 +67,17 @@ behind_front n f ps rec x = by_help (begins_help x.text) refl
 
     by_help : (t : Bool) → begins_help x.text ≡ t → Lines n (f ∷ ps)
     by_help false e =
-        let more = rec (n + length x.front) x.rest size in
-        (record { number = n; text = x.text; help = false } ∷ more.0, subst (λ ps. AreLogical n ps (record { number = n; text = x.text; help = false } ∷ more.0)) (sym x.parts) (line x.is_joined e more.1))
+        let more = rec (n + length x.front) x.rest size in (
+          record { number = n; text = x.text; help = false } ∷ more.0,
+          subst
+              (λ ps. AreLogical n ps (record { number = n; text = x.text; help = false } ∷ more.0)) (sym x.parts) (line x.is_joined e more.1),
+        )
     by_help true e =
         let h = help_of x.rest in
         let more = rec (n + length x.front + length h.help) h.rest (omega (arith, size, ap length h.parts, length-append h.help h.rest)) in (
           record { number = n; text = x.text; help = false } ∷ (help_lines (n + length x.front) h.help ++ more.0),
-          subst (λ ps. AreLogical n ps (record { number = n; text = x.text; help = false } ∷ (help_lines (n + length x.front) h.help ++ more.0))) (sym (x.parts ∙ ap (λ r. x.front ++ r) h.parts))
+          subst (λ ps. AreLogical n ps (record { number = n; text = x.text; help = false } ∷ (help_lines (n + length x.front) h.help ++ more.0)))
+              (sym (x.parts ∙ ap (λ r. x.front ++ r) h.parts))
               (with_help (subst (λ r. IsJoined r x.front x.text) h.parts x.is_joined) e h.is_help more.1),
         )
 

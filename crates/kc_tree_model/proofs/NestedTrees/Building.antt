@@ -25,7 +25,8 @@ listing-append : (t u : Items) → listing (append t u) ≡ listing t ++ listing
 unfolding append
 listing-append none u = refl
 listing-append (entry g rest) u = ap (λ gs. g ∷ gs) (listing-append rest u)
-listing-append (block g w e rest) u = ap (λ gs. g ∷ (listing w ++ e ∷ gs)) (listing-append rest u) ∙ sym (ap (λ gs. g ∷ gs) (append_assoc (listing w) (e ∷ listing rest) (listing u)))
+listing-append (block g w e rest) u =
+    ap (λ gs. g ∷ (listing w ++ e ∷ gs)) (listing-append rest u) ∙ sym (ap (λ gs. g ∷ gs) (append_assoc (listing w) (e ∷ listing rest) (listing u)))
 
 IsNested-append : (t u : Items) → IsNested t → IsNested u → IsNested (append t u)
 unfolding append
@@ -92,7 +93,8 @@ add_beginning g before e b = record {
   is_listed = onto-append (listed b.tree) (g ∷ []) [] ∙ ap (λ r. g ∷ r) b.is_listed;
 }
 
-add_end_to : (o : Unfinished) (e : Group) (before : List Group) → IsNestedSoFar o → onto (listed o) [] ≡ before → ends_first (open_blocks 0 before) e.head ≡ true → Built (e ∷ before)
+add_end_to : (o : Unfinished) (e : Group) (before : List Group) → IsNestedSoFar o → onto (listed o) [] ≡ before → ends_first (open_blocks 0 before) e.head ≡ true
+    → Built (e ∷ before)
 add_end_to (root t) e before n l h =
     let none_open : open_blocks 0 before ≡ [] = ap (open_blocks 0) (sym l) ∙ open-listed (root t) n in
     let not_ended : ends_first (open_blocks 0 before) e.head ≡ false = ap (λ gs. ends_first gs e.head) none_open in
@@ -110,7 +112,8 @@ add_end_to (level o g t) e before n l h =
           ∙ ap (λ r. e ∷ r) (sym (onto-append (listed o) (g ∷ listing t) []) ∙ l);
     }
 
-add_group : (s : Side) (g : Group) (before : List Group) → side_of g.head ≡ s → (side_of g.head ≡ closing → ends_first (open_blocks 0 before) g.head ≡ true) → Built before → Built (g ∷ before)
+add_group : (s : Side) (g : Group) (before : List Group) → side_of g.head ≡ s → (side_of g.head ≡ closing → ends_first (open_blocks 0 before) g.head ≡ true)
+    → Built before → Built (g ∷ before)
 add_group inside g before e h b = add_entry g before e b
 add_group opening g before e h b = add_beginning g before e b
 add_group closing g before e h b = add_end_to b.tree g before b.nested b.is_listed (h e)
@@ -120,7 +123,8 @@ built [] h = record { tree = root none; nested = tt; is_listed = refl }
 built (g ∷ before) h = add_group (side_of g.head) g before refl h.0 (built before h.1)
 
 -- with no block open, it is a nested tree
-finished : (o : Unfinished) (read : List Group) → IsNestedSoFar o → onto (listed o) [] ≡ read → open_blocks 0 read ≡ [] → (t : Items) × IsNested t × (onto (listing t) [] ≡ read)
+finished : (o : Unfinished) (read : List Group) → IsNestedSoFar o → onto (listed o) [] ≡ read → open_blocks 0 read ≡ []
+    → (t : Items) × IsNested t × (onto (listing t) [] ≡ read)
 finished (root t) read n l h = (t, n, l)
 finished (level o g t) read n l h =
     let innermost : open_blocks 0 read ≡ g ∷ beginnings o = ap (open_blocks 0) (sym l) ∙ open-listed (level o g t) n in

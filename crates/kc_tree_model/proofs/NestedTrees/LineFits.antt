@@ -3,6 +3,7 @@ use Rattle.std.proofs.Common.{ap, ◌∙◌, ◌≡◌, ℕ, Bool, true, false, 
 use Rattle.std.specs.Prelude.{nat_lt}
 use Rattle.std.specs.Str.{is_utf8}
 use Rattle.std.proofs.lemmas.Str.{IsUtf8-from_is_utf8}
+use Rattle.kc_expr.specs.declared.language.Language.{Language}
 use Rattle.kc_value.specs.declared.value.Kind.{Kind}
 use Rattle.kc_expr.specs.Expr.{Expr, Operand}
 use Rattle.kc_expr.specs.Token.{Lexeme, lexemes_from}
@@ -11,7 +12,7 @@ use Rattle.kc_expr.specs.declared.fault.ExprFault.{ExprFault}
 use Rattle.kc_tree_model.specs.declared.fault.TreeKind.{TreeKind}
 use Rattle.kc_tree_model.specs.declared.fault.TreeKind.TheVariants.{Malformed, LeftOut, Misplaced, StrayEnd, TooDeep, TooMany, LineTooLong, NotUtf8}
 use Rattle.kc_tree_model.specs.LogicalLines.{LogicalLine}
-use Rattle.kc_tree_model.specs.Statements.{Head, config, choice, menu, condition, comment, source, mainmenu, ends, DefaultAttribute, TargetAttribute, Attribute, typed_prompt, typed_default, prompt, default, depends, select, imply, range, visible, help, modules, default_of, Statement, head, attribute}
+use Rattle.kc_tree_model.specs.Statements.{Head, config, choice, menu, condition, comment, source, mainmenu, ends, DefaultAttribute, TargetAttribute, Attribute, typed_prompt, typed_default, prompt, default, depends, select, imply, range, visible, help, modules, optional, default_of, Statement, head, attribute}
 use Rattle.kc_tree_model.specs.declared.keyword.Block.{Block}
 use Rattle.kc_tree_model.specs.Keywords.{keyword_of, is_name, is_quoted_kind, is_the_word}
 use Rattle.kc_tree_model.specs.declared.keyword.Keyword.{Keyword}
@@ -85,7 +86,9 @@ gives_choice ts = gives_last (head choice) ts other_sort refl
 
 gives_title : (f : List ℕ → Head) → ((x : List ℕ) → sort_of_head (f x) ≡ other_sort) → (ts : List Lexeme) → Gives other_sort (titled_line f ts)
 gives_title f h [] = tt
-gives_title f h (p ∷ ts) = gives_if (is_quoted_kind p.kind) other_sort (no_more (head (f (quoted_text p.text))) ts) Malformed (gives_last (head (f (quoted_text p.text))) ts other_sort (h (quoted_text p.text)))
+gives_title f h (p ∷ ts) =
+    gives_if (is_quoted_kind p.kind) other_sort (no_more (head (f (quoted_text p.text))) ts) Malformed
+    (gives_last (head (f (quoted_text p.text))) ts other_sort (h (quoted_text p.text)))
 
 gives_source_by : (o : Option (List ℕ)) (ts : List Lexeme) → Gives other_sort (elim o [ None ↦ Err Malformed | Some path ↦ no_more (head (source path)) ts ])
 gives_source_by None ts = tt
@@ -95,23 +98,35 @@ gives_source : (ts : List Lexeme) → Gives other_sort (source_line ts)
 gives_source [] = tt
 gives_source (p ∷ ts) = gives_source_by (path_of p) ts
 
-gives_prompt : (f : Option Expr → Attribute) → ((c : Option Expr) → sort_of_attribute (f c) ≡ attribute_sort) → (ts : List Lexeme) → Gives attribute_sort (prompt_line f ts)
+gives_prompt : (f : Option Expr → Attribute) → ((c : Option Expr) → sort_of_attribute (f c) ≡ attribute_sort) → (ts : List Lexeme)
+    → Gives attribute_sort (prompt_line f ts)
 gives_prompt f h [] = tt
-gives_prompt f h (p ∷ ts) = gives_if (is_quoted_kind p.kind) attribute_sort (optional_if ts >>= λ c. Ok (attribute (f c))) Malformed (gives_bind (optional_if ts) (λ c. Ok (attribute (f c))) attribute_sort h)
+gives_prompt f h (p ∷ ts) =
+    gives_if (is_quoted_kind p.kind) attribute_sort (optional_if ts >>= λ c. Ok (attribute (f c))) Malformed
+    (gives_bind (optional_if ts) (λ c. Ok (attribute (f c))) attribute_sort h)
 
 gives_type : (k : Kind) (ts : List Lexeme) → Gives attribute_sort (type_line k ts)
 gives_type k [] = refl
 gives_type k (p ∷ ts) = gives_prompt (typed_prompt k) (λ c. refl) (p ∷ ts)
 
-gives_default : (f : DefaultAttribute → Attribute) → ((d : DefaultAttribute) → sort_of_attribute (f d) ≡ default_sort) → (ts : List Lexeme) → Gives default_sort (default_line f ts)
-gives_default f h ts = gives_bind (leading_expr ts) (λ e. optional_if e.rest >>= λ c. Ok (attribute (f (record { value = e.expr; single = e.single; condition = c })))) default_sort (λ e. gives_bind (optional_if e.rest) (λ c. Ok (attribute (f (record { value = e.expr; single = e.single; condition = c })))) default_sort (λ c. h (record { value = e.expr; single = e.single; condition = c })))
+gives_default : (f : DefaultAttribute → Attribute) → ((d : DefaultAttribute) → sort_of_attribute (f d) ≡ default_sort) → (ts : List Lexeme)
+    → Gives default_sort (default_line f ts)
+gives_default f h ts =
+    gives_bind (leading_expr ts) (λ e. optional_if e.rest >>= λ c. Ok (attribute (f (record { value = e.expr; single = e.single; condition = c }))))
+    default_sort (λ e. gives_bind (optional_if e.rest) (λ c. Ok (attribute (f (record { value = e.expr; single = e.single; condition = c })))) default_sort
+    (λ c. h (record { value = e.expr; single = e.single; condition = c })))
 
-gives_aimed : (f : TargetAttribute → Attribute) → ((a : TargetAttribute) → sort_of_attribute (f a) ≡ attribute_sort) → (ts : List Lexeme) → Gives attribute_sort (target_line f ts)
+gives_aimed : (f : TargetAttribute → Attribute) → ((a : TargetAttribute) → sort_of_attribute (f a) ≡ attribute_sort) → (ts : List Lexeme)
+    → Gives attribute_sort (target_line f ts)
 gives_aimed f h [] = tt
-gives_aimed f h (p ∷ ts) = gives_if (is_name p) attribute_sort (optional_if ts >>= λ c. Ok (attribute (f (record { name = p.text; condition = c })))) Malformed (gives_bind (optional_if ts) (λ c. Ok (attribute (f (record { name = p.text; condition = c })))) attribute_sort (λ c. h (record { name = p.text; condition = c })))
+gives_aimed f h (p ∷ ts) =
+    gives_if (is_name p) attribute_sort (optional_if ts >>= λ c. Ok (attribute (f (record { name = p.text; condition = c })))) Malformed
+    (gives_bind (optional_if ts) (λ c. Ok (attribute (f (record { name = p.text; condition = c })))) attribute_sort
+    (λ c. h (record { name = p.text; condition = c })))
 
 gives_bounds : (a b : Option Operand) (ts : List Lexeme) → Gives attribute_sort (range_of_operands a b ts)
-gives_bounds (Some a) (Some b) ts = gives_bind (optional_if ts) (λ c. Ok (attribute (range (record { low = a; high = b; condition = c })))) attribute_sort (λ c. refl)
+gives_bounds (Some a) (Some b) ts =
+    gives_bind (optional_if ts) (λ c. Ok (attribute (range (record { low = a; high = b; condition = c })))) attribute_sort (λ c. refl)
 gives_bounds (Some a) None ts = tt
 gives_bounds None b ts = tt
 
@@ -120,13 +135,17 @@ gives_range [] = tt
 gives_range (p ∷ []) = tt
 gives_range (p ∷ q ∷ ts) = gives_bounds (operand_of_lexeme p) (operand_of_lexeme q) ts
 
-gives_worded : (w : List ℕ) (f : Expr → Attribute) → ((e : Expr) → sort_of_attribute (f e) ≡ attribute_sort) → (ts : List Lexeme) → Gives attribute_sort (condition_line w f ts)
+gives_worded : (w : List ℕ) (f : Expr → Attribute) → ((e : Expr) → sort_of_attribute (f e) ≡ attribute_sort) → (ts : List Lexeme)
+    → Gives attribute_sort (condition_line w f ts)
 gives_worded w f h [] = tt
-gives_worded w f h (p ∷ ts) = gives_if (is_the_word w p) attribute_sort (last_condition ts >>= λ e. Ok (attribute (f e))) Malformed (gives_bind (last_condition ts) (λ e. Ok (attribute (f e))) attribute_sort h)
+gives_worded w f h (p ∷ ts) =
+    gives_if (is_the_word w p) attribute_sort (last_condition ts >>= λ e. Ok (attribute (f e))) Malformed
+    (gives_bind (last_condition ts) (λ e. Ok (attribute (f e))) attribute_sort h)
 
 gives_option : (ts : List Lexeme) → Gives attribute_sort (option_line ts)
 gives_option [] = tt
-gives_option (p ∷ ts) = gives_if (is_the_word _ p) attribute_sort (no_more (attribute modules) ts) Malformed (gives_last (attribute modules) ts attribute_sort refl)
+gives_option (p ∷ ts) =
+    gives_if (is_the_word _ p) attribute_sort (no_more (attribute modules) ts) Malformed (gives_last (attribute modules) ts attribute_sort refl)
 
 gives_statement : (k : Keyword) (ts : List Lexeme) → Gives (sort_of_word k) (statement_of k ts)
 gives_statement words.Config ts = gives_config ts
@@ -149,6 +168,7 @@ gives_statement words.Visible ts = gives_worded _ visible (λ e. refl) ts
 gives_statement words.Help ts = gives_last (attribute help) ts attribute_sort refl
 gives_statement words.Modules ts = gives_last (attribute modules) ts attribute_sort refl
 gives_statement words.Option ts = gives_option ts
+gives_statement words.Optional ts = gives_last (attribute optional) ts attribute_sort refl
 gives_statement words.LeftOut ts = tt
 
 -- the statements that may follow the groups read before
@@ -191,7 +211,8 @@ stray_of_word : (read : List Group) (k : Keyword) (b : Block) → sort_of_word k
 stray_of_word read (words.End c) b e h = let same : c ≡ b = cc in subst (λ x. is_stray read x ≡ false) same h
 stray_of_word read k b e h = cc
 
-fits_statement : (read : List Group) (k : Keyword) (s : Statement) → sort_of s ≡ sort_of_word k → is_allowed read k ≡ true → is_stray_end read k ≡ false → Fits read (Some s)
+fits_statement : (read : List Group) (k : Keyword) (s : Statement) → sort_of s ≡ sort_of_word k → is_allowed read k ≡ true → is_stray_end read k ≡ false
+    → Fits read (Some s)
 fits_statement read k (attribute a) e h g = entry_of_taken (open_entry read) k (taken read k (ap is_attribute_sort (sym e) ∙ attribute_sorted a) h)
 fits_statement read k (head (ends b)) e h g = stray_of_word read k b (sym e) g
 fits_statement read k (head x) e h g = tt
@@ -224,9 +245,9 @@ abbrev pub SaidIfSome : List Group → Result (List Lexeme) ExprFault → Option
 SaidIfSome read tokens None = Unit {0}
 SaidIfSome read tokens (Some s) = Said read tokens s
 
-statement_keyword : (read : List Group) (k : Keyword) (t : Lexeme) (ts : List Lexeme) (o : Option Statement) → statement_by_keyword read k ts ≡ Ok o → SaidIfSome read (Ok (t ∷ ts)) o
-statement_keyword read k t ts o h =
-    let a = unless_ok (is_left_out read k ts) LeftOut _ o h in
+statement_keyword : (language : Language) (read : List Group) (k : Keyword) (t : Lexeme) (ts : List Lexeme) (o : Option Statement) → statement_by_keyword language read k ts ≡ Ok o → SaidIfSome read (Ok (t ∷ ts)) o
+statement_keyword language read k t ts o h =
+    let a = unless_ok (is_left_out language read k ts) LeftOut _ o h in
     let b = unless_ok (not (is_allowed read k)) Misplaced _ o a.1 in
     let c = unless_ok (is_stray_end read k) StrayEnd _ o b.1 in
     let d = bind_ok (statement_of k ts) _ o c.1 in
@@ -244,41 +265,42 @@ statement_keyword read k t ts o h =
       sort = subst (Gives (sort_of_word k)) d.1 (gives_statement k ts);
     })
 
-said_by_keyword : (read : List Group) (w : Option Keyword) (t : Lexeme) (ts : List Lexeme) (o : Option Statement) → statement_by_word read ts w ≡ Ok o → SaidIfSome read (Ok (t ∷ ts)) o
-said_by_keyword read None t ts o h = cc
-said_by_keyword read (Some k) t ts o h = statement_keyword read k t ts o h
+said_by_keyword : (language : Language) (read : List Group) (w : Option Keyword) (t : Lexeme) (ts : List Lexeme) (o : Option Statement) → statement_by_word language read ts w ≡ Ok o → SaidIfSome read (Ok (t ∷ ts)) o
+said_by_keyword language read None t ts o h = cc
+said_by_keyword language read (Some k) t ts o h = statement_keyword language read k t ts o h
 
-statement_in_line : (read : List Group) (ts : List Lexeme) (o : Option Statement) → statement_of_tokens read ts ≡ Ok o → SaidIfSome read (Ok ts) o
-statement_in_line read [] None h = tt
-statement_in_line read [] (Some s) h = cc
-statement_in_line read (t ∷ ts) o h = said_by_keyword read (keyword_of t) t ts o h
+statement_in_line : (language : Language) (read : List Group) (ts : List Lexeme) (o : Option Statement) → statement_of_tokens language read ts ≡ Ok o → SaidIfSome read (Ok ts) o
+statement_in_line language read [] None h = tt
+statement_in_line language read [] (Some s) h = cc
+statement_in_line language read (t ∷ ts) o h = said_by_keyword language read (keyword_of t) t ts o h
 
-statement_lexed : (read : List Group) (r : Result (List Lexeme) ExprFault) (o : Option Statement) → statement_or_fault read r ≡ Ok o → SaidIfSome read r o
-statement_lexed read (Err e) o h = cc
-statement_lexed read (Ok ts) o h = statement_in_line read ts o h
+statement_lexed : (language : Language) (read : List Group) (r : Result (List Lexeme) ExprFault) (o : Option Statement) → statement_or_fault language read r ≡ Ok o → SaidIfSome read r o
+statement_lexed language read (Err e) o h = cc
+statement_lexed language read (Ok ts) o h = statement_in_line language read ts o h
 
-statement_or_help : (read : List Group) (b : Bool) (r : Result (List Lexeme) ExprFault) (o : Option Statement) → cond b (Ok None) (statement_or_fault read r) ≡ Ok o → SaidIfSome read r o
-statement_or_help read true r None h = tt
-statement_or_help read true r (Some s) h = cc
-statement_or_help read false r o h = statement_lexed read r o h
+statement_or_help : (language : Language) (read : List Group) (b : Bool) (r : Result (List Lexeme) ExprFault) (o : Option Statement) → cond b (Ok None) (statement_or_fault language read r) ≡ Ok o → SaidIfSome read r o
+statement_or_help language read true r None h = tt
+statement_or_help language read true r (Some s) h = cc
+statement_or_help language read false r o h = statement_lexed language read r o h
 
 pub past_test : (b : Bool) (e : TreeKind) (r : Result (Option Statement) TreeKind) (o : Option Statement) → cond b (Err e) r ≡ Ok o → r ≡ Ok o
 past_test true e r o h = cc
 past_test false e r o h = h
 
-pub line_given : (read : List Group) (l : LogicalLine) (o : Option Statement) → statement_on_line read l ≡ Ok o → SaidIfSome read (lexemes_from 0 0 l.text) o
+pub line_given : (language : Language) (read : List Group) (l : LogicalLine) (o : Option Statement) → statement_on_line language read l ≡ Ok o → SaidIfSome read (lexemes_from language 0 0 l.text) o
 unfolding statement_on_line
-line_given read l o h = statement_or_help read l.help (lexemes_from 0 0 l.text) o (past_test (not (is_utf8 l.text)) NotUtf8 _ o (past_test (nat_lt MAX_LINE_BYTES (length l.text)) LineTooLong _ o h))
+line_given language read l o h = statement_or_help language read l.help (lexemes_from language 0 0 l.text) o (past_test (not (is_utf8 l.text)) NotUtf8 _ o (past_test (nat_lt MAX_LINE_BYTES (length l.text)) LineTooLong _ o h))
 
 fits_given : (read : List Group) (r : Result (List Lexeme) ExprFault) (o : Option Statement) → SaidIfSome read r o → Fits read o
 fits_given read r None h = tt
 fits_given read r (Some s) h = fits_statement read h.keyword s h.sort h.allowed h.matched
 
-pub line_fits : (read : List Group) (l : LogicalLine) (o : Option Statement) → statement_on_line read l ≡ Ok o → Fits read o
-line_fits read l o h = fits_given read (lexemes_from 0 0 l.text) o (line_given read l o h)
+pub line_fits : (language : Language) (read : List Group) (l : LogicalLine) (o : Option Statement) → statement_on_line language read l ≡ Ok o → Fits read o
+line_fits language read l o h = fits_given read (lexemes_from language 0 0 l.text) o (line_given language read l o h)
 
 -- the name that a line defines
-named_well : (t : Lexeme) (ts : List Lexeme) (name : List ℕ) (b : Bool) → is_name t ≡ b → cond b (no_more (head (config t.text)) ts) (Err Malformed) ≡ Ok (head (config name)) → (t.text ≡ name) × (is_name t ≡ true)
+named_well : (t : Lexeme) (ts : List Lexeme) (name : List ℕ) (b : Bool) → is_name t ≡ b
+    → cond b (no_more (head (config t.text)) ts) (Err Malformed) ≡ Ok (head (config name)) → (t.text ≡ name) × (is_name t ≡ true)
 named_well t [] name true e h = (cc, e)
 named_well t (u ∷ ts) name true e h = cc
 named_well t ts name false e h = cc
@@ -287,12 +309,13 @@ config_named : (ts : List Lexeme) (name : List ℕ) → config_line ts ≡ Ok (h
 config_named [] name h = cc
 config_named (t ∷ ts) name h = let r = named_well t ts name (is_name t) refl h in (t, r.0, r.1)
 
-config_given : (k : Keyword) (ts : List Lexeme) (name : List ℕ) → config_sort ≡ sort_of_word k → statement_of k ts ≡ Ok (head (config name)) → (t : Lexeme) × (t.text ≡ name) × (is_name t ≡ true)
+config_given : (k : Keyword) (ts : List Lexeme) (name : List ℕ) → config_sort ≡ sort_of_word k → statement_of k ts ≡ Ok (head (config name))
+    → (t : Lexeme) × (t.text ≡ name) × (is_name t ≡ true)
 config_given words.Config ts name e h = config_named ts name h
 config_given k ts name e h = cc
 
-pub line_names : (read : List Group) (l : LogicalLine) (name : List ℕ) → statement_on_line read l ≡ Ok (Some (head (config name))) → (t : Lexeme) × (t.text ≡ name) × (is_name t ≡ true)
-line_names read l name h = let s = line_given read l (Some (head (config name))) h in config_given s.keyword s.rest name s.sort s.form
+pub line_names : (language : Language) (read : List Group) (l : LogicalLine) (name : List ℕ) → statement_on_line language read l ≡ Ok (Some (head (config name))) → (t : Lexeme) × (t.text ≡ name) × (is_name t ≡ true)
+line_names language read l name h = let s = line_given language read l (Some (head (config name))) h in config_given s.keyword s.rest name s.sort s.form
 
 -- the value of a default is read of the tokens after its word
 pub record IsValueOf (tokens : Result (List Lexeme) ExprFault) (value : Expr) : Type 0 where
@@ -309,15 +332,21 @@ attribute_same x y r h k = cc
 valued_same : (x y : DefaultAttribute) → Some x ≡ Some y → x.value ≡ y.value
 valued_same x y k = let z : x ≡ y = cc in ap (λ (v : DefaultAttribute). v.value) z
 
-default_value : (f : DefaultAttribute → Attribute) (g : Attribute → Option DefaultAttribute) → ((d : DefaultAttribute) → g (f d) ≡ Some d) → (ts : List Lexeme) (a : Attribute) (d : DefaultAttribute) → g a ≡ Some d → default_line f ts ≡ Ok (attribute a) → (x : ParsedExpr) × (leading_expr ts ≡ Ok x) × (x.expr ≡ d.value)
+default_value : (f : DefaultAttribute → Attribute) (g : Attribute → Option DefaultAttribute) → ((d : DefaultAttribute) → g (f d) ≡ Some d)
+    → (ts : List Lexeme) (a : Attribute) (d : DefaultAttribute) → g a ≡ Some d → default_line f ts ≡ Ok (attribute a)
+    → (x : ParsedExpr) × (leading_expr ts ≡ Ok x) × (x.expr ≡ d.value)
 default_value f g same ts a d e h =
     let x = bind_ok (leading_expr ts) _ (attribute a) h in
     let c = bind_ok (optional_if x.0.rest) _ (attribute a) x.2 in
-    let made : f (record { value = x.0.expr; single = x.0.single; condition = c.0 }) ≡ a = attribute_same (f (record { value = x.0.expr; single = x.0.single; condition = c.0 })) a (Ok (attribute (f (record { value = x.0.expr; single = x.0.single; condition = c.0 })))) refl c.2 in
-    let told : Some (record { value = x.0.expr; single = x.0.single; condition = c.0 }) ≡ Some d = sym (same (record { value = x.0.expr; single = x.0.single; condition = c.0 })) ∙ ap g made ∙ e in
+    let made : f (record { value = x.0.expr; single = x.0.single; condition = c.0 }) ≡ a = attribute_same
+    (f (record { value = x.0.expr; single = x.0.single; condition = c.0 })) a
+    (Ok (attribute (f (record { value = x.0.expr; single = x.0.single; condition = c.0 })))) refl c.2 in
+    let told : Some (record { value = x.0.expr; single = x.0.single; condition = c.0 }) ≡ Some d = sym
+    (same (record { value = x.0.expr; single = x.0.single; condition = c.0 })) ∙ ap g made ∙ e in
     (x.0, x.1, valued_same (record { value = x.0.expr; single = x.0.single; condition = c.0 }) d told)
 
-default_said : (k : Keyword) (ts : List Lexeme) (a : Attribute) (d : DefaultAttribute) → default_sort ≡ sort_of_word k → default_of a ≡ Some d → statement_of k ts ≡ Ok (attribute a) → (x : ParsedExpr) × (leading_expr ts ≡ Ok x) × (x.expr ≡ d.value)
+default_said : (k : Keyword) (ts : List Lexeme) (a : Attribute) (d : DefaultAttribute) → default_sort ≡ sort_of_word k → default_of a ≡ Some d
+    → statement_of k ts ≡ Ok (attribute a) → (x : ParsedExpr) × (leading_expr ts ≡ Ok x) × (x.expr ≡ d.value)
 default_said words.Default ts a d e m h = default_value default default_of (λ d. refl) ts a d m h
 default_said (words.DefaultType k) ts a d e m h = default_value (typed_default k) default_of (λ d. refl) ts a d m h
 default_said k ts a d e m h = cc
@@ -327,9 +356,9 @@ sorted_default (default x) d h = refl
 sorted_default (typed_default k x) d h = refl
 sorted_default a d h = cc
 
-pub line_values : (read : List Group) (l : LogicalLine) (a : Attribute) (d : DefaultAttribute) → default_of a ≡ Some d → statement_on_line read l ≡ Ok (Some (attribute a)) → IsValueOf (lexemes_from 0 0 l.text) d.value
-line_values read l a d m h =
-    let s = line_given read l (Some (attribute a)) h in
+pub line_values : (language : Language) (read : List Group) (l : LogicalLine) (a : Attribute) (d : DefaultAttribute) → default_of a ≡ Some d → statement_on_line language read l ≡ Ok (Some (attribute a)) → IsValueOf (lexemes_from language 0 0 l.text) d.value
+line_values language read l a d m h =
+    let s = line_given language read l (Some (attribute a)) h in
     let x = default_said s.keyword s.rest a d (sym (sorted_default a d m) ∙ s.sort) m s.form in
     record { first = s.first; rest = s.rest; stand = s.stand; taken = x.0; read_as = x.1; is = x.2 }
 
@@ -338,6 +367,6 @@ test_passed : (b : Bool) (e : TreeKind) (r : Result (Option Statement) TreeKind)
 test_passed true e r o h = cc
 test_passed false e r o h = refl
 
-pub line_utf8 : (read : List Group) (l : LogicalLine) (o : Option Statement) → statement_on_line read l ≡ Ok o → IsUtf8 l.text
+pub line_utf8 : (language : Language) (read : List Group) (l : LogicalLine) (o : Option Statement) → statement_on_line language read l ≡ Ok o → IsUtf8 l.text
 unfolding statement_on_line
-line_utf8 read l o h = IsUtf8-from_is_utf8 l.text (not_false (is_utf8 l.text) (test_passed (not (is_utf8 l.text)) NotUtf8 _ o (past_test (nat_lt MAX_LINE_BYTES (length l.text)) LineTooLong _ o h)))
+line_utf8 language read l o h = IsUtf8-from_is_utf8 l.text (not_false (is_utf8 l.text) (test_passed (not (is_utf8 l.text)) NotUtf8 _ o (past_test (nat_lt MAX_LINE_BYTES (length l.text)) LineTooLong _ o h)))

@@ -55,10 +55,15 @@ one_listing (block g w k rest) none xs [] n m a b e = cc
 one_listing (block g w k rest) none xs (y ∷ ys) n m a b e = absurd (not_opening g y (first_same e) (ends_opening g.head k.head n.0) b)
 one_listing (block g w k rest) (entry h rest') xs ys n m a b e = absurd (not_both h g (sym (first_same e)) m.0 (ends_opening g.head k.head n.0))
 one_listing (block g w k rest) (block h w' k' rest') xs ys n m a b e =
-    let same : listing w ++ (k ∷ (listing rest ++ xs)) ≡ listing w' ++ (k' ∷ (listing rest' ++ ys)) = sym (regroup g k w (listing rest) xs) ∙ rest_same e ∙ regroup h k' w' (listing rest') ys in
-    let inner : (w ≡ w') × (k ∷ (listing rest ++ xs) ≡ k' ∷ (listing rest' ++ ys)) = one_listing w w' (k ∷ (listing rest ++ xs)) (k' ∷ (listing rest' ++ ys)) n.1 m.1 (ends_closing g.head k.head n.0) (ends_closing h.head k'.head m.0) same in
-    let outer : (rest ≡ rest') × (xs ≡ ys) = one_listing rest rest' xs ys n.2 m.2 a b (rest_same inner.1) in
-    (ap (λ x. block x w k rest) (first_same e) ∙ ap (λ x. block h x k rest) inner.0 ∙ ap (λ x. block h w' x rest) (first_same inner.1) ∙ ap (block h w' k') outer.0, outer.1)
+    let same : listing w ++ (k ∷ (listing rest ++ xs)) ≡ listing w' ++ (k' ∷ (listing rest' ++ ys)) = sym (regroup g k w (listing rest) xs) ∙ rest_same e
+    ∙ regroup h k' w' (listing rest') ys in
+    let inner : (w ≡ w') × (k ∷ (listing rest ++ xs) ≡ k' ∷ (listing rest' ++ ys)) = one_listing w w' (k ∷ (listing rest ++ xs)) (k' ∷ (listing rest' ++ ys))
+    n.1 m.1 (ends_closing g.head k.head n.0) (ends_closing h.head k'.head m.0) same in
+    let outer : (rest ≡ rest') × (xs ≡ ys) = one_listing rest rest' xs ys n.2 m.2 a b (rest_same inner.1) in (
+      ap (λ x. block x w k rest) (first_same e) ∙ ap (λ x. block h x k rest) inner.0 ∙ ap (λ x. block h w' x rest) (first_same inner.1)
+          ∙ ap (block h w' k') outer.0,
+      outer.1,
+    )
 
 pub only_tree : (t u : Items) → IsNested t → IsNested u → listing t ≡ listing u → t ≡ u
 only_tree t u n m e = (one_listing t u [] [] n m tt tt (append-nil (listing t) ∙ e ∙ sym (append-nil (listing u)))).0

@@ -48,9 +48,12 @@ open_opening n g gs e = rw (e, open_blocks) refl
 pub pushed : (g : Group) (gs : List Group) → side_of g.head ≡ opening → open_blocks 0 (g ∷ gs) ≡ g ∷ open_blocks 0 gs
 pushed g gs e = rw (e, open_blocks) refl
 
-open-drop_by : (s : Side) (n : ℕ) (g : Group) (gs : List Group) → side_of g.head ≡ s → ((m : ℕ) → open_blocks m gs ≡ drop m (open_blocks 0 gs)) → open_blocks n (g ∷ gs) ≡ drop n (open_blocks 0 (g ∷ gs))
+open-drop_by : (s : Side) (n : ℕ) (g : Group) (gs : List Group) → side_of g.head ≡ s → ((m : ℕ) → open_blocks m gs ≡ drop m (open_blocks 0 gs))
+    → open_blocks n (g ∷ gs) ≡ drop n (open_blocks 0 (g ∷ gs))
 open-drop_by inside n g gs e ih = open_inside n g gs e ∙ ih n ∙ ap (drop n) (sym (open_inside 0 g gs e))
-open-drop_by closing n g gs e ih = open_closing n g gs e ∙ ih (suc n) ∙ sym (ap (drop n) (open_closing 0 g gs e ∙ ih 1) ∙ drop-drop n 1 (open_blocks 0 gs) ∙ ap (λ k. drop k (open_blocks 0 gs)) (let h : 1 + n ≡ suc n = omega arith in h))
+open-drop_by closing n g gs e ih =
+    open_closing n g gs e ∙ ih (suc n) ∙ sym (ap (drop n) (open_closing 0 g gs e ∙ ih 1) ∙ drop-drop n 1 (open_blocks 0 gs)
+    ∙ ap (λ k. drop k (open_blocks 0 gs)) (let h : 1 + n ≡ suc n = omega arith in h))
 open-drop_by opening zero g gs e ih = refl
 open-drop_by opening (suc m) g gs e ih = open_opening m g gs e ∙ ih m ∙ sym (ap (drop (suc m)) (pushed g gs e))
 

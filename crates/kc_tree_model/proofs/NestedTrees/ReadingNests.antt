@@ -47,7 +47,8 @@ ended_by_end file_end b h = cc
 abbrev is_matched : Block → Option (Group × Block) → Bool
 is_matched b o = is_some_block b (option_map (λ (q : Group × Block). q.1) o)
 
-matched_first : (g : Group) (outer : List Group) (b : Block) (o : Option Block) → opened_block g ≡ o → is_matched b (option_map (λ c. (g, c)) o) ≡ true → is_some_block b (opened_block g) ≡ true
+matched_first : (g : Group) (outer : List Group) (b : Block) (o : Option Block) → opened_block g ≡ o → is_matched b (option_map (λ c. (g, c)) o) ≡ true
+    → is_some_block b (opened_block g) ≡ true
 matched_first g outer b None e h = cc
 matched_first g outer b (Some c) e h = ap (is_some_block b) e ∙ h
 
@@ -55,7 +56,8 @@ not_false : (b : Bool) → not b ≡ false → b ≡ true
 not_false true h = refl
 not_false false h = cc
 
-after_end : (start read : List Group) (at : Position) (b : Block) (blocks : List Group) → innermost start ≡ None → AllBlocks blocks → open_blocks 0 read ≡ blocks ++ open_blocks 0 start → EndsMatch read → is_stray read b ≡ false → Since start (with_group at (of_head (ends b)) read)
+after_end : (start read : List Group) (at : Position) (b : Block) (blocks : List Group) → innermost start ≡ None → AllBlocks blocks
+    → open_blocks 0 read ≡ blocks ++ open_blocks 0 start → EndsMatch read → is_stray read b ≡ false → Since start (with_group at (of_head (ends b)) read)
 after_end start read at b [] i own o m h =
     let none_open : innermost read ≡ None = ap innermost_of o ∙ i in
     let stray : is_matched b (innermost read) ≡ false = ap (is_matched b) none_open in
@@ -73,11 +75,33 @@ after_end start read at b (g ∷ gs) i own o m h =
     }
 
 -- a statement that is no `source`
-after_head : (start read : List Group) (at : Position) (h : Head) → innermost start ≡ None → Since start read → path_of_head h ≡ None → Fits read (Some (head h)) → Since start (with_group at (of_head h) read)
+after_head : (start read : List Group) (at : Position) (h : Head) → innermost start ≡ None → Since start read → path_of_head h ≡ None → Fits read (Some (head h))
+    → Since start (with_group at (of_head h) read)
 after_head start read at (config name) i s p f = record { blocks = s.blocks; own = s.own; opened = s.opened; matched = ((λ c. cc), s.matched) }
-after_head start read at choice i s p f = record { blocks = record { number = length read; at = at; head = of_head choice; attributes = [] } ∷ s.blocks; own = ((_, refl), s.own); opened = ap (λ gs. record { number = length read; at = at; head = of_head choice; attributes = [] } ∷ gs) s.opened; matched = ((λ c. cc), s.matched) }
-after_head start read at (menu title) i s p f = record { blocks = record { number = length read; at = at; head = of_head (menu title); attributes = [] } ∷ s.blocks; own = ((_, refl), s.own); opened = ap (λ gs. record { number = length read; at = at; head = of_head (menu title); attributes = [] } ∷ gs) s.opened; matched = ((λ c. cc), s.matched) }
-after_head start read at (condition e) i s p f = record { blocks = record { number = length read; at = at; head = of_head (condition e); attributes = [] } ∷ s.blocks; own = ((_, refl), s.own); opened = ap (λ gs. record { number = length read; at = at; head = of_head (condition e); attributes = [] } ∷ gs) s.opened; matched = ((λ c. cc), s.matched) }
+after_head start read at choice i s p f =
+    record {
+      blocks = record { number = length read; at = at; head = of_head choice; attributes = [] } ∷ s.blocks;
+      own = ((_, refl), s.own);
+      opened = ap
+          (λ gs. record { number = length read; at = at; head = of_head choice; attributes = [] } ∷ gs) s.opened;
+      matched = ((λ c. cc), s.matched);
+    }
+after_head start read at (menu title) i s p f =
+    record {
+      blocks = record { number = length read; at = at; head = of_head (menu title); attributes = [] } ∷ s.blocks;
+      own = ((_, refl), s.own);
+      opened = ap
+          (λ gs. record { number = length read; at = at; head = of_head (menu title); attributes = [] } ∷ gs) s.opened;
+      matched = ((λ c. cc), s.matched);
+    }
+after_head start read at (condition e) i s p f =
+    record {
+      blocks = record { number = length read; at = at; head = of_head (condition e); attributes = [] } ∷ s.blocks;
+      own = ((_, refl), s.own);
+      opened = ap
+          (λ gs. record { number = length read; at = at; head = of_head (condition e); attributes = [] } ∷ gs) s.opened;
+      matched = ((λ c. cc), s.matched);
+    }
 after_head start read at (comment title) i s p f = record { blocks = s.blocks; own = s.own; opened = s.opened; matched = ((λ c. cc), s.matched) }
 after_head start read at (source path) i s p f = cc
 after_head start read at mainmenu i s p f = record { blocks = s.blocks; own = s.own; opened = s.opened; matched = ((λ c. cc), s.matched) }
@@ -87,11 +111,21 @@ after_head start read at (ends b) i s p f = after_end start read at b s.blocks i
 with_line : Group → ℕ → Attribute → Group
 with_line g line a = record g { attributes = g.attributes ++ record { number = line; attribute = a } ∷ [] }
 
-attribute_inside : (start before : List Group) (g : Group) (line : ℕ) (a : Attribute) → side_of g.head ≡ inside → Since start (g ∷ before) → Since start (with_line g line a ∷ before)
+attribute_inside : (start before : List Group) (g : Group) (line : ℕ) (a : Attribute) → side_of g.head ≡ inside → Since start (g ∷ before)
+    → Since start (with_line g line a ∷ before)
 unfolding with_line
-attribute_inside start before g line a e s = record { blocks = s.blocks; own = s.own; opened = open_inside 0 (with_line g line a) before e ∙ sym (open_inside 0 g before e) ∙ s.opened; matched = s.matched }
+attribute_inside start before g line a e s =
+    record {
+      blocks = s.blocks;
+      own = s.own;
+      opened = open_inside 0 (with_line g line a) before e ∙ sym (open_inside 0 g before e)
+          ∙ s.opened;
+      matched = s.matched;
+    }
 
-attribute_opening : (start before blocks : List Group) (g : Group) (line : ℕ) (a : Attribute) (b : Block) → innermost start ≡ None → side_of g.head ≡ opening → opened_block g ≡ Some b → AllBlocks blocks → open_blocks 0 (g ∷ before) ≡ blocks ++ open_blocks 0 start → EndsMatch (g ∷ before) → Since start (with_line g line a ∷ before)
+attribute_opening : (start before blocks : List Group) (g : Group) (line : ℕ) (a : Attribute) (b : Block) → innermost start ≡ None → side_of g.head ≡ opening
+    → opened_block g ≡ Some b → AllBlocks blocks → open_blocks 0 (g ∷ before) ≡ blocks ++ open_blocks 0 start → EndsMatch (g ∷ before)
+    → Since start (with_line g line a ∷ before)
 unfolding with_line
 attribute_opening start before [] g line a b i e k own o m =
     let first : g ∷ open_blocks 0 before ≡ open_blocks 0 start = sym (pushed g before e) ∙ o in
@@ -107,10 +141,13 @@ attribute_opening start before (x ∷ xs) g line a b i e k own o m =
       matched = m;
     }
 
-attribute_by : (start before : List Group) (g : Group) (w : GroupHead) (line : ℕ) (a : Attribute) (o : OpenEntry) → g.head ≡ w → from_head opened_by w ≡ Some o → innermost start ≡ None → Since start (g ∷ before) → Since start (with_line g line a ∷ before)
+attribute_by : (start before : List Group) (g : Group) (w : GroupHead) (line : ℕ) (a : Attribute) (o : OpenEntry) → g.head ≡ w → from_head opened_by w ≡ Some o
+    → innermost start ≡ None → Since start (g ∷ before) → Since start (with_line g line a ∷ before)
 attribute_by start before g (of_head (config name)) line a o e k i s = attribute_inside start before g line a (ap side_of e) s
-attribute_by start before g (of_head choice) line a o e k i s = attribute_opening start before s.blocks g line a _ i (ap side_of e) (ap (from_head block_of_head) e) s.own s.opened s.matched
-attribute_by start before g (of_head (menu title)) line a o e k i s = attribute_opening start before s.blocks g line a _ i (ap side_of e) (ap (from_head block_of_head) e) s.own s.opened s.matched
+attribute_by start before g (of_head choice) line a o e k i s =
+    attribute_opening start before s.blocks g line a _ i (ap side_of e) (ap (from_head block_of_head) e) s.own s.opened s.matched
+attribute_by start before g (of_head (menu title)) line a o e k i s =
+    attribute_opening start before s.blocks g line a _ i (ap side_of e) (ap (from_head block_of_head) e) s.own s.opened s.matched
 attribute_by start before g (of_head (condition x)) line a o e k i s = cc
 attribute_by start before g (of_head (comment title)) line a o e k i s = attribute_inside start before g line a (ap side_of e) s
 attribute_by start before g (of_head (source path)) line a o e k i s = cc
@@ -118,23 +155,27 @@ attribute_by start before g (of_head mainmenu) line a o e k i s = cc
 attribute_by start before g (of_head (ends b)) line a o e k i s = cc
 attribute_by start before g file_end line a o e k i s = cc
 
-after_attribute : (start read : List Group) (line : ℕ) (a : Attribute) (o : OpenEntry) → open_entry read ≡ Some o → innermost start ≡ None → Since start read → Since start (with_attribute line a read)
+after_attribute : (start read : List Group) (line : ℕ) (a : Attribute) (o : OpenEntry) → open_entry read ≡ Some o → innermost start ≡ None → Since start read
+    → Since start (with_attribute line a read)
 unfolding with_line
 after_attribute start [] line a o k i s = cc
 after_attribute start (g ∷ before) line a o k i s = attribute_by start before g g.head line a o refl k i s
 
 -- a line that sources no file
-pub after_given : (start read : List Group) (at : Position) (s : Option Statement) → innermost start ≡ None → Since start read → path_to_read s ≡ None → Fits read s → Since start (with_statement at s read)
+pub after_given : (start read : List Group) (at : Position) (s : Option Statement) → innermost start ≡ None → Since start read → path_to_read s ≡ None
+    → Fits read s → Since start (with_statement at s read)
 after_given start read at None i k p f = k
 after_given start read at (Some (head h)) i k p f = after_head start read at h i k p f
 after_given start read at (Some (attribute a)) i k p f = after_attribute start read at.line a f.0 f.1 i k
 
 -- the end of a file that has no block open
-after_last : (start read blocks : List Group) → AllBlocks blocks → open_blocks 0 read ≡ blocks ++ open_blocks 0 start → EndsMatch read → innermost read ≡ None → Closes start read
+after_last : (start read blocks : List Group) → AllBlocks blocks → open_blocks 0 read ≡ blocks ++ open_blocks 0 start → EndsMatch read → innermost read ≡ None
+    → Closes start read
 after_last start read [] own o m e = record { opened = o; matched = m }
 after_last start read (g ∷ gs) own o m e = let found : innermost read ≡ Some (g, own.0.0) = ap innermost_of o ∙ ap (option_map (λ c. (g, c))) own.0.1 in cc
 
-after_file : (start read : List Group) (file : ℕ) (o : Option (Group × Block)) → innermost read ≡ o → Since start read → (at_file_end file read o).fault ≡ None → Closes start (at_file_end file read o).read
+after_file : (start read : List Group) (file : ℕ) (o : Option (Group × Block)) → innermost read ≡ o → Since start read → (at_file_end file read o).fault ≡ None
+    → Closes start (at_file_end file read o).read
 after_file start read file None e s h = after_last start read s.blocks s.own s.opened s.matched e
 after_file start read file (Some o) e s h = cc
 
@@ -149,12 +190,15 @@ Reads sub = (path : List ℕ) (start : List Group) → innermost start ≡ None 
 GoesOn : List Group → (List Group → Outcome) → Type 0
 GoesOn start rest = (read : List Group) → Since start read → (rest read).fault ≡ None → Closes start (rest read).read
 
-after_sub : (start read : List Group) (at : Position) (path : List ℕ) (rest : List Group → Outcome) (o : Outcome) (f : Option TreeFault) → o.fault ≡ f → Since start read → (o.fault ≡ None → Closes (source_group read at path ∷ read) o.read) → GoesOn start rest → (continue_after_file rest at o f).fault ≡ None → Closes start (continue_after_file rest at o f).read
+after_sub : (start read : List Group) (at : Position) (path : List ℕ) (rest : List Group → Outcome) (o : Outcome) (f : Option TreeFault) → o.fault ≡ f
+    → Since start read → (o.fault ≡ None → Closes (source_group read at path ∷ read) o.read) → GoesOn start rest → (continue_after_file rest at o f).fault ≡ None
+    → Closes start (continue_after_file rest at o f).read
 unfolding source_group GoesOn
 after_sub start read at path rest o (Some f) e s c g h = cc
 after_sub start read at path rest o None e s c g h =
     let closes = c e in
-    let back : open_blocks 0 (with_group at file_end o.read) ≡ open_blocks 0 read = popped (record { number = length o.read; at = at; head = file_end; attributes = [] }) o.read refl ∙ ap (drop 1) closes.opened in
+    let back : open_blocks 0 (with_group at file_end o.read) ≡ open_blocks 0 read = popped
+    (record { number = length o.read; at = at; head = file_end; attributes = [] }) o.read refl ∙ ap (drop 1) closes.opened in
     g (with_group at file_end o.read) (record {
       blocks = s.blocks;
       own = s.own;
@@ -162,40 +206,54 @@ after_sub start read at path rest o None e s c g h =
       matched = ((λ x. ap (λ os. ends_first os file_end) closes.opened), closes.matched);
     }) h
 
-after_source : (start read : List Group) (at : Position) (path : List ℕ) (sub : List ℕ → List Group → Outcome) (rest : List Group → Outcome) (k : Option TreeKind) (said_path : List ℕ) → Reads sub → Since start read → GoesOn start rest → (continue_after_source sub rest at path (source_group read at said_path ∷ read) k).fault ≡ None → Closes start (continue_after_source sub rest at path (source_group read at said_path ∷ read) k).read
+after_source : (start read : List Group) (at : Position) (path : List ℕ) (sub : List ℕ → List Group → Outcome) (rest : List Group → Outcome) (k : Option TreeKind) (said_path : List ℕ)
+    → Reads sub → Since start read → GoesOn start rest → (continue_after_source sub rest at path (source_group read at said_path ∷ read) k).fault ≡ None
+    → Closes start (continue_after_source sub rest at path (source_group read at said_path ∷ read) k).read
 unfolding source_group Reads
 after_source start read at path sub rest (Some k) p subs s g h = cc
 after_source start read at path sub rest None p subs s g h =
     let o = sub path (source_group read at p ∷ read) in
     after_sub start read at p rest o o.fault refl s (subs path (source_group read at p ∷ read) refl ((λ c. cc), s.matched)) g h
 
-after_statement_head : (start read : List Group) (at : Position) (x : Head) (p : Option (List ℕ)) (sub : List ℕ → List Group → Outcome) (rest : List Group → Outcome) (r : FileSource) → path_of_head x ≡ p → innermost start ≡ None → Reads sub → Since start read → Fits read (Some (head x)) → GoesOn start rest → (continue_after_statement sub rest r at read (Some (head x)) p).fault ≡ None → Closes start (continue_after_statement sub rest r at read (Some (head x)) p).read
+after_statement_head : (start read : List Group) (at : Position) (x : Head) (p : Option (List ℕ)) (sub : List ℕ → List Group → Outcome) (rest : List Group → Outcome) (r : FileSource)
+    → path_of_head x ≡ p → innermost start ≡ None → Reads sub → Since start read → Fits read (Some (head x)) → GoesOn start rest
+    → (continue_after_statement sub rest r at read (Some (head x)) p).fault ≡ None
+    → Closes start (continue_after_statement sub rest r at read (Some (head x)) p).read
 unfolding GoesOn source_group
 after_statement_head start read at x None sub rest r e i subs s f g h = g (with_statement at (Some (head x)) read) (after_head start read at x i s e f) h
-after_statement_head start read at (source q) (Some path) sub rest r e i subs s f g h = after_source start read at path sub rest (source_fault r read path) q subs s g h
+after_statement_head start read at (source q) (Some path) sub rest r e i subs s f g h =
+    after_source start read at path sub rest (source_fault r read path) q subs s g h
 after_statement_head start read at x (Some path) sub rest r e i subs s f g h = cc
 
-after_statement : (start read : List Group) (at : Position) (s : Option Statement) (p : Option (List ℕ)) (sub : List ℕ → List Group → Outcome) (rest : List Group → Outcome) (r : FileSource) → path_to_read s ≡ p → innermost start ≡ None → Reads sub → Since start read → Fits read s → GoesOn start rest → (continue_after_statement sub rest r at read s p).fault ≡ None → Closes start (continue_after_statement sub rest r at read s p).read
+after_statement : (start read : List Group) (at : Position) (s : Option Statement) (p : Option (List ℕ)) (sub : List ℕ → List Group → Outcome) (rest : List Group → Outcome) (r : FileSource)
+    → path_to_read s ≡ p → innermost start ≡ None → Reads sub → Since start read → Fits read s → GoesOn start rest
+    → (continue_after_statement sub rest r at read s p).fault ≡ None → Closes start (continue_after_statement sub rest r at read s p).read
 unfolding GoesOn
 after_statement start read at (Some (head x)) p sub rest r e i subs k f g h = after_statement_head start read at x p sub rest r e i subs k f g h
-after_statement start read at (Some (attribute a)) None sub rest r e i subs k f g h = g (with_statement at (Some (attribute a)) read) (after_given start read at (Some (attribute a)) i k e f) h
+after_statement start read at (Some (attribute a)) None sub rest r e i subs k f g h =
+    g (with_statement at (Some (attribute a)) read) (after_given start read at (Some (attribute a)) i k e f) h
 after_statement start read at (Some (attribute a)) (Some path) sub rest r e i subs k f g h = cc
 after_statement start read at None None sub rest r e i subs k f g h = g read k h
 after_statement start read at None (Some path) sub rest r e i subs k f g h = cc
 
-after_result : (start read : List Group) (at : Position) (x : Result (Option Statement) TreeKind) (sub : List ℕ → List Group → Outcome) (rest : List Group → Outcome) (r : FileSource) → innermost start ≡ None → Reads sub → Since start read → ((o : Option Statement) → x ≡ Ok o → Fits read o) → GoesOn start rest → (continue_after_line sub rest r at read x).fault ≡ None → Closes start (continue_after_line sub rest r at read x).read
+after_result : (start read : List Group) (at : Position) (x : Result (Option Statement) TreeKind) (sub : List ℕ → List Group → Outcome) (rest : List Group → Outcome) (r : FileSource)
+    → innermost start ≡ None → Reads sub → Since start read → ((o : Option Statement) → x ≡ Ok o → Fits read o) → GoesOn start rest
+    → (continue_after_line sub rest r at read x).fault ≡ None → Closes start (continue_after_line sub rest r at read x).read
 after_result start read at (Err k) sub rest r i subs s f g h = cc
 after_result start read at (Ok o) sub rest r i subs s f g h = after_statement start read at o (path_to_read o) sub rest r refl i subs s (f o refl) g h
 
-lines_close : (sub : List ℕ → List Group → Outcome) (r : FileSource) (file : ℕ) (ls : List LogicalLine) (start : List Group) → innermost start ≡ None → Reads sub → GoesOn start (read_lines sub r file ls)
+lines_close : (sub : List ℕ → List Group → Outcome) (r : FileSource) (file : ℕ) (ls : List LogicalLine) (start : List Group) → innermost start ≡ None → Reads sub
+    → GoesOn start (read_lines sub r file ls)
 unfolding GoesOn
 lines_close sub r file [] start i subs = λ read s h. after_file start read file (innermost read) refl s h
-lines_close sub r file (l ∷ ls) start i subs = λ read s h. after_result start read (record { file = file; line = l.number }) (statement_on_line read l) sub (read_lines sub r file ls) r i subs s (line_fits read l) (lines_close sub r file ls start i subs) h
+lines_close sub r file (l ∷ ls) start i subs = λ read s h. after_result start read (record { file = file; line = l.number }) (statement_on_line r.language read l) sub (read_lines sub r file ls) r i subs s (line_fits r.language read l) (lines_close sub r file ls start i subs) h
 
 pub file_closes : (n : ℕ) (r : FileSource) → Reads (read_file n r)
 unfolding Reads GoesOn
 file_closes zero r path start i m h = record { opened = refl; matched = m }
-file_closes (suc n) r path start i m h = lines_close (read_file n r) r (r.number path) (lines_of (bytes_in r path)) start i (file_closes n r) start (record { blocks = []; own = tt; opened = refl; matched = m }) h
+file_closes (suc n) r path start i m h =
+    lines_close (read_file n r) r (r.number path) (lines_of (bytes_in r path)) start i (file_closes n r) start
+    (record { blocks = []; own = tt; opened = refl; matched = m }) h
 
 either_closes : (b : Bool) (x y : Outcome) → (x.fault ≡ None → ⊥) → (y.fault ≡ None → Closes [] y.read) → (cond b x y).fault ≡ None → Closes [] (cond b x y).read
 either_closes true x y f g h = absurd (f h)
@@ -204,7 +262,8 @@ either_closes false x y f g h = g h
 root_closes : (r : FileSource) (o : Option (List ℕ)) → (read_root r o).fault ≡ None → Closes [] (read_root r o).read
 unfolding Reads
 root_closes r None h = cc
-root_closes r (Some bytes) h = either_closes (nat_lt MAX_TREE_BYTES (length bytes)) _ (read_file MAX_OPEN_FILES r r.root []) (λ e. cc) (file_closes MAX_OPEN_FILES r r.root [] refl tt) h
+root_closes r (Some bytes) h =
+    either_closes (nat_lt MAX_TREE_BYTES (length bytes)) _ (read_file MAX_OPEN_FILES r r.root []) (λ e. cc) (file_closes MAX_OPEN_FILES r r.root [] refl tt) h
 
 tree_of : (read : List Group) → Closes [] read → (t : Items) × IsTreeOf read t
 tree_of read c =
@@ -222,4 +281,4 @@ tree_of read c =
 
 pub reading_nests : (files : Files) (root : List ℕ) → (reading files root).fault ≡ None → (t : Items) × IsTreeOf (reading files root).read t
 unfolding reading
-reading_nests files root h = tree_of (reading files root).read (root_closes (record { bytes = file_at files; number = index_of_file files; root = root }) (file_at files root) h)
+reading_nests files root h = tree_of (reading files root).read (root_closes (record { language = files.language; bytes = file_at files; number = index_of_file files; root = root }) (file_at files root) h)

@@ -17,7 +17,8 @@ behind before (g ∷ gs) = group_in_context (open_blocks 0 before) g ∷ behind 
 
 pub placed-onto : (gs before : List Group) → groups_in_context (onto gs before) ≡ groups_in_context before ++ behind before gs
 placed-onto [] before = sym (append-nil (groups_in_context before))
-placed-onto (g ∷ gs) before = placed-onto gs (g ∷ before) ∙ append_assoc (groups_in_context before) (group_in_context (open_blocks 0 before) g ∷ []) (behind (g ∷ before) gs)
+placed-onto (g ∷ gs) before =
+    placed-onto gs (g ∷ before) ∙ append_assoc (groups_in_context before) (group_in_context (open_blocks 0 before) g ∷ []) (behind (g ∷ before) gs)
 
 pub onto-append : (gs hs before : List Group) → onto (gs ++ hs) before ≡ onto hs (onto gs before)
 onto-append [] hs before = refl
@@ -25,7 +26,8 @@ onto-append (g ∷ gs) hs before = onto-append gs hs (g ∷ before)
 
 pub onto-reverse : (gs before : List Group) → onto gs before ≡ reverse gs ++ before
 onto-reverse [] before = refl
-onto-reverse (g ∷ gs) before = onto-reverse gs (g ∷ before) ∙ sym (ap (λ hs. hs ++ before) (reverse-append (g ∷ []) gs) ∙ append_assoc (reverse gs) (g ∷ []) before)
+onto-reverse (g ∷ gs) before =
+    onto-reverse gs (g ∷ before) ∙ sym (ap (λ hs. hs ++ before) (reverse-append (g ∷ []) gs) ∙ append_assoc (reverse gs) (g ∷ []) before)
 
 -- reading order and its reverse
 pub listed_of : (gs read : List Group) → onto gs [] ≡ read → gs ≡ reverse read

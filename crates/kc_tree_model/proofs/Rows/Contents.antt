@@ -1,5 +1,5 @@
 -- Rows on what a tree holds.
-use Rattle.std.proofs.Common.{◌≡◌, [], ◌∷◌, Some, None, refl, map}
+use Rattle.std.proofs.Common.{false, ◌≡◌, [], ◌∷◌, Some, None, refl, map}
 use Rattle.std.specs.Prelude.{codes}
 use Rattle.std.specs.Str.{is_utf8, chars}
 use Rattle.kc_expr.specs.Token.{next_token}
@@ -133,7 +133,7 @@ escaped_title : (whole (codes "comment \"a\\\"b\\\\c\"\n")).entries ≡ (comment
 unfolding next_token is_utf8 chars read_expr lines_of source_fault statement_on_line reading tree_faults first_tree_fault lib.Utf8.encode tree_of_groups
 escaped_title = refl
 
-choice_with_its_members : (whole (codes "choice\n\tprompt \"pick\"\n\tdefault B\nconfig A\n\tbool \"a\"\nconfig B\n\tbool \"b\"\nconfig C\n\tbool \"c\"\n\tdepends on X\nendchoice\nconfig X\n\tbool \"x\"\n")).choices ≡ (record { file = 0; line = 1; members = (0 ∷ 1 ∷ 2 ∷ []); prompt = Some yes; defaults = (record { member = 1; condition = yes } ∷ []) } ∷ [])
+choice_with_its_members : (whole (codes "choice\n\tprompt \"pick\"\n\tdefault B\nconfig A\n\tbool \"a\"\nconfig B\n\tbool \"b\"\nconfig C\n\tbool \"c\"\n\tdepends on X\nendchoice\nconfig X\n\tbool \"x\"\n")).choices ≡ (record { file = 0; line = 1; members = (0 ∷ 1 ∷ 2 ∷ []); prompt = Some yes; defaults = (record { member = 1; condition = yes } ∷ []); optional = false } ∷ [])
 unfolding next_token is_utf8 chars read_expr lines_of source_fault statement_on_line reading tree_faults first_tree_fault lib.Utf8.encode tree_of_groups
 choice_with_its_members = refl
 

@@ -2,106 +2,50 @@
 use Rattle.std.proofs.Common.{true, false, ◌≡◌, ℕ, zero, suc, ◌+◌, ◌/◌, ◌%◌, List, [], ◌∷◌, ◌++◌, Some, None, refl}
 use Rattle.std.specs.Prelude.{codes, replicate}
 use Rattle.std.specs.Str.{is_utf8, chars}
+use Rattle.kc_expr.specs.declared.language.Language.TheVariants.{Strict}
 use Rattle.kc_expr.specs.Token.{next_token}
 use Rattle.kc_expr.specs.Grammar.{read_expr}
-use Rattle.kc_tree_model.specs.declared.fault.TreeKind.TheVariants.{LineTooLong, Malformed, TooDeep, TooMany}
+use Rattle.kc_tree_model.specs.declared.fault.TreeKind.TheVariants.{TooDeep, TooMany}
 use Rattle.kc_tree_model.specs.LogicalLines.{lines_of}
 use Rattle.kc_tree_model.specs.Statements.{source, choice, head}
 use Rattle.kc_tree_model.specs.Blocks.{Group, GroupHead, of_head, file_end}
 use Rattle.kc_tree_model.specs.Limits.{FileSource, source_fault, is_too_many}
 use Rattle.kc_tree_model.specs.Reading.{statement_on_line, reading}
 use Rattle.kc_tree_model.specs.TreeFaults.{tree_faults, first_tree_fault}
-use Rattle.kc_tree_model.specs.TreeFiles.{Files}
+use Rattle.kc_tree_model.specs.TreeFiles.{strict_files, Files}
 use Rattle.kc_tree_model.proofs.Rows.Trees.{fault}
-
--- a default with bytes before and after it
-abbrev nested_default : List ℕ → List ℕ → List ℕ
-nested_default before after = codes "config A\n\tbool\n\tdefault " ++ (before ++ (codes "y" ++ after))
-
-negations_64 : fault (nested_default (replicate 64 33) []) ≡ None
-unfolding next_token is_utf8 chars read_expr lines_of source_fault statement_on_line reading tree_faults first_tree_fault lib.Utf8.encode
-negations_64 = refl
-
-negations_65 : fault (nested_default (replicate 65 33) []) ≡ Some (3, TooDeep)
-unfolding next_token is_utf8 chars read_expr lines_of source_fault statement_on_line reading tree_faults first_tree_fault lib.Utf8.encode
-negations_65 = refl
-
-parentheses_64 : fault (nested_default (replicate 64 40) (replicate 64 41)) ≡ None
-unfolding next_token is_utf8 chars read_expr lines_of source_fault statement_on_line reading tree_faults first_tree_fault lib.Utf8.encode
-parentheses_64 = refl
-
-parentheses_65 : fault (nested_default (replicate 65 40) (replicate 65 41)) ≡ Some (3, TooDeep)
-unfolding next_token is_utf8 chars read_expr lines_of source_fault statement_on_line reading tree_faults first_tree_fault lib.Utf8.encode
-parentheses_65 = refl
-
--- TooDeep is at the symbol: without one the expression only ends too early
-negations_of_nothing : fault (codes "config A\n\tbool\n\tdefault " ++ replicate 65 33) ≡ Some (3, Malformed)
-unfolding next_token is_utf8 chars read_expr lines_of source_fault statement_on_line reading tree_faults first_tree_fault lib.Utf8.encode
-negations_of_nothing = refl
-
-open_parentheses_65 : fault (nested_default (replicate 65 40) []) ≡ Some (3, TooDeep)
-unfolding next_token is_utf8 chars read_expr lines_of source_fault statement_on_line reading tree_faults first_tree_fault lib.Utf8.encode
-open_parentheses_65 = refl
 
 name_of_256_bytes : fault (codes "config " ++ (replicate 256 65 ++ codes "\n\tbool")) ≡ None
 unfolding next_token is_utf8 chars read_expr lines_of source_fault statement_on_line reading tree_faults first_tree_fault lib.Utf8.encode
 name_of_256_bytes = refl
 
-name_of_257_bytes : fault (codes "config " ++ replicate 257 65) ≡ Some (1, TooMany)
-unfolding next_token is_utf8 chars read_expr lines_of source_fault statement_on_line reading tree_faults first_tree_fault lib.Utf8.encode
-name_of_257_bytes = refl
-
-long_name_in_a_malformed_line : fault (codes "config A\n\tbool\n\tselect " ++ (replicate 257 65 ++ codes " if")) ≡ Some (3, Malformed)
-unfolding next_token is_utf8 chars read_expr lines_of source_fault statement_on_line reading tree_faults first_tree_fault lib.Utf8.encode
-long_name_in_a_malformed_line = refl
-
-long_selected_name : fault (codes "config A\n\tbool\n\tselect " ++ replicate 257 65) ≡ Some (3, TooMany)
-unfolding next_token is_utf8 chars read_expr lines_of source_fault statement_on_line reading tree_faults first_tree_fault lib.Utf8.encode
-long_selected_name = refl
-
 abbrev lines_again : ℕ → List ℕ → List ℕ
 lines_again zero line = []
 lines_again (suc n) line = line ++ lines_again n line
-
-blocks_64 : fault (lines_again 64 (codes "if y\n") ++ lines_again 64 (codes "endif\n")) ≡ None
-unfolding next_token is_utf8 chars read_expr lines_of source_fault statement_on_line reading tree_faults first_tree_fault lib.Utf8.encode
-blocks_64 = refl
-
-blocks_65 : fault (lines_again 65 (codes "if y\n") ++ lines_again 65 (codes "endif\n")) ≡ Some (65, TooDeep)
-unfolding next_token is_utf8 chars read_expr lines_of source_fault statement_on_line reading tree_faults first_tree_fault lib.Utf8.encode
-blocks_65 = refl
 
 -- files `f00`, `f01` and so on, each of which sources the next, and the last of which is empty
 abbrev path_of_number : ℕ → List ℕ
 path_of_number n = 102 ∷ (48 + n / 10) ∷ (48 + n % 10) ∷ []
 
-abbrev sourced_in_a_row : ℕ → ℕ → Files
+abbrev sourced_in_a_row : ℕ → ℕ → List (List ℕ × List ℕ)
 sourced_in_a_row zero n = (path_of_number n, []) ∷ []
 sourced_in_a_row (suc more) n = (path_of_number n, codes "source " ++ path_of_number (n + 1)) ∷ sourced_in_a_row more (n + 1)
 
-files_open_32 : first_tree_fault (sourced_in_a_row 31 0) (codes "f00") ≡ None
+files_open_32 : first_tree_fault (strict_files (sourced_in_a_row 31 0)) (codes "f00") ≡ None
 unfolding next_token is_utf8 chars read_expr lines_of source_fault statement_on_line reading tree_faults first_tree_fault lib.Utf8.encode
 files_open_32 = refl
 
-files_open_33 : first_tree_fault (sourced_in_a_row 32 0) (codes "f00") ≡ Some (record { file = Some 31; line = 1; kind = TooDeep })
+files_open_33 : first_tree_fault (strict_files (sourced_in_a_row 32 0)) (codes "f00") ≡ Some (record { file = Some 31; line = 1; kind = TooDeep })
 unfolding next_token is_utf8 chars read_expr lines_of source_fault statement_on_line reading tree_faults first_tree_fault lib.Utf8.encode
 files_open_33 = refl
 
 -- a root that sources an empty file `n` times
 abbrev sources_of_empty : ℕ → Files
-sources_of_empty n = (codes "Kconfig", lines_again n (codes "source e\n")) ∷ (codes "e", []) ∷ []
+sources_of_empty n = strict_files ((codes "Kconfig", lines_again n (codes "source e\n")) ∷ (codes "e", []) ∷ [])
 
 files_read_101 : first_tree_fault (sources_of_empty 100) (codes "Kconfig") ≡ None
 unfolding next_token is_utf8 chars read_expr lines_of source_fault statement_on_line reading tree_faults first_tree_fault lib.Utf8.encode
 files_read_101 = refl
-
-line_of_65536_bytes : fault (35 ∷ replicate 65535 120) ≡ None
-unfolding next_token is_utf8 chars read_expr lines_of source_fault statement_on_line reading tree_faults first_tree_fault lib.Utf8.encode
-line_of_65536_bytes = refl
-
-line_of_65537_bytes : fault (35 ∷ replicate 65536 120) ≡ Some (1, LineTooLong)
-unfolding next_token is_utf8 chars read_expr lines_of source_fault statement_on_line reading tree_faults first_tree_fault lib.Utf8.encode
-line_of_65537_bytes = refl
 
 -- the groups of a root that sources one file, or has one choice, `n` times
 abbrev here : GroupHead → Group
@@ -112,7 +56,7 @@ sourced_again zero = []
 sourced_again (suc n) = here file_end ∷ here (of_head (source (codes "e"))) ∷ sourced_again n
 
 abbrev empty_files : FileSource
-empty_files = record { bytes = λ path. Some []; number = λ path. 0; root = codes "Kconfig" }
+empty_files = record { language = Strict; bytes = λ path. Some []; number = λ path. 0; root = codes "Kconfig" }
 
 files_4096 : source_fault empty_files (sourced_again 4094) (codes "e") ≡ None
 unfolding source_fault

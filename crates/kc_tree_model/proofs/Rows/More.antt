@@ -2,10 +2,12 @@
 use Rattle.std.proofs.Common.{false, ◌≡◌, ℕ, zero, suc, List, [], ◌∷◌, ◌++◌, Some, None, Err, refl, map}
 use Rattle.std.specs.Prelude.{codes, replicate}
 use Rattle.std.specs.Str.{is_utf8, chars}
+use Rattle.kc_expr.specs.declared.language.Language.TheVariants.{Strict}
 use Rattle.kc_value.specs.declared.tri.Tri.TheVariants.{M, Y}
 use Rattle.kc_expr.specs.Token.{next_token}
 use Rattle.kc_expr.specs.Grammar.{read_expr}
 use Rattle.kc_expr.specs.Expr.{alone, both, shown, constant, named}
+use Rattle.kc_tree_model.specs.TreeFiles.{strict_files}
 use Rattle.kc_tree_model.specs.declared.fault.TreeKind.TheVariants.{ChoiceMember, DefaultShape, LeftOut, LineTooLong, Malformed, Misplaced, MissingFile, NoType, NotUtf8, SecondPrompt, SelectType, TooDeep, TooMany, TypeConflict, Unclosed, UnknownStatement}
 use Rattle.kc_tree_model.specs.LogicalLines.{lines_of}
 use Rattle.kc_tree_model.specs.Statements.{source, choice, condition, ends}
@@ -20,10 +22,6 @@ use Rattle.kc_tree_model.specs.declared.ids.Unit.TheVariants.{Symbol as of_symbo
 use Rattle.kc_tree_model.specs.Contents.{tree_of_groups}
 use Rattle.kc_tree_model.proofs.Rows.Trees.{fault, whole, yes}
 
-abbrev lines_again : ℕ → List ℕ → List ℕ
-lines_again zero line = []
-lines_again (suc n) line = line ++ lines_again n line
-
 -- a group at no place
 abbrev here : GroupHead → Group
 here what = record { number = 0; at = record { file = 0; line = 1 }; head = what; attributes = [] }
@@ -37,54 +35,26 @@ closed_choices zero = []
 closed_choices (suc n) = here (of_head (ends blocks.Choice)) ∷ here (of_head choice) ∷ closed_choices n
 
 abbrev empty_files : FileSource
-empty_files = record { bytes = λ path. Some []; number = λ path. 0; root = codes "Kconfig" }
+empty_files = record { language = Strict; bytes = λ path. Some []; number = λ path. 0; root = codes "Kconfig" }
 
 abbrev no_files : FileSource
-no_files = record { bytes = λ path. None; number = λ path. 0; root = codes "Kconfig" }
+no_files = record { language = Strict; bytes = λ path. None; number = λ path. 0; root = codes "Kconfig" }
 
 tab_behind_spaces_of_a_help_text : fault (codes "config A\n\tbool\n\thelp\n    \tx\n        $\n") ≡ None
 unfolding next_token is_utf8 chars read_expr lines_of source_fault statement_on_line reading tree_faults first_tree_fault lib.Utf8.encode
 tab_behind_spaces_of_a_help_text = refl
 
-end_of_a_help_text_behind_spaces_and_a_tab : fault (codes "config A\n\tbool\n\thelp\n    \tx\n       $\n") ≡ Some (5, LeftOut)
-unfolding next_token is_utf8 chars read_expr lines_of source_fault statement_on_line reading tree_faults first_tree_fault lib.Utf8.encode
-end_of_a_help_text_behind_spaces_and_a_tab = refl
-
 help_line_that_is_joined : fault (codes "config A\n\tbool\n\thelp \\\n\n  $\n") ≡ None
 unfolding next_token is_utf8 chars read_expr lines_of source_fault statement_on_line reading tree_faults first_tree_fault lib.Utf8.encode
 help_line_that_is_joined = refl
-
-line_behind_the_text_of_a_joined_help_line : fault (codes "config A\n\tbool\n\thelp \\\n\n  $\nfoo\n") ≡ Some (6, UnknownStatement)
-unfolding next_token is_utf8 chars read_expr lines_of source_fault statement_on_line reading tree_faults first_tree_fault lib.Utf8.encode
-line_behind_the_text_of_a_joined_help_line = refl
-
-help_text_that_is_not_utf8 : fault (codes "config A\n\tbool\n\thelp\n\t\t" ++ ((255 ∷ []) ++ (codes "\n"))) ≡ Some (4, NotUtf8)
-unfolding next_token is_utf8 chars read_expr lines_of source_fault statement_on_line reading tree_faults first_tree_fault lib.Utf8.encode
-help_text_that_is_not_utf8 = refl
-
-too_long_before_not_utf8 : fault (35 ∷ replicate 65536 255) ≡ Some (1, LineTooLong)
-unfolding next_token is_utf8 chars read_expr lines_of source_fault statement_on_line reading tree_faults first_tree_fault lib.Utf8.encode
-too_long_before_not_utf8 = refl
 
 other_help_word : fault (codes "config A\n\tbool\n\t---help---\n\t\t$\n") ≡ None
 unfolding next_token is_utf8 chars read_expr lines_of source_fault statement_on_line reading tree_faults first_tree_fault lib.Utf8.encode
 other_help_word = refl
 
-menu_in_an_if_in_a_choice : fault (codes "choice\nif A\nmenu \"m\"\n") ≡ Some (3, Misplaced)
-unfolding next_token is_utf8 chars read_expr lines_of source_fault statement_on_line reading tree_faults first_tree_fault lib.Utf8.encode
-menu_in_an_if_in_a_choice = refl
-
-choice_in_a_choice : fault (codes "choice\nchoice\n") ≡ Some (2, Misplaced)
-unfolding next_token is_utf8 chars read_expr lines_of source_fault statement_on_line reading tree_faults first_tree_fault lib.Utf8.encode
-choice_in_a_choice = refl
-
-choice_in_a_file_sourced_in_a_choice : first_tree_fault (((codes "Kconfig"), (codes "choice\nsource a\nendchoice\n")) ∷ ((codes "a"), (codes "choice\nendchoice\n")) ∷ []) (codes "Kconfig") ≡ Some (record { file = Some 1; line = 1; kind = Misplaced })
+choice_in_a_file_sourced_in_a_choice : first_tree_fault (strict_files (((codes "Kconfig"), (codes "choice\nsource a\nendchoice\n")) ∷ ((codes "a"), (codes "choice\nendchoice\n")) ∷ [])) (codes "Kconfig") ≡ Some (record { file = Some 1; line = 1; kind = Misplaced })
 unfolding next_token is_utf8 chars read_expr lines_of source_fault statement_on_line reading tree_faults first_tree_fault lib.Utf8.encode
 choice_in_a_file_sourced_in_a_choice = refl
-
-mainmenu_in_a_file_sourced_in_a_block : first_tree_fault (((codes "Kconfig"), (codes "if A\nsource a\nendif\n")) ∷ ((codes "a"), (codes "mainmenu \"m\"\n")) ∷ []) (codes "Kconfig") ≡ Some (record { file = Some 1; line = 1; kind = Misplaced })
-unfolding next_token is_utf8 chars read_expr lines_of source_fault statement_on_line reading tree_faults first_tree_fault lib.Utf8.encode
-mainmenu_in_a_file_sourced_in_a_block = refl
 
 depends_of_a_comment : fault (codes "comment \"c\"\n\tdepends on A\n") ≡ None
 unfolding next_token is_utf8 chars read_expr lines_of source_fault statement_on_line reading tree_faults first_tree_fault lib.Utf8.encode
@@ -94,71 +64,27 @@ help_of_a_choice : fault (codes "choice\n\thelp\n\t\t$\nendchoice\n") ≡ None
 unfolding next_token is_utf8 chars read_expr lines_of source_fault statement_on_line reading tree_faults first_tree_fault lib.Utf8.encode
 help_of_a_choice = refl
 
-constant_as_a_name : fault (codes "config n\n") ≡ Some (1, Malformed)
-unfolding next_token is_utf8 chars read_expr lines_of source_fault statement_on_line reading tree_faults first_tree_fault lib.Utf8.encode
-constant_as_a_name = refl
-
-word_behind_a_name : fault (codes "config A B\n") ≡ Some (1, Malformed)
-unfolding next_token is_utf8 chars read_expr lines_of source_fault statement_on_line reading tree_faults first_tree_fault lib.Utf8.encode
-word_behind_a_name = refl
-
 innermost_open_block_is_reported : fault (codes "if A\nmenu \"m\"\nendmenu\nif B\n") ≡ Some (4, Unclosed)
 unfolding next_token is_utf8 chars read_expr lines_of source_fault statement_on_line reading tree_faults first_tree_fault lib.Utf8.encode
 innermost_open_block_is_reported = refl
-
-def_tristate_is_a_tristate : fault (codes "config A\n\tdef_bool y\n\tdef_tristate y\n") ≡ Some (3, TypeConflict)
-unfolding next_token is_utf8 chars read_expr lines_of source_fault statement_on_line reading tree_faults first_tree_fault lib.Utf8.encode
-def_tristate_is_a_tristate = refl
 
 second_prompt_in_another_definition : fault (codes "config A\n\tbool \"a\"\nconfig A\n\tprompt \"b\"\n") ≡ None
 unfolding next_token is_utf8 chars read_expr lines_of source_fault statement_on_line reading tree_faults first_tree_fault lib.Utf8.encode
 second_prompt_in_another_definition = refl
 
-untyped_symbol_is_selected : fault (codes "config A\n\tbool\n\tselect B\nconfig B\n") ≡ Some (4, NoType)
-unfolding next_token is_utf8 chars read_expr lines_of source_fault statement_on_line reading tree_faults first_tree_fault lib.Utf8.encode
-untyped_symbol_is_selected = refl
-
-imply_of_an_int : fault (codes "config A\n\tbool\n\timply N\nconfig N\n\tint\n") ≡ Some (3, SelectType)
-unfolding next_token is_utf8 chars read_expr lines_of source_fault statement_on_line reading tree_faults first_tree_fault lib.Utf8.encode
-imply_of_an_int = refl
-
-second_definition_of_a_member_in_its_choice : fault (codes "choice\nconfig A\nconfig A\nendchoice\n") ≡ Some (3, ChoiceMember)
-unfolding next_token is_utf8 chars read_expr lines_of source_fault statement_on_line reading tree_faults first_tree_fault lib.Utf8.encode
-second_definition_of_a_member_in_its_choice = refl
-
 second_prompt_of_an_untyped_symbol_behind_others : fault (codes "config B\n\tbool\n\tprompt \"b\"\n\tprompt \"c\"\nconfig A\n") ≡ Some (4, SecondPrompt)
 unfolding next_token is_utf8 chars read_expr lines_of source_fault statement_on_line reading tree_faults first_tree_fault lib.Utf8.encode
 second_prompt_of_an_untyped_symbol_behind_others = refl
-
-hex_default_of_two_operands : fault (codes "config H\n\thex\n\tdefault A && B\n") ≡ Some (3, DefaultShape)
-unfolding next_token is_utf8 chars read_expr lines_of source_fault statement_on_line reading tree_faults first_tree_fault lib.Utf8.encode
-hex_default_of_two_operands = refl
-
-second_prompt_of_a_choice : fault (codes "choice\n\tprompt \"p\"\n\tbool \"q\"\nendchoice\n") ≡ Some (3, SecondPrompt)
-unfolding next_token is_utf8 chars read_expr lines_of source_fault statement_on_line reading tree_faults first_tree_fault lib.Utf8.encode
-second_prompt_of_a_choice = refl
 
 bare_bools_of_a_choice : fault (codes "choice\n\tbool\n\tbool\nendchoice\n") ≡ None
 unfolding next_token is_utf8 chars read_expr lines_of source_fault statement_on_line reading tree_faults first_tree_fault lib.Utf8.encode
 bare_bools_of_a_choice = refl
 
-untyped_modules : fault (codes "config MODULES\n\tmodules\n") ≡ Some (1, NoType)
-unfolding next_token is_utf8 chars read_expr lines_of source_fault statement_on_line reading tree_faults first_tree_fault lib.Utf8.encode
-untyped_modules = refl
-
-long_implied_name : fault (codes "config A\n\tbool\n\timply AAAAAAAAAAAAAAAAAAAAAAAAAAAAAAAAAAAAAAAAAAAAAAAAAAAAAAAAAAAAAAAAAAAAAAAAAAAAAAAAAAAAAAAAAAAAAAAAAAAAAAAAAAAAAAAAAAAAAAAAAAAAAAAAAAAAAAAAAAAAAAAAAAAAAAAAAAAAAAAAAAAAAAAAAAAAAAAAAAAAAAAAAAAAAAAAAAAAAAAAAAAAAAAAAAAAAAAAAAAAAAAAAAAAAAAAAAAAAAAAAAAAAAAAAAAAAAAAA") ≡ Some (3, TooMany)
-unfolding next_token is_utf8 chars read_expr lines_of source_fault statement_on_line reading tree_faults first_tree_fault lib.Utf8.encode
-long_implied_name = refl
-
-blocks_over_open_files : first_tree_fault ((codes "Kconfig", lines_again 40 (codes "if y\n") ++ codes "source a") ∷ (codes "a", lines_again 25 (codes "if y\n")) ∷ []) (codes "Kconfig") ≡ Some (record { file = Some 1; line = 25; kind = TooDeep })
-unfolding next_token is_utf8 chars read_expr lines_of source_fault statement_on_line reading tree_faults first_tree_fault lib.Utf8.encode
-blocks_over_open_files = refl
-
-too_deep_before_too_many : statement_on_line (replicate 64 (here (of_head (condition yes))) ++ closed_choices 4096) (record { number = 1; text = codes "choice"; help = false }) ≡ Err TooDeep
+too_deep_before_too_many : statement_on_line Strict (replicate 64 (here (of_head (condition yes))) ++ closed_choices 4096) (record { number = 1; text = codes "choice"; help = false }) ≡ Err TooDeep
 unfolding next_token is_utf8 chars statement_on_line lib.Utf8.encode
 too_deep_before_too_many = refl
 
-too_many_choices : statement_on_line (replicate 63 (here (of_head (condition yes))) ++ closed_choices 4096) (record { number = 1; text = codes "choice"; help = false }) ≡ Err TooMany
+too_many_choices : statement_on_line Strict (replicate 63 (here (of_head (condition yes))) ++ closed_choices 4096) (record { number = 1; text = codes "choice"; help = false }) ≡ Err TooMany
 unfolding next_token is_utf8 chars statement_on_line lib.Utf8.encode
 too_many_choices = refl
 

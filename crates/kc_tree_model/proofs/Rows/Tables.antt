@@ -4,6 +4,7 @@ use Rattle.std.specs.Prelude.{codes, option_map}
 use Rattle.std.specs.Str.{is_utf8, chars}
 use Rattle.kc_expr.specs.Token.{next_token}
 use Rattle.kc_expr.specs.Grammar.{read_expr}
+use Rattle.kc_tree_model.specs.TreeFiles.{strict_files}
 use Rattle.kc_tree_model.specs.declared.fault.TreeKind.{TreeKind}
 use Rattle.kc_tree_model.specs.declared.fault.TreeFault.{TreeFault}
 use Rattle.kc_tree_model.specs.declared.fault.TreeKind.TheVariants.{LeftOut, Malformed, Misplaced, ModulesType, NoType, RangeType, StrayEnd, TypeConflict, Unclosed, UnknownStatement}
@@ -110,54 +111,149 @@ lines =
 
 -- the kind of the fault of a tree of these lines, which may source two files
 abbrev kind_of : List ℕ → List ℕ → Option TreeKind
-kind_of front line = option_map (λ (f : TreeFault). f.kind) (first_tree_fault ((codes "Kconfig", front ++ line) ∷ (codes "a", []) ∷ (codes "b", codes "if B\nendif\n") ∷ []) (codes "Kconfig"))
+kind_of front line = option_map (λ (f : TreeFault). f.kind) (first_tree_fault (strict_files ((codes "Kconfig", front ++ line) ∷ (codes "a", []) ∷ (codes "b", codes "if B\nendif\n") ∷ [])) (codes "Kconfig"))
 
 outside : map (kind_of []) lines
-    ≡ Some NoType ∷ Some NoType ∷ Some Unclosed ∷ Some StrayEnd ∷ Some Unclosed ∷ Some StrayEnd ∷ Some Unclosed ∷ Some StrayEnd ∷ None ∷ None ∷ None ∷ None ∷ Some Misplaced ∷ Some Misplaced ∷ Some Misplaced ∷ Some Misplaced ∷ Some Misplaced ∷ Some Misplaced ∷ Some Misplaced ∷ Some Misplaced ∷ Some Misplaced ∷ Some Misplaced ∷ Some Misplaced ∷ Some Misplaced ∷ Some Misplaced ∷ Some Misplaced ∷ Some Misplaced ∷ Some Misplaced ∷ Some Misplaced ∷ Some Misplaced ∷ Some Misplaced ∷ Some Misplaced ∷ Some Misplaced ∷ Some Misplaced ∷ Some Misplaced ∷ Some Misplaced ∷ Some LeftOut ∷ Some LeftOut ∷ Some LeftOut ∷ Some Misplaced ∷ Some LeftOut ∷ Some LeftOut ∷ Some LeftOut ∷ Some LeftOut ∷ Some LeftOut ∷ Some LeftOut ∷ Some LeftOut ∷ Some LeftOut ∷ Some LeftOut ∷ Some Malformed ∷ Some LeftOut ∷ Some LeftOut ∷ Some LeftOut ∷ Some Malformed ∷ Some UnknownStatement ∷ Some UnknownStatement ∷ Some Misplaced ∷ Some Misplaced ∷ Some Misplaced ∷ Some StrayEnd ∷ Some StrayEnd ∷ Some StrayEnd ∷ Some Malformed ∷ Some Malformed ∷ Some Malformed ∷ Some Malformed ∷ Some Malformed ∷ Some Malformed ∷ Some Misplaced ∷ Some Misplaced ∷ Some Misplaced ∷ Some Misplaced ∷ Some Misplaced ∷ Some Misplaced ∷ Some Misplaced ∷ Some Malformed ∷ Some Malformed ∷ Some Malformed ∷ Some Malformed ∷ Some Malformed ∷ Some Malformed ∷ Some Malformed ∷ Some Misplaced ∷ Some Misplaced ∷ Some Misplaced ∷ Some Misplaced ∷ Some Misplaced ∷ Some Misplaced ∷ Some Misplaced ∷ Some Misplaced ∷ Some Misplaced ∷ Some Misplaced ∷ []
+    ≡ Some NoType ∷ Some NoType ∷ Some Unclosed ∷ Some StrayEnd ∷ Some Unclosed ∷ Some StrayEnd ∷ Some Unclosed ∷ Some StrayEnd ∷ None ∷ None ∷ None ∷ None
+    ∷ Some Misplaced ∷ Some Misplaced ∷ Some Misplaced ∷ Some Misplaced ∷ Some Misplaced ∷ Some Misplaced ∷ Some Misplaced ∷ Some Misplaced ∷ Some Misplaced
+    ∷ Some Misplaced ∷ Some Misplaced ∷ Some Misplaced ∷ Some Misplaced ∷ Some Misplaced ∷ Some Misplaced ∷ Some Misplaced ∷ Some Misplaced ∷ Some Misplaced
+    ∷ Some Misplaced ∷ Some Misplaced ∷ Some Misplaced ∷ Some Misplaced ∷ Some Misplaced ∷ Some Misplaced ∷ Some LeftOut ∷ Some LeftOut ∷ Some LeftOut
+    ∷ Some Misplaced ∷ Some LeftOut ∷ Some LeftOut ∷ Some LeftOut ∷ Some LeftOut ∷ Some LeftOut ∷ Some LeftOut ∷ Some LeftOut ∷ Some LeftOut ∷ Some LeftOut
+    ∷ Some Malformed ∷ Some LeftOut ∷ Some LeftOut ∷ Some LeftOut ∷ Some Malformed ∷ Some UnknownStatement ∷ Some UnknownStatement ∷ Some Misplaced ∷ Some
+    Misplaced ∷ Some Misplaced ∷ Some StrayEnd ∷ Some StrayEnd ∷ Some StrayEnd ∷ Some Malformed ∷ Some Malformed ∷ Some Malformed ∷ Some Malformed ∷ Some
+    Malformed ∷ Some Malformed ∷ Some Misplaced ∷ Some Misplaced ∷ Some Misplaced ∷ Some Misplaced ∷ Some Misplaced ∷ Some Misplaced ∷ Some Misplaced ∷ Some
+    Malformed ∷ Some Malformed ∷ Some Malformed ∷ Some Malformed ∷ Some Malformed ∷ Some Malformed ∷ Some Malformed ∷ Some Misplaced ∷ Some Misplaced ∷ Some
+    Misplaced ∷ Some Misplaced ∷ Some Misplaced ∷ Some Misplaced ∷ Some Misplaced ∷ Some Misplaced ∷ Some Misplaced ∷ Some Misplaced ∷ []
 unfolding next_token is_utf8 chars read_expr lines_of source_fault statement_on_line reading tree_faults first_tree_fault lib.Utf8.encode
 outside = refl
 
 in_a_config : map (kind_of (codes "config X\n\tbool\n")) lines
-    ≡ Some NoType ∷ Some NoType ∷ Some Unclosed ∷ Some StrayEnd ∷ Some Unclosed ∷ Some StrayEnd ∷ Some Unclosed ∷ Some StrayEnd ∷ None ∷ None ∷ None ∷ None ∷ None ∷ None ∷ None ∷ Some TypeConflict ∷ Some TypeConflict ∷ Some TypeConflict ∷ Some TypeConflict ∷ Some TypeConflict ∷ None ∷ Some TypeConflict ∷ None ∷ None ∷ None ∷ None ∷ None ∷ None ∷ Some RangeType ∷ Some Misplaced ∷ None ∷ None ∷ Some ModulesType ∷ Some ModulesType ∷ Some Malformed ∷ Some Malformed ∷ Some LeftOut ∷ Some LeftOut ∷ Some LeftOut ∷ Some Malformed ∷ Some LeftOut ∷ Some LeftOut ∷ Some LeftOut ∷ Some LeftOut ∷ Some LeftOut ∷ Some LeftOut ∷ Some LeftOut ∷ Some LeftOut ∷ Some LeftOut ∷ Some Malformed ∷ Some LeftOut ∷ Some LeftOut ∷ Some LeftOut ∷ Some Malformed ∷ Some UnknownStatement ∷ Some UnknownStatement ∷ Some Malformed ∷ Some Misplaced ∷ Some Malformed ∷ Some StrayEnd ∷ Some StrayEnd ∷ Some StrayEnd ∷ Some Malformed ∷ Some Malformed ∷ Some Malformed ∷ Some Malformed ∷ Some Malformed ∷ Some Malformed ∷ Some Malformed ∷ Some Malformed ∷ Some Malformed ∷ Some Malformed ∷ Some Malformed ∷ Some Malformed ∷ Some Malformed ∷ Some Malformed ∷ Some Malformed ∷ Some Malformed ∷ Some Malformed ∷ Some Malformed ∷ Some Malformed ∷ Some Malformed ∷ Some Malformed ∷ Some Malformed ∷ Some Malformed ∷ Some Malformed ∷ Some Malformed ∷ Some Malformed ∷ Some Malformed ∷ Some Malformed ∷ Some Malformed ∷ Some Misplaced ∷ []
+    ≡ Some NoType ∷ Some NoType ∷ Some Unclosed ∷ Some StrayEnd ∷ Some Unclosed ∷ Some StrayEnd ∷ Some Unclosed ∷ Some StrayEnd ∷ None ∷ None ∷ None ∷ None
+    ∷ None ∷ None ∷ None ∷ Some TypeConflict ∷ Some TypeConflict ∷ Some TypeConflict ∷ Some TypeConflict ∷ Some TypeConflict ∷ None ∷ Some TypeConflict
+    ∷ None ∷ None ∷ None ∷ None ∷ None ∷ None ∷ Some RangeType ∷ Some Misplaced ∷ None ∷ None ∷ Some ModulesType ∷ Some ModulesType ∷ Some Malformed ∷ Some
+    Malformed ∷ Some LeftOut ∷ Some LeftOut ∷ Some LeftOut ∷ Some Malformed ∷ Some LeftOut ∷ Some LeftOut ∷ Some LeftOut ∷ Some LeftOut ∷ Some LeftOut
+    ∷ Some LeftOut ∷ Some LeftOut ∷ Some LeftOut ∷ Some LeftOut ∷ Some Malformed ∷ Some LeftOut ∷ Some LeftOut ∷ Some LeftOut ∷ Some Malformed ∷ Some
+    UnknownStatement ∷ Some UnknownStatement ∷ Some Malformed ∷ Some Misplaced ∷ Some Malformed ∷ Some StrayEnd ∷ Some StrayEnd ∷ Some StrayEnd ∷ Some
+    Malformed ∷ Some Malformed ∷ Some Malformed ∷ Some Malformed ∷ Some Malformed ∷ Some Malformed ∷ Some Malformed ∷ Some Malformed ∷ Some Malformed ∷ Some
+    Malformed ∷ Some Malformed ∷ Some Malformed ∷ Some Malformed ∷ Some Malformed ∷ Some Malformed ∷ Some Malformed ∷ Some Malformed ∷ Some Malformed ∷ Some
+    Malformed ∷ Some Malformed ∷ Some Malformed ∷ Some Malformed ∷ Some Malformed ∷ Some Malformed ∷ Some Malformed ∷ Some Malformed ∷ Some Malformed ∷ Some
+    Malformed ∷ Some Malformed ∷ Some Misplaced ∷ []
 unfolding next_token is_utf8 chars read_expr lines_of source_fault statement_on_line reading tree_faults first_tree_fault lib.Utf8.encode
 in_a_config = refl
 
 in_a_choice : map (kind_of (codes "choice\n\tdepends on Q\n")) lines
-    ≡ Some Unclosed ∷ Some Unclosed ∷ Some Misplaced ∷ None ∷ Some Misplaced ∷ Some StrayEnd ∷ Some Unclosed ∷ Some StrayEnd ∷ Some Unclosed ∷ Some Unclosed ∷ Some Unclosed ∷ Some Misplaced ∷ Some Unclosed ∷ Some Unclosed ∷ Some Unclosed ∷ Some LeftOut ∷ Some Misplaced ∷ Some Misplaced ∷ Some Misplaced ∷ Some Misplaced ∷ Some Misplaced ∷ Some Misplaced ∷ Some Unclosed ∷ Some Unclosed ∷ Some Unclosed ∷ Some Unclosed ∷ Some Misplaced ∷ Some Misplaced ∷ Some Misplaced ∷ Some Misplaced ∷ Some Unclosed ∷ Some Unclosed ∷ Some Misplaced ∷ Some Misplaced ∷ Some Misplaced ∷ Some Misplaced ∷ Some LeftOut ∷ Some LeftOut ∷ Some LeftOut ∷ Some Misplaced ∷ Some LeftOut ∷ Some LeftOut ∷ Some LeftOut ∷ Some LeftOut ∷ Some LeftOut ∷ Some LeftOut ∷ Some LeftOut ∷ Some LeftOut ∷ Some LeftOut ∷ Some Misplaced ∷ Some LeftOut ∷ Some LeftOut ∷ Some LeftOut ∷ Some Malformed ∷ Some UnknownStatement ∷ Some UnknownStatement ∷ Some Malformed ∷ Some Misplaced ∷ Some Malformed ∷ Some StrayEnd ∷ Some StrayEnd ∷ Some Malformed ∷ Some Misplaced ∷ Some Misplaced ∷ Some Malformed ∷ Some Malformed ∷ Some Misplaced ∷ Some Malformed ∷ Some Misplaced ∷ Some Malformed ∷ Some Misplaced ∷ Some Misplaced ∷ Some Misplaced ∷ Some Misplaced ∷ Some Misplaced ∷ Some Malformed ∷ Some Malformed ∷ Some Malformed ∷ Some Malformed ∷ Some Malformed ∷ Some Malformed ∷ Some Malformed ∷ Some Malformed ∷ Some Misplaced ∷ Some Malformed ∷ Some Misplaced ∷ Some Misplaced ∷ Some Malformed ∷ Some Malformed ∷ Some Malformed ∷ Some Malformed ∷ Some Misplaced ∷ []
+    ≡ Some Unclosed ∷ Some Unclosed ∷ Some Misplaced ∷ None ∷ Some Misplaced ∷ Some StrayEnd ∷ Some Unclosed ∷ Some StrayEnd ∷ Some Unclosed ∷ Some Unclosed
+    ∷ Some Unclosed ∷ Some Misplaced ∷ Some Unclosed ∷ Some Unclosed ∷ Some Unclosed ∷ Some LeftOut ∷ Some Misplaced ∷ Some Misplaced ∷ Some Misplaced
+    ∷ Some Misplaced ∷ Some Misplaced ∷ Some Misplaced ∷ Some Unclosed ∷ Some Unclosed ∷ Some Unclosed ∷ Some Unclosed ∷ Some Misplaced ∷ Some Misplaced
+    ∷ Some Misplaced ∷ Some Misplaced ∷ Some Unclosed ∷ Some Unclosed ∷ Some Misplaced ∷ Some Misplaced ∷ Some Misplaced ∷ Some Misplaced ∷ Some LeftOut
+    ∷ Some LeftOut ∷ Some LeftOut ∷ Some Misplaced ∷ Some LeftOut ∷ Some LeftOut ∷ Some LeftOut ∷ Some LeftOut ∷ Some LeftOut ∷ Some LeftOut ∷ Some LeftOut
+    ∷ Some LeftOut ∷ Some LeftOut ∷ Some Misplaced ∷ Some LeftOut ∷ Some LeftOut ∷ Some LeftOut ∷ Some Malformed ∷ Some UnknownStatement ∷ Some
+    UnknownStatement ∷ Some Malformed ∷ Some Misplaced ∷ Some Malformed ∷ Some StrayEnd ∷ Some StrayEnd ∷ Some Malformed ∷ Some Misplaced ∷ Some Misplaced
+    ∷ Some Malformed ∷ Some Malformed ∷ Some Misplaced ∷ Some Malformed ∷ Some Misplaced ∷ Some Malformed ∷ Some Misplaced ∷ Some Misplaced ∷ Some Misplaced
+    ∷ Some Misplaced ∷ Some Misplaced ∷ Some Malformed ∷ Some Malformed ∷ Some Malformed ∷ Some Malformed ∷ Some Malformed ∷ Some Malformed ∷ Some Malformed
+    ∷ Some Malformed ∷ Some Misplaced ∷ Some Malformed ∷ Some Misplaced ∷ Some Misplaced ∷ Some Malformed ∷ Some Malformed ∷ Some Malformed ∷ Some Malformed
+    ∷ Some Misplaced ∷ []
 unfolding next_token is_utf8 chars read_expr lines_of source_fault statement_on_line reading tree_faults first_tree_fault lib.Utf8.encode
 in_a_choice = refl
 
 in_a_menu : map (kind_of (codes "menu \"m\"\n")) lines
-    ≡ Some Unclosed ∷ Some Unclosed ∷ Some Unclosed ∷ Some StrayEnd ∷ Some Unclosed ∷ None ∷ Some Unclosed ∷ Some StrayEnd ∷ Some Unclosed ∷ Some Unclosed ∷ Some Unclosed ∷ Some Misplaced ∷ Some Misplaced ∷ Some Misplaced ∷ Some Misplaced ∷ Some Misplaced ∷ Some Misplaced ∷ Some Misplaced ∷ Some Misplaced ∷ Some Misplaced ∷ Some Misplaced ∷ Some Misplaced ∷ Some Misplaced ∷ Some Misplaced ∷ Some Misplaced ∷ Some Unclosed ∷ Some Misplaced ∷ Some Misplaced ∷ Some Misplaced ∷ Some Unclosed ∷ Some Misplaced ∷ Some Misplaced ∷ Some Misplaced ∷ Some Misplaced ∷ Some Misplaced ∷ Some Misplaced ∷ Some LeftOut ∷ Some LeftOut ∷ Some LeftOut ∷ Some Misplaced ∷ Some LeftOut ∷ Some LeftOut ∷ Some LeftOut ∷ Some LeftOut ∷ Some LeftOut ∷ Some LeftOut ∷ Some LeftOut ∷ Some LeftOut ∷ Some LeftOut ∷ Some Malformed ∷ Some LeftOut ∷ Some LeftOut ∷ Some LeftOut ∷ Some Malformed ∷ Some UnknownStatement ∷ Some UnknownStatement ∷ Some Malformed ∷ Some Malformed ∷ Some Misplaced ∷ Some StrayEnd ∷ Some Malformed ∷ Some StrayEnd ∷ Some Malformed ∷ Some Malformed ∷ Some Malformed ∷ Some Malformed ∷ Some Misplaced ∷ Some Malformed ∷ Some Misplaced ∷ Some Misplaced ∷ Some Misplaced ∷ Some Misplaced ∷ Some Misplaced ∷ Some Misplaced ∷ Some Misplaced ∷ Some Malformed ∷ Some Malformed ∷ Some Malformed ∷ Some Malformed ∷ Some Malformed ∷ Some Malformed ∷ Some Malformed ∷ Some Misplaced ∷ Some Misplaced ∷ Some Misplaced ∷ Some Misplaced ∷ Some Misplaced ∷ Some Malformed ∷ Some Misplaced ∷ Some Misplaced ∷ Some Misplaced ∷ Some Malformed ∷ []
+    ≡ Some Unclosed ∷ Some Unclosed ∷ Some Unclosed ∷ Some StrayEnd ∷ Some Unclosed ∷ None ∷ Some Unclosed ∷ Some StrayEnd ∷ Some Unclosed ∷ Some Unclosed
+    ∷ Some Unclosed ∷ Some Misplaced ∷ Some Misplaced ∷ Some Misplaced ∷ Some Misplaced ∷ Some Misplaced ∷ Some Misplaced ∷ Some Misplaced ∷ Some Misplaced
+    ∷ Some Misplaced ∷ Some Misplaced ∷ Some Misplaced ∷ Some Misplaced ∷ Some Misplaced ∷ Some Misplaced ∷ Some Unclosed ∷ Some Misplaced ∷ Some Misplaced
+    ∷ Some Misplaced ∷ Some Unclosed ∷ Some Misplaced ∷ Some Misplaced ∷ Some Misplaced ∷ Some Misplaced ∷ Some Misplaced ∷ Some Misplaced ∷ Some LeftOut
+    ∷ Some LeftOut ∷ Some LeftOut ∷ Some Misplaced ∷ Some LeftOut ∷ Some LeftOut ∷ Some LeftOut ∷ Some LeftOut ∷ Some LeftOut ∷ Some LeftOut ∷ Some LeftOut
+    ∷ Some LeftOut ∷ Some LeftOut ∷ Some Malformed ∷ Some LeftOut ∷ Some LeftOut ∷ Some LeftOut ∷ Some Malformed ∷ Some UnknownStatement ∷ Some
+    UnknownStatement ∷ Some Malformed ∷ Some Malformed ∷ Some Misplaced ∷ Some StrayEnd ∷ Some Malformed ∷ Some StrayEnd ∷ Some Malformed ∷ Some Malformed
+    ∷ Some Malformed ∷ Some Malformed ∷ Some Misplaced ∷ Some Malformed ∷ Some Misplaced ∷ Some Misplaced ∷ Some Misplaced ∷ Some Misplaced ∷ Some Misplaced
+    ∷ Some Misplaced ∷ Some Misplaced ∷ Some Malformed ∷ Some Malformed ∷ Some Malformed ∷ Some Malformed ∷ Some Malformed ∷ Some Malformed ∷ Some Malformed
+    ∷ Some Misplaced ∷ Some Misplaced ∷ Some Misplaced ∷ Some Misplaced ∷ Some Misplaced ∷ Some Malformed ∷ Some Misplaced ∷ Some Misplaced ∷ Some Misplaced
+    ∷ Some Malformed ∷ []
 unfolding next_token is_utf8 chars read_expr lines_of source_fault statement_on_line reading tree_faults first_tree_fault lib.Utf8.encode
 in_a_menu = refl
 
 in_an_if : map (kind_of (codes "if X\n")) lines
-    ≡ Some Unclosed ∷ Some Unclosed ∷ Some Unclosed ∷ Some StrayEnd ∷ Some Unclosed ∷ Some StrayEnd ∷ Some Unclosed ∷ None ∷ Some Unclosed ∷ Some Unclosed ∷ Some Unclosed ∷ Some Misplaced ∷ Some Misplaced ∷ Some Misplaced ∷ Some Misplaced ∷ Some Misplaced ∷ Some Misplaced ∷ Some Misplaced ∷ Some Misplaced ∷ Some Misplaced ∷ Some Misplaced ∷ Some Misplaced ∷ Some Misplaced ∷ Some Misplaced ∷ Some Misplaced ∷ Some Misplaced ∷ Some Misplaced ∷ Some Misplaced ∷ Some Misplaced ∷ Some Misplaced ∷ Some Misplaced ∷ Some Misplaced ∷ Some Misplaced ∷ Some Misplaced ∷ Some Misplaced ∷ Some Misplaced ∷ Some LeftOut ∷ Some LeftOut ∷ Some LeftOut ∷ Some Misplaced ∷ Some LeftOut ∷ Some LeftOut ∷ Some LeftOut ∷ Some LeftOut ∷ Some LeftOut ∷ Some LeftOut ∷ Some LeftOut ∷ Some LeftOut ∷ Some LeftOut ∷ Some Malformed ∷ Some LeftOut ∷ Some LeftOut ∷ Some LeftOut ∷ Some Malformed ∷ Some UnknownStatement ∷ Some UnknownStatement ∷ Some Misplaced ∷ Some Misplaced ∷ Some Misplaced ∷ Some Malformed ∷ Some StrayEnd ∷ Some StrayEnd ∷ Some Malformed ∷ Some Malformed ∷ Some Malformed ∷ Some Malformed ∷ Some Misplaced ∷ Some Malformed ∷ Some Misplaced ∷ Some Misplaced ∷ Some Misplaced ∷ Some Misplaced ∷ Some Misplaced ∷ Some Misplaced ∷ Some Misplaced ∷ Some Malformed ∷ Some Malformed ∷ Some Malformed ∷ Some Malformed ∷ Some Malformed ∷ Some Malformed ∷ Some Malformed ∷ Some Misplaced ∷ Some Misplaced ∷ Some Misplaced ∷ Some Misplaced ∷ Some Misplaced ∷ Some Misplaced ∷ Some Misplaced ∷ Some Misplaced ∷ Some Misplaced ∷ Some Misplaced ∷ []
+    ≡ Some Unclosed ∷ Some Unclosed ∷ Some Unclosed ∷ Some StrayEnd ∷ Some Unclosed ∷ Some StrayEnd ∷ Some Unclosed ∷ None ∷ Some Unclosed ∷ Some Unclosed
+    ∷ Some Unclosed ∷ Some Misplaced ∷ Some Misplaced ∷ Some Misplaced ∷ Some Misplaced ∷ Some Misplaced ∷ Some Misplaced ∷ Some Misplaced ∷ Some Misplaced
+    ∷ Some Misplaced ∷ Some Misplaced ∷ Some Misplaced ∷ Some Misplaced ∷ Some Misplaced ∷ Some Misplaced ∷ Some Misplaced ∷ Some Misplaced ∷ Some Misplaced
+    ∷ Some Misplaced ∷ Some Misplaced ∷ Some Misplaced ∷ Some Misplaced ∷ Some Misplaced ∷ Some Misplaced ∷ Some Misplaced ∷ Some Misplaced ∷ Some LeftOut
+    ∷ Some LeftOut ∷ Some LeftOut ∷ Some Misplaced ∷ Some LeftOut ∷ Some LeftOut ∷ Some LeftOut ∷ Some LeftOut ∷ Some LeftOut ∷ Some LeftOut ∷ Some LeftOut
+    ∷ Some LeftOut ∷ Some LeftOut ∷ Some Malformed ∷ Some LeftOut ∷ Some LeftOut ∷ Some LeftOut ∷ Some Malformed ∷ Some UnknownStatement ∷ Some
+    UnknownStatement ∷ Some Misplaced ∷ Some Misplaced ∷ Some Misplaced ∷ Some Malformed ∷ Some StrayEnd ∷ Some StrayEnd ∷ Some Malformed ∷ Some Malformed
+    ∷ Some Malformed ∷ Some Malformed ∷ Some Misplaced ∷ Some Malformed ∷ Some Misplaced ∷ Some Misplaced ∷ Some Misplaced ∷ Some Misplaced ∷ Some Misplaced
+    ∷ Some Misplaced ∷ Some Misplaced ∷ Some Malformed ∷ Some Malformed ∷ Some Malformed ∷ Some Malformed ∷ Some Malformed ∷ Some Malformed ∷ Some Malformed
+    ∷ Some Misplaced ∷ Some Misplaced ∷ Some Misplaced ∷ Some Misplaced ∷ Some Misplaced ∷ Some Misplaced ∷ Some Misplaced ∷ Some Misplaced ∷ Some Misplaced
+    ∷ Some Misplaced ∷ []
 unfolding next_token is_utf8 chars read_expr lines_of source_fault statement_on_line reading tree_faults first_tree_fault lib.Utf8.encode
 in_an_if = refl
 
 in_a_comment : map (kind_of (codes "comment \"c\"\n")) lines
-    ≡ Some NoType ∷ Some NoType ∷ Some Unclosed ∷ Some StrayEnd ∷ Some Unclosed ∷ Some StrayEnd ∷ Some Unclosed ∷ Some StrayEnd ∷ None ∷ None ∷ None ∷ None ∷ Some Misplaced ∷ Some Misplaced ∷ Some Misplaced ∷ Some Misplaced ∷ Some Misplaced ∷ Some Misplaced ∷ Some Misplaced ∷ Some Misplaced ∷ Some Misplaced ∷ Some Misplaced ∷ Some Misplaced ∷ Some Misplaced ∷ Some Misplaced ∷ None ∷ Some Misplaced ∷ Some Misplaced ∷ Some Misplaced ∷ Some Misplaced ∷ Some Misplaced ∷ Some Misplaced ∷ Some Misplaced ∷ Some Misplaced ∷ Some Misplaced ∷ Some Misplaced ∷ Some LeftOut ∷ Some LeftOut ∷ Some LeftOut ∷ Some Misplaced ∷ Some LeftOut ∷ Some LeftOut ∷ Some LeftOut ∷ Some LeftOut ∷ Some LeftOut ∷ Some LeftOut ∷ Some LeftOut ∷ Some LeftOut ∷ Some LeftOut ∷ Some Malformed ∷ Some LeftOut ∷ Some LeftOut ∷ Some LeftOut ∷ Some Malformed ∷ Some UnknownStatement ∷ Some UnknownStatement ∷ Some Malformed ∷ Some Misplaced ∷ Some Misplaced ∷ Some StrayEnd ∷ Some StrayEnd ∷ Some StrayEnd ∷ Some Malformed ∷ Some Malformed ∷ Some Malformed ∷ Some Malformed ∷ Some Malformed ∷ Some Malformed ∷ Some Misplaced ∷ Some Misplaced ∷ Some Misplaced ∷ Some Misplaced ∷ Some Misplaced ∷ Some Misplaced ∷ Some Misplaced ∷ Some Malformed ∷ Some Malformed ∷ Some Malformed ∷ Some Malformed ∷ Some Malformed ∷ Some Malformed ∷ Some Malformed ∷ Some Misplaced ∷ Some Misplaced ∷ Some Misplaced ∷ Some Misplaced ∷ Some Misplaced ∷ Some Malformed ∷ Some Misplaced ∷ Some Misplaced ∷ Some Misplaced ∷ Some Misplaced ∷ []
+    ≡ Some NoType ∷ Some NoType ∷ Some Unclosed ∷ Some StrayEnd ∷ Some Unclosed ∷ Some StrayEnd ∷ Some Unclosed ∷ Some StrayEnd ∷ None ∷ None ∷ None ∷ None
+    ∷ Some Misplaced ∷ Some Misplaced ∷ Some Misplaced ∷ Some Misplaced ∷ Some Misplaced ∷ Some Misplaced ∷ Some Misplaced ∷ Some Misplaced ∷ Some Misplaced
+    ∷ Some Misplaced ∷ Some Misplaced ∷ Some Misplaced ∷ Some Misplaced ∷ None ∷ Some Misplaced ∷ Some Misplaced ∷ Some Misplaced ∷ Some Misplaced ∷ Some
+    Misplaced ∷ Some Misplaced ∷ Some Misplaced ∷ Some Misplaced ∷ Some Misplaced ∷ Some Misplaced ∷ Some LeftOut ∷ Some LeftOut ∷ Some LeftOut ∷ Some
+    Misplaced ∷ Some LeftOut ∷ Some LeftOut ∷ Some LeftOut ∷ Some LeftOut ∷ Some LeftOut ∷ Some LeftOut ∷ Some LeftOut ∷ Some LeftOut ∷ Some LeftOut ∷ Some
+    Malformed ∷ Some LeftOut ∷ Some LeftOut ∷ Some LeftOut ∷ Some Malformed ∷ Some UnknownStatement ∷ Some UnknownStatement ∷ Some Malformed ∷ Some
+    Misplaced ∷ Some Misplaced ∷ Some StrayEnd ∷ Some StrayEnd ∷ Some StrayEnd ∷ Some Malformed ∷ Some Malformed ∷ Some Malformed ∷ Some Malformed ∷ Some
+    Malformed ∷ Some Malformed ∷ Some Misplaced ∷ Some Misplaced ∷ Some Misplaced ∷ Some Misplaced ∷ Some Misplaced ∷ Some Misplaced ∷ Some Misplaced ∷ Some
+    Malformed ∷ Some Malformed ∷ Some Malformed ∷ Some Malformed ∷ Some Malformed ∷ Some Malformed ∷ Some Malformed ∷ Some Misplaced ∷ Some Misplaced ∷ Some
+    Misplaced ∷ Some Misplaced ∷ Some Misplaced ∷ Some Malformed ∷ Some Misplaced ∷ Some Misplaced ∷ Some Misplaced ∷ Some Misplaced ∷ []
 unfolding next_token is_utf8 chars read_expr lines_of source_fault statement_on_line reading tree_faults first_tree_fault lib.Utf8.encode
 in_a_comment = refl
 
 in_a_member : map (kind_of (codes "choice\nconfig X\n")) lines
-    ≡ Some Unclosed ∷ Some Unclosed ∷ Some Misplaced ∷ None ∷ Some Misplaced ∷ Some StrayEnd ∷ Some Unclosed ∷ Some StrayEnd ∷ Some Unclosed ∷ Some Unclosed ∷ Some Unclosed ∷ Some Misplaced ∷ Some Unclosed ∷ Some Unclosed ∷ Some Unclosed ∷ Some Unclosed ∷ Some Unclosed ∷ Some Unclosed ∷ Some Unclosed ∷ Some Unclosed ∷ Some Unclosed ∷ Some Unclosed ∷ Some Unclosed ∷ Some Unclosed ∷ Some Unclosed ∷ Some Unclosed ∷ Some Unclosed ∷ Some Unclosed ∷ Some Unclosed ∷ Some Misplaced ∷ Some Unclosed ∷ Some Unclosed ∷ Some Unclosed ∷ Some Unclosed ∷ Some Malformed ∷ Some Malformed ∷ Some LeftOut ∷ Some LeftOut ∷ Some LeftOut ∷ Some Malformed ∷ Some LeftOut ∷ Some LeftOut ∷ Some LeftOut ∷ Some LeftOut ∷ Some LeftOut ∷ Some LeftOut ∷ Some LeftOut ∷ Some LeftOut ∷ Some LeftOut ∷ Some Misplaced ∷ Some LeftOut ∷ Some LeftOut ∷ Some LeftOut ∷ Some Malformed ∷ Some UnknownStatement ∷ Some UnknownStatement ∷ Some Malformed ∷ Some Misplaced ∷ Some Malformed ∷ Some StrayEnd ∷ Some StrayEnd ∷ Some Malformed ∷ Some Misplaced ∷ Some Misplaced ∷ Some Malformed ∷ Some Malformed ∷ Some Misplaced ∷ Some Malformed ∷ Some Malformed ∷ Some Malformed ∷ Some Malformed ∷ Some Malformed ∷ Some Malformed ∷ Some Malformed ∷ Some Malformed ∷ Some Malformed ∷ Some Malformed ∷ Some Malformed ∷ Some Malformed ∷ Some Malformed ∷ Some Malformed ∷ Some Malformed ∷ Some Malformed ∷ Some Malformed ∷ Some Malformed ∷ Some Malformed ∷ Some Malformed ∷ Some Malformed ∷ Some Malformed ∷ Some Malformed ∷ Some Malformed ∷ Some Misplaced ∷ []
+    ≡ Some Unclosed ∷ Some Unclosed ∷ Some Misplaced ∷ None ∷ Some Misplaced ∷ Some StrayEnd ∷ Some Unclosed ∷ Some StrayEnd ∷ Some Unclosed ∷ Some Unclosed
+    ∷ Some Unclosed ∷ Some Misplaced ∷ Some Unclosed ∷ Some Unclosed ∷ Some Unclosed ∷ Some Unclosed ∷ Some Unclosed ∷ Some Unclosed ∷ Some Unclosed ∷ Some
+    Unclosed ∷ Some Unclosed ∷ Some Unclosed ∷ Some Unclosed ∷ Some Unclosed ∷ Some Unclosed ∷ Some Unclosed ∷ Some Unclosed ∷ Some Unclosed ∷ Some Unclosed
+    ∷ Some Misplaced ∷ Some Unclosed ∷ Some Unclosed ∷ Some Unclosed ∷ Some Unclosed ∷ Some Malformed ∷ Some Malformed ∷ Some LeftOut ∷ Some LeftOut ∷ Some
+    LeftOut ∷ Some Malformed ∷ Some LeftOut ∷ Some LeftOut ∷ Some LeftOut ∷ Some LeftOut ∷ Some LeftOut ∷ Some LeftOut ∷ Some LeftOut ∷ Some LeftOut ∷ Some
+    LeftOut ∷ Some Misplaced ∷ Some LeftOut ∷ Some LeftOut ∷ Some LeftOut ∷ Some Malformed ∷ Some UnknownStatement ∷ Some UnknownStatement ∷ Some Malformed
+    ∷ Some Misplaced ∷ Some Malformed ∷ Some StrayEnd ∷ Some StrayEnd ∷ Some Malformed ∷ Some Misplaced ∷ Some Misplaced ∷ Some Malformed ∷ Some Malformed
+    ∷ Some Misplaced ∷ Some Malformed ∷ Some Malformed ∷ Some Malformed ∷ Some Malformed ∷ Some Malformed ∷ Some Malformed ∷ Some Malformed ∷ Some Malformed
+    ∷ Some Malformed ∷ Some Malformed ∷ Some Malformed ∷ Some Malformed ∷ Some Malformed ∷ Some Malformed ∷ Some Malformed ∷ Some Malformed ∷ Some Malformed
+    ∷ Some Malformed ∷ Some Malformed ∷ Some Malformed ∷ Some Malformed ∷ Some Malformed ∷ Some Malformed ∷ Some Malformed ∷ Some Misplaced ∷ []
 unfolding next_token is_utf8 chars read_expr lines_of source_fault statement_on_line reading tree_faults first_tree_fault lib.Utf8.encode
 in_a_member = refl
 
 in_an_if_of_a_choice : map (kind_of (codes "choice\nif X\n")) lines
-    ≡ Some Unclosed ∷ Some Unclosed ∷ Some Misplaced ∷ Some StrayEnd ∷ Some Misplaced ∷ Some StrayEnd ∷ Some Unclosed ∷ Some Unclosed ∷ Some Unclosed ∷ Some Unclosed ∷ Some Unclosed ∷ Some Misplaced ∷ Some Misplaced ∷ Some Misplaced ∷ Some Misplaced ∷ Some Misplaced ∷ Some Misplaced ∷ Some Misplaced ∷ Some Misplaced ∷ Some Misplaced ∷ Some Misplaced ∷ Some Misplaced ∷ Some Misplaced ∷ Some Misplaced ∷ Some Misplaced ∷ Some Misplaced ∷ Some Misplaced ∷ Some Misplaced ∷ Some Misplaced ∷ Some Misplaced ∷ Some Misplaced ∷ Some Misplaced ∷ Some Misplaced ∷ Some Misplaced ∷ Some Misplaced ∷ Some Misplaced ∷ Some LeftOut ∷ Some LeftOut ∷ Some LeftOut ∷ Some Misplaced ∷ Some LeftOut ∷ Some LeftOut ∷ Some LeftOut ∷ Some LeftOut ∷ Some LeftOut ∷ Some LeftOut ∷ Some LeftOut ∷ Some LeftOut ∷ Some LeftOut ∷ Some Misplaced ∷ Some LeftOut ∷ Some LeftOut ∷ Some LeftOut ∷ Some Malformed ∷ Some UnknownStatement ∷ Some UnknownStatement ∷ Some Misplaced ∷ Some Misplaced ∷ Some Misplaced ∷ Some Malformed ∷ Some StrayEnd ∷ Some StrayEnd ∷ Some Misplaced ∷ Some Misplaced ∷ Some Malformed ∷ Some Malformed ∷ Some Misplaced ∷ Some Malformed ∷ Some Misplaced ∷ Some Misplaced ∷ Some Misplaced ∷ Some Misplaced ∷ Some Misplaced ∷ Some Misplaced ∷ Some Misplaced ∷ Some Malformed ∷ Some Malformed ∷ Some Malformed ∷ Some Malformed ∷ Some Malformed ∷ Some Malformed ∷ Some Malformed ∷ Some Misplaced ∷ Some Misplaced ∷ Some Misplaced ∷ Some Misplaced ∷ Some Misplaced ∷ Some Misplaced ∷ Some Misplaced ∷ Some Misplaced ∷ Some Misplaced ∷ Some Misplaced ∷ []
+    ≡ Some Unclosed ∷ Some Unclosed ∷ Some Misplaced ∷ Some StrayEnd ∷ Some Misplaced ∷ Some StrayEnd ∷ Some Unclosed ∷ Some Unclosed ∷ Some Unclosed ∷ Some
+    Unclosed ∷ Some Unclosed ∷ Some Misplaced ∷ Some Misplaced ∷ Some Misplaced ∷ Some Misplaced ∷ Some Misplaced ∷ Some Misplaced ∷ Some Misplaced ∷ Some
+    Misplaced ∷ Some Misplaced ∷ Some Misplaced ∷ Some Misplaced ∷ Some Misplaced ∷ Some Misplaced ∷ Some Misplaced ∷ Some Misplaced ∷ Some Misplaced ∷ Some
+    Misplaced ∷ Some Misplaced ∷ Some Misplaced ∷ Some Misplaced ∷ Some Misplaced ∷ Some Misplaced ∷ Some Misplaced ∷ Some Misplaced ∷ Some Misplaced ∷ Some
+    LeftOut ∷ Some LeftOut ∷ Some LeftOut ∷ Some Misplaced ∷ Some LeftOut ∷ Some LeftOut ∷ Some LeftOut ∷ Some LeftOut ∷ Some LeftOut ∷ Some LeftOut ∷ Some
+    LeftOut ∷ Some LeftOut ∷ Some LeftOut ∷ Some Misplaced ∷ Some LeftOut ∷ Some LeftOut ∷ Some LeftOut ∷ Some Malformed ∷ Some UnknownStatement ∷ Some
+    UnknownStatement ∷ Some Misplaced ∷ Some Misplaced ∷ Some Misplaced ∷ Some Malformed ∷ Some StrayEnd ∷ Some StrayEnd ∷ Some Misplaced ∷ Some Misplaced
+    ∷ Some Malformed ∷ Some Malformed ∷ Some Misplaced ∷ Some Malformed ∷ Some Misplaced ∷ Some Misplaced ∷ Some Misplaced ∷ Some Misplaced ∷ Some Misplaced
+    ∷ Some Misplaced ∷ Some Misplaced ∷ Some Malformed ∷ Some Malformed ∷ Some Malformed ∷ Some Malformed ∷ Some Malformed ∷ Some Malformed ∷ Some Malformed
+    ∷ Some Misplaced ∷ Some Misplaced ∷ Some Misplaced ∷ Some Misplaced ∷ Some Misplaced ∷ Some Misplaced ∷ Some Misplaced ∷ Some Misplaced ∷ Some Misplaced
+    ∷ Some Misplaced ∷ []
 unfolding next_token is_utf8 chars read_expr lines_of source_fault statement_on_line reading tree_faults first_tree_fault lib.Utf8.encode
 in_an_if_of_a_choice = refl
 
 after_an_end : map (kind_of (codes "menu \"m\"\nendmenu\n")) lines
-    ≡ Some NoType ∷ Some NoType ∷ Some Unclosed ∷ Some StrayEnd ∷ Some Unclosed ∷ Some StrayEnd ∷ Some Unclosed ∷ Some StrayEnd ∷ None ∷ None ∷ None ∷ None ∷ Some Misplaced ∷ Some Misplaced ∷ Some Misplaced ∷ Some Misplaced ∷ Some Misplaced ∷ Some Misplaced ∷ Some Misplaced ∷ Some Misplaced ∷ Some Misplaced ∷ Some Misplaced ∷ Some Misplaced ∷ Some Misplaced ∷ Some Misplaced ∷ Some Misplaced ∷ Some Misplaced ∷ Some Misplaced ∷ Some Misplaced ∷ Some Misplaced ∷ Some Misplaced ∷ Some Misplaced ∷ Some Misplaced ∷ Some Misplaced ∷ Some Misplaced ∷ Some Misplaced ∷ Some LeftOut ∷ Some LeftOut ∷ Some LeftOut ∷ Some Misplaced ∷ Some LeftOut ∷ Some LeftOut ∷ Some LeftOut ∷ Some LeftOut ∷ Some LeftOut ∷ Some LeftOut ∷ Some LeftOut ∷ Some LeftOut ∷ Some LeftOut ∷ Some Malformed ∷ Some LeftOut ∷ Some LeftOut ∷ Some LeftOut ∷ Some Malformed ∷ Some UnknownStatement ∷ Some UnknownStatement ∷ Some Misplaced ∷ Some Misplaced ∷ Some Misplaced ∷ Some StrayEnd ∷ Some StrayEnd ∷ Some StrayEnd ∷ Some Malformed ∷ Some Malformed ∷ Some Malformed ∷ Some Malformed ∷ Some Malformed ∷ Some Malformed ∷ Some Misplaced ∷ Some Misplaced ∷ Some Misplaced ∷ Some Misplaced ∷ Some Misplaced ∷ Some Misplaced ∷ Some Misplaced ∷ Some Malformed ∷ Some Malformed ∷ Some Malformed ∷ Some Malformed ∷ Some Malformed ∷ Some Malformed ∷ Some Malformed ∷ Some Misplaced ∷ Some Misplaced ∷ Some Misplaced ∷ Some Misplaced ∷ Some Misplaced ∷ Some Misplaced ∷ Some Misplaced ∷ Some Misplaced ∷ Some Misplaced ∷ Some Misplaced ∷ []
+    ≡ Some NoType ∷ Some NoType ∷ Some Unclosed ∷ Some StrayEnd ∷ Some Unclosed ∷ Some StrayEnd ∷ Some Unclosed ∷ Some StrayEnd ∷ None ∷ None ∷ None ∷ None
+    ∷ Some Misplaced ∷ Some Misplaced ∷ Some Misplaced ∷ Some Misplaced ∷ Some Misplaced ∷ Some Misplaced ∷ Some Misplaced ∷ Some Misplaced ∷ Some Misplaced
+    ∷ Some Misplaced ∷ Some Misplaced ∷ Some Misplaced ∷ Some Misplaced ∷ Some Misplaced ∷ Some Misplaced ∷ Some Misplaced ∷ Some Misplaced ∷ Some Misplaced
+    ∷ Some Misplaced ∷ Some Misplaced ∷ Some Misplaced ∷ Some Misplaced ∷ Some Misplaced ∷ Some Misplaced ∷ Some LeftOut ∷ Some LeftOut ∷ Some LeftOut
+    ∷ Some Misplaced ∷ Some LeftOut ∷ Some LeftOut ∷ Some LeftOut ∷ Some LeftOut ∷ Some LeftOut ∷ Some LeftOut ∷ Some LeftOut ∷ Some LeftOut ∷ Some LeftOut
+    ∷ Some Malformed ∷ Some LeftOut ∷ Some LeftOut ∷ Some LeftOut ∷ Some Malformed ∷ Some UnknownStatement ∷ Some UnknownStatement ∷ Some Misplaced ∷ Some
+    Misplaced ∷ Some Misplaced ∷ Some StrayEnd ∷ Some StrayEnd ∷ Some StrayEnd ∷ Some Malformed ∷ Some Malformed ∷ Some Malformed ∷ Some Malformed ∷ Some
+    Malformed ∷ Some Malformed ∷ Some Misplaced ∷ Some Misplaced ∷ Some Misplaced ∷ Some Misplaced ∷ Some Misplaced ∷ Some Misplaced ∷ Some Misplaced ∷ Some
+    Malformed ∷ Some Malformed ∷ Some Malformed ∷ Some Malformed ∷ Some Malformed ∷ Some Malformed ∷ Some Malformed ∷ Some Misplaced ∷ Some Misplaced ∷ Some
+    Misplaced ∷ Some Misplaced ∷ Some Misplaced ∷ Some Misplaced ∷ Some Misplaced ∷ Some Misplaced ∷ Some Misplaced ∷ Some Misplaced ∷ []
 unfolding next_token is_utf8 chars read_expr lines_of source_fault statement_on_line reading tree_faults first_tree_fault lib.Utf8.encode
 after_an_end = refl
 
 after_a_source_in_a_menu : map (kind_of (codes "menu \"m\"\nsource b\n")) lines
-    ≡ Some Unclosed ∷ Some Unclosed ∷ Some Unclosed ∷ Some StrayEnd ∷ Some Unclosed ∷ None ∷ Some Unclosed ∷ Some StrayEnd ∷ Some Unclosed ∷ Some Unclosed ∷ Some Unclosed ∷ Some Misplaced ∷ Some Misplaced ∷ Some Misplaced ∷ Some Misplaced ∷ Some Misplaced ∷ Some Misplaced ∷ Some Misplaced ∷ Some Misplaced ∷ Some Misplaced ∷ Some Misplaced ∷ Some Misplaced ∷ Some Misplaced ∷ Some Misplaced ∷ Some Misplaced ∷ Some Misplaced ∷ Some Misplaced ∷ Some Misplaced ∷ Some Misplaced ∷ Some Misplaced ∷ Some Misplaced ∷ Some Misplaced ∷ Some Misplaced ∷ Some Misplaced ∷ Some Misplaced ∷ Some Misplaced ∷ Some LeftOut ∷ Some LeftOut ∷ Some LeftOut ∷ Some Misplaced ∷ Some LeftOut ∷ Some LeftOut ∷ Some LeftOut ∷ Some LeftOut ∷ Some LeftOut ∷ Some LeftOut ∷ Some LeftOut ∷ Some LeftOut ∷ Some LeftOut ∷ Some Malformed ∷ Some LeftOut ∷ Some LeftOut ∷ Some LeftOut ∷ Some Malformed ∷ Some UnknownStatement ∷ Some UnknownStatement ∷ Some Misplaced ∷ Some Misplaced ∷ Some Misplaced ∷ Some StrayEnd ∷ Some Malformed ∷ Some StrayEnd ∷ Some Malformed ∷ Some Malformed ∷ Some Malformed ∷ Some Malformed ∷ Some Misplaced ∷ Some Malformed ∷ Some Misplaced ∷ Some Misplaced ∷ Some Misplaced ∷ Some Misplaced ∷ Some Misplaced ∷ Some Misplaced ∷ Some Misplaced ∷ Some Malformed ∷ Some Malformed ∷ Some Malformed ∷ Some Malformed ∷ Some Malformed ∷ Some Malformed ∷ Some Malformed ∷ Some Misplaced ∷ Some Misplaced ∷ Some Misplaced ∷ Some Misplaced ∷ Some Misplaced ∷ Some Misplaced ∷ Some Misplaced ∷ Some Misplaced ∷ Some Misplaced ∷ Some Misplaced ∷ []
+    ≡ Some Unclosed ∷ Some Unclosed ∷ Some Unclosed ∷ Some StrayEnd ∷ Some Unclosed ∷ None ∷ Some Unclosed ∷ Some StrayEnd ∷ Some Unclosed ∷ Some Unclosed
+    ∷ Some Unclosed ∷ Some Misplaced ∷ Some Misplaced ∷ Some Misplaced ∷ Some Misplaced ∷ Some Misplaced ∷ Some Misplaced ∷ Some Misplaced ∷ Some Misplaced
+    ∷ Some Misplaced ∷ Some Misplaced ∷ Some Misplaced ∷ Some Misplaced ∷ Some Misplaced ∷ Some Misplaced ∷ Some Misplaced ∷ Some Misplaced ∷ Some Misplaced
+    ∷ Some Misplaced ∷ Some Misplaced ∷ Some Misplaced ∷ Some Misplaced ∷ Some Misplaced ∷ Some Misplaced ∷ Some Misplaced ∷ Some Misplaced ∷ Some LeftOut
+    ∷ Some LeftOut ∷ Some LeftOut ∷ Some Misplaced ∷ Some LeftOut ∷ Some LeftOut ∷ Some LeftOut ∷ Some LeftOut ∷ Some LeftOut ∷ Some LeftOut ∷ Some LeftOut
+    ∷ Some LeftOut ∷ Some LeftOut ∷ Some Malformed ∷ Some LeftOut ∷ Some LeftOut ∷ Some LeftOut ∷ Some Malformed ∷ Some UnknownStatement ∷ Some
+    UnknownStatement ∷ Some Misplaced ∷ Some Misplaced ∷ Some Misplaced ∷ Some StrayEnd ∷ Some Malformed ∷ Some StrayEnd ∷ Some Malformed ∷ Some Malformed
+    ∷ Some Malformed ∷ Some Malformed ∷ Some Misplaced ∷ Some Malformed ∷ Some Misplaced ∷ Some Misplaced ∷ Some Misplaced ∷ Some Misplaced ∷ Some Misplaced
+    ∷ Some Misplaced ∷ Some Misplaced ∷ Some Malformed ∷ Some Malformed ∷ Some Malformed ∷ Some Malformed ∷ Some Malformed ∷ Some Malformed ∷ Some Malformed
+    ∷ Some Misplaced ∷ Some Misplaced ∷ Some Misplaced ∷ Some Misplaced ∷ Some Misplaced ∷ Some Misplaced ∷ Some Misplaced ∷ Some Misplaced ∷ Some Misplaced
+    ∷ Some Misplaced ∷ []
 unfolding next_token is_utf8 chars read_expr lines_of source_fault statement_on_line reading tree_faults first_tree_fault lib.Utf8.encode
 after_a_source_in_a_menu = refl

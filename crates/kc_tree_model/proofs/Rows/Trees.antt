@@ -5,14 +5,14 @@ use Rattle.kc_value.specs.declared.tri.Tri.TheVariants.{Y}
 use Rattle.kc_expr.specs.Expr.{Expr, alone, named, constant}
 use Rattle.kc_tree_model.specs.declared.fault.TreeKind.{TreeKind}
 use Rattle.kc_tree_model.specs.declared.fault.TreeFault.{TreeFault}
-use Rattle.kc_tree_model.specs.TreeFiles.{Files}
+use Rattle.kc_tree_model.specs.TreeFiles.{strict_files, Files}
 use Rattle.kc_tree_model.specs.Trees.{Tree}
 use Rattle.kc_tree_model.specs.Reading.{reading}
 use Rattle.kc_tree_model.specs.Contents.{tree_of_groups}
 use Rattle.kc_tree_model.specs.TreeFaults.{first_tree_fault}
 
 abbrev pub one_file : List ℕ → Files
-one_file text = (codes "Kconfig", text) ∷ []
+one_file text = strict_files ((codes "Kconfig", text) ∷ [])
 
 abbrev pub line_and_kind : TreeFault → ℕ × TreeKind
 line_and_kind f = (f.line, f.kind)

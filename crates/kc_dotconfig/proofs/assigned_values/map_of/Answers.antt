@@ -8,8 +8,10 @@ use Rattle.kc_dotconfig.proofs.assigned_values.map_of.Goals as goal
 pub loop-unit-preserved : goal.loop-unit-preserved
 loop-unit-preserved c =
     let t = YieldsList-turn (YieldsList-from_vec {s = c.into_iter-unit-iterator.result} c.args.listed.items (search rules) (search rules))
-    c.loop-unit.yielded c.loop-unit.unit-iterator c.loop-unit.yielded_by c.next.result c.next.new.self (c.in-Some.unit, c.in-Some.user) c.in-Some.is c.next.ensures.steps in
-    mapped_next c.args.listed.items c.loop-unit.yielded (c.in-Some.unit, c.in-Some.user) c.loop-unit.map.entries c.insert.new.self.entries c.requires c.loop-unit.invariant c.in-Ok.ensures.entries t.0 t.1
+    c.loop-unit.yielded c.loop-unit.unit-iterator c.loop-unit.yielded_by c.next.result c.next.new.self (c.in-Some.unit, c.in-Some.user) c.in-Some.is
+    c.next.ensures.steps in
+    mapped_next c.args.listed.items c.loop-unit.yielded (c.in-Some.unit, c.in-Some.user) c.loop-unit.map.entries c.insert.new.self.entries c.requires.rising
+    c.loop-unit.invariant c.in-Ok.ensures.entries t.0 t.1
 
 pub returns-in-Err : goal.returns-in-Err
 returns-in-Err c = grind (arith, common_steps)

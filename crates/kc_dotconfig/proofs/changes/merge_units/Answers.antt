@@ -8,7 +8,8 @@ use Rattle.kc_dotconfig.specs.checker.Configs.{units_of}
 use Rattle.kc_dotconfig.proofs.changes.merge_units.Goals as goal
 
 pub returns-in_err-push-clause-kept : goal.returns-in_err-push-clause-kept
-returns-in_err-push-clause-kept c = ap (take (length c.args.held.now.items)) (c.in_err-push.ensures.items ∙ c.loop-unit.invariant) ∙ take-append_seam c.args.held.now.items _
+returns-in_err-push-clause-kept c =
+    ap (take (length c.args.held.now.items)) (c.in_err-push.ensures.items ∙ c.loop-unit.invariant) ∙ take-append_seam c.args.held.now.items _
 
 pub returns-clause-ok : goal.returns-clause-ok
 returns-clause-ok c =

@@ -15,7 +15,7 @@ range_from-requires c some =
     let s = starts_is Decides-eqb c.as_bytes.result.now c.args.front.now c.starts_with.result c.starts_with.ensures.value in
     let is : c.args.line.now ≡ c.args.front.now ++ drop (length c.args.front.now) c.args.line.now =
     sym c.as_bytes.ensures.value ∙ s.0 c.if-not-starts_with.false ∙ ap (λ l. c.args.front.now ++ drop (length c.args.front.now) l) c.as_bytes.ensures.value in
-    front_boundary c.args.front.now c.args.line.now c.requires c.utf8.line is some
+    front_boundary c.args.front.now c.args.line.now c.requires.ascii c.utf8.line is some
 
 pub returns-clause-some : goal.returns-clause-some
 returns-clause-some c =

@@ -4,7 +4,8 @@ use Rattle.kc_dotconfig.proofs.LineMeanings.{named_there}
 use Rattle.kc_dotconfig.proofs.meanings.symbol_of_unit.Goals as goal
 
 pub returns-in-Symbol-clause-symbol : goal.returns-in-Symbol-clause-symbol
-returns-in-Symbol-clause-symbol c = named_there c.args.tree.now.tree c.arena.ensures.consistent c.in-Symbol.s c.name.result.now c.args.name.now c.name.ensures (search rules)
+returns-in-Symbol-clause-symbol c =
+    named_there c.args.tree.now.tree c.arena.ensures.consistent c.in-Symbol.s c.name.result.now c.args.name.now c.name.ensures.value (search rules)
 
 pub returns-then-u-len-clause-there : goal.returns-then-u-len-clause-there
 returns-then-u-len-clause-there c = grind (arith, elements)

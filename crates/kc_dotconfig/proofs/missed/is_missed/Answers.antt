@@ -3,4 +3,4 @@ use Rattle.std.proofs.lemmas.Grind.{elements}
 use Rattle.kc_dotconfig.proofs.missed.is_missed.Goals as goal
 
 pub returns : goal.returns
-returns c = grind (arith, elements)
+returns c = record { value = grind (arith, elements) }

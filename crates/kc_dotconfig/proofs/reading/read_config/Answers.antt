@@ -1,8 +1,8 @@
 use Rattle.std.proofs.Common.{inr, ◌≡◌, ◌<◌, ◌≤◌, length, take, refl, ◌∙◌, sym, arith}
 use Rattle.std.proofs.lemmas.Grind.{common_steps}
-use Rattle.kc_rules.specs.SettledViews.{tree_of_settled}
-use Rattle.kc_dotconfig_model.specs.LoadFaults.{MAX_LINES}
-use Rattle.kc_dotconfig_model.specs.Prefixes.{prefix_bytes}
+use Rattle.kc_rules.specs.between.SettledViews.{tree_of_settled}
+use Rattle.kc_value.specs.declared.limits.TheConstants.{MAX_CONFIG_LINES}
+use Rattle.kc_dotconfig_model.specs.between.Prefixes.{prefix_bytes}
 use Rattle.kc_dotconfig.specs.ReadResults.{MAX_READ}
 use Rattle.kc_dotconfig.proofs.WholeReads.{has_read_none, has_read_more, tells_read, rises, one_read, on_any_ok, if_any_err, tells_short, tells_refused, refused_in, block_fault, whole_read, whole_fits, end_fault}
 use Rattle.kc_dotconfig.proofs.reading.read_config.Goals as goal
@@ -11,38 +11,52 @@ pub loop-size-init : goal.loop-size-init
 loop-size-init g c =
     let gathered = c.empty_accumulator-gathered.ensures (tree_of_settled c.args.settled.now) in
     let none = gathered.counted in
-    let few : c.empty_accumulator-gathered.result.lines ≤ MAX_LINES = omega arith in
+    let few : c.empty_accumulator-gathered.result.lines ≤ MAX_CONFIG_LINES = omega arith in
     record {
       small = omega arith;
       few = few;
-      read = has_read_none (prefix_bytes c.args.prefix.now) (tree_of_settled c.args.settled.now) (g.R.Source.left c.args.source.now) c.new-cutter.result c.empty_accumulator-gathered.result c.new-cutter.ensures gathered;
+      read = has_read_none (prefix_bytes c.args.prefix.now) (tree_of_settled c.args.settled.now) (g.R.Source.left c.args.source.now) c.new-cutter.result
+          c.empty_accumulator-gathered.result c.new-cutter.ensures gathered;
       unfailed = refl;
     }
 
 pub returns-in_default-clause-fault : goal.returns-in_default-clause-fault
 returns-in_default-clause-fault g c =
-    tells_short (prefix_bytes c.args.prefix.now) (tree_of_settled c.args.settled.now) _ _ _ _ c.fault_on_next_line.result.kind c.fault_on_next_line.result.line c.fault_on_next_line.ensures.kind
-    (tells_read (prefix_bytes c.args.prefix.now) (tree_of_settled c.args.settled.now) (g.R.Source.left c.args.source.now) (g.R.Source.left c.loop-size.source) (g.R.Source.left c.read_some.new.self) c.loop-size.cutter c.loop-size.gathered c.loop-size.size c.fault_on_next_line.result.line c.loop-size.invariant.read c.in_default.ensures.bytes c.fault_on_next_line.ensures.line)
-    (rises (g.R.Source.failures c.args.source.now) (g.R.Source.failures c.loop-size.source) (g.R.Source.failures c.read_some.new.self) c.loop-size.invariant.unfailed c.in_default.ensures.failures)
+    tells_short (prefix_bytes c.args.prefix.now) (tree_of_settled c.args.settled.now) _ _ _ _ c.fault_on_next_line.result.kind c.fault_on_next_line.result.line
+    c.fault_on_next_line.ensures.kind
+    (tells_read (prefix_bytes c.args.prefix.now) (tree_of_settled c.args.settled.now) (g.R.Source.left c.args.source.now) (g.R.Source.left c.loop-size.source)
+    (g.R.Source.left c.read_some.new.self) c.loop-size.cutter c.loop-size.gathered c.loop-size.size c.fault_on_next_line.result.line
+    c.loop-size.invariant.read c.in_default.ensures.bytes c.fault_on_next_line.ensures.line)
+    (rises (g.R.Source.failures c.args.source.now) (g.R.Source.failures c.loop-size.source) (g.R.Source.failures c.read_some.new.self)
+    c.loop-size.invariant.unfailed c.in_default.ensures.failures)
 
 pub returns-then-count-eq0-clause-ok : goal.returns-then-count-eq0-clause-ok
 returns-then-count-eq0-clause-ok g c =
     let some : 0 < length c.read_some.new.buf = omega arith in
-    whole_read c.finish.result (prefix_bytes c.args.prefix.now) (tree_of_settled c.args.settled.now) (g.R.Source.left c.args.source.now) (g.R.Source.left c.loop-size.source) (g.R.Source.left c.read_some.new.self) c.loop-size.cutter c.loop-size.gathered c.loop-size.size c.in-Ok.count c.read_some.new.buf c.loop-size.invariant.read c.if-count-eq0.true some c.in-Ok.ensures.bytes c.finish.ensures.ok
+    whole_read c.finish.result (prefix_bytes c.args.prefix.now) (tree_of_settled c.args.settled.now) (g.R.Source.left c.args.source.now)
+    (g.R.Source.left c.loop-size.source) (g.R.Source.left c.read_some.new.self) c.loop-size.cutter c.loop-size.gathered c.loop-size.size c.in-Ok.count
+    c.read_some.new.buf c.loop-size.invariant.read c.if-count-eq0.true some c.in-Ok.ensures.bytes c.finish.ensures.ok
 
 pub returns-then-count-eq0-clause-fault : goal.returns-then-count-eq0-clause-fault
 returns-then-count-eq0-clause-fault g c =
     let some : 0 < length c.read_some.new.buf = omega arith in
-    end_fault c.finish.result (prefix_bytes c.args.prefix.now) (tree_of_settled c.args.settled.now) (g.R.Source.left c.args.source.now) (g.R.Source.left c.loop-size.source) (g.R.Source.left c.read_some.new.self) c.loop-size.cutter c.loop-size.gathered c.loop-size.size c.in-Ok.count c.read_some.new.buf _ _ c.loop-size.invariant.read c.if-count-eq0.true some c.in-Ok.ensures.bytes c.finish.ensures.err
+    end_fault c.finish.result (prefix_bytes c.args.prefix.now) (tree_of_settled c.args.settled.now) (g.R.Source.left c.args.source.now)
+    (g.R.Source.left c.loop-size.source) (g.R.Source.left c.read_some.new.self) c.loop-size.cutter c.loop-size.gathered c.loop-size.size c.in-Ok.count
+    c.read_some.new.buf _ _ c.loop-size.invariant.read c.if-count-eq0.true some c.in-Ok.ensures.bytes c.finish.ensures.err
 
 pub returns-in-Err-clause-fault : goal.returns-in-Err-clause-fault
 returns-in-Err-clause-fault g c =
     let n : length (take c.in-Ok.count c.read_some.new.buf) ≡ c.in-Ok.count = sym c.in-Ok.ensures.bound.1 in
     let most = c.in-Ok.ensures.bound.0 in
     let short : length (take c.in-Ok.count c.read_some.new.buf) ≤ MAX_READ = omega arith in
-    tells_refused (prefix_bytes c.args.prefix.now) (tree_of_settled c.args.settled.now) (g.R.Source.left c.args.source.now) (g.R.Source.left c.read_some.new.self) _ _ c.fault_on_next_line-in-Err.result.kind c.fault_on_next_line-in-Err.result.line
-    (refused_in (prefix_bytes c.args.prefix.now) (tree_of_settled c.args.settled.now) (g.R.Source.left c.args.source.now) (g.R.Source.left c.loop-size.source) (g.R.Source.left c.read_some.new.self) c.loop-size.cutter c.loop-size.gathered c.loop-size.size (take c.in-Ok.count c.read_some.new.buf) c.fault_on_next_line-in-Err.result.kind c.fault_on_next_line-in-Err.result.line c.loop-size.invariant.read c.in-Ok.ensures.bytes.0 short
-    (block_fault (prefix_bytes c.args.prefix.now) (tree_of_settled c.args.settled.now) c.loop-size.cutter c.loop-size.gathered (take c.in-Ok.count c.read_some.new.buf) c.loop-size.size c.in-Err.kind c.fault_on_next_line-in-Err.result.kind c.take_block.new.gathered.lines c.fault_on_next_line-in-Err.result.line c.fault_on_next_line-in-Err.ensures.kind c.fault_on_next_line-in-Err.ensures.line c.in-Err.ensures.err))
+    tells_refused (prefix_bytes c.args.prefix.now) (tree_of_settled c.args.settled.now) (g.R.Source.left c.args.source.now)
+    (g.R.Source.left c.read_some.new.self) _ _ c.fault_on_next_line-in-Err.result.kind c.fault_on_next_line-in-Err.result.line
+    (refused_in (prefix_bytes c.args.prefix.now) (tree_of_settled c.args.settled.now) (g.R.Source.left c.args.source.now) (g.R.Source.left c.loop-size.source)
+    (g.R.Source.left c.read_some.new.self) c.loop-size.cutter c.loop-size.gathered c.loop-size.size (take c.in-Ok.count c.read_some.new.buf)
+    c.fault_on_next_line-in-Err.result.kind c.fault_on_next_line-in-Err.result.line c.loop-size.invariant.read c.in-Ok.ensures.bytes.0 short
+    (block_fault (prefix_bytes c.args.prefix.now) (tree_of_settled c.args.settled.now) c.loop-size.cutter c.loop-size.gathered
+    (take c.in-Ok.count c.read_some.new.buf) c.loop-size.size c.in-Err.kind c.fault_on_next_line-in-Err.result.kind c.take_block.new.gathered.lines
+    c.fault_on_next_line-in-Err.result.line c.fault_on_next_line-in-Err.ensures.kind c.fault_on_next_line-in-Err.ensures.line c.in-Err.ensures.err))
 
 pub loop-size-preserved : goal.loop-size-preserved
 loop-size-preserved g c =
@@ -51,13 +65,18 @@ loop-size-preserved g c =
     record {
       small = omega arith;
       few = c.in_default-take_block.ensures.few;
-      read = has_read_more (prefix_bytes c.args.prefix.now) (tree_of_settled c.args.settled.now) (g.R.Source.left c.args.source.now) (g.R.Source.left c.loop-size.source) (g.R.Source.left c.read_some.new.self) c.loop-size.cutter c.loop-size.gathered c.loop-size.size (take c.in-Ok.count c.read_some.new.buf) c.take_block.new.cutter c.take_block.new.gathered c.in-Ok.count c.loop-size.invariant.read c.in-Ok.ensures.bytes.0 n c.in_default-take_block.ensures.ok room;
+      read = has_read_more (prefix_bytes c.args.prefix.now) (tree_of_settled c.args.settled.now) (g.R.Source.left c.args.source.now)
+          (g.R.Source.left c.loop-size.source) (g.R.Source.left c.read_some.new.self) c.loop-size.cutter c.loop-size.gathered c.loop-size.size
+          (take c.in-Ok.count c.read_some.new.buf) c.take_block.new.cutter c.take_block.new.gathered c.in-Ok.count c.loop-size.invariant.read
+          c.in-Ok.ensures.bytes.0 n c.in_default-take_block.ensures.ok room;
       unfailed = c.in-Ok.ensures.failures ∙ c.loop-size.invariant.unfailed;
     }
 
 pub returns-then-count-eq0-clause-fits : goal.returns-then-count-eq0-clause-fits
 returns-then-count-eq0-clause-fits g c =
-    whole_fits c.finish.result (prefix_bytes c.args.prefix.now) (tree_of_settled c.args.settled.now) (g.R.Source.left c.args.source.now) (g.R.Source.left c.loop-size.source) c.loop-size.cutter c.loop-size.gathered c.loop-size.size c.args.prefix.now.valid c.tree.ensures.settled.consistent c.loop-size.invariant.read c.finish.ensures.ok
+    whole_fits c.finish.result (prefix_bytes c.args.prefix.now) (tree_of_settled c.args.settled.now) (g.R.Source.left c.args.source.now)
+    (g.R.Source.left c.loop-size.source) c.loop-size.cutter c.loop-size.gathered c.loop-size.size c.args.prefix.now.valid c.tree.ensures.settled.consistent
+    c.loop-size.invariant.read c.finish.ensures.ok
 
 pub returns-then-count-eq0-clause-unfailed : goal.returns-then-count-eq0-clause-unfailed
 returns-then-count-eq0-clause-unfailed g c = on_any_ok c.finish.result (c.in-Ok.ensures.failures ∙ c.loop-size.invariant.unfailed)
@@ -66,7 +85,9 @@ pub returns-then-count-eq0-clause-failed : goal.returns-then-count-eq0-clause-fa
 returns-then-count-eq0-clause-failed g c = if_any_err c.finish.result _ (λ e. inr (c.in-Ok.ensures.failures ∙ c.loop-size.invariant.unfailed))
 
 pub returns-in_default-clause-once : goal.returns-in_default-clause-once
-returns-in_default-clause-once g c = one_read (g.R.Source.failures c.args.source.now) (g.R.Source.failures c.loop-size.source) (g.R.Source.failures c.read_some.new.self) c.loop-size.invariant.unfailed c.in_default.ensures.failures
+returns-in_default-clause-once g c =
+    one_read (g.R.Source.failures c.args.source.now) (g.R.Source.failures c.loop-size.source) (g.R.Source.failures c.read_some.new.self)
+    c.loop-size.invariant.unfailed c.in_default.ensures.failures
 
 pub returns-in-Err-clause-ok : goal.returns-in-Err-clause-ok
 returns-in-Err-clause-ok g c = grind (arith, common_steps)

@@ -1,14 +1,14 @@
 use Rattle.std.proofs.Common.{◌≡◌, ◌≤◌, List, ℕ, ◌++◌, length}
-use Rattle.kc_rules.specs.SettledViews.{tree_of_settled}
-use Rattle.kc_dotconfig_model.specs.LoadFaults.{MAX_LINES}
-use Rattle.kc_dotconfig_model.specs.Prefixes.{prefix_bytes}
+use Rattle.kc_rules.specs.between.SettledViews.{tree_of_settled}
+use Rattle.kc_value.specs.declared.limits.TheConstants.{MAX_CONFIG_LINES}
+use Rattle.kc_dotconfig_model.specs.between.Prefixes.{prefix_bytes}
 use Rattle.kc_dotconfig.specs.checker.Accumulation.{AcceptsBytes}
 use Rattle.kc_dotconfig.proofs.reading.take_bytes.Given as goal
 
 -- what was taken of the bytes
 abbrev pub invariant-loop-at : goal.invariant-loop-at
 invariant-loop-at l = record {
-  few : l.gathered.lines ≤ MAX_LINES;
+  few : l.gathered.lines ≤ MAX_CONFIG_LINES;
   taken : (front : List ℕ) × (l.fn.bytes ≡ front ++ l.rest) × AcceptsBytes (prefix_bytes l.fn.prefix) (tree_of_settled l.fn.settled) l.fn.cutter l.fn.gathered front l.cutter l.gathered;
 }
 

@@ -17,15 +17,16 @@ loop-symbol-preserved c =
     }
 
 pub returns-then-is_symbol_at : goal.returns-then-is_symbol_at
-returns-then-is_symbol_at c =
-    ((TooDeep, drop c.loop-symbol.symbol (lexemes_of c.args.tokens.now)), sym c.loop-symbol.invariant.same ∙ beyond_symbol _ (c.is_symbol_at.ensures.0 c.if-is_symbol_at.true), c.fault_at.ensures)
+returns-then-is_symbol_at c = record { fault = ((TooDeep, drop c.loop-symbol.symbol (lexemes_of c.args.tokens.now)), sym c.loop-symbol.invariant.same ∙ beyond_symbol _ (c.is_symbol_at.ensures.0 c.if-is_symbol_at.true), c.fault_at.ensures) }
 
 pub returns-else-is_symbol_at : goal.returns-else-is_symbol_at
-returns-else-is_symbol_at c = (
-  (Malformed, drop c.loop-symbol.symbol (lexemes_of c.args.tokens.now)),
-  sym c.loop-symbol.invariant.same ∙ beyond_other _ (λ o. both_ways _ c.loop-symbol-test.false (c.is_prefix_at.ensures.1 o)) (λ o. both_ways _ c.if-is_symbol_at.false (c.is_symbol_at.ensures.1 o)),
-  c.fault_at-else-is_symbol_at.ensures,
-)
+returns-else-is_symbol_at c = record {
+  fault = (
+    (Malformed, drop c.loop-symbol.symbol (lexemes_of c.args.tokens.now)),
+    sym c.loop-symbol.invariant.same ∙ beyond_other _ (λ o. both_ways _ c.loop-symbol-test.false (c.is_prefix_at.ensures.1 o)) (λ o. both_ways _ c.if-is_symbol_at.false (c.is_symbol_at.ensures.1 o)),
+    c.fault_at-else-is_symbol_at.ensures,
+  );
+}
 
 pub loop-symbol-smaller : goal.loop-symbol-smaller
 loop-symbol-smaller c = grind (arith, common_steps)

@@ -6,7 +6,9 @@ use Rattle.kc_listing.proofs.AppendSteps.{lists_grown, counted_grown, grows_same
 use Rattle.kc_listing.proofs.append.push_text.Goals as goal
 
 pub returns-clause-kept : goal.returns-clause-kept
-returns-clause-kept c = let n : c.len-place.result ≡ length c.args.read.now.listing.texts.items = search rules in rw (c.in-Ok.ensures.items, n) (get_last c.args.read.now.listing.texts.items c.args.text)
+returns-clause-kept c =
+    let n : c.len-place.result ≡ length c.args.read.now.listing.texts.items = search rules in rw (c.in-Ok.ensures.items, n)
+    (get_last c.args.read.now.listing.texts.items c.args.text)
 
 pub returns-clause-describes : goal.returns-clause-describes
 unfolding Describes RepresentsListing

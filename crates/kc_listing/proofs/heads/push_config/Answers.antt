@@ -11,7 +11,8 @@ use Rattle.kc_listing.proofs.heads.push_config.Goals as goal
 
 pub returns-then-name-gt-MAX_NAME_BYTES : goal.returns-then-name-gt-MAX_NAME_BYTES
 unfolding Describes
-returns-then-name-gt-MAX_NAME_BYTES c = λ r before d. inr (config_long before c.args.name.now (name_long c.args.name.now (length c.args.name.now) refl c.if-name-gt-MAX_NAME_BYTES.true), d.shows)
+returns-then-name-gt-MAX_NAME_BYTES c =
+    λ r before d. inr (config_long before c.args.name.now (name_long c.args.name.now (length c.args.name.now) refl c.if-name-gt-MAX_NAME_BYTES.true), d.shows)
 
 pub returns-in-Err : goal.returns-in-Err
 unfolding Describes RepresentsListing
@@ -30,7 +31,8 @@ returns c = λ r before d.
     let t = c.in-Ok.ensures.returned (names_defined before) d.shows.names in (
       config_fits before c.args.name.now (name_short c.args.name.now (length c.args.name.now) refl c.if-name-gt-MAX_NAME_BYTES.false) t.0,
       record {
-        shows = lists_put_config _ _ _ _ _ _ _ _ _ _ before c.args.file c.args.line c.len-attributes.result c.in-Ok.number c.args.name.now c.in-Ok.ensures.grows (search rules) c.in-Ok-push.ensures.items d.shows t.1 t.2;
+        shows = lists_put_config _ _ _ _ _ _ _ _ _ _ before c.args.file c.args.line c.len-attributes.result c.in-Ok.number c.args.name.now c.in-Ok.ensures.grows
+            (search rules) c.in-Ok-push.ensures.items d.shows t.1 t.2;
         counted = counted_inside r _ _ _ _ _ before c.args.file c.args.line (of_head (config c.args.name.now)) d.counted refl;
       },
     )

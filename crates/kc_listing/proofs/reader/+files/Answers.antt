@@ -8,35 +8,47 @@ use Rattle.kc_listing.proofs.reader.+files.Goals as goal
 
 pub read_statement-returns-in-Err-clause-read : goal.read_statement-returns-in-Err-clause-read
 read_statement-returns-in-Err-clause-read t c = λ before d.
-    one_faulty (file_source_of c.args.from) (read_file c.args.depth (file_source_of c.args.from)) c.args.file.number c.args.file.bytes.now c.args.at c.args.number before _ _ _ c.requires.here c.in-Ok.ensures c.read_logical.new.read c.in-Err.kind _ (c.in-Err.ensures before d) c.fault_or_out_of_memory.ensures.memory c.fault_or_out_of_memory.ensures.placed
+    one_faulty (file_source_of c.args.from) (read_file c.args.depth (file_source_of c.args.from)) c.args.file.number c.args.file.bytes.now c.args.at
+    c.args.number before _ _ _ c.requires.here c.in-Ok.ensures.line c.read_logical.new.read c.in-Err.kind _ (c.in-Err.ensures before d)
+    c.fault_or_out_of_memory.ensures.memory c.fault_or_out_of_memory.ensures.placed
 
 pub read_statement-returns-in-Ok-Next-clause-read : goal.read_statement-returns-in-Ok-Next-clause-read
 read_statement-returns-in-Ok-Next-clause-read t c = λ before d.
-    one_next (file_source_of c.args.from) (read_file c.args.depth (file_source_of c.args.from)) c.args.file.number c.args.file.bytes.now c.args.at c.args.number before _ _ _ c.requires.here c.in-Ok.ensures c.read_logical.new.read (rw c.in-Ok-Next.field-0-is at (c.in-Ok-Next.ensures before d))
+    one_next (file_source_of c.args.from) (read_file c.args.depth (file_source_of c.args.from)) c.args.file.number c.args.file.bytes.now c.args.at c.args.number
+    before _ _ _ c.requires.here c.in-Ok.ensures.line c.read_logical.new.read (rw c.in-Ok-Next.field-0-is at (c.in-Ok-Next.ensures before d))
 
 pub read_statement-returns-in_err-behind-in-Ok-Help-clause-read : goal.read_statement-returns-in_err-behind-in-Ok-Help-clause-read
 read_statement-returns-in_err-behind-in-Ok-Help-clause-read t c = λ before d.
     let p = err_from_is_err_and c.from_residual.result c.from_residual.ensures.1 in
-    rw (p.1, p.2) (one_help_faulty (file_source_of c.args.from) (read_file c.args.depth (file_source_of c.args.from)) c.args.file.number c.args.file.bytes.now c.args.at c.args.number before _ _ _ c.requires.here c.in-Ok.ensures c.read_logical.new.read _ _ (rw c.in-Ok-Help.field-0-is at (c.in-Ok-Help.ensures before d)) refl c.in_err-behind-in-Ok-Help.ensures)
+    rw (p.1, p.2) (one_help_faulty (file_source_of c.args.from) (read_file c.args.depth (file_source_of c.args.from)) c.args.file.number c.args.file.bytes.now
+    c.args.at c.args.number before _ _ _ c.requires.here c.in-Ok.ensures.line c.read_logical.new.read _ _
+    (rw c.in-Ok-Help.field-0-is at (c.in-Ok-Help.ensures before d)) refl c.in_err-behind-in-Ok-Help.ensures.read)
 
 pub read_statement-returns-in-Ok-Help-clause-read : goal.read_statement-returns-in-Ok-Help-clause-read
 read_statement-returns-in-Ok-Help-clause-read t c = λ before d.
-    one_help (file_source_of c.args.from) (read_file c.args.depth (file_source_of c.args.from)) c.args.file.number c.args.file.bytes.now c.args.at c.args.number before _ _ _ c.requires.here c.in-Ok.ensures c.read_logical.new.read _ _ (rw c.in-Ok-Help.field-0-is at (c.in-Ok-Help.ensures before d)) refl c.in_ok-behind-in-Ok-Help.ensures
+    one_help (file_source_of c.args.from) (read_file c.args.depth (file_source_of c.args.from)) c.args.file.number c.args.file.bytes.now c.args.at c.args.number
+    before _ _ _ c.requires.here c.in-Ok.ensures.line c.read_logical.new.read _ _ (rw c.in-Ok-Help.field-0-is at (c.in-Ok-Help.ensures before d)) refl
+    c.in_ok-behind-in-Ok-Help.ensures.read
 
 pub read_statement-returns-in_err-read_sourced-in-Ok-Source-clause-read : goal.read_statement-returns-in_err-read_sourced-in-Ok-Source-clause-read
 read_statement-returns-in_err-read_sourced-in-Ok-Source-clause-read t c = λ before d.
     let s = rw c.in-Ok-Source.field-0-is at (c.in-Ok-Source.ensures before d) in
     let p = err_from_is_err_and c.from_residual-in_err-read_sourced-in-Ok-Source.result c.from_residual-in_err-read_sourced-in-Ok-Source.ensures.1 in
-    rw (p.1, p.2) (one_source_faulty (file_source_of c.args.from) (read_file c.args.depth (file_source_of c.args.from)) c.args.file.number c.args.file.bytes.now c.args.at c.args.number before _ _ _ c.requires.here c.in-Ok.ensures c.in-Ok-Source.path c.read_logical.new.read c.read_sourced.new.read _ s (c.in_err-read_sourced-in-Ok-Source.ensures before s.describes))
+    rw (p.1, p.2) (one_source_faulty (file_source_of c.args.from) (read_file c.args.depth (file_source_of c.args.from)) c.args.file.number c.args.file.bytes.now
+    c.args.at c.args.number before _ _ _ c.requires.here c.in-Ok.ensures.line c.in-Ok-Source.path c.read_logical.new.read c.read_sourced.new.read _ s
+    (c.in_err-read_sourced-in-Ok-Source.ensures before s.describes))
 
 pub read_statement-returns-clause-read : goal.read_statement-returns-clause-read
 read_statement-returns-clause-read t c = λ before d.
     let s = rw c.in-Ok-Source.field-0-is at (c.in-Ok-Source.ensures before d) in
-    one_source (file_source_of c.args.from) (read_file c.args.depth (file_source_of c.args.from)) c.args.file.number c.args.file.bytes.now c.args.at c.args.number before _ _ _ c.requires.here c.in-Ok.ensures c.in-Ok-Source.path c.read_logical.new.read c.read_sourced.new.read s (c.in_ok-read_sourced-in-Ok-Source.ensures before s.describes)
+    one_source (file_source_of c.args.from) (read_file c.args.depth (file_source_of c.args.from)) c.args.file.number c.args.file.bytes.now c.args.at
+    c.args.number before _ _ _ c.requires.here c.in-Ok.ensures.line c.in-Ok-Source.path c.read_logical.new.read c.read_sourced.new.read s
+    (c.in_ok-read_sourced-in-Ok-Source.ensures before s.describes)
 
 pub read_open_file-lines-init : goal.read_open_file-lines-init
 read_open_file-lines-init t c = record {
-  left = λ before d. all_left (file_source_of c.args.from) (read_file (c.args.depth - 1) (file_source_of c.args.from)) c.args.file.number c.args.file.bytes.now before c.args.read.now d;
+  left = λ before d. all_left (file_source_of c.args.from) (read_file (c.args.depth - 1) (file_source_of c.args.from)) c.args.file.number c.args.file.bytes.now
+      before c.args.read.now d;
   within = omega arith;
   few = omega arith;
 }
@@ -52,15 +64,20 @@ read_open_file-lines-preserved t c = record {
 }
 
 pub read_open_file-returns : goal.read_open_file-returns
-read_open_file-returns t c = λ before d path n b.
-    let l = c.lines.invariant.left before d in
-    let e = file_lines c.args.depth (file_source_of c.args.from) path before (omega arith) in
-    rw (e, ← n, ← b) (file_ended (file_source_of c.args.from) (read_file (c.args.depth - 1) (file_source_of c.args.from)) c.args.file.number c.args.file.bytes.now before c.lines.read c.lines.at c.lines.number c.end_of_file.result (omega arith) c.lines.invariant.within l (c.end_of_file.ensures l.now l.describes))
+read_open_file-returns t c = record {
+  read = λ before d path n b.
+      let l = c.lines.invariant.left before d in
+      let e = file_lines c.args.depth (file_source_of c.args.from) path before (omega arith) in
+      rw (e, ← n, ← b) (file_ended (file_source_of c.args.from) (read_file (c.args.depth - 1) (file_source_of c.args.from)) c.args.file.number
+      c.args.file.bytes.now before c.lines.read c.lines.at c.lines.number c.end_of_file.result (omega arith) c.lines.invariant.within l
+      (c.end_of_file.ensures l.now l.describes));
+}
 
 pub read_sourced-returns-in_err-sourced : goal.read_sourced-returns-in_err-sourced
 read_sourced-returns-in_err-sourced t c = λ before d.
     let p = err_from_is_err_and c.from_residual.result c.from_residual.ensures.1 in
-    rw (p.1, p.2) (not_sourced (file_source_of c.args.from) (read_file c.args.depth (file_source_of c.args.from)) c.args.file c.args.line c.args.path before c.open_source.new.read _ (c.in_err-sourced.ensures.sourced before d))
+    rw (p.1, p.2) (not_sourced (file_source_of c.args.from) (read_file c.args.depth (file_source_of c.args.from)) c.args.file c.args.line c.args.path before
+    c.open_source.new.read _ (c.in_err-sourced.ensures.sourced before d))
 
 pub read_open_file-overflow_add-number : goal.read_open_file-overflow_add-number
 read_open_file-overflow_add-number t c = grind (arith, common_steps)

@@ -9,42 +9,53 @@ use Rattle.kc_listing.proofs.sources.sourced.Goals as goal
 pub returns-then-is_open-clause-sourced : goal.returns-then-is_open-clause-sourced
 unfolding Describes file_source_of
 returns-then-is_open-clause-sourced c = λ before d.
-    inr (source_open (file_source_of c.args.from) before c.args.path.now (path_open (file_source_of c.args.from) _ _ _ _ _ before d.counted c.args.path.now ∙ sym c.is_open.ensures ∙ c.if-is_open.true))
+    inr (source_open (file_source_of c.args.from) before c.args.path.now
+    (path_open (file_source_of c.args.from) _ _ _ _ _ before d.counted c.args.path.now ∙ sym c.is_open.ensures ∙ c.if-is_open.true))
 
 pub returns-in-Err-clause-sourced : goal.returns-in-Err-clause-sourced
 unfolding Describes file_source_of
 returns-in-Err-clause-sourced c = λ before d.
     elim c.in-Err.ensures [
       | inl m ↦ inl m
-      | inr e ↦ inr (source_missing (file_source_of c.args.from) before c.args.path.now (path_open (file_source_of c.args.from) _ _ _ _ _ before d.counted c.args.path.now ∙ sym c.is_open.ensures ∙ c.if-is_open.false) e.1 ∙ ap Some (sym e.0))
+      | inr e ↦ inr (source_missing (file_source_of c.args.from) before c.args.path.now
+          (path_open (file_source_of c.args.from) _ _ _ _ _ before d.counted c.args.path.now ∙ sym c.is_open.ensures ∙ c.if-is_open.false) e.1
+          ∙ ap Some (sym e.0))
     ]
 
 pub returns-then-open_file_count-clause-sourced : goal.returns-then-open_file_count-clause-sourced
 unfolding Describes file_source_of
 returns-then-open_file_count-clause-sourced c = λ before d.
-    inr (source_deep (file_source_of c.args.from) before c.args.path.now (path_open (file_source_of c.args.from) _ _ _ _ _ before d.counted c.args.path.now ∙ sym c.is_open.ensures ∙ c.if-is_open.false) c.in-Ok.ensures.0
-    (deep_is _ c.open_file_count.result (files_are_open (file_source_of c.args.from) _ _ _ _ _ before d.counted ∙ ap (λ xs. count_by is_file xs + 1) (sym c.deref.ensures.value) ∙ ap (λ n. n + 1) (sym c.open_file_count.ensures)) c.if-open_file_count.true))
+    inr (source_deep (file_source_of c.args.from) before c.args.path.now
+    (path_open (file_source_of c.args.from) _ _ _ _ _ before d.counted c.args.path.now ∙ sym c.is_open.ensures ∙ c.if-is_open.false) c.in-Ok.ensures.0
+    (deep_is _ c.open_file_count.result (files_are_open (file_source_of c.args.from) _ _ _ _ _ before d.counted
+    ∙ ap (λ xs. count_by is_file xs + 1) (sym c.deref.ensures.value) ∙ ap (λ n. n + 1) (sym c.open_file_count.ensures)) c.if-open_file_count.true))
 
 pub returns-then-read-ge-MAX_FILES-clause-sourced : goal.returns-then-read-ge-MAX_FILES-clause-sourced
 unfolding Describes file_source_of
 returns-then-read-ge-MAX_FILES-clause-sourced c = λ before d.
-    inr (source_many (file_source_of c.args.from) before c.args.path.now (path_open (file_source_of c.args.from) _ _ _ _ _ before d.counted c.args.path.now ∙ sym c.is_open.ensures ∙ c.if-is_open.false) c.in-Ok.ensures.0
-    (deep_not _ c.open_file_count.result (files_are_open (file_source_of c.args.from) _ _ _ _ _ before d.counted ∙ ap (λ xs. count_by is_file xs + 1) (sym c.deref.ensures.value) ∙ ap (λ n. n + 1) (sym c.open_file_count.ensures)) c.if-open_file_count.false)
+    inr (source_many (file_source_of c.args.from) before c.args.path.now
+    (path_open (file_source_of c.args.from) _ _ _ _ _ before d.counted c.args.path.now ∙ sym c.is_open.ensures ∙ c.if-is_open.false) c.in-Ok.ensures.0
+    (deep_not _ c.open_file_count.result (files_are_open (file_source_of c.args.from) _ _ _ _ _ before d.counted
+    ∙ ap (λ xs. count_by is_file xs + 1) (sym c.deref.ensures.value) ∙ ap (λ n. n + 1) (sym c.open_file_count.ensures)) c.if-open_file_count.false)
     (many_is _ _ d.counted.files_are c.if-read-ge-MAX_FILES.true))
 
 pub returns-then-file-read-clause-sourced : goal.returns-then-file-read-clause-sourced
 unfolding Describes file_source_of
 returns-then-file-read-clause-sourced c = λ before d.
-    inr (source_large (file_source_of c.args.from) before c.args.path.now (path_open (file_source_of c.args.from) _ _ _ _ _ before d.counted c.args.path.now ∙ sym c.is_open.ensures ∙ c.if-is_open.false) c.in-Ok.ensures.0
-    (deep_not _ c.open_file_count.result (files_are_open (file_source_of c.args.from) _ _ _ _ _ before d.counted ∙ ap (λ xs. count_by is_file xs + 1) (sym c.deref.ensures.value) ∙ ap (λ n. n + 1) (sym c.open_file_count.ensures)) c.if-open_file_count.false)
+    inr (source_large (file_source_of c.args.from) before c.args.path.now
+    (path_open (file_source_of c.args.from) _ _ _ _ _ before d.counted c.args.path.now ∙ sym c.is_open.ensures ∙ c.if-is_open.false) c.in-Ok.ensures.0
+    (deep_not _ c.open_file_count.result (files_are_open (file_source_of c.args.from) _ _ _ _ _ before d.counted
+    ∙ ap (λ xs. count_by is_file xs + 1) (sym c.deref.ensures.value) ∙ ap (λ n. n + 1) (sym c.open_file_count.ensures)) c.if-open_file_count.false)
     (many_not _ _ d.counted.files_are c.if-read-ge-MAX_FILES.false)
     (large_is _ _ _ (length c.in-Ok.file.bytes.now) d.counted.bytes_are (ap length c.in-Ok.ensures.2) (omega (arith, c.if-file-read.true))))
 
 pub returns-clause-sourced : goal.returns-clause-sourced
 unfolding Describes file_source_of
 returns-clause-sourced c = λ before d. (
-  source_fits (file_source_of c.args.from) before c.args.path.now (path_open (file_source_of c.args.from) _ _ _ _ _ before d.counted c.args.path.now ∙ sym c.is_open.ensures ∙ c.if-is_open.false) c.in-Ok.ensures.0
-      (deep_not _ c.open_file_count.result (files_are_open (file_source_of c.args.from) _ _ _ _ _ before d.counted ∙ ap (λ xs. count_by is_file xs + 1) (sym c.deref.ensures.value) ∙ ap (λ n. n + 1) (sym c.open_file_count.ensures)) c.if-open_file_count.false)
+  source_fits (file_source_of c.args.from) before c.args.path.now (path_open (file_source_of c.args.from) _ _ _ _ _ before d.counted c.args.path.now
+      ∙ sym c.is_open.ensures ∙ c.if-is_open.false) c.in-Ok.ensures.0
+      (deep_not _ c.open_file_count.result (files_are_open (file_source_of c.args.from) _ _ _ _ _ before d.counted
+      ∙ ap (λ xs. count_by is_file xs + 1) (sym c.deref.ensures.value) ∙ ap (λ n. n + 1) (sym c.open_file_count.ensures)) c.if-open_file_count.false)
       (many_not _ _ d.counted.files_are c.if-read-ge-MAX_FILES.false)
       (large_not _ _ _ (length c.in-Ok.file.bytes.now) d.counted.bytes_are (ap length c.in-Ok.ensures.2) (omega (arith, c.if-file-read.false))),
   c.in-Ok.ensures.1,

@@ -5,7 +5,12 @@ use Rattle.kc_listing.proofs.StatementSteps.{attribute_given}
 use Rattle.kc_listing.proofs.statements.push_statement.Goals as goal
 
 pub returns-in-Attribute : goal.returns-in-Attribute
-returns-in-Attribute c = λ r before d. rw (c.without_path.ensures, c.in-Attribute.is) (attribute_given r c.args.file c.args.line before (attribute_in c.args.read.now.listing.names.arena c.in-Attribute.attribute) _ c.push_attribute.result (c.push_attribute.ensures r before d))
+returns-in-Attribute c =
+    record {
+      appends = λ r before d. rw (c.without_path.ensures, c.in-Attribute.is)
+          (attribute_given r c.args.file c.args.line before (attribute_in c.args.read.now.listing.names.arena c.in-Attribute.attribute) _ c.push_attribute.result
+          (c.push_attribute.ensures.appends r before d));
+    }
 
 pub push_attribute-requires : goal.push_attribute-requires
 push_attribute-requires c = grind (arith, common_steps)

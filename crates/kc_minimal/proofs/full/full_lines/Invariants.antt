@@ -1,6 +1,6 @@
 use Rattle.std.proofs.Common.{◌≡◌, length, drop}
-use Rattle.kc_rules.specs.SettledViews.{tree_of_settled}
-use Rattle.kc_dotconfig_model.specs.Prefixes.{prefix_bytes}
+use Rattle.kc_rules.specs.between.SettledViews.{tree_of_settled}
+use Rattle.kc_dotconfig_model.specs.between.Prefixes.{prefix_bytes}
 use Rattle.kc_minimal.specs.checker.Drafts.{IsDraft}
 use Rattle.kc_minimal.proofs.full.full_lines.Given as goal
 

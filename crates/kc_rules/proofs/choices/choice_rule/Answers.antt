@@ -5,11 +5,5 @@ use Rattle.kc_rules.proofs.choices.choice_rule.Goals as goal
 pub is_member_visible-requires : goal.is_member_visible-requires
 is_member_visible-requires c = grind (arith, common_steps)
 
-pub first_member-requires : goal.first_member-requires
-first_member-requires c = grind (arith, common_steps)
-
-pub default_member-requires : goal.default_member-requires
-default_member-requires c = grind (arith, elements)
-
 pub is_shown-requires : goal.is_shown-requires
-is_shown-requires c = grind (arith, elements)
+is_shown-requires c = record { fits = grind (arith, elements) }

@@ -5,4 +5,7 @@ use Rattle.kc_rules.specs.checker.ValuationView.{valuation_tree, valuation_exprs
 use Rattle.kc_rules.proofs.choices.default_member.Given as goal
 
 abbrev pub invariant-loop-default : goal.invariant-loop-default
-invariant-loop-default l = default_member_of (valuation_tree l.under) (valuation_values l.under) (map (member_default_view (valuation_exprs l.under)) (drop l.default-index l.defaults)) ≡ default_member_of (valuation_tree l.under) (valuation_values l.under) (map (member_default_view (valuation_exprs l.under)) l.defaults)
+invariant-loop-default l =
+    default_member_of (valuation_tree l.under) (valuation_values l.under)
+    (map (member_default_view (valuation_exprs l.under)) (drop l.default-index l.defaults)) ≡ default_member_of (valuation_tree l.under)
+    (valuation_values l.under) (map (member_default_view (valuation_exprs l.under)) l.defaults)

@@ -11,8 +11,11 @@ loop-force-preserved c =
     let old = c.loop-force.units.items in
     let new = c.push.new.self.items in
     record {
-      units = λ d. any_pushed (λ (f : ReverseDependency). unit_of c.args.tree.now.tree f.by == d) c.args.all.now c.loop-force.force-index c.force-item.result _ _ _ (omega arith) c.force-item.is (has_pushed old new c.unit_of.result d c.in_ok-push.ensures.items ∙ ap (λ v. has old d || (v == d)) c.unit_of.ensures.unit) (c.loop-force.invariant.units d);
-      below = λ all. units_pushed c.args.tree.now.tree old new c.unit_of.result c.in_ok-push.ensures.items c.unit_of.ensures.within (c.loop-force.invariant.below all);
+      units = λ d. any_pushed (λ (f : ReverseDependency). unit_of c.args.tree.now.tree f.by == d) c.args.all.now c.loop-force.force-index c.force-item.result _
+          _ _ (omega arith) c.force-item.is (has_pushed old new c.unit_of.result d c.in_ok-push.ensures.items
+          ∙ ap (λ v. has old d || (v == d)) c.unit_of.ensures.unit) (c.loop-force.invariant.units d);
+      below = λ all. units_pushed c.args.tree.now.tree old new c.unit_of.result c.in_ok-push.ensures.items c.unit_of.ensures.within
+          (c.loop-force.invariant.below all);
     }
 
 pub returns-clause-units : goal.returns-clause-units

@@ -7,7 +7,8 @@ use Rattle.kc_rules.proofs.dependencies.push_units.Goals as goal
 
 pub loop-name-preserved : goal.loop-name-preserved
 loop-name-preserved c = record {
-  units = λ d. any_pushed (λ (i : ℕ). is_of c.args.tree.now.tree d (slice_index_or c.args.tree.now.exprs.names i [])) c.args.names.now c.loop-name.name-index c.name-item.result _ _ _ (omega arith) c.name-item.is (c.in_ok-push_named.ensures.units d) (c.loop-name.invariant.units d);
+  units = λ d. any_pushed (λ (i : ℕ). is_of c.args.tree.now.tree d (slice_index_or c.args.tree.now.exprs.names i [])) c.args.names.now c.loop-name.name-index
+      c.name-item.result _ _ _ (omega arith) c.name-item.is (c.in_ok-push_named.ensures.units d) (c.loop-name.invariant.units d);
   below = λ all. c.in_ok-push_named.ensures.below (c.loop-name.invariant.below all);
 }
 

@@ -12,26 +12,31 @@ pub choice_rule-requires-clause-user : goal.choice_rule-requires-clause-user
 choice_rule-requires-clause-user c =
     let r = c.args.rules.now in
     let t = r.tree.tree in
-    rw c.assigned_member.ensures (member_there t c.args.u c.in-Choice.c (choice_view r.tree.exprs c.choice.result) (option_copied c.args.user) c.in-Choice.ensures.unit c.choice.ensures.choice c.choice.ensures.fits.members c.requires.user)
+    rw c.assigned_member.ensures (member_there t c.args.u c.in-Choice.c (choice_view r.tree.exprs c.choice.result) (option_copied c.args.user)
+    c.in-Choice.ensures.unit c.choice.ensures.choice c.choice.ensures.fits.members c.requires.user)
 
 pub returns-in-Symbol : goal.returns-in-Symbol
-returns-in-Symbol c =
-    let r = c.args.rules.now in
-    let t = r.tree.tree in
-    IfOk-weaker c.symbol_rule.result _ _ (λ value same. same ∙ rule_symbol r.profile t c.args.u c.in-Symbol.s (symbol_view r.tree.exprs c.symbol.result) (option_copied c.args.user) c.args.values.now c.in-Symbol.ensures.unit c.symbol.ensures.symbol) c.symbol_rule.ensures
+returns-in-Symbol c = record {
+  ok = let r = c.args.rules.now in
+      let t = r.tree.tree in
+      IfOk-weaker c.symbol_rule.result _ _ (λ value same. same ∙ rule_symbol r.profile t c.args.u c.in-Symbol.s (symbol_view r.tree.exprs c.symbol.result)
+      (option_copied c.args.user) c.args.values.now c.in-Symbol.ensures.unit c.symbol.ensures.symbol) c.symbol_rule.ensures.ok;
+}
 
 pub returns-in-Choice : goal.returns-in-Choice
-returns-in-Choice c =
-    let r = c.args.rules.now in
-    let t = r.tree.tree in
-    let k = choice_view r.tree.exprs c.choice.result in
-    ap (λ m. MemberValue m) (c.choice_rule.ensures ∙ ap (λ m. choice_rule_of t k m c.args.values.now) c.assigned_member.ensures) ∙ rule_choice r.profile t c.args.u c.in-Choice.c k (option_copied c.args.user) c.args.values.now c.in-Choice.ensures.unit c.choice.ensures.choice
+returns-in-Choice c = record {
+  ok = let r = c.args.rules.now in
+      let t = r.tree.tree in
+      let k = choice_view r.tree.exprs c.choice.result in
+      ap (λ m. MemberValue m) (c.choice_rule.ensures.value ∙ ap (λ m. choice_rule_of t k m c.args.values.now) c.assigned_member.ensures)
+      ∙ rule_choice r.profile t c.args.u c.in-Choice.c k (option_copied c.args.user) c.args.values.now c.in-Choice.ensures.unit c.choice.ensures.choice;
+}
 
 pub choice-requires : goal.choice-requires
-choice-requires c = grind (arith, elements)
+choice-requires c = record { there = grind (arith, elements) }
 
 pub symbol-requires : goal.symbol-requires
-symbol-requires c = grind (arith, elements)
+symbol-requires c = record { there = grind (arith, elements) }
 
 pub choice_rule-requires-clause-fits : goal.choice_rule-requires-clause-fits
 choice_rule-requires-clause-fits c = grind (arith, common_steps)

@@ -8,7 +8,8 @@ use Rattle.kc_rules.proofs.names.push_conditions.Goals as goal
 
 pub loop-force-preserved : goal.loop-force-preserved
 loop-force-preserved c = record {
-  names = λ p. any_pushed (λ (f : ReverseDependency). mentions p (node_expr c.args.tree.now.exprs f.condition)) c.args.all.now c.loop-force.force-index c.force-item.result _ _ _ (omega arith) c.force-item.is (c.in_ok-push_expr.ensures.names p) (c.loop-force.invariant.names p);
+  names = λ p. any_pushed (λ (f : ReverseDependency). mentions p (node_expr c.args.tree.now.exprs f.condition)) c.args.all.now c.loop-force.force-index
+      c.force-item.result _ _ _ (omega arith) c.force-item.is (c.in_ok-push_expr.ensures.names p) (c.loop-force.invariant.names p);
   found = c.in_ok-push_expr.ensures.found;
 }
 

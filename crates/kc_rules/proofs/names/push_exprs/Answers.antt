@@ -7,7 +7,8 @@ use Rattle.kc_rules.proofs.names.push_exprs.Goals as goal
 
 pub loop-id-preserved : goal.loop-id-preserved
 loop-id-preserved c = record {
-  names = λ p. any_pushed (λ (i : ℕ). mentions p (node_expr c.args.tree.now.exprs i)) c.args.ids.now c.loop-id.id-index c.id-item.result _ _ _ (omega arith) c.id-item.is (c.in_ok-push_expr.ensures.names p) (c.loop-id.invariant.names p);
+  names = λ p. any_pushed (λ (i : ℕ). mentions p (node_expr c.args.tree.now.exprs i)) c.args.ids.now c.loop-id.id-index c.id-item.result _ _ _ (omega arith)
+      c.id-item.is (c.in_ok-push_expr.ensures.names p) (c.loop-id.invariant.names p);
   found = c.in_ok-push_expr.ensures.found;
 }
 

@@ -10,7 +10,9 @@ use Rattle.kc_rules.proofs.names.push_member_defaults.Goals as goal
 
 pub loop-default-preserved : goal.loop-default-preserved
 loop-default-preserved c = record {
-  names = λ p. any_pushed (λ (m : MemberDefault). mentions p (node_expr c.args.tree.now.exprs m.condition) || list_any p (names_in_member_prompts c.args.tree.now.tree m.member)) c.args.defaults.now c.loop-default.default-index c.default-item.result _ _ _ (omega arith) c.default-item.is (two_pushed _ _ _ _ _ (c.in_ok-push_expr.ensures.names p) (c.in_ok-push_prompts.ensures.names p)) (c.loop-default.invariant.names p);
+  names = λ p. any_pushed (λ (m : MemberDefault). mentions p (node_expr c.args.tree.now.exprs m.condition) || list_any p
+      (names_in_member_prompts c.args.tree.now.tree m.member)) c.args.defaults.now c.loop-default.default-index c.default-item.result _ _ _ (omega arith)
+      c.default-item.is (two_pushed _ _ _ _ _ (c.in_ok-push_expr.ensures.names p) (c.in_ok-push_prompts.ensures.names p)) (c.loop-default.invariant.names p);
   found = c.in_ok-push_prompts.ensures.found;
 }
 

@@ -7,7 +7,8 @@ use Rattle.kc_rules.proofs.names.push_members.Goals as goal
 
 pub loop-member-preserved : goal.loop-member-preserved
 loop-member-preserved c = record {
-  names = λ p. any_pushed (λ (s : ℕ). list_any p (names_in_member_prompts c.args.tree.now.tree s)) c.args.members.now c.loop-member.member-index c.member-item.result _ _ _ (omega arith) c.member-item.is (c.in_ok-push_prompts.ensures.names p) (c.loop-member.invariant.names p);
+  names = λ p. any_pushed (λ (s : ℕ). list_any p (names_in_member_prompts c.args.tree.now.tree s)) c.args.members.now c.loop-member.member-index
+      c.member-item.result _ _ _ (omega arith) c.member-item.is (c.in_ok-push_prompts.ensures.names p) (c.loop-member.invariant.names p);
   found = c.in_ok-push_prompts.ensures.found;
 }
 

@@ -8,7 +8,10 @@ use Rattle.kc_rules.proofs.names.push_ranges.Goals as goal
 
 pub loop-range-preserved : goal.loop-range-preserved
 loop-range-preserved c = record {
-  names = λ p. any_pushed (λ (r : Range). mentions p (node_expr c.args.tree.now.exprs r.low) || mentions p (node_expr c.args.tree.now.exprs r.high) || mentions p (node_expr c.args.tree.now.exprs r.condition)) c.args.ranges.now c.loop-range.range-index c.range-item.result _ _ _ (omega arith) c.range-item.is (two_pushed _ _ _ _ _ (two_pushed _ _ _ _ _ (c.in_ok-push_expr.ensures.names p) (c.in_ok-push_expr-2.ensures.names p)) (c.in_ok-push_expr-3.ensures.names p)) (c.loop-range.invariant.names p);
+  names = λ p. any_pushed (λ (r : Range). mentions p (node_expr c.args.tree.now.exprs r.low) || mentions p (node_expr c.args.tree.now.exprs r.high) || mentions
+      p (node_expr c.args.tree.now.exprs r.condition)) c.args.ranges.now c.loop-range.range-index c.range-item.result _ _ _ (omega arith) c.range-item.is
+      (two_pushed _ _ _ _ _ (two_pushed _ _ _ _ _ (c.in_ok-push_expr.ensures.names p) (c.in_ok-push_expr-2.ensures.names p))
+      (c.in_ok-push_expr-3.ensures.names p)) (c.loop-range.invariant.names p);
   found = c.in_ok-push_expr-3.ensures.found;
 }
 

@@ -6,7 +6,9 @@ use Rattle.kc_rules.proofs.names.push_symbol.Goals as goal
 
 pub returns-clause-names : goal.returns-clause-names
 returns-clause-names c = λ p. on_ok_weaker c.push_conditions-2.result
-    (λ e. two_pushed _ _ _ _ _ (two_pushed _ _ _ _ _ (two_pushed _ _ _ _ _ (two_pushed _ _ _ _ _ (two_pushed _ _ _ _ _ (c.in_ok-push_exprs.ensures.names p) (c.in_ok-push_defaults.ensures.names p)) (c.in_ok-push_ranges.ensures.names p)) (c.in_ok-push_exprs-2.ensures.names p)) (c.in_ok-push_conditions.ensures.names p)) e)
+    (λ e. two_pushed _ _ _ _ _ (two_pushed _ _ _ _ _ (two_pushed _ _ _ _ _
+    (two_pushed _ _ _ _ _ (two_pushed _ _ _ _ _ (c.in_ok-push_exprs.ensures.names p) (c.in_ok-push_defaults.ensures.names p))
+    (c.in_ok-push_ranges.ensures.names p)) (c.in_ok-push_exprs-2.ensures.names p)) (c.in_ok-push_conditions.ensures.names p)) e)
     (c.push_conditions-2.ensures.names p)
 
 pub push_exprs-requires-2-clause-fits : goal.push_exprs-requires-2-clause-fits

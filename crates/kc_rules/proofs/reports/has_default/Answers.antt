@@ -3,10 +3,10 @@ use Rattle.std.proofs.lemmas.Grind.{common_steps, elements}
 use Rattle.kc_rules.proofs.reports.has_default.Goals as goal
 
 pub active_default-requires-in-Hex : goal.active_default-requires-in-Hex
-active_default-requires-in-Hex c = grind (arith, elements)
+active_default-requires-in-Hex c = record { fits = grind (arith, elements) }
 
 pub default_value-requires-in-Tristate : goal.default_value-requires-in-Tristate
-default_value-requires-in-Tristate c = grind (arith, elements)
+default_value-requires-in-Tristate c = record { fits = grind (arith, elements) }
 
 pub active_default-requires-in-Int : goal.active_default-requires-in-Int
 active_default-requires-in-Int c = grind (arith, common_steps)

@@ -9,4 +9,4 @@ pub reverse_limit-requires : goal.reverse_limit-requires
 reverse_limit-requires c = grind (arith, common_steps)
 
 pub reverse_limit-requires-else-not-is_n : goal.reverse_limit-requires-else-not-is_n
-reverse_limit-requires-else-not-is_n c = grind (arith, elements)
+reverse_limit-requires-else-not-is_n c = record { fits = grind (arith, elements) }

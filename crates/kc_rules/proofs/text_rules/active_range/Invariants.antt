@@ -5,4 +5,6 @@ use Rattle.kc_rules.specs.checker.ValuationView.{valuation_tree, valuation_exprs
 use Rattle.kc_rules.proofs.text_rules.active_range.Given as goal
 
 abbrev pub invariant-loop-range : goal.invariant-loop-range
-invariant-loop-range l = active_range_of (valuation_tree l.under) (valuation_values l.under) (map (range_view (valuation_exprs l.under)) (drop l.range-index l.ranges)) ≡ active_range_of (valuation_tree l.under) (valuation_values l.under) (map (range_view (valuation_exprs l.under)) l.ranges)
+invariant-loop-range l =
+    active_range_of (valuation_tree l.under) (valuation_values l.under) (map (range_view (valuation_exprs l.under)) (drop l.range-index l.ranges))
+    ≡ active_range_of (valuation_tree l.under) (valuation_values l.under) (map (range_view (valuation_exprs l.under)) l.ranges)

@@ -3,10 +3,10 @@ use Rattle.std.proofs.lemmas.Grind.{common_steps, elements}
 use Rattle.kc_rules.proofs.tristate_rules.default_value.Goals as goal
 
 pub condition-condition-requires : goal.condition-condition-requires
-condition-condition-requires c = grind (arith, elements)
+condition-condition-requires c = record { there = grind (arith, elements) }
 
 pub condition-requires : goal.condition-requires
-condition-requires c = grind (arith, elements)
+condition-requires c = record { there = grind (arith, elements) }
 
 pub returns : goal.returns
 returns c = grind (arith, common_steps)

@@ -5,4 +5,6 @@ use Rattle.kc_rules.specs.checker.ValuationView.{valuation_tree, valuation_exprs
 use Rattle.kc_rules.proofs.tristate_rules.default_value.Given as goal
 
 abbrev pub invariant-loop-default : goal.invariant-loop-default
-invariant-loop-default l = active_default_of (valuation_tree l.under) (valuation_values l.under) (map (default_view (valuation_exprs l.under)) (drop l.default-index l.defaults)) ≡ active_default_of (valuation_tree l.under) (valuation_values l.under) (map (default_view (valuation_exprs l.under)) l.defaults)
+invariant-loop-default l =
+    active_default_of (valuation_tree l.under) (valuation_values l.under) (map (default_view (valuation_exprs l.under)) (drop l.default-index l.defaults))
+    ≡ active_default_of (valuation_tree l.under) (valuation_values l.under) (map (default_view (valuation_exprs l.under)) l.defaults)

@@ -3,7 +3,7 @@ use Rattle.std.proofs.lemmas.Grind.{common_steps, elements}
 use Rattle.kc_rules.proofs.tristate_rules.largest.Goals as goal
 
 pub condition-requires : goal.condition-requires
-condition-requires c = grind (arith, elements)
+condition-requires c = record { there = grind (arith, elements) }
 
 pub returns : goal.returns
 returns c = grind (arith, common_steps)

@@ -7,4 +7,6 @@ use Rattle.kc_rules.specs.checker.ValuationView.{valuation_tree, valuation_exprs
 use Rattle.kc_rules.proofs.tristate_rules.largest.Given as goal
 
 abbrev pub invariant-loop-id : goal.invariant-loop-id
-invariant-loop-id l = tri_or l.most (largest (conditions (valuation_tree l.under) (valuation_values l.under) (map (node_expr (valuation_exprs l.under)) (drop l.id-index l.ids)))) ≡ largest (conditions (valuation_tree l.under) (valuation_values l.under) (map (node_expr (valuation_exprs l.under)) l.ids))
+invariant-loop-id l =
+    tri_or l.most (largest (conditions (valuation_tree l.under) (valuation_values l.under) (map (node_expr (valuation_exprs l.under)) (drop l.id-index l.ids))))
+    ≡ largest (conditions (valuation_tree l.under) (valuation_values l.under) (map (node_expr (valuation_exprs l.under)) l.ids))

@@ -7,4 +7,7 @@ use Rattle.kc_rules.specs.checker.ValuationView.{valuation_tree, valuation_exprs
 use Rattle.kc_rules.proofs.tristate_rules.reverse_limit.Given as goal
 
 abbrev pub invariant-loop-force : goal.invariant-loop-force
-invariant-loop-force l = tri_or l.most (largest (reverse_dependency_limit (valuation_tree l.under) (valuation_values l.under) (map (reverse_dependency_view (valuation_exprs l.under)) (drop l.force-index l.all)))) ≡ largest (reverse_dependency_limit (valuation_tree l.under) (valuation_values l.under) (map (reverse_dependency_view (valuation_exprs l.under)) l.all))
+invariant-loop-force l =
+    tri_or l.most (largest (reverse_dependency_limit (valuation_tree l.under) (valuation_values l.under)
+    (map (reverse_dependency_view (valuation_exprs l.under)) (drop l.force-index l.all)))) ≡ largest
+    (reverse_dependency_limit (valuation_tree l.under) (valuation_values l.under) (map (reverse_dependency_view (valuation_exprs l.under)) l.all))

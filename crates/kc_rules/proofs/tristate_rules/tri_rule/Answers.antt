@@ -8,12 +8,15 @@ use Rattle.kc_rules.specs.checker.ValuationView.{valuation_tree, valuation_exprs
 use Rattle.kc_rules.proofs.tristate_rules.tri_rule.Goals as goal
 
 pub returns : goal.returns
-returns c =
-    let tree = valuation_tree c.args.under.now in
-    let values = valuation_values c.args.under.now in
-    let symbol = symbol_view (valuation_exprs c.args.under.now) c.args.symbol.now in
-    let whole = c.or.ensures.value ∙ ap (λ t. tri_or t c.reverse_limit-selected.result) c.base-base.ensures ∙ ap (tri_or (base c.args.profile tree values symbol c.args.user)) c.reverse_limit-selected.ensures in
-    c.without_m.ensures ∙ ap (λ t. cond (leaves_no_m c.args.profile tree values symbol) (y_for_m t) t) (c.promoted-value.ensures ∙ ap (promoted tree values symbol.kind) whole)
+returns c = record {
+  value = let tree = valuation_tree c.args.under.now in
+      let values = valuation_values c.args.under.now in
+      let symbol = symbol_view (valuation_exprs c.args.under.now) c.args.symbol.now in
+      let whole = c.or.ensures.value ∙ ap (λ t. tri_or t c.reverse_limit-selected.result) c.base-base.ensures.value
+      ∙ ap (tri_or (base c.args.profile tree values symbol c.args.user)) c.reverse_limit-selected.ensures.value in
+      c.without_m.ensures.value ∙ ap (λ t. cond (leaves_no_m c.args.profile tree values symbol) (y_for_m t) t)
+      (c.promoted-value.ensures ∙ ap (promoted tree values symbol.kind) whole);
+}
 
 pub reverse_limit-selected-requires : goal.reverse_limit-selected-requires
-reverse_limit-selected-requires c = grind (arith, elements)
+reverse_limit-selected-requires c = record { fits = grind (arith, elements) }

@@ -3,7 +3,7 @@ use Rattle.std.proofs.lemmas.Grind.{common_steps, elements}
 use Rattle.kc_rules.proofs.tristate_rules.unassigned_value.Goals as goal
 
 pub reverse_limit-implied-requires : goal.reverse_limit-implied-requires
-reverse_limit-implied-requires c = grind (arith, elements)
+reverse_limit-implied-requires c = record { fits = grind (arith, elements) }
 
 pub largest-requires : goal.largest-requires
 largest-requires c = grind (arith, common_steps)

@@ -16,7 +16,9 @@ pub returns-then-not-is_the_word-clause-grows : goal.returns-then-not-is_the_wor
 returns-then-not-is_the_word-clause-grows c = grows_none c.args.arena.now
 
 pub returns-then-is_empty-clause-gives : goal.returns-then-is_empty-clause-gives
-returns-then-is_empty-clause-gives c = λ f. inr (ap (λ ts. condition_line c.args.word.now f (lexemes_of ts)) (none_there c.args.tokens.now c.is_empty.result c.is_empty.ensures c.if-is_empty.true))
+returns-then-is_empty-clause-gives c =
+    λ f. inr (ap (λ ts. condition_line c.args.word.now f (lexemes_of ts))
+    (none_there c.args.tokens.now c.is_empty.result c.is_empty.ensures c.if-is_empty.true))
 
 pub returns-then-not-is_the_word-clause-gives : goal.returns-then-not-is_the_word-clause-gives
 returns-then-not-is_the_word-clause-gives c =
@@ -28,7 +30,8 @@ returns-clause-gives c =
     let some = there (length c.args.tokens.now) c.is_empty.result c.is_empty.ensures c.if-is_empty.false in
     let e = c.last_condition.new.arena in
     let ps = drop 1 (lexemes_of c.args.tokens.now) in
-    λ f. along (λ id. attribute (f (node_expr e id))) c.last_condition.result (condition_line c.args.word.now f (lexemes_of c.args.tokens.now)) (stepped (λ x. attribute (f x)) (last_condition ps))
+    λ f. along (λ id. attribute (f (node_expr e id))) c.last_condition.result (condition_line c.args.word.now f (lexemes_of c.args.tokens.now))
+    (stepped (λ x. attribute (f x)) (last_condition ps))
     (worded_is c.args.word.now f c.args.tokens.now some (sym c.is_the_word.ensures ∙ c.if-not-is_the_word.false))
     (given_on (node_expr e) (λ x. attribute (f x)) c.last_condition.result (last_condition ps) c.last_condition.ensures.gives)
 
@@ -48,4 +51,4 @@ pub returns-then-not-is_the_word-clause-held : goal.returns-then-not-is_the_word
 returns-then-not-is_the_word-clause-held c = omega arith
 
 pub last_condition-requires : goal.last_condition-requires
-last_condition-requires c = grind (arith, elements)
+last_condition-requires c = record { within = grind (arith, elements) }

@@ -11,13 +11,14 @@ use Rattle.kc_statements.proofs.attributes.default_attribute.Goals as goal
 
 pub optional_if-requires : goal.optional_if-requires
 optional_if-requires c =
-    omega (arith, c.in-Ok.ensures.end, extent_within (lexemes_of c.args.tokens.now), length-map c.args.tokens.now lexeme_of)
+    record { within = omega (arith, c.in-Ok.ensures.end, extent_within (lexemes_of c.args.tokens.now), length-map c.args.tokens.now lexeme_of) }
 
 pub returns-in-Ok-optional_if-clause-gives : goal.returns-in-Ok-optional_if-clause-gives
 returns-in-Ok-optional_if-clause-gives c = λ f.
     let r = c.in-Ok.ensures.ok in
     let s = c.in-Ok-optional_if.ensures in
-    valued_reported c.parse_expr.new.self c.optional_if.new.arena f (lexemes_of c.args.tokens.now) c.in-Ok.read.0 c.in-Ok.read.1 c.in-Ok-optional_if.condition r.expr s.grows r.reads r.stands c.in-Ok.ensures.end s.gives
+    valued_reported c.parse_expr.new.self c.optional_if.new.arena f (lexemes_of c.args.tokens.now) c.in-Ok.read.0 c.in-Ok.read.1 c.in-Ok-optional_if.condition
+    r.expr s.grows r.reads r.stands c.in-Ok.ensures.end s.gives
 
 pub returns-in-Err-optional_if-clause-gives : goal.returns-in-Err-optional_if-clause-gives
 returns-in-Err-optional_if-clause-gives c = λ f.
@@ -28,14 +29,20 @@ returns-in-Err-optional_if-clause-gives c = λ f.
     ]
 
 pub returns-in-Ok-optional_if-clause-grows : goal.returns-in-Ok-optional_if-clause-grows
-returns-in-Ok-optional_if-clause-grows c = grows_on c.args.arena.now c.parse_expr.new.self c.optional_if.new.arena c.parse_expr.ensures.grows c.optional_if.ensures.grows
+returns-in-Ok-optional_if-clause-grows c =
+    grows_on c.args.arena.now c.parse_expr.new.self c.optional_if.new.arena c.parse_expr.ensures.grows c.optional_if.ensures.grows
 
 pub returns-in-Err-optional_if-clause-grows : goal.returns-in-Err-optional_if-clause-grows
-returns-in-Err-optional_if-clause-grows c = grows_on c.args.arena.now c.parse_expr.new.self c.optional_if.new.arena c.parse_expr.ensures.grows c.optional_if.ensures.grows
+returns-in-Err-optional_if-clause-grows c =
+    grows_on c.args.arena.now c.parse_expr.new.self c.optional_if.new.arena c.parse_expr.ensures.grows c.optional_if.ensures.grows
 
 pub returns-in-Ok-optional_if-clause-held : goal.returns-in-Ok-optional_if-clause-held
-returns-in-Ok-optional_if-clause-held c =
-    (node_held c.parse_expr.new.self c.optional_if.new.arena c.in-Ok.read.0 c.optional_if.ensures.grows c.in-Ok.ensures.ok.stands.within, c.in-Ok-optional_if.ensures.held)
+returns-in-Ok-optional_if-clause-held c = (
+  node_held c.parse_expr.new.self c.optional_if.new.arena c.in-Ok.read.0 c.optional_if.ensures.grows c.in-Ok.ensures.ok.stands.within,
+  c.in-Ok-optional_if.ensures.held,
+)
 
 pub returns-in-Err-clause-gives : goal.returns-in-Err-clause-gives
-returns-in-Err-clause-gives c = λ f. unread (lexemes_of c.args.tokens.now) 0 c.in-Err.fault c.tree_kind_of.result (default_line f (lexemes_of c.args.tokens.now)) c.in-Err.ensures.fault c.tree_kind_of.ensures (default_unread f (lexemes_of c.args.tokens.now))
+returns-in-Err-clause-gives c =
+    λ f. unread (lexemes_of c.args.tokens.now) 0 c.in-Err.fault c.tree_kind_of.result (default_line f (lexemes_of c.args.tokens.now)) c.in-Err.ensures.fault
+    c.tree_kind_of.ensures (default_unread f (lexemes_of c.args.tokens.now))

@@ -25,7 +25,8 @@ returns-clause-gives c =
     let some = there (length c.args.tokens.now) c.is_empty.result c.is_empty.ensures c.if-is_empty.false in
     let e = c.optional_if.new.arena in
     let ps = drop 1 (lexemes_of c.args.tokens.now) in
-    λ f. along (λ d. attribute (f (if_in e d))) c.optional_if.result (prompt_line f (lexemes_of c.args.tokens.now)) (stepped (λ x. attribute (f x)) (optional_if ps))
+    λ f. along (λ d. attribute (f (if_in e d))) c.optional_if.result (prompt_line f (lexemes_of c.args.tokens.now))
+    (stepped (λ x. attribute (f x)) (optional_if ps))
     (prompt_is f c.args.tokens.now some (sym c.is_quoted.ensures ∙ c.if-not-is_quoted.false))
     (given_on (if_in e) (λ x. attribute (f x)) c.optional_if.result (optional_if ps) c.optional_if.ensures.gives)
 
@@ -33,7 +34,7 @@ pub returns-then-is_empty-clause-gives : goal.returns-then-is_empty-clause-gives
 returns-then-is_empty-clause-gives c = grind (arith, elements)
 
 pub optional_if-requires : goal.optional_if-requires
-optional_if-requires c = grind (arith, elements)
+optional_if-requires c = record { within = grind (arith, elements) }
 
 pub bounds-tokens-0 : goal.bounds-tokens-0
 bounds-tokens-0 c = grind (arith, common_steps)

@@ -26,18 +26,24 @@ returns-then-not-is_name-clause-gives c =
 pub returns-in-Err-clause-gives : goal.returns-in-Err-clause-gives
 returns-in-Err-clause-gives c =
     let some = there (length c.args.tokens.now) c.is_empty.result c.is_empty.ensures c.if-is_empty.false in
-    λ f. elim c.in-Err.ensures.gives [ inl m ↦ inl m | inr e ↦ inr (target_refused f c.args.tokens.now c.in-Err.kind some (sym c.is_name.ensures ∙ c.if-not-is_name.false) e) ]
+    λ f. elim c.in-Err.ensures.gives [
+      | inl m ↦ inl m
+      | inr e ↦ inr (target_refused f c.args.tokens.now c.in-Err.kind some
+          (sym c.is_name.ensures ∙ c.if-not-is_name.false) e)
+    ]
 
 pub returns-in-Err-intern-clause-gives : goal.returns-in-Err-intern-clause-gives
 returns-in-Err-intern-clause-gives c = λ f. inl refl
 
 pub returns-in-Ok-intern-clause-held : goal.returns-in-Ok-intern-clause-held
-returns-in-Ok-intern-clause-held c = (c.in-Ok-intern.ensures.within, if_held c.optional_if.new.arena c.intern.new.self c.in-Ok.condition c.intern.ensures.grows c.in-Ok.ensures.held)
+returns-in-Ok-intern-clause-held c =
+    (c.in-Ok-intern.ensures.within, if_held c.optional_if.new.arena c.intern.new.self c.in-Ok.condition c.intern.ensures.grows c.in-Ok.ensures.held)
 
 pub returns-in-Ok-intern-clause-gives : goal.returns-in-Ok-intern-clause-gives
 returns-in-Ok-intern-clause-gives c =
     let some = there (length c.args.tokens.now) c.is_empty.result c.is_empty.ensures c.if-is_empty.false in
-    λ f. target_told c.optional_if.new.arena c.intern.new.self f c.args.tokens.now c.in-Ok-intern.name c.in-Ok.condition some (sym c.is_name.ensures ∙ c.if-not-is_name.false) c.intern.ensures.grows c.in-Ok.ensures.gives c.in-Ok.ensures.held c.in-Ok-intern.ensures.name
+    λ f. target_told c.optional_if.new.arena c.intern.new.self f c.args.tokens.now c.in-Ok-intern.name c.in-Ok.condition some
+    (sym c.is_name.ensures ∙ c.if-not-is_name.false) c.intern.ensures.grows c.in-Ok.ensures.gives c.in-Ok.ensures.held c.in-Ok-intern.ensures.name
 
 pub returns-then-is_empty-clause-gives : goal.returns-then-is_empty-clause-gives
 returns-then-is_empty-clause-gives c = grind (arith, common_steps)

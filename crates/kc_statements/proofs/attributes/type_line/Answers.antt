@@ -22,7 +22,8 @@ pub returns-then-is_empty-clause-grows : goal.returns-then-is_empty-clause-grows
 returns-then-is_empty-clause-grows c = grows_none c.args.arena.now
 
 pub returns-then-is_empty-clause-gives : goal.returns-then-is_empty-clause-gives
-returns-then-is_empty-clause-gives c = ap (λ ts. type_line c.args.kind (lexemes_of ts)) (none_there c.args.tokens.now c.is_empty.result c.is_empty.ensures c.if-is_empty.true)
+returns-then-is_empty-clause-gives c =
+    ap (λ ts. type_line c.args.kind (lexemes_of ts)) (none_there c.args.tokens.now c.is_empty.result c.is_empty.ensures c.if-is_empty.true)
 
 pub returns-in-Ok-clause-held : goal.returns-in-Ok-clause-held
 returns-in-Ok-clause-held c = grind (arith, common_steps)

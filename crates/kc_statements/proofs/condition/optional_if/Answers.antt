@@ -8,17 +8,22 @@ use Rattle.kc_statements.proofs.condition.optional_if.Goals as goal
 
 pub returns-then-not-is_the_word-clause-gives : goal.returns-then-not-is_the_word-clause-gives
 returns-then-not-is_the_word-clause-gives c =
-    rw (front_piece c.args.tokens.now c.args.at some_token (omega arith)) (inr (no_if (lexeme_of (slice_index_or c.args.tokens.now c.args.at some_token)) (drop (c.args.at + 1) (lexemes_of c.args.tokens.now)) (sym c.is_the_word.ensures ∙ c.if-not-is_the_word.true)))
+    rw (front_piece c.args.tokens.now c.args.at some_token (omega arith))
+    (inr (no_if (lexeme_of (slice_index_or c.args.tokens.now c.args.at some_token)) (drop (c.args.at + 1) (lexemes_of c.args.tokens.now))
+    (sym c.is_the_word.ensures ∙ c.if-not-is_the_word.true)))
 
 pub returns-in-Ok-clause-gives : goal.returns-in-Ok-clause-gives
 returns-in-Ok-clause-gives c =
-    rw (front_piece c.args.tokens.now c.args.at some_token (omega arith)) (if_given (lexeme_of (slice_index_or c.args.tokens.now c.args.at some_token)) (drop (c.args.at + 1) (lexemes_of c.args.tokens.now)) _ (sym c.is_the_word.ensures ∙ c.if-not-is_the_word.false) c.in-Ok.ensures.gives)
+    rw (front_piece c.args.tokens.now c.args.at some_token (omega arith))
+    (if_given (lexeme_of (slice_index_or c.args.tokens.now c.args.at some_token)) (drop (c.args.at + 1) (lexemes_of c.args.tokens.now)) _
+    (sym c.is_the_word.ensures ∙ c.if-not-is_the_word.false) c.in-Ok.ensures.gives)
 
 pub returns-in-Err-clause-gives : goal.returns-in-Err-clause-gives
 returns-in-Err-clause-gives c =
     rw (front_piece c.args.tokens.now c.args.at some_token (omega arith)) (elim c.in-Err.ensures.gives [
       | inl m ↦ inl m
-      | inr e ↦ inr (if_refused (lexeme_of (slice_index_or c.args.tokens.now c.args.at some_token)) (drop (c.args.at + 1) (lexemes_of c.args.tokens.now)) c.in-Err.kind (sym c.is_the_word.ensures ∙ c.if-not-is_the_word.false) e)
+      | inr e ↦ inr (if_refused (lexeme_of (slice_index_or c.args.tokens.now c.args.at some_token)) (drop (c.args.at + 1) (lexemes_of c.args.tokens.now))
+          c.in-Err.kind (sym c.is_the_word.ensures ∙ c.if-not-is_the_word.false) e)
     ])
 
 pub returns-then-not-is_the_word-clause-grows : goal.returns-then-not-is_the_word-clause-grows

@@ -7,7 +7,8 @@ pub returns-then-tokens-ne1-clause-gives : goal.returns-then-tokens-ne1-clause-g
 returns-then-tokens-ne1-clause-gives c = λ e. inr (source_long c.args.tokens.now c.if-tokens-ne1.true)
 
 pub returns-in-Ok-Some-clause-gives : goal.returns-in-Ok-Some-clause-gives
-returns-in-Ok-Some-clause-gives c = λ e. source_is c.args.tokens.now c.in-Ok-Some.path c.if-tokens-ne1.false (sym c.in-Ok-Some.ensures ∙ c.in-Ok-Some.field-0-is)
+returns-in-Ok-Some-clause-gives c =
+    λ e. source_is c.args.tokens.now c.in-Ok-Some.path c.if-tokens-ne1.false (sym c.in-Ok-Some.ensures ∙ c.in-Ok-Some.field-0-is)
 
 pub returns-in-Err-clause-gives : goal.returns-in-Err-clause-gives
 returns-in-Err-clause-gives c = grind (arith, common_steps)

@@ -13,20 +13,26 @@ pub returns-in-Ok-optional_if-clause-grows : goal.returns-in-Ok-optional_if-clau
 returns-in-Ok-optional_if-clause-grows c =
     let high = c.operand-2.new.arena in
     let new = c.optional_if.new.arena in
-    grows_on c.args.arena.now c.operand.new.arena new c.operand.ensures.grows (grows_on c.operand.new.arena high new c.operand-2.ensures.grows c.optional_if.ensures.grows)
+    grows_on c.args.arena.now c.operand.new.arena new c.operand.ensures.grows
+    (grows_on c.operand.new.arena high new c.operand-2.ensures.grows c.optional_if.ensures.grows)
 
 pub returns-in-Err-optional_if-clause-grows : goal.returns-in-Err-optional_if-clause-grows
 returns-in-Err-optional_if-clause-grows c =
     let high = c.operand-2.new.arena in
     let new = c.optional_if.new.arena in
-    grows_on c.args.arena.now c.operand.new.arena new c.operand.ensures.grows (grows_on c.operand.new.arena high new c.operand-2.ensures.grows c.optional_if.ensures.grows)
+    grows_on c.args.arena.now c.operand.new.arena new c.operand.ensures.grows
+    (grows_on c.operand.new.arena high new c.operand-2.ensures.grows c.optional_if.ensures.grows)
 
 pub returns-in-Ok-optional_if-clause-held : goal.returns-in-Ok-optional_if-clause-held
 returns-in-Ok-optional_if-clause-held c =
     let high = c.operand-2.new.arena in
     let new = c.optional_if.new.arena in
-    let g = c.optional_if.ensures.grows in
-    (operand_held c.operand.new.arena new c.in-Ok.id (grows_on c.operand.new.arena high new c.operand-2.ensures.grows g) c.in-Ok.ensures.held, operand_held high new c.in-Ok-operand.id g c.in-Ok-operand.ensures.held, c.in-Ok-optional_if.ensures.held)
+    let g = c.optional_if.ensures.grows in (
+      operand_held c.operand.new.arena new c.in-Ok.id (grows_on c.operand.new.arena high new c.operand-2.ensures.grows g) c.in-Ok.ensures.held,
+      operand_held high
+          new c.in-Ok-operand.id g c.in-Ok-operand.ensures.held,
+      c.in-Ok-optional_if.ensures.held,
+    )
 
 pub returns-then-not-is_operand-clause-gives : goal.returns-then-not-is_operand-clause-gives
 returns-then-not-is_operand-clause-gives c = inr (first_refused c.args.tokens.now c.if-tokens-lt2.false (sym c.if-not-is_operand.ensures))
@@ -47,13 +53,16 @@ returns-in-Ok-optional_if-clause-gives c =
     let g = c.optional_if.ensures.grows in
     let low_same = operand_same c.operand.new.arena new c.in-Ok.id (grows_on c.operand.new.arena high new c.operand-2.ensures.grows g) c.in-Ok.ensures.held in
     let high_same = operand_same high new c.in-Ok-operand.id g c.in-Ok-operand.ensures.held in
-    operands_given c.args.tokens.now (operand_or_n new c.in-Ok.id) (operand_or_n new c.in-Ok-operand.id) (if_in new c.in-Ok-optional_if.condition) c.if-tokens-lt2.false (c.in-Ok.ensures.operand ∙ ap Some (sym low_same)) (c.in-Ok-operand.ensures.operand ∙ ap Some (sym high_same)) c.in-Ok-optional_if.ensures.gives
+    operands_given c.args.tokens.now (operand_or_n new c.in-Ok.id) (operand_or_n new c.in-Ok-operand.id) (if_in new c.in-Ok-optional_if.condition)
+    c.if-tokens-lt2.false (c.in-Ok.ensures.operand ∙ ap Some (sym low_same)) (c.in-Ok-operand.ensures.operand ∙ ap Some (sym high_same))
+    c.in-Ok-optional_if.ensures.gives
 
 pub returns-in-Err-optional_if-clause-gives : goal.returns-in-Err-optional_if-clause-gives
 returns-in-Err-optional_if-clause-gives c =
     elim c.in-Err-optional_if.ensures.gives [
       | inl m ↦ inl m
-      | inr e ↦ inr (operands_refused c.args.tokens.now (operand_or_n c.operand.new.arena c.in-Ok.id) (operand_or_n c.operand-2.new.arena c.in-Ok-operand.id) c.in-Err-optional_if.kind c.if-tokens-lt2.false c.in-Ok.ensures.operand c.in-Ok-operand.ensures.operand e)
+      | inr e ↦ inr (operands_refused c.args.tokens.now (operand_or_n c.operand.new.arena c.in-Ok.id) (operand_or_n c.operand-2.new.arena c.in-Ok-operand.id)
+          c.in-Err-optional_if.kind c.if-tokens-lt2.false c.in-Ok.ensures.operand c.in-Ok-operand.ensures.operand e)
     ]
 
 pub returns-then-not-is_operand-clause-grows : goal.returns-then-not-is_operand-clause-grows
@@ -87,4 +96,4 @@ pub returns-then-tokens-lt2-clause-gives : goal.returns-then-tokens-lt2-clause-g
 returns-then-tokens-lt2-clause-gives c = grind (arith, elements)
 
 pub optional_if-requires : goal.optional_if-requires
-optional_if-requires c = omega arith
+optional_if-requires c = record { within = omega arith }

@@ -27,8 +27,11 @@ returns-in-None-clause-acyclic g c = no_cycle (g.G.Graph.size c.args.graph.now) 
     (λ u h. c.in-None.ensures.none u (omega (arith, h, c.requires.eliminating.one_each))))
 
 pub returns-in_ok-cycle-in-Some-clause-cycle : goal.returns-in_ok-cycle-in-Some-clause-cycle
-returns-in_ok-cycle-in-Some-clause-cycle g c =
-    (c.in_ok-cycle-in-Some.ensures, named_is_cycle (g.G.Graph.size c.args.graph.now) (g.G.Graph.dependencies c.args.graph.now) c.in_ok-cycle-in-Some.cycle.items c.in_ok-cycle-in-Some.ensures)
+returns-in_ok-cycle-in-Some-clause-cycle g c = (
+  c.in_ok-cycle-in-Some.ensures.ok,
+  named_is_cycle (g.G.Graph.size c.args.graph.now) (g.G.Graph.dependencies c.args.graph.now)
+      c.in_ok-cycle-in-Some.cycle.items c.in_ok-cycle-in-Some.ensures.ok,
+)
 
 pub returns-in_ok-cycle-in-Some-clause-order : goal.returns-in_ok-cycle-in-Some-clause-order
 returns-in_ok-cycle-in-Some-clause-order g c = omega arith

@@ -15,8 +15,10 @@ loop-u-preserved g c =
       eliminating = now.eliminating;
       passed = now.passed;
       beyond = λ w h. elim (cases_eq w c.loop-u.u) [
-        | inl same ↦ subst (WaitsBeyond dependencies c.eliminate_if_ready.new.eliminated.items 0) (sym same) (waits_beyond size dependencies c.eliminate_if_ready.new.flags c.eliminate_if_ready.new.eliminated.items 0 c.loop-u.u now.eliminating now.waits)
-        | inr other ↦ still_beyond dependencies c.loop-u.eliminated.items c.eliminate_if_ready.new.eliminated.items 0 w (omega arith) now.grows (was.beyond w (omega arith))
+        | inl same ↦ subst (WaitsBeyond dependencies c.eliminate_if_ready.new.eliminated.items 0) (sym same)
+            (waits_beyond size dependencies c.eliminate_if_ready.new.flags c.eliminate_if_ready.new.eliminated.items 0 c.loop-u.u now.eliminating now.waits)
+        | inr other ↦ still_beyond dependencies c.loop-u.eliminated.items c.eliminate_if_ready.new.eliminated.items 0 w (omega arith) now.grows
+            (was.beyond w (omega arith))
       ];
     }
 

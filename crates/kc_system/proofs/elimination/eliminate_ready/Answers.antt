@@ -23,7 +23,8 @@ loop-u-preserved g c =
       grows = λ k w e. now.grows k w (was.grows k w e);
       beyond = λ w has. elim (Contains-push_cases (take i c.args.units.now) u w (rw more at has)) [
         | inl earlier ↦ still_beyond dependencies mid new (length start) w (grows_length start mid was.grows) now.grows (was.beyond w earlier)
-        | inr here ↦ rw (← here) (waits_beyond (g.G.Graph.size c.args.graph.now) dependencies c.eliminate_if_ready.new.flags new (length start) u now.eliminating now.waits)
+        | inr here ↦ rw (← here) (waits_beyond (g.G.Graph.size c.args.graph.now) dependencies c.eliminate_if_ready.new.flags new (length start) u
+            now.eliminating now.waits)
       ];
     }
 

@@ -10,7 +10,8 @@ loop-k-preserved c = λ j d above below e.
       | inl before ↦ c.loop-k.invariant j d above before e
       | inr here ↦
           let same : j ≡ c.loop-k.k = omega arith in
-          let at : get_or c.args.dependencies.now c.loop-k.k 0 ≡ d = ap (λ k. get_or c.args.dependencies.now k 0) (sym same) ∙ get_or_from_slice_get c.args.dependencies.now j d 0 e in
+          let at : get_or c.args.dependencies.now c.loop-k.k 0 ≡ d = ap (λ k. get_or c.args.dependencies.now k 0) (sym same)
+          ∙ get_or_from_slice_get c.args.dependencies.now j d 0 e in
           rw (← at) c.if-not-flags-dependencies.false
     ]
 

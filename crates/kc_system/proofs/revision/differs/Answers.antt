@@ -7,4 +7,5 @@ negated P true h = (λ e. h.0 refl, λ p. refl)
 negated P false h = (λ e. absurd (false≢true (sym e)), λ p. absurd (false≢true (h.1 p)))
 
 pub returns : goal.returns
-returns g c = rw c.same.ensures (negated _ (g.S.System.same_value c.args.value.now c.args.before.now) (g.met.S.System.equal_values c.args.value.now c.args.before.now))
+returns g c =
+    rw c.same.ensures (negated _ (g.S.System.same_value c.args.value.now c.args.before.now) (g.met.S.System.equal_values c.args.value.now c.args.before.now))

@@ -15,8 +15,11 @@ loop-place-init g c = record {
   undo = undoes_none c.args.log.now.items c.args.values.now c.requires.nothing;
   steps = omega (arith, g.met.S.System.counts c.args.meter.now);
   size = refl;
-  revising = begun_with (g.S.Graph.size c.args.plan.now.system.now) (g.S.Graph.dependencies c.args.plan.now.system.now) (g.S.System.rule c.args.plan.now.system.now) (g.S.System.fits_user c.args.plan.now.system.now) c.args.plan.now.order.now c.args.plan.now.places.items
-      c.requires.plan.ordered c.requires.plan.places_are (g.met.S.System.frame c.args.plan.now.system.now) (decided _ g.met.S.System.equal_values) c.args.users.now c.requires.users.1 (is_pending c.args.pending.now) c.args.values.now
+  revising =
+      begun_with (g.S.Graph.size c.args.plan.now.system.now) (g.S.Graph.dependencies c.args.plan.now.system.now) (g.S.System.rule c.args.plan.now.system.now)
+      (g.S.System.fits_user c.args.plan.now.system.now) c.args.plan.now.order.now c.args.plan.now.places.items
+      c.requires.plan.ordered c.requires.plan.places_are (g.met.S.System.frame c.args.plan.now.system.now) (decided _ g.met.S.System.equal_values)
+      c.args.users.now c.requires.users.1 (is_pending c.args.pending.now) c.args.values.now
       (logged_units c.args.log.now.items) (ap logged_units c.requires.nothing) c.requires.fits.0 c.requires.places;
 }
 
@@ -32,8 +35,10 @@ overflow_add-evaluated g c =
     let was = c.loop-place.invariant in
     let least = c.in-Some.ensures.takes in
     let at = slice_get-get_or c.args.plan.now.order.now place 0 (was.revising.ahead place least.member).1 in
-    let more = room (g.S.Graph.size c.args.plan.now.system.now) (g.S.Graph.dependencies c.args.plan.now.system.now) (g.S.System.rule c.args.plan.now.system.now) (g.S.System.fits_user c.args.plan.now.system.now) c.args.plan.now.order.now c.args.plan.now.places.items
-    c.requires.plan.ordered c.requires.plan.places_are (g.met.S.System.frame c.args.plan.now.system.now) (decided _ g.met.S.System.equal_values) c.args.users.now c.requires.users.1 (is_pending c.args.pending.now) c.args.values.now
+    let more = room (g.S.Graph.size c.args.plan.now.system.now) (g.S.Graph.dependencies c.args.plan.now.system.now) (g.S.System.rule c.args.plan.now.system.now)
+    (g.S.System.fits_user c.args.plan.now.system.now) c.args.plan.now.order.now c.args.plan.now.places.items
+    c.requires.plan.ordered c.requires.plan.places_are (g.met.S.System.frame c.args.plan.now.system.now) (decided _ g.met.S.System.equal_values)
+    c.args.users.now c.requires.users.1 (is_pending c.args.pending.now) c.args.values.now
     c.loop-place.values (is_pending c.loop-place.pending) (logged_units c.loop-place.log.items) c.loop-place.evaluated place _ least.member at was.revising in
     let places = c.args.plan.now.places in
     omega (arith, more, places.ok.0, places.small, c.requires.plan.places_are.one_each)
@@ -44,8 +49,10 @@ loop-place-smaller g c =
     let was = c.loop-place.invariant in
     let least = c.in-Some.ensures.takes in
     let at = slice_get-get_or c.args.plan.now.order.now place 0 (was.revising.ahead place least.member).1 in
-    let more = room (g.S.Graph.size c.args.plan.now.system.now) (g.S.Graph.dependencies c.args.plan.now.system.now) (g.S.System.rule c.args.plan.now.system.now) (g.S.System.fits_user c.args.plan.now.system.now) c.args.plan.now.order.now c.args.plan.now.places.items
-    c.requires.plan.ordered c.requires.plan.places_are (g.met.S.System.frame c.args.plan.now.system.now) (decided _ g.met.S.System.equal_values) c.args.users.now c.requires.users.1 (is_pending c.args.pending.now) c.args.values.now
+    let more = room (g.S.Graph.size c.args.plan.now.system.now) (g.S.Graph.dependencies c.args.plan.now.system.now) (g.S.System.rule c.args.plan.now.system.now)
+    (g.S.System.fits_user c.args.plan.now.system.now) c.args.plan.now.order.now c.args.plan.now.places.items
+    c.requires.plan.ordered c.requires.plan.places_are (g.met.S.System.frame c.args.plan.now.system.now) (decided _ g.met.S.System.equal_values)
+    c.args.users.now c.requires.users.1 (is_pending c.args.pending.now) c.args.values.now
     c.loop-place.values (is_pending c.loop-place.pending) (logged_units c.loop-place.log.items) c.loop-place.evaluated place _ least.member at was.revising in
     omega (arith, more)
 
@@ -61,25 +68,36 @@ loop-place-preserved g c =
       undo = now.undo c.args.values.now was.undo;
       steps = omega (arith, now.step, was.steps);
       size = now.size ∙ c.pop_first.ensures.size ∙ was.size;
-      revising = revised_one (g.S.Graph.size c.args.plan.now.system.now) (g.S.Graph.dependencies c.args.plan.now.system.now) (g.S.System.rule c.args.plan.now.system.now) (g.S.System.fits_user c.args.plan.now.system.now) c.args.plan.now.order.now c.args.plan.now.places.items
-          c.requires.plan.ordered c.requires.plan.places_are (g.met.S.System.frame c.args.plan.now.system.now) (decided _ g.met.S.System.equal_values) c.args.users.now c.requires.users.1 (is_pending c.args.pending.now) c.args.values.now
-          c.loop-place.values c.revise_unit.new.values (is_pending c.loop-place.pending) (is_pending c.pop_first.new.self) (is_pending c.revise_unit.new.pending) c.loop-place.log.items c.revise_unit.new.log.items c.loop-place.evaluated place _
+      revising =
+          revised_one (g.S.Graph.size c.args.plan.now.system.now) (g.S.Graph.dependencies c.args.plan.now.system.now)
+          (g.S.System.rule c.args.plan.now.system.now) (g.S.System.fits_user c.args.plan.now.system.now) c.args.plan.now.order.now
+          c.args.plan.now.places.items
+          c.requires.plan.ordered c.requires.plan.places_are (g.met.S.System.frame c.args.plan.now.system.now) (decided _ g.met.S.System.equal_values)
+          c.args.users.now c.requires.users.1 (is_pending c.args.pending.now) c.args.values.now
+          c.loop-place.values c.revise_unit.new.values (is_pending c.loop-place.pending) (is_pending c.pop_first.new.self)
+          (is_pending c.revise_unit.new.pending) c.loop-place.log.items c.revise_unit.new.log.items c.loop-place.evaluated place _
           least.member least.least least.gone least.others at now.revises was.revising;
     }
 
 pub returns-clause-solves : goal.returns-clause-solves
 returns-clause-solves g c =
     let none = emptied (is_pending c.loop-place.pending) (λ k. (c.in_default.ensures.takes k).0) in
-    (ended (g.S.Graph.size c.args.plan.now.system.now) (g.S.Graph.dependencies c.args.plan.now.system.now) (g.S.System.rule c.args.plan.now.system.now) (g.S.System.fits_user c.args.plan.now.system.now) c.args.plan.now.order.now c.args.plan.now.places.items
-    c.requires.plan.ordered c.requires.plan.places_are (g.met.S.System.frame c.args.plan.now.system.now) (decided _ g.met.S.System.equal_values) c.args.users.now c.requires.users.1 (is_pending c.args.pending.now) c.args.values.now
-    c.loop-place.values (is_pending c.loop-place.pending) (logged_units c.loop-place.log.items) c.loop-place.evaluated c.requires.fits.0 none c.requires.holds c.loop-place.invariant.revising).0
+    (ended (g.S.Graph.size c.args.plan.now.system.now) (g.S.Graph.dependencies c.args.plan.now.system.now) (g.S.System.rule c.args.plan.now.system.now)
+    (g.S.System.fits_user c.args.plan.now.system.now) c.args.plan.now.order.now c.args.plan.now.places.items
+    c.requires.plan.ordered c.requires.plan.places_are (g.met.S.System.frame c.args.plan.now.system.now) (decided _ g.met.S.System.equal_values)
+    c.args.users.now c.requires.users.1 (is_pending c.args.pending.now) c.args.values.now
+    c.loop-place.values (is_pending c.loop-place.pending) (logged_units c.loop-place.log.items) c.loop-place.evaluated c.requires.fits.0 none c.requires.holds
+    c.loop-place.invariant.revising).0
 
 pub returns-clause-evaluated : goal.returns-clause-evaluated
 returns-clause-evaluated g c =
     let none = emptied (is_pending c.loop-place.pending) (λ k. (c.in_default.ensures.takes k).0) in
-    (ended (g.S.Graph.size c.args.plan.now.system.now) (g.S.Graph.dependencies c.args.plan.now.system.now) (g.S.System.rule c.args.plan.now.system.now) (g.S.System.fits_user c.args.plan.now.system.now) c.args.plan.now.order.now c.args.plan.now.places.items
-    c.requires.plan.ordered c.requires.plan.places_are (g.met.S.System.frame c.args.plan.now.system.now) (decided _ g.met.S.System.equal_values) c.args.users.now c.requires.users.1 (is_pending c.args.pending.now) c.args.values.now
-    c.loop-place.values (is_pending c.loop-place.pending) (logged_units c.loop-place.log.items) c.loop-place.evaluated c.requires.fits.0 none c.requires.holds c.loop-place.invariant.revising).1
+    (ended (g.S.Graph.size c.args.plan.now.system.now) (g.S.Graph.dependencies c.args.plan.now.system.now) (g.S.System.rule c.args.plan.now.system.now)
+    (g.S.System.fits_user c.args.plan.now.system.now) c.args.plan.now.order.now c.args.plan.now.places.items
+    c.requires.plan.ordered c.requires.plan.places_are (g.met.S.System.frame c.args.plan.now.system.now) (decided _ g.met.S.System.equal_values)
+    c.args.users.now c.requires.users.1 (is_pending c.args.pending.now) c.args.values.now
+    c.loop-place.values (is_pending c.loop-place.pending) (logged_units c.loop-place.log.items) c.loop-place.evaluated c.requires.fits.0 none c.requires.holds
+    c.loop-place.invariant.revising).1
 
 pub bounds-order-place : goal.bounds-order-place
 bounds-order-place g c = (c.loop-place.invariant.revising.ahead c.in-Some.place c.in-Some.ensures.takes.member).1

@@ -16,13 +16,15 @@ mark-requires-clause-units g c = λ k d h.
     let size = g.S.Graph.size c.args.plan.now.system.now in
     let u = c.args.u in
     let row = c.of.result.now in
-    let deps : AreDependents size (g.S.Graph.dependencies c.args.plan.now.system.now) u row = rw c.of.ensures (c.requires.plan.dependents_are.rows_are u c.requires.unit) in
+    let deps : AreDependents size (g.S.Graph.dependencies c.args.plan.now.system.now) u row = rw c.of.ensures.value
+    (c.requires.plan.dependents_are.rows_are u c.requires.unit) in
     let inside = (deps.only (get_or row k d) (Contains-get_or row k d h)).0 in
     omega (arith, inside, ap length c.deref.ensures.value, c.requires.plan.places_are.one_each)
 
 pub mark-requires-clause-places : goal.mark-requires-clause-places
 mark-requires-clause-places g c = λ w p e.
-    let inside = place_inside (g.S.Graph.size c.args.plan.now.system.now) (g.S.Graph.dependencies c.args.plan.now.system.now) c.args.plan.now.order.now c.args.plan.now.places.items c.requires.plan.ordered c.requires.plan.places_are w p (rw c.deref.ensures.value at e) in
+    let inside = place_inside (g.S.Graph.size c.args.plan.now.system.now) (g.S.Graph.dependencies c.args.plan.now.system.now) c.args.plan.now.order.now
+    c.args.plan.now.places.items c.requires.plan.ordered c.requires.plan.places_are w p (rw c.deref.ensures.value at e) in
     omega (arith, inside, c.requires.size)
 
 pub returns-in_ok-write_logged-clause-revises : goal.returns-in_ok-write_logged-clause-revises
@@ -33,8 +35,9 @@ returns-in_ok-write_logged-clause-revises g c =
     let row = c.of.result.now in
     let values = c.args.values.now in
     let value = c.in_ok-value.value in
-    let deps : AreDependents size dependencies u row = rw c.of.ensures (c.requires.plan.dependents_are.rows_are u c.requires.unit) in
-    let marks = marks_dependents size dependencies c.args.plan.now.places.items row (is_pending c.args.pending.now) (is_pending c.mark.new.pending) u c.requires.plan.places_are.one_each deps (rw c.deref.ensures.value at c.mark.ensures.marks) in
+    let deps : AreDependents size dependencies u row = rw c.of.ensures.value (c.requires.plan.dependents_are.rows_are u c.requires.unit) in
+    let marks = marks_dependents size dependencies c.args.plan.now.places.items row (is_pending c.args.pending.now) (is_pending c.mark.new.pending) u
+    c.requires.plan.places_are.one_each deps (rw c.deref.ensures.value at c.mark.ensures.marks) in
     let by_rule = c.in_ok-value.ensures.value in
     let stored = get_or values u c.index-values-u.result in
     let was : slice_get values u ≡ Some stored = slice_get-get_or values u c.index-values-u.result (omega (arith, c.requires.unit, c.requires.values.0)) in
@@ -49,7 +52,8 @@ returns-in_ok-write_logged-clause-revises g c =
 
 pub returns-in_ok-write_logged-clause-fits : goal.returns-in_ok-write_logged-clause-fits
 returns-in_ok-write_logged-clause-fits g c =
-    rw c.in_ok-write_logged.ensures.written (each_set (g.S.System.fits_value c.args.plan.now.system.now) c.args.values.now c.args.u _ c.in_ok-value.value c.requires.values.0 c.requires.unit c.in_ok-value.ensures.fits c.requires.values.1)
+    rw c.in_ok-write_logged.ensures.written (each_set (g.S.System.fits_value c.args.plan.now.system.now) c.args.values.now c.args.u _ c.in_ok-value.value
+    c.requires.values.0 c.requires.unit c.in_ok-value.ensures.fits c.requires.values.1)
 
 pub returns-else-differs-clause-revises : goal.returns-else-differs-clause-revises
 returns-else-differs-clause-revises g c =
@@ -81,10 +85,10 @@ pub bounds-values-u : goal.bounds-values-u
 bounds-values-u g c = omega (arith, c.requires.unit, c.requires.values.0)
 
 pub of-requires : goal.of-requires
-of-requires g c = omega (arith, c.requires.plan.dependents_are.one_more, c.requires.unit)
+of-requires g c = record { there = omega (arith, c.requires.plan.dependents_are.one_more, c.requires.unit) }
 
 pub write_logged-requires : goal.write_logged-requires
-write_logged-requires g c = omega (arith, c.requires.unit, c.requires.values.0)
+write_logged-requires g c = record { there = omega (arith, c.requires.unit, c.requires.values.0) }
 
 pub returns-in_err-write_logged-clause-size : goal.returns-in_err-write_logged-clause-size
 returns-in_err-write_logged-clause-size g c = c.mark.ensures.size

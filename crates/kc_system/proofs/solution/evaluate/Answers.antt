@@ -5,12 +5,14 @@ use Rattle.kc_system.proofs.solution.evaluate.Goals as goal
 
 pub eval-requires-clause-user : goal.eval-requires-clause-user
 eval-requires-clause-user g c =
-    let there : user_of c.args.users.now c.args.u ≡ c.index-users-u.result = get_or_default c.args.users.now c.args.u None c.index-users-u.result (omega (arith, c.requires.users.0, c.requires.unit)) ∙ sym c.index-users-u.is in
+    let there : user_of c.args.users.now c.args.u ≡ c.index-users-u.result = get_or_default c.args.users.now c.args.u None c.index-users-u.result
+    (omega (arith, c.requires.users.0, c.requires.unit)) ∙ sym c.index-users-u.is in
     rw (c.as_ref-user.ensures.value, ← there) (c.requires.users.1 c.args.u c.requires.unit)
 
 pub returns-clause-value : goal.returns-clause-value
 returns-clause-value g c =
-    let there : user_of c.args.users.now c.args.u ≡ c.index-users-u.result = get_or_default c.args.users.now c.args.u None c.index-users-u.result (omega (arith, c.requires.users.0, c.requires.unit)) ∙ sym c.index-users-u.is in
+    let there : user_of c.args.users.now c.args.u ≡ c.index-users-u.result = get_or_default c.args.users.now c.args.u None c.index-users-u.result
+    (omega (arith, c.requires.users.0, c.requires.unit)) ∙ sym c.index-users-u.is in
     rw there (rw c.as_ref-user.ensures.value at c.eval.ensures.value)
 
 pub eval-requires-clause-unit : goal.eval-requires-clause-unit

@@ -16,7 +16,8 @@ pub returns-clause-unique : goal.returns-clause-unique
 returns-clause-unique g c = unique _ _ _ _ _ c.requires.order (g.met.S.System.frame c.args.system.now) _ c.requires.users.1
 
 pub evaluate-requires-clause-unit : goal.evaluate-requires-clause-unit
-evaluate-requires-clause-unit g c = c.requires.order.units _ _ (get_at c.units-u-items.result.now c.args.order.now c.loop-u.u-index c.units-u-items.ensures c.loop-u-test.true)
+evaluate-requires-clause-unit g c =
+    c.requires.order.units _ _ (get_at c.units-u-items.result.now c.args.order.now c.loop-u.u-index c.units-u-items.ensures c.loop-u-test.true)
 
 pub index_mut-requires : goal.index_mut-requires
 index_mut-requires g c =
@@ -35,10 +36,12 @@ loop-u-preserved g c =
     let u = get_or c.units-u-items.result.now i 0 in
     let value : c.in_ok-value.value ≡ g.S.System.rule system u (user_of users u) values =
     c.in_ok-value.ensures.value ∙ ap (g.S.System.rule system u (user_of users u)) c.as_slice.ensures.value in
-    let more = solved_more _ _ _ _ order c.requires.order (g.met.S.System.frame system) users c.requires.users.1 values i u c.loop-u.invariant.fits.0 place c.loop-u.invariant.solved in
+    let more = solved_more _ _ _ _ order c.requires.order (g.met.S.System.frame system) users c.requires.users.1 values i u c.loop-u.invariant.fits.0 place
+    c.loop-u.invariant.solved in
     record {
       within = omega arith;
-      fits = each_set (g.S.System.fits_value system) values u _ c.in_ok-value.value c.loop-u.invariant.fits.0 inside c.in_ok-value.ensures.fits c.loop-u.invariant.fits.1;
+      fits = each_set (g.S.System.fits_value system) values u _ c.in_ok-value.value c.loop-u.invariant.fits.0 inside c.in_ok-value.ensures.fits
+          c.loop-u.invariant.fits.1;
       solved = rw (sym value) at more;
       steps = omega (arith, c.in_ok-value.ensures.step, c.loop-u.invariant.steps);
     }
@@ -47,7 +50,8 @@ pub returns-clause-solves : goal.returns-clause-solves
 returns-clause-solves g c =
     let order = c.args.order.now in
     let done : c.loop-u.u-index ≡ length order = omega (arith, ap length c.units-u-items.ensures) in
-    solved_all _ _ _ _ order c.requires.order (g.met.S.System.frame c.args.system.now) c.args.users.now c.requires.users.1 c.loop-u.values.items c.loop-u.invariant.fits.0 (rw done at c.loop-u.invariant.solved)
+    solved_all _ _ _ _ order c.requires.order (g.met.S.System.frame c.args.system.now) c.args.users.now c.requires.users.1 c.loop-u.values.items
+    c.loop-u.invariant.fits.0 (rw done at c.loop-u.invariant.solved)
 
 pub evaluate-requires-clause-users : goal.evaluate-requires-clause-users
 evaluate-requires-clause-users g c = c.requires.users

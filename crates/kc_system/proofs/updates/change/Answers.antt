@@ -10,11 +10,13 @@ write_changes-requires-clause-units g c = λ k u x e. omega (arith, (c.requires.
 
 pub write_changes-requires-clause-once : goal.write_changes-requires-clause-once
 write_changes-requires-clause-once g c =
-    one_place (g.S.Graph.size c.args.plan.now.system.now) (g.S.Graph.dependencies c.args.plan.now.system.now) c.args.plan.now.order.now c.args.plan.now.places.items c.requires.plan.ordered c.requires.plan.places_are
+    one_place (g.S.Graph.size c.args.plan.now.system.now) (g.S.Graph.dependencies c.args.plan.now.system.now) c.args.plan.now.order.now
+    c.args.plan.now.places.items c.requires.plan.ordered c.requires.plan.places_are
 
 pub write_changes-requires-clause-within : goal.write_changes-requires-clause-within
 write_changes-requires-clause-within g c = λ w p e.
-    let inside = place_inside (g.S.Graph.size c.args.plan.now.system.now) (g.S.Graph.dependencies c.args.plan.now.system.now) c.args.plan.now.order.now c.args.plan.now.places.items c.requires.plan.ordered c.requires.plan.places_are w p e in
+    let inside = place_inside (g.S.Graph.size c.args.plan.now.system.now) (g.S.Graph.dependencies c.args.plan.now.system.now) c.args.plan.now.order.now
+    c.args.plan.now.places.items c.requires.plan.ordered c.requires.plan.places_are w p e in
     omega (arith, inside, c.requires.size)
 
 pub revalue-requires-clause-users : goal.revalue-requires-clause-users
@@ -25,13 +27,16 @@ revalue-requires-clause-users g c =
 
 pub revalue-requires-clause-places : goal.revalue-requires-clause-places
 revalue-requires-clause-places g c =
-    within (g.S.Graph.size c.args.plan.now.system.now) (g.S.Graph.dependencies c.args.plan.now.system.now) c.args.plan.now.order.now c.args.plan.now.places.items c.requires.plan.ordered c.requires.plan.places_are
+    within (g.S.Graph.size c.args.plan.now.system.now) (g.S.Graph.dependencies c.args.plan.now.system.now) c.args.plan.now.order.now
+    c.args.plan.now.places.items c.requires.plan.ordered c.requires.plan.places_are
     c.args.users.now c.write_changes.new.users (is_pending c.write_changes.new.pending) c.in-Ok.ensures.lists
 
 pub revalue-requires-clause-holds : goal.revalue-requires-clause-holds
 revalue-requires-clause-holds g c =
-    still_holds (g.S.Graph.size c.args.plan.now.system.now) (g.S.Graph.dependencies c.args.plan.now.system.now) c.args.plan.now.order.now c.args.plan.now.places.items c.requires.plan.ordered c.requires.plan.places_are
-    c.args.users.now c.write_changes.new.users (is_pending c.write_changes.new.pending) c.in-Ok.ensures.lists (g.S.System.rule c.args.plan.now.system.now) (decided _ g.met.S.System.equal_users) c.args.values.now c.requires.solves
+    still_holds (g.S.Graph.size c.args.plan.now.system.now) (g.S.Graph.dependencies c.args.plan.now.system.now) c.args.plan.now.order.now
+    c.args.plan.now.places.items c.requires.plan.ordered c.requires.plan.places_are
+    c.args.users.now c.write_changes.new.users (is_pending c.write_changes.new.pending) c.in-Ok.ensures.lists (g.S.System.rule c.args.plan.now.system.now)
+    (decided _ g.met.S.System.equal_users) c.args.values.now c.requires.solves
 
 pub returns-in-Ok-revalue-clause-evaluated : goal.returns-in-Ok-revalue-clause-evaluated
 returns-in-Ok-revalue-clause-evaluated g c =
@@ -44,7 +49,8 @@ returns-in-Ok-revalue-clause-evaluated g c =
     let old = c.args.values.now in
     let new = c.revalue.new.values in
     count_same size (IsDue dependencies order pending old new) (IsTouched dependencies before after old new) c.in-Ok-revalue.report.evaluated
-    (due_touched size dependencies order c.args.plan.now.places.items c.requires.plan.ordered c.requires.plan.places_are before after pending c.in-Ok.ensures.lists old new)
+    (due_touched size dependencies order c.args.plan.now.places.items c.requires.plan.ordered c.requires.plan.places_are before after pending
+    c.in-Ok.ensures.lists old new)
     c.in-Ok-revalue.ensures.evaluated
 
 pub returns-in-Ok-revalue-clause-fits_users : goal.returns-in-Ok-revalue-clause-fits_users
@@ -63,7 +69,7 @@ pub write_changes-requires-clause-none : goal.write_changes-requires-clause-none
 write_changes-requires-clause-none g c = c.requires.none
 
 pub restore_logged-requires : goal.restore_logged-requires
-restore_logged-requires g c = λ k u a e. omega (arith, c.write_changes.ensures.undo.units k u a e, c.write_changes.ensures.undo.one_each)
+restore_logged-requires g c = record { units = λ k u a e. omega (arith, c.write_changes.ensures.undo.units k u a e, c.write_changes.ensures.undo.one_each) }
 
 pub returns-in-Err-clause-none : goal.returns-in-Err-clause-none
 returns-in-Err-clause-none g c = c.in-Err.ensures.err
@@ -75,13 +81,13 @@ pub returns-in-Err-clause-users : goal.returns-in-Err-clause-users
 returns-in-Err-clause-users g c = tt
 
 pub returns-in-Err-clause-fits_users : goal.returns-in-Err-clause-fits_users
-returns-in-Err-clause-fits_users g c = rw (c.restore_logged.ensures, c.write_changes.ensures.undo.back) c.requires.users
+returns-in-Err-clause-fits_users g c = rw (c.restore_logged.ensures.restored, c.write_changes.ensures.undo.back) c.requires.users
 
 pub returns-in-Err-clause-fits_values : goal.returns-in-Err-clause-fits_values
 returns-in-Err-clause-fits_values g c = c.requires.fits
 
 pub returns-in-Err-clause-solves : goal.returns-in-Err-clause-solves
-returns-in-Err-clause-solves g c = rw (c.restore_logged.ensures, c.write_changes.ensures.undo.back) c.requires.solves
+returns-in-Err-clause-solves g c = rw (c.restore_logged.ensures.restored, c.write_changes.ensures.undo.back) c.requires.solves
 
 pub returns-in-Err-clause-changed : goal.returns-in-Err-clause-changed
 returns-in-Err-clause-changed g c = tt
@@ -93,7 +99,7 @@ pub returns-in-Err-clause-steps : goal.returns-in-Err-clause-steps
 returns-in-Err-clause-steps g c = tt
 
 pub returns-in-Err-clause-err_users : goal.returns-in-Err-clause-err_users
-returns-in-Err-clause-err_users g c = c.restore_logged.ensures ∙ c.write_changes.ensures.undo.back
+returns-in-Err-clause-err_users g c = c.restore_logged.ensures.restored ∙ c.write_changes.ensures.undo.back
 
 pub returns-in-Err-clause-err_values : goal.returns-in-Err-clause-err_values
 returns-in-Err-clause-err_values g c = refl
@@ -135,7 +141,8 @@ pub returns-in-Ok-revalue-clause-err_values : goal.returns-in-Ok-revalue-clause-
 returns-in-Ok-revalue-clause-err_values g c = tt
 
 pub restore_logged-requires-in-Err-revalue : goal.restore_logged-requires-in-Err-revalue
-restore_logged-requires-in-Err-revalue g c = λ k u a e. omega (arith, c.write_changes.ensures.undo.units k u a e, c.write_changes.ensures.undo.one_each)
+restore_logged-requires-in-Err-revalue g c =
+    record { units = λ k u a e. omega (arith, c.write_changes.ensures.undo.units k u a e, c.write_changes.ensures.undo.one_each) }
 
 pub returns-clause-none : goal.returns-clause-none
 returns-clause-none g c = c.clear.ensures.none
@@ -147,13 +154,14 @@ pub returns-clause-users : goal.returns-clause-users
 returns-clause-users g c = tt
 
 pub returns-clause-fits_users : goal.returns-clause-fits_users
-returns-clause-fits_users g c = rw (c.restore_logged-in-Err-revalue.ensures, c.write_changes.ensures.undo.back) c.requires.users
+returns-clause-fits_users g c = rw (c.restore_logged-in-Err-revalue.ensures.restored, c.write_changes.ensures.undo.back) c.requires.users
 
 pub returns-clause-fits_values : goal.returns-clause-fits_values
 returns-clause-fits_values g c = rw c.in-Err-revalue.ensures.err c.requires.fits
 
 pub returns-clause-solves : goal.returns-clause-solves
-returns-clause-solves g c = rw (c.in-Err-revalue.ensures.err, c.restore_logged-in-Err-revalue.ensures, c.write_changes.ensures.undo.back) c.requires.solves
+returns-clause-solves g c =
+    rw (c.in-Err-revalue.ensures.err, c.restore_logged-in-Err-revalue.ensures.restored, c.write_changes.ensures.undo.back) c.requires.solves
 
 pub returns-clause-changed : goal.returns-clause-changed
 returns-clause-changed g c = tt
@@ -165,7 +173,7 @@ pub returns-clause-steps : goal.returns-clause-steps
 returns-clause-steps g c = tt
 
 pub returns-clause-err_users : goal.returns-clause-err_users
-returns-clause-err_users g c = c.restore_logged-in-Err-revalue.ensures ∙ c.write_changes.ensures.undo.back
+returns-clause-err_users g c = c.restore_logged-in-Err-revalue.ensures.restored ∙ c.write_changes.ensures.undo.back
 
 pub returns-clause-err_values : goal.returns-clause-err_values
 returns-clause-err_values g c = c.in-Err-revalue.ensures.err

@@ -12,7 +12,8 @@ returns-clause-changed g c =
     let new = c.revise.new.values in
     let logged = c.in-Ok.ensures.logged in
     let units = c.in-Ok-ascending_units.changed.items in
-    let same : (u : ℕ) → Contains units u ↔ IsEliminated (logged_units c.revise.new.log.items) u = rw c.as_slice.ensures.value at c.in-Ok-ascending_units.ensures.same in
+    let same : (u : ℕ) → Contains units u ↔ IsEliminated (logged_units c.revise.new.log.items) u = rw c.as_slice.ensures.value
+    at c.in-Ok-ascending_units.ensures.same in
     record {
       ascending = c.in-Ok-ascending_units.ensures.ascending;
       each = λ u h ne. (same u).1 (logged.each u ne);
@@ -23,10 +24,11 @@ returns-clause-changed g c =
     }
 
 pub ascending_units-requires : goal.ascending_units-requires
-ascending_units-requires g c = rw c.as_slice.ensures.value c.in-Ok.ensures.logged.once
+ascending_units-requires g c = record { once = rw c.as_slice.ensures.value c.in-Ok.ensures.logged.once }
 
 pub restore_logged-requires-in-Err-ascending_units : goal.restore_logged-requires-in-Err-ascending_units
-restore_logged-requires-in-Err-ascending_units g c = λ k u a e. omega (arith, c.in-Ok.ensures.undo.units k u a e, c.in-Ok.ensures.undo.one_each)
+restore_logged-requires-in-Err-ascending_units g c =
+    record { units = λ k u a e. omega (arith, c.in-Ok.ensures.undo.units k u a e, c.in-Ok.ensures.undo.one_each) }
 
 pub revise-requires-clause-plan : goal.revise-requires-clause-plan
 revise-requires-clause-plan g c = c.requires.plan
@@ -50,7 +52,7 @@ pub revise-requires-clause-size : goal.revise-requires-clause-size
 revise-requires-clause-size g c = c.requires.size
 
 pub restore_logged-requires : goal.restore_logged-requires
-restore_logged-requires g c = λ k u a e. omega (arith, c.revise.ensures.undo.units k u a e, c.revise.ensures.undo.one_each)
+restore_logged-requires g c = record { units = λ k u a e. omega (arith, c.revise.ensures.undo.units k u a e, c.revise.ensures.undo.one_each) }
 
 pub returns-in-Err-clause-size : goal.returns-in-Err-clause-size
 returns-in-Err-clause-size g c = c.revise.ensures.size
@@ -74,7 +76,7 @@ pub returns-in-Err-clause-steps : goal.returns-in-Err-clause-steps
 returns-in-Err-clause-steps g c = tt
 
 pub returns-in-Err-clause-err : goal.returns-in-Err-clause-err
-returns-in-Err-clause-err g c = c.restore_logged.ensures ∙ c.revise.ensures.undo.back
+returns-in-Err-clause-err g c = c.restore_logged.ensures.restored ∙ c.revise.ensures.undo.back
 
 pub returns-in-Err-ascending_units-clause-size : goal.returns-in-Err-ascending_units-clause-size
 returns-in-Err-ascending_units-clause-size g c = c.revise.ensures.size
@@ -98,7 +100,7 @@ pub returns-in-Err-ascending_units-clause-steps : goal.returns-in-Err-ascending_
 returns-in-Err-ascending_units-clause-steps g c = tt
 
 pub returns-in-Err-ascending_units-clause-err : goal.returns-in-Err-ascending_units-clause-err
-returns-in-Err-ascending_units-clause-err g c = c.restore_logged-in-Err-ascending_units.ensures ∙ c.revise.ensures.undo.back
+returns-in-Err-ascending_units-clause-err g c = c.restore_logged-in-Err-ascending_units.ensures.restored ∙ c.revise.ensures.undo.back
 
 pub returns-clause-size : goal.returns-clause-size
 returns-clause-size g c = c.revise.ensures.size

@@ -17,29 +17,39 @@ loop-i-init g c = record {
 }
 
 pub mark_if_changed-requires : goal.mark_if_changed-requires
-mark_if_changed-requires g c =
-    let entry = c.index-log-i.result in
-    let at : slice_get c.args.log.now (c.loop-i.i - 1) ≡ Some entry = slice_get_read c.args.log.now _ (c.loop-i.i - 1) entry refl (omega (arith, c.loop-i.invariant.within)) c.index-log-i.is in
-    let inside = c.requires.units (c.loop-i.i - 1) entry.0 entry.1 at in
-    let places = c.args.places.now in
-    omega (arith, c.loop-i.invariant.size, c.requires.within entry.0 (get_or places entry.0 0) (slice_get-get_or places entry.0 0 (omega (arith, inside, c.requires.places))))
+mark_if_changed-requires g c = record {
+  there = let entry = c.index-log-i.result in
+      let at : slice_get c.args.log.now (c.loop-i.i - 1) ≡ Some entry = slice_get_read c.args.log.now _ (c.loop-i.i - 1) entry refl
+      (omega (arith, c.loop-i.invariant.within)) c.index-log-i.is in
+      let inside = c.requires.units (c.loop-i.i - 1) entry.0 entry.1 at in
+      let places = c.args.places.now in
+      omega (
+        arith,
+        c.loop-i.invariant.size,
+        c.requires.within entry.0 (get_or places entry.0 0)
+            (slice_get-get_or places entry.0 0 (omega (arith, inside, c.requires.places))),
+      );
+}
 
 pub bounds-places-u : goal.bounds-places-u
 bounds-places-u g c =
     let entry = c.index-log-i.result in
-    let at : slice_get c.args.log.now (c.loop-i.i - 1) ≡ Some entry = slice_get_read c.args.log.now _ (c.loop-i.i - 1) entry refl (omega (arith, c.loop-i.invariant.within)) c.index-log-i.is in
+    let at : slice_get c.args.log.now (c.loop-i.i - 1) ≡ Some entry = slice_get_read c.args.log.now _ (c.loop-i.i - 1) entry refl
+    (omega (arith, c.loop-i.invariant.within)) c.index-log-i.is in
     omega (arith, c.requires.units (c.loop-i.i - 1) entry.0 entry.1 at, c.requires.places)
 
 pub offset_bounds-users-u : goal.offset_bounds-users-u
 offset_bounds-users-u g c =
     let entry = c.index-log-i.result in
-    let at : slice_get c.args.log.now (c.loop-i.i - 1) ≡ Some entry = slice_get_read c.args.log.now _ (c.loop-i.i - 1) entry refl (omega (arith, c.loop-i.invariant.within)) c.index-log-i.is in
+    let at : slice_get c.args.log.now (c.loop-i.i - 1) ≡ Some entry = slice_get_read c.args.log.now _ (c.loop-i.i - 1) entry refl
+    (omega (arith, c.loop-i.invariant.within)) c.index-log-i.is in
     omega (arith, c.requires.units (c.loop-i.i - 1) entry.0 entry.1 at)
 
 pub bounds-users-u : goal.bounds-users-u
 bounds-users-u g c =
     let entry = c.index-log-i.result in
-    let at : slice_get c.args.log.now (c.loop-i.i - 1) ≡ Some entry = slice_get_read c.args.log.now _ (c.loop-i.i - 1) entry refl (omega (arith, c.loop-i.invariant.within)) c.index-log-i.is in
+    let at : slice_get c.args.log.now (c.loop-i.i - 1) ≡ Some entry = slice_get_read c.args.log.now _ (c.loop-i.i - 1) entry refl
+    (omega (arith, c.loop-i.invariant.within)) c.index-log-i.is in
     omega (arith, c.requires.units (c.loop-i.i - 1) entry.0 entry.1 at)
 
 pub loop-i-preserved : goal.loop-i-preserved
@@ -54,12 +64,16 @@ loop-i-preserved g c =
     let inside = c.requires.units j entry.0 entry.1 at in
     let next : suc j ≡ c.loop-i.i = omega arith in
     let rest = undone (drop c.loop-i.i log) users in
-    let first : drop j log ≡ entry ∷ drop c.loop-i.i log = drop-cons log j entry in_log ∙ ap (λ e. e ∷ drop (suc j) log) (sym c.index-log-i.is) ∙ ap (λ n. entry ∷ drop n log) next in
+    let first : drop j log ≡ entry ∷ drop c.loop-i.i log = drop-cons log j entry in_log ∙ ap (λ e. e ∷ drop (suc j) log) (sym c.index-log-i.is)
+    ∙ ap (λ n. entry ∷ drop n log) next in
     let user : c.index-users-u.result ≡ user_of users entry.0 = get_or_read users entry.0 _ inside c.index-users-u.is None in
     let place = slice_get-get_or places entry.0 0 (omega (arith, inside, c.requires.places)) in
     let so = c.mark_if_changed.ensures.here in
-    let here : (is_pending c.mark_if_changed.new.pending (get_or places entry.0 0) ≡ true) ↔ (entry.1 ≢ user_of users entry.0) = (λ m e. so.0 m (e ∙ sym user), λ ne. so.1 (λ e. ne (e ∙ user))) in
-    let step = lists_back places users rest (is_pending c.loop-i.pending) (is_pending c.mark_if_changed.new.pending) entry.0 (get_or places entry.0 0) entry.1 (omega (arith, inside, length-undone (drop c.loop-i.i log) users)) place c.requires.once here c.mark_if_changed.ensures.others c.loop-i.invariant.lists in
+    let here : (is_pending c.mark_if_changed.new.pending (get_or places entry.0 0) ≡ true) ↔ (entry.1 ≢ user_of users entry.0) =
+    (λ m e. so.0 m (e ∙ sym user), λ ne. so.1 (λ e. ne (e ∙ user))) in
+    let step = lists_back places users rest (is_pending c.loop-i.pending) (is_pending c.mark_if_changed.new.pending) entry.0 (get_or places entry.0 0) entry.1
+    (omega (arith, inside, length-undone (drop c.loop-i.i log) users)) place c.requires.once here c.mark_if_changed.ensures.others
+    c.loop-i.invariant.lists in
     record {
       within = omega (arith, c.loop-i.invariant.within);
       size = c.mark_if_changed.ensures.size ∙ c.loop-i.invariant.size;

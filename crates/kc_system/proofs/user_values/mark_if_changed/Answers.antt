@@ -6,7 +6,7 @@ pub insert-requires : goal.insert-requires
 insert-requires c = grind (arith, common_steps)
 
 pub remove-requires : goal.remove-requires
-remove-requires c = omega arith
+remove-requires c = λ d. record { there = omega arith }
 
 pub returns-then-is_same_optional_user-clause-others : goal.returns-then-is_same_optional_user-clause-others
 returns-then-is_same_optional_user-clause-others c = grind (arith, common_steps)

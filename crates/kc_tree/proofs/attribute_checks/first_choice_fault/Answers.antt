@@ -10,11 +10,15 @@ use Rattle.kc_tree.proofs.attribute_checks.first_choice_fault.Goals as goal
 use Rattle.kc_tree.proofs.attribute_checks.first_choice_fault.Goals.{then-prompted, else-prompted}
 
 pub returns-in-Some : goal.returns-in-Some
-returns-in-Some c = λ read g members h m f.
-    let e = c.args.listing.now.names.arena in
-    let l = c.index-lines-i.result in
-    let told = left_reported e g (choice_faults members) c.loop-i.prompted c.args.lines.now c.loop-i.i l c.in-Some.kind (omega arith) c.index-lines-i.is (c.in-Some.ensures read members h m) in
-    ap Some (c.fault_at.ensures ∙ ap (λ n. let t : TreeFault = record { file = Some n; line = l.number; kind = c.in-Some.kind } in t) (sym f)) ∙ sym (c.loop-i.invariant read g members h m f ∙ told)
+returns-in-Some c = record {
+  fault = λ read g members h m f.
+      let e = c.args.listing.now.names.arena in
+      let l = c.index-lines-i.result in
+      let told = left_reported e g (choice_faults members) c.loop-i.prompted c.args.lines.now c.loop-i.i l c.in-Some.kind (omega arith) c.index-lines-i.is
+      (c.in-Some.ensures.fault read members h m) in
+      ap Some (c.fault_at.ensures ∙ ap (λ n. let t : TreeFault = record { file = Some n; line = l.number; kind = c.in-Some.kind } in t) (sym f))
+      ∙ sym (c.loop-i.invariant read g members h m f ∙ told);
+}
 
 pub loop-i-preserved : goal.loop-i-preserved
 loop-i-preserved c = λ read g members h m f.
@@ -27,10 +31,15 @@ loop-i-preserved c = λ read g members h m f.
       | else-prompted w ↦ w.prompted-is ∙ w.is_prompt-prompted.ensures e ∙ sym (ap (λ b. b || prompts) w.if-prompted.false)
     ] in
     c.loop-i.invariant read g members h m f
-    ∙ left_more e g (choice_faults members) c.loop-i.prompted c.if-prompted.prompted c.args.lines.now c.loop-i.i l (omega arith) c.index-lines-i.is (c.in_default.ensures read members h m) prompted
+    ∙ left_more e g (choice_faults members) c.loop-i.prompted c.if-prompted.prompted c.args.lines.now c.loop-i.i l (omega arith) c.index-lines-i.is
+    (c.in_default.ensures.fault read members h m) prompted
 
 pub returns : goal.returns
-returns c = λ read g members h m f. sym (c.loop-i.invariant read g members h m f ∙ left_none c.args.listing.now.names.arena g (choice_faults members) c.loop-i.prompted c.args.lines.now c.loop-i.i (omega arith))
+returns c =
+    record {
+      fault = λ read g members h m f. sym (c.loop-i.invariant read g members h m f
+          ∙ left_none c.args.listing.now.names.arena g (choice_faults members) c.loop-i.prompted c.args.lines.now c.loop-i.i (omega arith));
+    }
 
 pub choice_attribute_fault-requires-clause-many : goal.choice_attribute_fault-requires-clause-many
 choice_attribute_fault-requires-clause-many c = grind (arith, common_steps)

@@ -11,12 +11,16 @@ use Rattle.kc_tree.proofs.attribute_checks.first_symbol_fault.Goals as goal
 use Rattle.kc_tree.proofs.attribute_checks.first_symbol_fault.Goals.{then-prompted, else-prompted}
 
 pub returns-in-Some : goal.returns-in-Some
-returns-in-Some c = λ read g name h m f.
-    let e = c.args.listing.now.names.arena in
-    let l = c.index-lines-i.result in
-    let faults = attribute_faults (contents_of read) name c.args.kind in
-    let told = left_reported e g faults c.loop-i.prompted c.args.lines.now c.loop-i.i l c.in-Some.kind (omega arith) c.index-lines-i.is (c.in-Some.ensures read name h m) in
-    ap Some (c.fault_at.ensures ∙ ap (λ n. let t : TreeFault = record { file = Some n; line = l.number; kind = c.in-Some.kind } in t) (sym f)) ∙ sym (c.loop-i.invariant read g name h m f ∙ told)
+returns-in-Some c = record {
+  fault = λ read g name h m f.
+      let e = c.args.listing.now.names.arena in
+      let l = c.index-lines-i.result in
+      let faults = attribute_faults (contents_of read) name c.args.kind in
+      let told = left_reported e g faults c.loop-i.prompted c.args.lines.now c.loop-i.i l c.in-Some.kind (omega arith) c.index-lines-i.is
+      (c.in-Some.ensures.fault read name h m) in
+      ap Some (c.fault_at.ensures ∙ ap (λ n. let t : TreeFault = record { file = Some n; line = l.number; kind = c.in-Some.kind } in t) (sym f))
+      ∙ sym (c.loop-i.invariant read g name h m f ∙ told);
+}
 
 pub loop-i-preserved : goal.loop-i-preserved
 loop-i-preserved c = λ read g name h m f.
@@ -29,10 +33,16 @@ loop-i-preserved c = λ read g name h m f.
       | else-prompted w ↦ w.prompted-is ∙ w.is_prompt-prompted.ensures e ∙ sym (ap (λ b. b || prompts) w.if-prompted.false)
     ] in
     c.loop-i.invariant read g name h m f
-    ∙ left_more e g (attribute_faults (contents_of read) name c.args.kind) c.loop-i.prompted c.if-prompted.prompted c.args.lines.now c.loop-i.i l (omega arith) c.index-lines-i.is (c.in_default.ensures read name h m) prompted
+    ∙ left_more e g (attribute_faults (contents_of read) name c.args.kind) c.loop-i.prompted c.if-prompted.prompted c.args.lines.now c.loop-i.i l (omega arith)
+    c.index-lines-i.is (c.in_default.ensures.fault read name h m) prompted
 
 pub returns : goal.returns
-returns c = λ read g name h m f. sym (c.loop-i.invariant read g name h m f ∙ left_none c.args.listing.now.names.arena g (attribute_faults (contents_of read) name c.args.kind) c.loop-i.prompted c.args.lines.now c.loop-i.i (omega arith))
+returns c =
+    record {
+      fault = λ read g name h m f. sym (c.loop-i.invariant read g name h m f
+          ∙ left_none c.args.listing.now.names.arena g (attribute_faults (contents_of read) name c.args.kind) c.loop-i.prompted c.args.lines.now c.loop-i.i
+          (omega arith));
+    }
 
 pub symbol_attribute_fault-fault-requires-clause-symbols : goal.symbol_attribute_fault-fault-requires-clause-symbols
 symbol_attribute_fault-fault-requires-clause-symbols c = grind (arith, common_steps)

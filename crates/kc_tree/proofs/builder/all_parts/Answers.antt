@@ -2,9 +2,11 @@ use Rattle.kc_tree_model.specs.Reading.{reading}
 use Rattle.kc_tree.proofs.builder.all_parts.Goals as goal
 
 pub returns : goal.returns
-returns c = λ files root w. record {
-  few = c.in_ok-summary.ensures.few;
-  summary = c.in_ok-summary.ensures.summary (reading files root).read w.walk.shows;
-  symbols = c.in_ok-symbol_parts.ensures files root w;
-  choices = c.in_ok-choice_parts.ensures files root w;
+returns c = record {
+  ok = λ files root w. record {
+    few = c.in_ok-summary.ensures.few;
+    summary = c.in_ok-summary.ensures.summary (reading files root).read w.walk.shows;
+    symbols = c.in_ok-symbol_parts.ensures.ok files root w;
+    choices = c.in_ok-choice_parts.ensures.ok files root w;
+  };
 }

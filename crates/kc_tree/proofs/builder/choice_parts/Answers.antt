@@ -9,18 +9,25 @@ pub entries_of-requires-clause-many : goal.entries_of-requires-clause-many
 entries_of-requires-clause-many c =
     let l = c.args.walked.now.listing in
     let w = c.requires.walk.2.walk in
-    ap length c.as_slice-groups.ensures.value ∙ as_many_conditions l l.names.arena c.args.walked.now.groups.items c.args.walked.now.conditions.items (reading c.requires.walk.0 c.requires.walk.1).read w.shows w.shown
+    ap length c.as_slice-groups.ensures.value ∙ as_many_conditions l l.names.arena c.args.walked.now.groups.items c.args.walked.now.conditions.items
+    (reading c.requires.walk.0 c.requires.walk.1).read w.shows w.shown
 
 pub returns : goal.returns
-returns c = λ files root w.
-    let l = c.args.walked.now.listing in
-    let read = (reading files root).read in
-    record {
-      rows = c.in_ok-choice_rows.ensures l.names.arena read w.walk.shows (rw (c.as_slice-groups.ensures.value, c.as_slice-conditions.ensures.value) w.walk.shown);
-      defaults = c.in_ok-member_defaults.ensures read (rw (c.as_slice-groups.ensures.value, c.as_slice-conditions.ensures.value) w.walk) (faultless_of files root w.untold);
-      entries = c.in_ok-entries_of.ensures.entries l.names.arena c.args.walked.now.conditions.items (length c.args.walked.now.conditions.items) read w.walk.shows (rw c.as_slice-groups.ensures.value w.walk.shown);
-      entries_fit = c.in_ok-entries_of.ensures.fits l.names.arena c.args.walked.now.conditions.items (length c.args.walked.now.conditions.items) read w.walk.shows (rw c.as_slice-groups.ensures.value w.walk.shown);
-    }
+returns c = record {
+  ok = λ files root w.
+      let l = c.args.walked.now.listing in
+      let read = (reading files root).read in
+      record {
+        rows = c.in_ok-choice_rows.ensures.ok l.names.arena read w.walk.shows
+            (rw (c.as_slice-groups.ensures.value, c.as_slice-conditions.ensures.value) w.walk.shown);
+        defaults = c.in_ok-member_defaults.ensures.ok read (rw (c.as_slice-groups.ensures.value, c.as_slice-conditions.ensures.value) w.walk)
+            (faultless_of files root w.untold);
+        entries = c.in_ok-entries_of.ensures.entries l.names.arena c.args.walked.now.conditions.items (length c.args.walked.now.conditions.items) read
+            w.walk.shows (rw c.as_slice-groups.ensures.value w.walk.shown);
+        entries_fit = c.in_ok-entries_of.ensures.fits l.names.arena c.args.walked.now.conditions.items (length c.args.walked.now.conditions.items) read
+            w.walk.shows (rw c.as_slice-groups.ensures.value w.walk.shown);
+      };
+}
 
 pub choice_rows-requires : goal.choice_rows-requires
 choice_rows-requires c = grind (arith, common_steps)

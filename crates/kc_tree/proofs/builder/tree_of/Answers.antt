@@ -10,23 +10,47 @@ use Rattle.kc_tree.proofs.builder.tree_of.Goals as goal
 
 pub into_tree-requires-clause-fits : goal.into_tree-requires-clause-fits
 into_tree-requires-clause-fits c =
-    let r = c.requires in
+    let r = c.requires.of_tree in
     let read = (reading r.files r.root).read in
-    (c.in_ok-gathered.ensures r.files r.root (record { walk = record { shows = c.in-Ok.ensures.shows read r.shows; shown = c.in-Ok.ensures.walked read r.shows }; untold = r.untold })).fits
+    (c.in_ok-gathered.ensures.ok r.files r.root (record {
+      walk = record {
+        shows = c.in-Ok.ensures.shows read r.shows;
+        shown = c.in-Ok.ensures.walked read
+            r.shows;
+      };
+      untold = r.untold;
+    })).fits
 
 pub into_tree-requires-clause-consistent : goal.into_tree-requires-clause-consistent
 into_tree-requires-clause-consistent c =
-    let r = c.requires in
+    let r = c.requires.of_tree in
     let read = (reading r.files r.root).read in
     consistent_of r.files r.root c.in_ok-gathered.gathered r.untold
-    (c.in_ok-gathered.ensures r.files r.root (record { walk = record { shows = c.in-Ok.ensures.shows read r.shows; shown = c.in-Ok.ensures.walked read r.shows }; untold = r.untold }))
+    (c.in_ok-gathered.ensures.ok r.files r.root (record {
+      walk = record {
+        shows = c.in-Ok.ensures.shows read r.shows;
+        shown = c.in-Ok.ensures.walked read
+            r.shows;
+      };
+      untold = r.untold;
+    }))
 
 pub returns : goal.returns
-returns c = λ files root untold shows.
-    let read = (reading files root).read in
-    let k = c.in_ok-gathered.ensures files root (record { walk = record { shows = c.in-Ok.ensures.shows read shows; shown = c.in-Ok.ensures.walked read shows }; untold = untold }) in
-    IfOk-weaker c.into_tree.result (λ (t : TreeModel). t ≡ record { exprs = c.in_ok-gathered.gathered.arena; tree = gathered_tree c.in_ok-gathered.gathered }) (λ (t : TreeModel). t.tree ≡ tree_of_files files root)
-    (λ t e. whole_is files root c.in_ok-gathered.gathered t k e) c.into_tree.ensures
+returns c = record {
+  ok = λ files root untold shows.
+      let read = (reading files root).read in
+      let k = c.in_ok-gathered.ensures.ok files root (record {
+        walk = record {
+          shows = c.in-Ok.ensures.shows read shows;
+          shown = c.in-Ok.ensures.walked read
+              shows;
+        };
+        untold = untold;
+      }) in
+      IfOk-weaker c.into_tree.result (λ (t : TreeModel). t ≡ record { exprs = c.in_ok-gathered.gathered.arena; tree = gathered_tree c.in_ok-gathered.gathered })
+      (λ (t : TreeModel). t.tree ≡ tree_of_files files root)
+      (λ t e. whole_is files root c.in_ok-gathered.gathered t k e) c.into_tree.ensures.ok;
+}
 
 pub into_tree-requires-clause-distinct : goal.into_tree-requires-clause-distinct
 into_tree-requires-clause-distinct c = grind (arith, elements)

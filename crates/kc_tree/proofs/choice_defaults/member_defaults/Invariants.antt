@@ -2,7 +2,7 @@ use Rattle.std.specs.Prelude.{◌≡◌, ◌≤◌, [], List, length}
 use Rattle.kc_tree_model.specs.Blocks.{Group}
 use Rattle.kc_tree_model.specs.Conditions.{groups_in_context}
 use Rattle.kc_tree_model.specs.Contents.{contents_of}
-use Rattle.kc_tree_model.specs.TreeFaults.{tree_faults}
+use Rattle.kc_tree.specs.checker.FaultSearch.{HasNoFaults}
 use Rattle.kc_tree.specs.checker.ChoiceDefaults.{AreDefaultsOf, IsWalkOf}
 use Rattle.kc_tree.specs.checker.Summaries.{read_before}
 use Rattle.kc_tree.proofs.Rounds.{numbers_of_choices}
@@ -12,5 +12,6 @@ abbrev pub invariant-loop-i : goal.invariant-loop-i
 invariant-loop-i l = record {
   few : l.choices ≤ l.i;
   counted : (read : List Group) → IsWalkOf l.listing l.groups l.conditions read → l.choices ≡ length (numbers_of_choices (read_before l.i read));
-  defaults : (read : List Group) → IsWalkOf l.listing l.groups l.conditions read → tree_faults read ≡ [] → AreDefaultsOf l.listing (contents_of read) (groups_in_context (read_before l.i read)) l.choices l.found;
+  defaults : (read : List Group) → IsWalkOf l.listing l.groups l.conditions read → HasNoFaults read
+      → AreDefaultsOf l.listing (contents_of read) (groups_in_context (read_before l.i read)) l.choices l.found;
 }

@@ -10,10 +10,13 @@ loop-i-preserved c =
     let ls = c.args.lines.now in
     let cs = c.args.conditions.now in
     let i = c.loop-i.i in
-    let e = c.member_default.ensures ∙ ap (λ l. member_default_row n l c.index-conditions-i.result) c.index-lines-i.is ∙ ap (member_default_row n (get_or ls i c.index-lines-i.result)) c.index-conditions-i.is in
+    let e = c.member_default.ensures.value ∙ ap (λ l. member_default_row n l c.index-conditions-i.result) c.index-lines-i.is
+    ∙ ap (member_default_row n (get_or ls i c.index-lines-i.result)) c.index-conditions-i.is in
     record {
-      keys = keys_more n c.args.choice ls cs i c.index-lines-i.result c.index-conditions-i.result _ _ _ c.member_default.result c.loop-i-test.true c.requires.many e c.loop-i.invariant.keys c.in_ok-push_default.ensures.keys;
-      items = items_more n ls cs i c.index-lines-i.result c.index-conditions-i.result _ _ _ c.member_default.result c.loop-i-test.true c.requires.many e c.loop-i.invariant.items c.in_ok-push_default.ensures.items;
+      keys = keys_more n c.args.choice ls cs i c.index-lines-i.result c.index-conditions-i.result _ _ _ c.member_default.result c.loop-i-test.true
+          c.requires.many e c.loop-i.invariant.keys c.in_ok-push_default.ensures.keys;
+      items = items_more n ls cs i c.index-lines-i.result c.index-conditions-i.result _ _ _ c.member_default.result c.loop-i-test.true c.requires.many e
+          c.loop-i.invariant.items c.in_ok-push_default.ensures.items;
     }
 
 pub returns-clause-items : goal.returns-clause-items
@@ -23,4 +26,4 @@ pub returns-clause-keys : goal.returns-clause-keys
 returns-clause-keys c = grind (arith, common_steps)
 
 pub member_default-requires : goal.member_default-requires
-member_default-requires c = grind (arith, elements)
+member_default-requires c = record { held = grind (arith, elements) }

@@ -9,8 +9,9 @@ conditions_of-own-requires-clause-here c =
     omega (arith, many, c.requires.here)
 
 pub row_of-requires : goal.row_of-requires
-row_of-requires c =
-    let g = c.requires.gone in
-    ap length c.conditions_of-own.ensures
-    ∙ as_long c.args.listing.now g.exprs c.args.groups.now c.args.conditions.now g.read g.shows g.walked c.args.i c.requires.here
-    ∙ sym (ap length c.lines_of-lines.ensures.lines)
+row_of-requires c = record {
+  many = let g = c.requires.gone in
+      ap length c.conditions_of-own.ensures.value
+      ∙ as_long c.args.listing.now g.exprs c.args.groups.now c.args.conditions.now g.read g.shows g.walked c.args.i c.requires.here
+      ∙ sym (ap length c.lines_of-lines.ensures.lines);
+}

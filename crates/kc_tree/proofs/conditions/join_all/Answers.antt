@@ -13,8 +13,11 @@ loop-line-preserved c =
     let inv = c.loop-line.invariant in
     record {
       grows = grows_on old mid new inv.grows c.join_optional.ensures.grows;
-      there = conjoins_there new c.in_ok-joined.joined _ (c.in_ok-joined.ensures.ok (conjunct mid c.loop-line.joined) (conjoins_own mid c.loop-line.joined inv.there));
-      all = with_more old mid new c.args.which c.args.lines.now c.loop-line.line-index c.line-item.result c.args.all c.loop-line.joined c.in_ok-joined.joined c.conjunct_in.result
+      there = conjoins_there new c.in_ok-joined.joined _ (c.in_ok-joined.ensures.ok (conjunct mid c.loop-line.joined)
+          (conjoins_own mid c.loop-line.joined inv.there));
+      all =
+          with_more old mid new c.args.which c.args.lines.now c.loop-line.line-index c.line-item.result c.args.all c.loop-line.joined c.in_ok-joined.joined
+          c.conjunct_in.result
           inv.grows c.requires.held c.loop-line-test.true c.line-item.is c.conjunct_in.ensures inv.all c.in_ok-joined.ensures.ok;
     }
 

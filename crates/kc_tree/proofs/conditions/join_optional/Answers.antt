@@ -6,7 +6,8 @@ use Rattle.kc_tree.proofs.conditions.join_optional.Goals as goal
 
 pub returns-in_ok-join-in-Some-Some-clause-ok : goal.returns-in_ok-join-in-Some-Some-clause-ok
 returns-in_ok-join-in-Some-Some-clause-ok c = λ es h.
-    rw c.in-Some-Some.is-1 (joined c.args.arena.now c.join.new.self c.in-Some-Some.a c.in-Some-Some.b c.in_ok-join-in-Some-Some.field-0 es c.in_ok-join-in-Some-Some.ensures.ok (subst (λ (o : Option ℕ). Conjoins c.args.arena.now o es) c.in-Some-Some.is-0 h))
+    rw c.in-Some-Some.is-1 (joined c.args.arena.now c.join.new.self c.in-Some-Some.a c.in-Some-Some.b c.in_ok-join-in-Some-Some.field-0 es
+    c.in_ok-join-in-Some-Some.ensures.ok (subst (λ (o : Option ℕ). Conjoins c.args.arena.now o es) c.in-Some-Some.is-0 h))
 
 pub returns-in-Some-None-clause-grows : goal.returns-in-Some-None-clause-grows
 returns-in-Some-None-clause-grows c = grind (arith, common_steps)

@@ -13,8 +13,10 @@ use Rattle.kc_statements.proofs.Later.{attribute_held}
 use Rattle.kc_expr.proofs.StoreLemmas.{represents_on}
 use Rattle.kc_tree.proofs.conditions.push_conditions.Goals as goal
 
-line_held : (old mid : Exprs) (lines : List CodeLine) (k : ℕ) (d : CodeLine) → Grows old mid → All (LineNodesExist old) lines → k < length lines → d ≡ get_or lines k d → AttributeNodesExist mid d.attribute
-line_held old mid lines k d g held h e = subst (λ (l : CodeLine). AttributeNodesExist mid l.attribute) (sym e) (attribute_held old mid (get_or lines k d).attribute g (held k d h))
+line_held : (old mid : Exprs) (lines : List CodeLine) (k : ℕ) (d : CodeLine) → Grows old mid → All (LineNodesExist old) lines → k < length lines
+    → d ≡ get_or lines k d → AttributeNodesExist mid d.attribute
+line_held old mid lines k d g held h e =
+    subst (λ (l : CodeLine). AttributeNodesExist mid l.attribute) (sym e) (attribute_held old mid (get_or lines k d).attribute g (held k d h))
 
 pub loop-line-init : goal.loop-line-init
 loop-line-init c = record {
@@ -24,14 +26,16 @@ loop-line-init c = record {
 }
 
 pub condition_of-requires-clause-dependencies : goal.condition_of-requires-clause-dependencies
-condition_of-requires-clause-dependencies c = there_on c.args.arena.now c.loop-line.arena c.loop-line.invariant.grows c.args.entry.now.dependencies c.requires.dependencies
+condition_of-requires-clause-dependencies c =
+    there_on c.args.arena.now c.loop-line.arena c.loop-line.invariant.grows c.args.entry.now.dependencies c.requires.dependencies
 
 pub condition_of-requires-clause-shown : goal.condition_of-requires-clause-shown
 condition_of-requires-clause-shown c = there_on c.args.arena.now c.loop-line.arena c.loop-line.invariant.grows c.args.entry.now.shown c.requires.shown
 
 pub condition_of-requires-clause-held : goal.condition_of-requires-clause-held
 condition_of-requires-clause-held c =
-    line_held c.args.arena.now c.loop-line.arena c.args.lines.now c.loop-line.line-index c.line-item.result c.loop-line.invariant.grows c.requires.held c.loop-line-test.true c.line-item.is
+    line_held c.args.arena.now c.loop-line.arena c.args.lines.now c.loop-line.line-index c.line-item.result c.loop-line.invariant.grows c.requires.held
+    c.loop-line-test.true c.line-item.is
 
 pub loop-line-preserved : goal.loop-line-preserved
 loop-line-preserved c =
@@ -42,9 +46,11 @@ loop-line-preserved c =
     record {
       grows = grows_on old mid new inv.grows c.condition_of.ensures.grows;
       stand = λ ds vs own j y.
-          rw c.in_ok-push.ensures.items (after_more old mid new c.args.conditions.now.items c.loop-line.conditions.items ds vs c.args.lines.now c.loop-line.line-index c.in_ok-condition.condition c.line-item.result
+          rw c.in_ok-push.ensures.items (after_more old mid new c.args.conditions.now.items c.loop-line.conditions.items ds vs c.args.lines.now
+          c.loop-line.line-index c.in_ok-condition.condition c.line-item.result
           inv.grows c.condition_of.ensures.grows c.requires.held c.loop-line-test.true c.line-item.is (inv.stand ds vs own j y)
-          (c.in_ok-condition.ensures.stands ds vs own (joined_on old mid inv.grows c.args.entry.now ds vs own j) (represents_on old mid c.args.yes _ inv.grows y)));
+          (c.in_ok-condition.ensures.stands ds vs own (joined_on old mid inv.grows c.args.entry.now ds vs own j)
+          (represents_on old mid c.args.yes _ inv.grows y)));
       longer = omega (arith, ap length c.in_ok-push.ensures.items, length-append c.loop-line.conditions.items (c.in_ok-condition.condition ∷ []), inv.longer);
     }
 
@@ -54,10 +60,12 @@ returns-clause-stand c = λ ds vs own j y.
     (take_all c.loop-line.line-index c.args.lines.now c.loop-line-test.false) (c.loop-line.invariant.stand ds vs own j y)
 
 pub returns-in_err-condition-clause-grows : goal.returns-in_err-condition-clause-grows
-returns-in_err-condition-clause-grows c = grows_on c.args.arena.now c.loop-line.arena c.condition_of.new.arena c.loop-line.invariant.grows c.condition_of.ensures.grows
+returns-in_err-condition-clause-grows c =
+    grows_on c.args.arena.now c.loop-line.arena c.condition_of.new.arena c.loop-line.invariant.grows c.condition_of.ensures.grows
 
 pub returns-in_err-push-clause-grows : goal.returns-in_err-push-clause-grows
-returns-in_err-push-clause-grows c = grows_on c.args.arena.now c.loop-line.arena c.condition_of.new.arena c.loop-line.invariant.grows c.condition_of.ensures.grows
+returns-in_err-push-clause-grows c =
+    grows_on c.args.arena.now c.loop-line.arena c.condition_of.new.arena c.loop-line.invariant.grows c.condition_of.ensures.grows
 
 pub returns-clause-grows : goal.returns-clause-grows
 returns-clause-grows c = c.loop-line.invariant.grows

@@ -8,4 +8,6 @@ use Rattle.kc_tree.proofs.GatherAll.{AreGathered}
 use Rattle.kc_tree.proofs.definitions.gather_attributes.Given as goal
 
 abbrev pub invariant-loop-i : goal.invariant-loop-i
-invariant-loop-i l = (read : List Read) → IsWalkOf l.listing l.groups l.conditions read → AreGathered l.listing.names.arena (names_defined read) (groups_in_context (read_before l.i read)) l.found
+invariant-loop-i l =
+    (read : List Read) → IsWalkOf l.listing l.groups l.conditions read
+    → AreGathered l.listing.names.arena (names_defined read) (groups_in_context (read_before l.i read)) l.found

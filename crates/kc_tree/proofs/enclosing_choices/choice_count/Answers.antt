@@ -21,10 +21,13 @@ loop-group-preserved c = record {
       let what = ap (λ g. g.head) (get_or_read l.groups.items _ _ within (rw c.deref-group-items.ensures.value at c.group-item.is) no_group) in
       let count : c.if-begins_choice.choices ≡ cond (is_choice_code c.group-item.result.head) (c.loop-group.choices + 1) c.loop-group.choices =
       elim c.if-begins_choice.branch [
-        | then-begins_choice w ↦ w.choices-is ∙ sym (ap (λ b. cond b (c.loop-group.choices + 1) c.loop-group.choices) (sym c.begins_choice.ensures ∙ w.if-begins_choice.true))
-        | else-begins_choice w ↦ w.choices-is ∙ sym (ap (λ b. cond b (c.loop-group.choices + 1) c.loop-group.choices) (sym c.begins_choice.ensures ∙ w.if-begins_choice.false))
+        | then-begins_choice w ↦ w.choices-is ∙ sym (ap (λ b. cond b (c.loop-group.choices + 1) c.loop-group.choices)
+            (sym c.begins_choice.ensures ∙ w.if-begins_choice.true))
+        | else-begins_choice w ↦ w.choices-is ∙ sym (ap (λ b. cond b (c.loop-group.choices + 1) c.loop-group.choices)
+            (sym c.begins_choice.ensures ∙ w.if-begins_choice.false))
       ] in
-      one_counted l.names.arena (names_defined read) l.texts.items l.lines.items l.groups.items read h.groups_are c.loop-group.group-index c.loop-group.choices c.if-begins_choice.choices c.group-item.result.head within what (c.loop-group.invariant.counted read h) count;
+      one_counted l.names.arena (names_defined read) l.texts.items l.lines.items l.groups.items read h.groups_are c.loop-group.group-index c.loop-group.choices
+      c.if-begins_choice.choices c.group-item.result.head within what (c.loop-group.invariant.counted read h) count;
 }
 
 pub returns : goal.returns

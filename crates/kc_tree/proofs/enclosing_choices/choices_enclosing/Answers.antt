@@ -18,10 +18,13 @@ loop-group-preserved c = record {
       let what = get_or_read l.groups.items _ _ within (rw c.deref-group-items.ensures.value at c.group-item.is) no_group in
       let count : c.if-begins_choice.choices ≡ cond (is_choice_code c.group-item.result.head) (c.loop-group.choices + 1) c.loop-group.choices =
       elim c.if-begins_choice.branch [
-        | then-begins_choice w ↦ w.choices-is ∙ sym (ap (λ b. cond b (c.loop-group.choices + 1) c.loop-group.choices) (sym c.begins_choice.ensures ∙ w.if-begins_choice.true))
-        | else-begins_choice w ↦ w.choices-is ∙ sym (ap (λ b. cond b (c.loop-group.choices + 1) c.loop-group.choices) (sym c.begins_choice.ensures ∙ w.if-begins_choice.false))
+        | then-begins_choice w ↦ w.choices-is ∙ sym (ap (λ b. cond b (c.loop-group.choices + 1) c.loop-group.choices)
+            (sym c.begins_choice.ensures ∙ w.if-begins_choice.true))
+        | else-begins_choice w ↦ w.choices-is ∙ sym (ap (λ b. cond b (c.loop-group.choices + 1) c.loop-group.choices)
+            (sym c.begins_choice.ensures ∙ w.if-begins_choice.false))
       ] in
-      enclosing_more l.names.arena _ l.texts.items l.lines.items l.groups.items read h.groups_are c.loop-group.group-index c.loop-group.enclosing.items c.loop-group.inside.items _ _ c.loop-group.choices _ c.group-item.result.head
+      enclosing_more l.names.arena _ l.texts.items l.lines.items l.groups.items read h.groups_are c.loop-group.group-index c.loop-group.enclosing.items
+      c.loop-group.inside.items _ _ c.loop-group.choices _ c.group-item.result.head
       within (ap (λ g. g.head) what) (c.loop-group.invariant.round read h)
       (c.in_ok-push_enclosing.ensures.enclosing)
       c.in_ok-push_enclosing.ensures.inside
@@ -30,12 +33,14 @@ loop-group-preserved c = record {
 
 pub returns : goal.returns
 unfolding RepresentsListing
-returns c = λ read h.
-    let l = c.args.listing.now in
-    let n = count_is l.names.arena _ l.texts.items l.lines.items l.groups.items read h.groups_are in
-    let past : length l.groups.items ≤ c.loop-group.group-index = rw (← c.deref-group-items.ensures.value) c.loop-group-test.false in
-    let end : c.loop-group.group-index ≤ length l.groups.items = rw (← c.deref-group-items.ensures.value) c.loop-group.auto.group-index-end in
-    all_round read c.loop-group.group-index _ _ _ (omega arith) (c.loop-group.invariant.round read h)
+returns c = record {
+  ok = λ read h.
+      let l = c.args.listing.now in
+      let n = count_is l.names.arena _ l.texts.items l.lines.items l.groups.items read h.groups_are in
+      let past : length l.groups.items ≤ c.loop-group.group-index = rw (← c.deref-group-items.ensures.value) c.loop-group-test.false in
+      let end : c.loop-group.group-index ≤ length l.groups.items = rw (← c.deref-group-items.ensures.value) c.loop-group.auto.group-index-end in
+      all_round read c.loop-group.group-index _ _ _ (omega arith) (c.loop-group.invariant.round read h);
+}
 
 pub offset_bounds-group-items-group-index : goal.offset_bounds-group-items-group-index
 offset_bounds-group-items-group-index c = grind (arith, common_steps)

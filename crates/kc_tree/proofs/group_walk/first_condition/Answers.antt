@@ -5,7 +5,8 @@ use Rattle.kc_tree.proofs.group_walk.first_condition.Goals as goal
 
 pub loop-i-preserved : goal.loop-i-preserved
 loop-i-preserved c =
-    c.loop-i.invariant ∙ first_step c.args.lines.now c.args.conditions.now c.loop-i.i c.index-lines-i.result c.loop-i-test.true c.requires (sym c.is_prompt_attribute.ensures ∙ c.if-is_prompt_attribute.false)
+    c.loop-i.invariant ∙ first_step c.args.lines.now c.args.conditions.now c.loop-i.i c.index-lines-i.result c.loop-i-test.true c.requires.many
+    (sym c.is_prompt_attribute.ensures ∙ c.if-is_prompt_attribute.false)
 
 pub bounds-conditions-i : goal.bounds-conditions-i
 bounds-conditions-i c = grind (arith, common_steps)

@@ -8,18 +8,19 @@ pub walk_through-requires-clause-shown : goal.walk_through-requires-clause-shown
 unfolding RepresentsListing
 walk_through-requires-clause-shown c =
     let l = c.args.listing in
-    let k = c.requires.shows in
-    rw (c.deref.ensures.value, c.deref-2.ensures.value) (names_defined c.requires.read, l.texts.items, c.requires.read, k.groups_are)
+    let k = c.requires.shown.shows in
+    rw (c.deref.ensures.value, c.deref-2.ensures.value) (names_defined c.requires.shown.read, l.texts.items, c.requires.shown.read, k.groups_are)
 
 pub walk_through-requires-clause-held : goal.walk_through-requires-clause-held
 unfolding RepresentsListing
-walk_through-requires-clause-held c = rw c.deref-2.ensures.value c.requires.shows.held
+walk_through-requires-clause-held c = rw c.deref-2.ensures.value c.requires.shown.shows.held
 
 pub returns-clause-shows : goal.returns-clause-shows
 unfolding RepresentsListing
 returns-clause-shows c = λ read h.
     let l = c.args.listing in
-    lists_grown l.names.arena c.in_ok-walk.walk.arena l.names.symbols.items l.names.numbers.items l.texts.items [] l.texts.items l.lines.items l.groups.items read c.in_ok-walk.ensures.grows (sym (append-nil l.texts.items)) h
+    lists_grown l.names.arena c.in_ok-walk.walk.arena l.names.symbols.items l.names.numbers.items l.texts.items [] l.texts.items l.lines.items l.groups.items
+    read c.in_ok-walk.ensures.grows (sym (append-nil l.texts.items)) h
 
 pub returns-clause-walked : goal.returns-clause-walked
 unfolding RepresentsListing

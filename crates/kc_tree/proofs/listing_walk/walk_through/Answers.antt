@@ -39,7 +39,8 @@ pub visit-requires-clause-head : goal.visit-requires-clause-head
 visit-requires-clause-head c =
     let k = c.requires.shown in
     let s = shown_at c.args.arena k.0 k.1 c.args.lines.now c.args.groups.now k.2 k.3 c.loop-i.i c.loop-i-test.true in
-    let own : get_or c.args.groups.now c.loop-i.i c.index-groups-i.result ≡ group_at c.args.groups.now c.loop-i.i = sym c.index-groups-i.is ∙ get_or_read c.args.groups.now _ _ c.loop-i-test.true c.index-groups-i.is no_group in
+    let own : get_or c.args.groups.now c.loop-i.i c.index-groups-i.result ≡ group_at c.args.groups.now c.loop-i.i = sym c.index-groups-i.is
+    ∙ get_or_read c.args.groups.now _ _ c.loop-i-test.true c.index-groups-i.is no_group in
     subst (λ (g : CodeGroup). GroupHeadNodesExist (length c.loop-i.walk.arena.nodes) g.head) (sym own)
     (what_held c.loop-i.walk.arena k.0 k.1 _ _ (what_on c.args.arena c.loop-i.walk.arena k.0 k.1 _ _ c.loop-i.invariant.grows s.shown.head))
 
@@ -47,9 +48,10 @@ pub visit-requires-clause-lines : goal.visit-requires-clause-lines
 visit-requires-clause-lines c =
     let begin = (group_at c.args.groups.now c.loop-i.i).attributes in
     let end = attributes_end c.args.groups.now c.args.lines.now c.loop-i.i in
-    subst (All (LineNodesExist c.loop-i.walk.arena)) (sym c.lines_at.ensures)
+    subst (All (LineNodesExist c.loop-i.walk.arena)) (sym c.lines_at.ensures.value)
     (lines_held c.args.arena c.loop-i.walk.arena c.loop-i.invariant.grows (slice_range c.args.lines.now begin end)
-    (All-take (LineNodesExist c.args.arena) (end - begin) (drop begin c.args.lines.now) (All-drop (LineNodesExist c.args.arena) begin c.args.lines.now c.requires.held)))
+    (All-take (LineNodesExist c.args.arena) (end - begin) (drop begin c.args.lines.now)
+    (All-drop (LineNodesExist c.args.arena) begin c.args.lines.now c.requires.held)))
 
 pub loop-i-preserved : goal.loop-i-preserved
 loop-i-preserved c = record {
@@ -58,12 +60,17 @@ loop-i-preserved c = record {
       let begin = (group_at c.args.groups.now c.loop-i.i).attributes in
       let end = attributes_end c.args.groups.now c.args.lines.now c.loop-i.i in
       let s = shown_at c.args.arena names texts c.args.lines.now c.args.groups.now read h c.loop-i.i c.loop-i-test.true in
-      let own : get_or c.args.groups.now c.loop-i.i c.index-groups-i.result ≡ group_at c.args.groups.now c.loop-i.i = sym c.index-groups-i.is ∙ get_or_read c.args.groups.now _ _ c.loop-i-test.true c.index-groups-i.is no_group in
-      let what = subst (λ (g : CodeGroup). RepresentsHead c.loop-i.walk.arena names texts g.head s.group.head) (sym own) (what_on c.args.arena c.loop-i.walk.arena names texts _ _ c.loop-i.invariant.grows s.shown.head) in
+      let own : get_or c.args.groups.now c.loop-i.i c.index-groups-i.result ≡ group_at c.args.groups.now c.loop-i.i = sym c.index-groups-i.is
+      ∙ get_or_read c.args.groups.now _ _ c.loop-i-test.true c.index-groups-i.is no_group in
+      let what = subst (λ (g : CodeGroup). RepresentsHead c.loop-i.walk.arena names texts g.head s.group.head) (sym own)
+      (what_on c.args.arena c.loop-i.walk.arena names texts _ _ c.loop-i.invariant.grows s.shown.head) in
       let kept = lines_kept c.args.arena c.loop-i.walk.arena (slice_range c.args.lines.now begin end) c.loop-i.invariant.grows
-      (All-take (LineNodesExist c.args.arena) (end - begin) (drop begin c.args.lines.now) (All-drop (LineNodesExist c.args.arena) begin c.args.lines.now c.requires.held)) in
-      let said : s.group.attributes ≡ map (line_in c.loop-i.walk.arena) c.lines_at.result.now = s.shown.attributes ∙ sym kept ∙ ap (map (line_in c.loop-i.walk.arena)) (sym c.lines_at.ensures) in
-      subst (HasWalked texts c.visit.new.self) (sym s.now) (c.in_ok-visit.ensures.walked names texts (read_before c.loop-i.i read) s.group (c.loop-i.invariant.walked names texts read h) what said);
+      (All-take (LineNodesExist c.args.arena) (end - begin) (drop begin c.args.lines.now)
+      (All-drop (LineNodesExist c.args.arena) begin c.args.lines.now c.requires.held)) in
+      let said : s.group.attributes ≡ map (line_in c.loop-i.walk.arena) c.lines_at.result.now = s.shown.attributes ∙ sym kept
+      ∙ ap (map (line_in c.loop-i.walk.arena)) (sym c.lines_at.ensures.value) in
+      subst (HasWalked texts c.visit.new.self) (sym s.now) (c.in_ok-visit.ensures.walked names texts (read_before c.loop-i.i read) s.group
+      (c.loop-i.invariant.walked names texts read h) what said);
 }
 
 pub returns-clause-walked : goal.returns-clause-walked

@@ -9,5 +9,6 @@ use Rattle.kc_tree.proofs.listing_walk.walk_through.Given as goal
 abbrev pub invariant-loop-i : goal.invariant-loop-i
 invariant-loop-i l = record {
   grows : Grows l.fn.arena l.walk.arena;
-  walked : (names texts : List (List ℕ)) (read : List Group) → RepresentsGroups l.fn.arena names texts l.lines (length l.lines) (reverse l.groups) read → HasWalked texts l.walk (read_before l.i read);
+  walked : (names texts : List (List ℕ)) (read : List Group) → RepresentsGroups l.fn.arena names texts l.lines (length l.lines) (reverse l.groups) read
+      → HasWalked texts l.walk (read_before l.i read);
 }

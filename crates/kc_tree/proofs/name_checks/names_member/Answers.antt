@@ -14,7 +14,8 @@ unfolding RepresentsListing
 bounds-marks-s c =
     let r = c.requires.shown in
     let l = c.args.listing.now in
-    let at = place-get c.name.result.now (names_defined r.read) c.in-Some-symbol_number_of_name.s (sym (c.in-Some-symbol_number_of_name.ensures r.read r.shows)) in
+    let at = place-get c.name.result.now (names_defined r.read) c.in-Some-symbol_number_of_name.s
+    (sym (c.in-Some-symbol_number_of_name.ensures r.read r.shows)) in
     let below = get_below (names_defined r.read) c.in-Some-symbol_number_of_name.s c.name.result.now at in
     let h = r.shows in
     let many = as_many_names l.names.arena l.names.symbols.items l.names.numbers.items (names_defined r.read) h.names in
@@ -22,9 +23,12 @@ bounds-marks-s c =
     omega arith
 
 pub returns-in-Some-symbol_number_of_name : goal.returns-in-Some-symbol_number_of_name
-returns-in-Some-symbol_number_of_name c = λ read members h marked.
-    let e = c.args.listing.now.names.arena in
-    let x = c.name.result.now in
-    let at = place-get x (names_defined read) c.in-Some-symbol_number_of_name.s (sym (c.in-Some-symbol_number_of_name.ensures read h)) in
-    let bare : bare_name (node_expr e c.args.valued.now.value) ≡ Some x = sym (bare_is (node_expr e c.args.valued.now.value)) ∙ sym c.in-Some.ensures.name ∙ ap Some (sym c.name.ensures) in
-    marked.marked c.in-Some-symbol_number_of_name.s x at ∙ sym (name_some members (default_in e c.args.valued.now) x c.if-not-valued.false bare)
+returns-in-Some-symbol_number_of_name c = record {
+  value = λ read members h marked.
+      let e = c.args.listing.now.names.arena in
+      let x = c.name.result.now in
+      let at = place-get x (names_defined read) c.in-Some-symbol_number_of_name.s (sym (c.in-Some-symbol_number_of_name.ensures read h)) in
+      let bare : bare_name (node_expr e c.args.valued.now.value) ≡ Some x = sym (bare_is (node_expr e c.args.valued.now.value)) ∙ sym c.in-Some.ensures.name
+      ∙ ap Some (sym c.name.ensures.value) in
+      marked.marked c.in-Some-symbol_number_of_name.s x at ∙ sym (name_some members (default_in e c.args.valued.now) x c.if-not-valued.false bare);
+}

@@ -11,7 +11,8 @@ use Rattle.kc_tree.proofs.names.symbols_of_names.Goals as goal
 
 module _ (names s : ℕ) (symbols : List SymbolRow) (row : SymbolRow) (table : List (Option ℕ)) (differ : (a b : ℕ) (p q : SymbolRow) → slice_get symbols a ≡ Some p → slice_get symbols b ≡ Some q → p.name ≡ q.name → a ≡ b)
     (here : slice_get symbols s ≡ Some row) (within : row.name < length table) (t : IsTable names symbols s table) where
-  reported_more : (a : ℕ) (r : SymbolRow) → a < s + 1 → slice_get symbols a ≡ Some r → (a < s) ⊎ (s ≤ a) → get_or (set table row.name (Some s)) r.name None ≡ Some a
+  reported_more : (a : ℕ) (r : SymbolRow) → a < s + 1 → slice_get symbols a ≡ Some r → (a < s) ⊎ (s ≤ a)
+      → get_or (set table row.name (Some s)) r.name None ≡ Some a
   reported_more a r h f (inl l) =
       let apart : r.name ≢ row.name = λ e. (let k = differ a s r row f here e in omega arith) in
       get_or-set_other table row.name r.name (Some s) None apart ∙ t.told a r l f
@@ -21,7 +22,8 @@ module _ (names s : ℕ) (symbols : List SymbolRow) (row : SymbolRow) (table : L
       let q : r ≡ row = cc in
       get_or-set_at table row.name r.name (Some s) None (ap (λ (p : SymbolRow). p.name) q) within ∙ ap Some (sym e)
 
-  there_more : (j u : ℕ) (b : Bool) → (j == row.name) ≡ b → get_or (set table row.name (Some s)) j None ≡ Some u → (r : SymbolRow) × (slice_get symbols u ≡ Some r) × (r.name ≡ j)
+  there_more : (j u : ℕ) (b : Bool) → (j == row.name) ≡ b → get_or (set table row.name (Some s)) j None ≡ Some u
+      → (r : SymbolRow) × (slice_get symbols u ≡ Some r) × (r.name ≡ j)
   there_more j u true h f =
       let e = eqb-true j row.name h in
       let k : Some s ≡ Some u = sym (get_or-set_at table row.name j (Some s) None e within) ∙ f in
@@ -54,7 +56,7 @@ pub bounds-symbols-s : goal.bounds-symbols-s
 bounds-symbols-s c = grind (arith, common_steps)
 
 pub returns : goal.returns
-returns c = grind (arith, elements)
+returns c = record { ok = grind (arith, elements) }
 
 pub index_mut-requires : goal.index_mut-requires
 index_mut-requires c = grind (arith, elements)

@@ -6,33 +6,52 @@ use Rattle.kc_tree.proofs.read.read_tree.Goals as goal
 
 pub returns-in-Some-clause-fault : goal.returns-in-Some-clause-fault
 returns-in-Some-clause-fault c =
-    reported_of_reading c.args.texts.now c.args.root.now c.read_files-listing.result.0 c.read_files-listing.result.1 c.read_files-listing.ensures.fault c.read_files-listing.ensures.read c.in-Some.fault c.in-Some.is
+    reported_of_reading c.args.texts.now c.args.root.now c.read_files-listing.result.0 c.read_files-listing.result.1 c.read_files-listing.ensures.fault
+    c.read_files-listing.ensures.read c.in-Some.fault c.in-Some.is
 
 pub first_fault-requires : goal.first_fault-requires
 first_fault-requires c =
-    of_reading c.args.texts.now c.args.root.now c.read_files-listing.result.0 c.read_files-listing.result.1 c.read_files-listing.ensures.fault c.read_files-listing.ensures.read c.in-None.is
+    record {
+      shown = of_reading c.args.texts.now c.args.root.now c.read_files-listing.result.0 c.read_files-listing.result.1 c.read_files-listing.ensures.fault
+          c.read_files-listing.ensures.read c.in-None.is;
+    }
 
 pub returns-in-Ok-Some-clause-fault : goal.returns-in-Ok-Some-clause-fault
 returns-in-Ok-Some-clause-fault c =
-    inr (reported_behind c.args.texts.now c.args.root.now c.read_files-listing.result.0 c.read_files-listing.result.1 c.read_files-listing.ensures.fault c.read_files-listing.ensures.read (Some c.in-Ok-Some.fault) c.in-None.is
-    (rw c.in-Ok-Some.field-0-is at (c.in-Ok-Some.ensures (reading c.args.texts.now c.args.root.now).read (shown_of_reading c.args.texts.now c.args.root.now c.read_files-listing.result.0 c.read_files-listing.result.1 c.read_files-listing.ensures.fault c.read_files-listing.ensures.read c.in-None.is))))
+    inr (reported_behind c.args.texts.now c.args.root.now c.read_files-listing.result.0 c.read_files-listing.result.1 c.read_files-listing.ensures.fault
+    c.read_files-listing.ensures.read (Some c.in-Ok-Some.fault) c.in-None.is
+    (rw (c.in-Ok-Some.field-0-is, c.language.ensures) at (c.in-Ok-Some.ensures.fault (reading c.args.texts.now c.args.root.now).read
+    (shown_of_reading c.args.texts.now c.args.root.now c.read_files-listing.result.0 c.read_files-listing.result.1 c.read_files-listing.ensures.fault
+    c.read_files-listing.ensures.read c.in-None.is))))
 
 pub tree_of-requires : goal.tree_of-requires
-tree_of-requires c =
-    of_tree c.args.texts.now c.args.root.now c.read_files-listing.result.0 c.read_files-listing.result.1 c.read_files-listing.ensures.fault c.read_files-listing.ensures.read c.in-None.is
-    (rw c.in-Ok-None.field-0-is at (c.in-Ok-None.ensures (reading c.args.texts.now c.args.root.now).read (shown_of_reading c.args.texts.now c.args.root.now c.read_files-listing.result.0 c.read_files-listing.result.1 c.read_files-listing.ensures.fault c.read_files-listing.ensures.read c.in-None.is)))
+tree_of-requires c = record {
+  of_tree =
+      of_tree c.args.texts.now c.args.root.now c.read_files-listing.result.0 c.read_files-listing.result.1 c.read_files-listing.ensures.fault
+      c.read_files-listing.ensures.read c.in-None.is
+      (rw (c.in-Ok-None.field-0-is, c.language.ensures) at (c.in-Ok-None.ensures.fault (reading c.args.texts.now c.args.root.now).read
+      (shown_of_reading c.args.texts.now c.args.root.now c.read_files-listing.result.0 c.read_files-listing.result.1 c.read_files-listing.ensures.fault
+      c.read_files-listing.ensures.read c.in-None.is)));
+}
 
 pub returns-in-Ok-clause-accepted : goal.returns-in-Ok-clause-accepted
 returns-in-Ok-clause-accepted c =
-    reported_behind c.args.texts.now c.args.root.now c.read_files-listing.result.0 c.read_files-listing.result.1 c.read_files-listing.ensures.fault c.read_files-listing.ensures.read None c.in-None.is
-    (rw c.in-Ok-None.field-0-is at (c.in-Ok-None.ensures (reading c.args.texts.now c.args.root.now).read (shown_of_reading c.args.texts.now c.args.root.now c.read_files-listing.result.0 c.read_files-listing.result.1 c.read_files-listing.ensures.fault c.read_files-listing.ensures.read c.in-None.is)))
+    reported_behind c.args.texts.now c.args.root.now c.read_files-listing.result.0 c.read_files-listing.result.1 c.read_files-listing.ensures.fault
+    c.read_files-listing.ensures.read None c.in-None.is
+    (rw (c.in-Ok-None.field-0-is, c.language.ensures) at (c.in-Ok-None.ensures.fault (reading c.args.texts.now c.args.root.now).read
+    (shown_of_reading c.args.texts.now c.args.root.now c.read_files-listing.result.0 c.read_files-listing.result.1 c.read_files-listing.ensures.fault
+    c.read_files-listing.ensures.read c.in-None.is)))
 
 pub returns-in-Ok-clause-tree : goal.returns-in-Ok-clause-tree
 returns-in-Ok-clause-tree c =
-    c.in-Ok.ensures c.args.texts.now c.args.root.now
-    (reported_behind c.args.texts.now c.args.root.now c.read_files-listing.result.0 c.read_files-listing.result.1 c.read_files-listing.ensures.fault c.read_files-listing.ensures.read None c.in-None.is
-    (rw c.in-Ok-None.field-0-is at (c.in-Ok-None.ensures (reading c.args.texts.now c.args.root.now).read (shown_of_reading c.args.texts.now c.args.root.now c.read_files-listing.result.0 c.read_files-listing.result.1 c.read_files-listing.ensures.fault c.read_files-listing.ensures.read c.in-None.is))))
-    (shown_of_reading c.args.texts.now c.args.root.now c.read_files-listing.result.0 c.read_files-listing.result.1 c.read_files-listing.ensures.fault c.read_files-listing.ensures.read c.in-None.is)
+    c.in-Ok.ensures.ok c.args.texts.now c.args.root.now
+    (reported_behind c.args.texts.now c.args.root.now c.read_files-listing.result.0 c.read_files-listing.result.1 c.read_files-listing.ensures.fault
+    c.read_files-listing.ensures.read None c.in-None.is
+    (rw (c.in-Ok-None.field-0-is, c.language.ensures) at (c.in-Ok-None.ensures.fault (reading c.args.texts.now c.args.root.now).read
+    (shown_of_reading c.args.texts.now c.args.root.now c.read_files-listing.result.0 c.read_files-listing.result.1 c.read_files-listing.ensures.fault
+    c.read_files-listing.ensures.read c.in-None.is))))
+    (shown_of_reading c.args.texts.now c.args.root.now c.read_files-listing.result.0 c.read_files-listing.result.1 c.read_files-listing.ensures.fault
+    c.read_files-listing.ensures.read c.in-None.is)
 
 pub returns-in-Err-clause-fault : goal.returns-in-Err-clause-fault
 returns-in-Err-clause-fault c = grind (arith, common_steps)

@@ -12,8 +12,8 @@ use Rattle.kc_listing.specs.between.ListingView.{RepresentsListing, line_in}
 use Rattle.kc_listing.proofs.NameLemmas.{as_many_names}
 use Rattle.kc_tree.specs.checker.Summaries.{IsSummary, enclosing_choice, group_at, no_group}
 use Rattle.kc_tree.proofs.Aligned.{count_is, placed_count}
-use Rattle.kc_tree.proofs.FaultKinds.{fault_of}
-use Rattle.kc_tree.proofs.FaultSearch.{config_first, config_there, definition_reported, place_at, enclosing_got}
+use Rattle.kc_tree.proofs.FaultKinds.{fault_of, follow_is}
+use Rattle.kc_tree.proofs.FaultSearch.{config_first, config_there, definition_reported, enclosing_some, place_at, enclosing_got}
 use Rattle.kc_tree.proofs.Symbols.{about_is, as_many_abouts, kind_is, symbol_there}
 use Rattle.kc_tree.proofs.search.config_fault.Goals as goal
 
@@ -34,7 +34,8 @@ index-requires-2 c =
     let read = c.requires.shown.read in
     let h = c.requires.shown.shows in
     let n = count_is l.names.arena (names_defined read) l.texts.items l.lines.items l.groups.items read h.groups_are in
-    let m : length c.args.summary.now.enclosing.items ≡ length read = ap length (c.requires.summary read h).enclosing ∙ length-map (groups_in_context read) (enclosing_choice (contents_of read)) ∙ placed_count read in
+    let m : length c.args.summary.now.enclosing.items ≡ length read = ap length (c.requires.summary read h).enclosing
+    ∙ length-map (groups_in_context read) (enclosing_choice (contents_of read)) ∙ placed_count read in
     omega arith
 
 pub is_modules-is_modules-requires-clause-here : goal.is_modules-is_modules-requires-clause-here
@@ -49,24 +50,33 @@ is_modules-is_modules-requires-clause-here c =
 
 pub returns-in-Some : goal.returns-in-Some
 unfolding RepresentsListing IsSummary
-returns-in-Some c = λ read p h at.
-    let l = c.args.listing.now in
-    let m = c.args.summary.now in
-    let names = names_defined read in
-    let a = place_at l.names.arena names l.texts.items l.lines.items l.groups.items read h.groups_are c.args.i p c.requires.here at in
-    let w = config_there l.names.arena names l.texts.items (group_at l.groups.items c.args.i).head c.args.s p.group.head a.head c.requires.head in
-    let name = w.0 in
-    let known = c.requires.summary read h in
-    let about = c.index.ensures ∙ about_is read m.symbols.items known.symbols c.args.s name c.index.result.now w.1 in
-    let member = c.is_some-is_member.ensures ∙ ap is_some (c.index-2.ensures ∙ enclosing_got read m.enclosing.items c.args.i p c.index-2.result.now known.enclosing at) in
-    let told = definition_reported read p name c.args.i c.index.result.now c.is_some-is_member.result c.is_first.result c.is_modules-is_modules.result a.has a.number about member c.is_first.ensures (c.is_modules-is_modules.ensures read name h w.1) in
-    let file = ap (λ g. g.file) (get_or_read l.groups.items _ _ c.requires.here c.index-3.ensures no_group) ∙ sym a.file in
-    let line = ap (λ g. g.line) (get_or_read l.groups.items _ _ c.requires.here c.index-in-Some.ensures no_group) ∙ sym a.line in
-    ap Some (c.fault_at.ensures
-    ∙ ap (λ f. let t : TreeFault = record { file = Some f; line = c.index-in-Some.result.now.line; kind = c.in-Some.kind } in t) file
-    ∙ ap (λ n. fault_of p.group n c.in-Some.kind) line)
-    ∙ sym (config_first (contents_of read) p name w.2
-    ∙ ap (λ o. option_or (option_map (fault_of p.group p.group.at.line) o) (slice_get (faults_of_lines p.group (attribute_faults (contents_of read) name (kind_of (contents_of read) name)) false p.group.attributes) 0)) (sym told ∙ sym c.in-Some.ensures))
+returns-in-Some c = record {
+  fault = λ read p h at.
+      let l = c.args.listing.now in
+      let m = c.args.summary.now in
+      let names = names_defined read in
+      let a = place_at l.names.arena names l.texts.items l.lines.items l.groups.items read h.groups_are c.args.i p c.requires.here at in
+      let w = config_there l.names.arena names l.texts.items (group_at l.groups.items c.args.i).head c.args.s p.group.head a.head c.requires.head in
+      let name = w.0 in
+      let known = c.requires.summary read h in
+      let about = c.index.ensures ∙ about_is read m.symbols.items known.symbols c.args.s name c.index.result.now w.1 in
+      let member = c.is_some-is_member.ensures ∙ ap is_some (c.index-2.ensures
+      ∙ enclosing_got read m.enclosing.items c.args.i p c.index-2.result.now known.enclosing at) in
+      let follow = c.may_follow_member-may_follow.ensures ∙ follow_is c.args.language l.names.arena p c.is_some-is_member.result c.lines_of-lines.result.now
+      (member ∙ enclosing_some read p a.has) (a.attributes ∙ sym (ap (map (line_in l.names.arena)) c.lines_of-lines.ensures.lines)) in
+      let told = definition_reported c.args.language read p name c.args.i c.index.result.now c.is_some-is_member.result c.is_first-is_first.result
+      c.is_modules-is_modules.result c.may_follow_member-may_follow.result a.has a.number about member c.is_first-is_first.ensures
+      (c.is_modules-is_modules.ensures.value read name h w.1) follow in
+      let file = ap (λ g. g.file) (get_or_read l.groups.items _ _ c.requires.here c.index-3.ensures no_group) ∙ sym a.file in
+      let line = ap (λ g. g.line) (get_or_read l.groups.items _ _ c.requires.here c.index-in-Some.ensures no_group) ∙ sym a.line in
+      ap Some (c.fault_at.ensures
+      ∙ ap (λ f. let t : TreeFault = record { file = Some f; line = c.index-in-Some.result.now.line; kind = c.in-Some.kind } in t) file
+      ∙ ap (λ n. fault_of p.group n c.in-Some.kind) line)
+      ∙ sym (config_first c.args.language (contents_of read) p name w.2
+      ∙ ap (λ o. option_or (option_map (fault_of p.group p.group.at.line) o)
+      (slice_get (faults_of_lines p.group (attribute_faults (contents_of read) name (kind_of (contents_of read) name)) false p.group.attributes) 0))
+      (sym told ∙ sym c.in-Some.ensures));
+}
 
 pub first_symbol_fault-requires-clause-symbols : goal.first_symbol_fault-requires-clause-symbols
 unfolding IsSummary
@@ -74,25 +84,34 @@ first_symbol_fault-requires-clause-symbols c = λ read h. c.deref.ensures.value 
 
 pub returns : goal.returns
 unfolding RepresentsListing IsSummary
-returns c = λ read p h at.
-    let l = c.args.listing.now in
-    let m = c.args.summary.now in
-    let names = names_defined read in
-    let a = place_at l.names.arena names l.texts.items l.lines.items l.groups.items read h.groups_are c.args.i p c.requires.here at in
-    let w = config_there l.names.arena names l.texts.items (group_at l.groups.items c.args.i).head c.args.s p.group.head a.head c.requires.head in
-    let name = w.0 in
-    let known = c.requires.summary read h in
-    let about = c.index.ensures ∙ about_is read m.symbols.items known.symbols c.args.s name c.index.result.now w.1 in
-    let member = c.is_some-is_member.ensures ∙ ap is_some (c.index-2.ensures ∙ enclosing_got read m.enclosing.items c.args.i p c.index-2.result.now known.enclosing at) in
-    let told = definition_reported read p name c.args.i c.index.result.now c.is_some-is_member.result c.is_first.result c.is_modules-is_modules.result a.has a.number about member c.is_first.ensures (c.is_modules-is_modules.ensures read name h w.1) in
-    let file = ap (λ g. g.file) (get_or_read l.groups.items _ _ c.requires.here c.index-3.ensures no_group) ∙ sym a.file in
-    let lines = ap (map (line_in l.names.arena)) c.lines_of-lines.ensures.lines ∙ sym a.attributes in
-    let kind = c.kind.ensures ∙ kind_is read name c.index.result.now about in
-    c.first_symbol_fault.ensures read p.group name h (c.is_modules-is_modules.ensures read name h w.1) (sym file)
-    ∙ ap (λ ls. slice_get (faults_of_lines p.group (attribute_faults (contents_of read) name c.kind.result) false ls) 0) lines
-    ∙ ap (λ k. slice_get (faults_of_lines p.group (attribute_faults (contents_of read) name k) false p.group.attributes) 0) kind
-    ∙ sym (config_first (contents_of read) p name w.2
-    ∙ ap (λ o. option_or (option_map (fault_of p.group p.group.at.line) o) (slice_get (faults_of_lines p.group (attribute_faults (contents_of read) name (kind_of (contents_of read) name)) false p.group.attributes) 0)) (sym told ∙ sym c.in_default.ensures))
+returns c = record {
+  fault = λ read p h at.
+      let l = c.args.listing.now in
+      let m = c.args.summary.now in
+      let names = names_defined read in
+      let a = place_at l.names.arena names l.texts.items l.lines.items l.groups.items read h.groups_are c.args.i p c.requires.here at in
+      let w = config_there l.names.arena names l.texts.items (group_at l.groups.items c.args.i).head c.args.s p.group.head a.head c.requires.head in
+      let name = w.0 in
+      let known = c.requires.summary read h in
+      let about = c.index.ensures ∙ about_is read m.symbols.items known.symbols c.args.s name c.index.result.now w.1 in
+      let member = c.is_some-is_member.ensures ∙ ap is_some (c.index-2.ensures
+      ∙ enclosing_got read m.enclosing.items c.args.i p c.index-2.result.now known.enclosing at) in
+      let follow = c.may_follow_member-may_follow.ensures ∙ follow_is c.args.language l.names.arena p c.is_some-is_member.result c.lines_of-lines.result.now
+      (member ∙ enclosing_some read p a.has) (a.attributes ∙ sym (ap (map (line_in l.names.arena)) c.lines_of-lines.ensures.lines)) in
+      let told = definition_reported c.args.language read p name c.args.i c.index.result.now c.is_some-is_member.result c.is_first-is_first.result
+      c.is_modules-is_modules.result c.may_follow_member-may_follow.result a.has a.number about member c.is_first-is_first.ensures
+      (c.is_modules-is_modules.ensures.value read name h w.1) follow in
+      let file = ap (λ g. g.file) (get_or_read l.groups.items _ _ c.requires.here c.index-3.ensures no_group) ∙ sym a.file in
+      let lines = ap (map (line_in l.names.arena)) c.lines_of-lines.ensures.lines ∙ sym a.attributes in
+      let kind = c.kind.ensures ∙ kind_is read name c.index.result.now about in
+      c.first_symbol_fault.ensures.fault read p.group name h (c.is_modules-is_modules.ensures.value read name h w.1) (sym file)
+      ∙ ap (λ ls. slice_get (faults_of_lines p.group (attribute_faults (contents_of read) name c.kind.result) false ls) 0) lines
+      ∙ ap (λ k. slice_get (faults_of_lines p.group (attribute_faults (contents_of read) name k) false p.group.attributes) 0) kind
+      ∙ sym (config_first c.args.language (contents_of read) p name w.2
+      ∙ ap (λ o. option_or (option_map (fault_of p.group p.group.at.line) o)
+      (slice_get (faults_of_lines p.group (attribute_faults (contents_of read) name (kind_of (contents_of read) name)) false p.group.attributes) 0))
+      (sym told ∙ sym c.in_default.ensures));
+}
 
 pub first_symbol_fault-requires-clause-held : goal.first_symbol_fault-requires-clause-held
 first_symbol_fault-requires-clause-held c = grind (arith, elements)

@@ -14,14 +14,15 @@ use Rattle.kc_tree.proofs.search.first_fault.Goals.{then-begins_choice, else-beg
 
 pub grouped-requires-clause-keys : goal.grouped-requires-clause-keys
 unfolding IsSummary
-grouped-requires-clause-keys c = keys_fit c.requires.read c.in_ok-summary.summary (c.in_ok-summary.ensures.summary c.requires.read c.requires.shows)
+grouped-requires-clause-keys c =
+    keys_fit c.requires.shown.read c.in_ok-summary.summary (c.in_ok-summary.ensures.summary c.requires.shown.read c.requires.shown.shows)
 
 pub grouped-requires-clause-few : goal.grouped-requires-clause-few
 unfolding IsSummary RepresentsListing
 grouped-requires-clause-few c =
     let l = c.args.listing.now in
-    let read = c.requires.read in
-    let h = c.requires.shows in
+    let read = c.requires.shown.read in
+    let h = c.requires.shown.shows in
     let known = (c.in_ok-summary.ensures.summary read h).choices in
     let few = c.in_ok-summary.ensures.few in
     let n = count_is l.names.arena (names_defined read) l.texts.items l.lines.items l.groups.items read h.groups_are in
@@ -30,12 +31,15 @@ grouped-requires-clause-few c =
 
 pub returns-then-is_some : goal.returns-then-is_some
 unfolding RepresentsListing tree_faults
-returns-then-is_some c = λ read h.
-    let l = c.args.listing.now in
-    let within : c.loop-i.i < length l.groups.items = omega arith in
-    let here = fault_here l.names.arena l.texts.items l.lines.items l.groups.items read h.groups_are c.loop-i.i c.group_fault-fault.result within (c.loop-i.invariant.none read h) (λ p at. c.group_fault-fault.ensures.fault read p h at) in
-    let t = reported_some c.group_fault-fault.result (sym c.is_some.ensures ∙ c.if-is_some.true) in
-    t.1 ∙ sym (fault_all read (c.loop-i.i + 1) t.0 (sym here ∙ t.1))
+returns-then-is_some c = record {
+  fault = λ read h.
+      let l = c.args.listing.now in
+      let within : c.loop-i.i < length l.groups.items = omega arith in
+      let here = fault_here l.names.arena l.texts.items l.lines.items l.groups.items read h.groups_are c.args.language c.loop-i.i c.group_fault-fault.result within
+      (c.loop-i.invariant.none read h) (λ p at. c.group_fault-fault.ensures.fault read p h at) in
+      let t = reported_some c.group_fault-fault.result (sym c.is_some.ensures ∙ c.if-is_some.true) in
+      t.1 ∙ sym (fault_all c.args.language read (c.loop-i.i + 1) t.0 (sym here ∙ t.1));
+}
 
 pub loop-i-preserved : goal.loop-i-preserved
 unfolding RepresentsListing
@@ -45,25 +49,32 @@ loop-i-preserved c =
     let what = ap (λ g. g.head) (get_or_read l.groups.items _ _ within c.index.ensures no_group) in
     let count : c.if-begins_choice.choices ≡ cond (is_choice_code c.index.result.now.head) (c.loop-i.choices + 1) c.loop-i.choices =
     elim c.if-begins_choice.branch [
-      | then-begins_choice w ↦ w.choices-is ∙ sym (ap (λ b. cond b (c.loop-i.choices + 1) c.loop-i.choices) (sym c.begins_choice.ensures ∙ w.if-begins_choice.true))
-      | else-begins_choice w ↦ w.choices-is ∙ sym (ap (λ b. cond b (c.loop-i.choices + 1) c.loop-i.choices) (sym c.begins_choice.ensures ∙ w.if-begins_choice.false))
+      | then-begins_choice w ↦ w.choices-is ∙ sym (ap (λ b. cond b (c.loop-i.choices + 1) c.loop-i.choices)
+          (sym c.begins_choice.ensures ∙ w.if-begins_choice.true))
+      | else-begins_choice w ↦ w.choices-is ∙ sym (ap (λ b. cond b (c.loop-i.choices + 1) c.loop-i.choices)
+          (sym c.begins_choice.ensures ∙ w.if-begins_choice.false))
     ] in
     record {
       few = elim c.if-begins_choice.branch [ then-begins_choice w ↦ omega arith | else-begins_choice w ↦ omega arith ];
       many = c.group_fault-fault.ensures.many;
-      small = subst (AreSmall c.group_fault-fault.new.marks.items) (ap (λ w. cond (is_choice_code w) (c.loop-i.choices + 1) c.loop-i.choices) (sym what) ∙ sym count) c.group_fault-fault.ensures.marks;
-      counted = λ read h. one_counted l.names.arena (names_defined read) l.texts.items l.lines.items l.groups.items read h.groups_are c.loop-i.i c.loop-i.choices c.if-begins_choice.choices c.index.result.now.head within what (c.loop-i.invariant.counted read h) count;
+      small = subst (AreSmall c.group_fault-fault.new.marks.items) (ap (λ w. cond (is_choice_code w) (c.loop-i.choices + 1) c.loop-i.choices) (sym what)
+          ∙ sym count) c.group_fault-fault.ensures.marks;
+      counted = λ read h. one_counted l.names.arena (names_defined read) l.texts.items l.lines.items l.groups.items read h.groups_are c.loop-i.i
+          c.loop-i.choices c.if-begins_choice.choices c.index.result.now.head within what (c.loop-i.invariant.counted read h) count;
       none = λ read h.
-          let here = fault_here l.names.arena l.texts.items l.lines.items l.groups.items read h.groups_are c.loop-i.i c.group_fault-fault.result within (c.loop-i.invariant.none read h) (λ p at. c.group_fault-fault.ensures.fault read p h at) in
+          let here = fault_here l.names.arena l.texts.items l.lines.items l.groups.items read h.groups_are c.args.language c.loop-i.i c.group_fault-fault.result within
+          (c.loop-i.invariant.none read h) (λ p at. c.group_fault-fault.ensures.fault read p h at) in
           sym here ∙ reported_none c.group_fault-fault.result (sym c.is_some.ensures ∙ c.if-is_some.false);
     }
 
 pub returns : goal.returns
 unfolding RepresentsListing tree_faults
-returns c = λ read h.
-    let l = c.args.listing.now in
-    let n = count_is l.names.arena (names_defined read) l.texts.items l.lines.items l.groups.items read h.groups_are in
-    sym (fault_none read c.loop-i.i (omega arith) (c.loop-i.invariant.none read h))
+returns c = record {
+  fault = λ read h.
+      let l = c.args.listing.now in
+      let n = count_is l.names.arena (names_defined read) l.texts.items l.lines.items l.groups.items read h.groups_are in
+      sym (fault_none c.args.language read c.loop-i.i (omega arith) (c.loop-i.invariant.none read h));
+}
 
 pub loop-i-init : goal.loop-i-init
 loop-i-init c = grind (arith, common_steps)

@@ -8,5 +8,5 @@ invariant-loop-i l = record {
   many : length l.marks.items ≡ length l.listing.names.symbols.items;
   small : AreSmall l.marks.items l.choices;
   counted : CountsChoices l.listing l.i l.choices;
-  none : HaveNoFault l.listing l.i;
+  none : HaveNoFault l.language l.listing l.i;
 }

@@ -18,7 +18,8 @@ bounds-enclosing-i c =
     let read = c.requires.shown.read in
     let h = c.requires.shown.shows in
     let n = count_is l.names.arena (names_defined read) l.texts.items l.lines.items l.groups.items read h.groups_are in
-    let m : length c.args.enclosing.now ≡ length read = ap length (c.requires.enclosing read h) ∙ length-map (groups_in_context read) (enclosing_choice (contents_of read)) ∙ placed_count read in
+    let m : length c.args.enclosing.now ≡ length read = ap length (c.requires.enclosing read h)
+    ∙ length-map (groups_in_context read) (enclosing_choice (contents_of read)) ∙ placed_count read in
     omega arith
 
 pub loop-i-preserved : goal.loop-i-preserved
@@ -31,13 +32,18 @@ loop-i-preserved c = λ read h.
     let e = l.names.arena in
     elim c.match-index.branch [
       | in-Config+in-Some+in_ok-push w ↦ (
-          let more = member_more e l.texts.items l.lines.items l.groups.items read h.groups_are i w.in-Config.s w.in-Some.choice c.args.enclosing.now c.loop-i.members.keys.items c.loop-i.members.items.items within (sym group ∙ w.in-Config.is) (c.requires.enclosing read h) w.in-Some.is (c.loop-i.invariant read h) in
-          members_same read (i + 1) _ _ _ _ (ap (λ m. m.keys.items) w.members-is ∙ w.in_ok-push.ensures.keys) (ap (λ m. m.items.items) w.members-is ∙ w.in_ok-push.ensures.items ∙ ap (λ s. c.loop-i.members.items.items ++ s ∷ []) w.at.ensures) more)
+          let more = member_more e l.texts.items l.lines.items l.groups.items read h.groups_are i w.in-Config.s w.in-Some.choice c.args.enclosing.now
+          c.loop-i.members.keys.items c.loop-i.members.items.items within (sym group ∙ w.in-Config.is) (c.requires.enclosing read h) w.in-Some.is
+          (c.loop-i.invariant read h) in
+          members_same read (i + 1) _ _ _ _ (ap (λ m. m.keys.items) w.members-is ∙ w.in_ok-push.ensures.keys)
+          (ap (λ m. m.items.items) w.members-is ∙ w.in_ok-push.ensures.items ∙ ap (λ s. c.loop-i.members.items.items ++ s ∷ []) w.at.ensures) more)
       | in-Config+in_default-choice w ↦ (
-          let more = outside_more e l.texts.items l.lines.items l.groups.items read h.groups_are i c.args.enclosing.now c.loop-i.members.keys.items c.loop-i.members.items.items within (c.requires.enclosing read h) w.in_default-choice.is (c.loop-i.invariant read h) in
+          let more = outside_more e l.texts.items l.lines.items l.groups.items read h.groups_are i c.args.enclosing.now c.loop-i.members.keys.items
+          c.loop-i.members.items.items within (c.requires.enclosing read h) w.in_default-choice.is (c.loop-i.invariant read h) in
           members_same read (i + 1) _ _ _ _ (ap (λ m. m.keys.items) w.members-is) (ap (λ m. m.items.items) w.members-is) more)
       | in_default w ↦ (
-          let more = nameless_more e l.texts.items l.lines.items l.groups.items read h.groups_are i c.loop-i.members.keys.items c.loop-i.members.items.items within (λ s a. w.in_default.not-Config s (group ∙ a)) (c.loop-i.invariant read h) in
+          let more = nameless_more e l.texts.items l.lines.items l.groups.items read h.groups_are i c.loop-i.members.keys.items c.loop-i.members.items.items
+          within (λ s a. w.in_default.not-Config s (group ∙ a)) (c.loop-i.invariant read h) in
           members_same read (i + 1) _ _ _ _ (ap (λ m. m.keys.items) w.members-is) (ap (λ m. m.items.items) w.members-is) more)
     ]
 

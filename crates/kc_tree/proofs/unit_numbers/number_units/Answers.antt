@@ -12,7 +12,8 @@ use Rattle.kc_tree.proofs.unit_numbers.number_units.Goals as goal
 use Rattle.kc_tree.proofs.unit_numbers.number_units.Goals.{in-Symbol, in-Choice}
 
 -- the numbers of units of one kind, with one more
-number_more : (kind : ℕ → TreeUnit) (apart : (a b : ℕ) → kind a ≡ kind b → a ≡ b) (u k : ℕ) (units : List TreeUnit) (numbers : List ℕ) → ((a b : ℕ) (x : TreeUnit) → slice_get units a ≡ Some x → slice_get units b ≡ Some x → a ≡ b)
+number_more : (kind : ℕ → TreeUnit) (apart : (a b : ℕ) → kind a ≡ kind b → a ≡ b) (u k : ℕ) (units : List TreeUnit) (numbers : List ℕ)
+    → ((a b : ℕ) (x : TreeUnit) → slice_get units a ≡ Some x → slice_get units b ≡ Some x → a ≡ b)
     → slice_get units u ≡ Some (kind k) → k < length numbers → ((a z : ℕ) → a < u → slice_get units a ≡ Some (kind z) → get_or numbers z 0 ≡ a)
     → (a z : ℕ) → a < u + 1 → slice_get units a ≡ Some (kind z) → (a < u) ⊎ (u ≤ a) → get_or (set numbers k u) z 0 ≡ a
 number_more kind apart u k units numbers differ here within before a z h f (inl l) =
@@ -25,7 +26,8 @@ number_more kind apart u k units numbers differ here within before a z h f (inr 
     get_or-set_at numbers k z u 0 (apart z k p) within ∙ sym e
 
 -- those of the other kind stay
-symbols_stay : (u k : ℕ) (units : List TreeUnit) (numbers : List ℕ) → slice_get units u ≡ Some (ChoiceUnit k) → ((a z : ℕ) → a < u → slice_get units a ≡ Some (SymbolUnit z) → get_or numbers z 0 ≡ a)
+symbols_stay : (u k : ℕ) (units : List TreeUnit) (numbers : List ℕ) → slice_get units u ≡ Some (ChoiceUnit k)
+    → ((a z : ℕ) → a < u → slice_get units a ≡ Some (SymbolUnit z) → get_or numbers z 0 ≡ a)
     → (a z : ℕ) → a < u + 1 → slice_get units a ≡ Some (SymbolUnit z) → (a < u) ⊎ (u ≤ a) → get_or numbers z 0 ≡ a
 symbols_stay u k units numbers here before a z h f (inl l) = before a z l f
 symbols_stay u k units numbers here before a z h f (inr g) =
@@ -33,7 +35,8 @@ symbols_stay u k units numbers here before a z h f (inr g) =
     let q : Some (SymbolUnit z) ≡ Some (ChoiceUnit k) = sym f ∙ ap (slice_get units) e ∙ here in
     cc
 
-choices_stay : (u k : ℕ) (units : List TreeUnit) (numbers : List ℕ) → slice_get units u ≡ Some (SymbolUnit k) → ((a z : ℕ) → a < u → slice_get units a ≡ Some (ChoiceUnit z) → get_or numbers z 0 ≡ a)
+choices_stay : (u k : ℕ) (units : List TreeUnit) (numbers : List ℕ) → slice_get units u ≡ Some (SymbolUnit k)
+    → ((a z : ℕ) → a < u → slice_get units a ≡ Some (ChoiceUnit z) → get_or numbers z 0 ≡ a)
     → (a z : ℕ) → a < u + 1 → slice_get units a ≡ Some (ChoiceUnit z) → (a < u) ⊎ (u ≤ a) → get_or numbers z 0 ≡ a
 choices_stay u k units numbers here before a z h f (inl l) = before a z l f
 choices_stay u k units numbers here before a z h f (inr g) =
@@ -76,13 +79,17 @@ loop-u-preserved c =
     elim c.match-units-u.branch [
       | in-Symbol w ↦ (
           let here : slice_get units u ≡ Some (SymbolUnit w.in-Symbol.s) = slice_get-get_or units u _ c.loop-u-test.true ∙ ap Some w.in-Symbol.is in
-          let more = symbol_more c.args.symbols c.args.choices u units c.loop-u.of_symbol.items c.loop-u.of_choice.items c.requires.differ c.loop-u.invariant w.in-Symbol.s here (c.requires.symbols u w.in-Symbol.s here) in
-          let e : c.match-units-u.of_symbol.items ≡ set c.loop-u.of_symbol.items w.in-Symbol.s u = ap (λ v. v.items) w.of_symbol-is ∙ ap (λ k. set c.loop-u.of_symbol.items k u) w.number.ensures in
+          let more = symbol_more c.args.symbols c.args.choices u units c.loop-u.of_symbol.items c.loop-u.of_choice.items c.requires.differ c.loop-u.invariant
+          w.in-Symbol.s here (c.requires.symbols u w.in-Symbol.s here) in
+          let e : c.match-units-u.of_symbol.items ≡ set c.loop-u.of_symbol.items w.in-Symbol.s u = ap (λ v. v.items) w.of_symbol-is
+          ∙ ap (λ k. set c.loop-u.of_symbol.items k u) w.number.ensures in
           subst (λ xs. AreNumbered c.args.symbols c.args.choices units (u + 1) xs c.match-units-u.of_choice.items) (sym e)
-          (subst (λ xs. AreNumbered c.args.symbols c.args.choices units (u + 1) (set c.loop-u.of_symbol.items w.in-Symbol.s u) xs) (sym (ap (λ v. v.items) w.of_choice-is)) more))
+          (subst (λ xs. AreNumbered c.args.symbols c.args.choices units (u + 1) (set c.loop-u.of_symbol.items w.in-Symbol.s u) xs)
+          (sym (ap (λ v. v.items) w.of_choice-is)) more))
       | in-Choice w ↦ (
           let here : slice_get units u ≡ Some (ChoiceUnit w.in-Choice.c) = slice_get-get_or units u _ c.loop-u-test.true ∙ ap Some w.in-Choice.is in
-          let more = choice_more c.args.symbols c.args.choices u units c.loop-u.of_symbol.items c.loop-u.of_choice.items c.requires.differ c.loop-u.invariant w.in-Choice.c here (c.requires.choices u w.in-Choice.c here) in
+          let more = choice_more c.args.symbols c.args.choices u units c.loop-u.of_symbol.items c.loop-u.of_choice.items c.requires.differ c.loop-u.invariant
+          w.in-Choice.c here (c.requires.choices u w.in-Choice.c here) in
           subst (λ xs. AreNumbered c.args.symbols c.args.choices units (u + 1) xs c.match-units-u.of_choice.items) (sym (ap (λ v. v.items) w.of_symbol-is))
           (subst (λ xs. AreNumbered c.args.symbols c.args.choices units (u + 1) c.loop-u.of_symbol.items xs) (sym (ap (λ v. v.items) w.of_choice-is)) more))
     ]

@@ -9,4 +9,4 @@ pub returns-in_err-checked_mul : goal.returns-in_err-checked_mul
 returns-in_err-checked_mul c = grind (arith, common_steps)
 
 pub returns-in_err-digit : goal.returns-in_err-digit
-returns-in_err-digit c = grind (arith, elements)
+returns-in_err-digit c = record { value = grind (arith, elements) }

@@ -10,10 +10,12 @@ returns-in_err-settled-clause-stopped g c =
 
 pub returns-clause-ok : goal.returns-clause-ok
 returns-clause-ok g c =
-    bundle_answers c.args.bundle.now c.cut.result.0.now c.cut.result.1.now c.cut.ensures c.in_ok-settled.settled c.in_ok-settled.ensures.accepted c.in_ok-settled.ensures.profile
+    bundle_answers c.args.bundle.now c.cut.result.0.now c.cut.result.1.now c.cut.ensures c.in_ok-settled.settled c.in_ok-settled.ensures.accepted
+    c.in_ok-settled.ensures.profile
     _ _ _ _ _ _ c.in_ok-settled.ensures.unreported c.full_over-text.result c.full_over-text.ensures.ok
 
 pub returns-clause-stopped : goal.returns-clause-stopped
 returns-clause-stopped g c =
-    configuration_stopped c.args.bundle.now c.cut.result.0.now c.cut.result.1.now c.cut.ensures c.in_ok-settled.settled c.in_ok-settled.ensures.accepted c.in_ok-settled.ensures.profile
+    configuration_stopped c.args.bundle.now c.cut.result.0.now c.cut.result.1.now c.cut.ensures c.in_ok-settled.settled c.in_ok-settled.ensures.accepted
+    c.in_ok-settled.ensures.profile
     _ _ _ _ _ _ c.in_ok-settled.ensures.unreported c.full_over-text.result c.full_over-text.ensures.stopped

@@ -1,7 +1,7 @@
 use Rattle.std.proofs.Common.{subst, ◌∙◌, ap, codes, ℕ, List, [], refl, IfOk, IfErr, arith}
 use Rattle.std.proofs.lemmas.Grind.{common_steps}
 use Rattle.kc_tree_model.specs.TreeFiles.{Files, with_file}
-use Rattle.kc_rules.specs.SettledViews.{tree_of_settled}
+use Rattle.kc_rules.specs.between.SettledViews.{tree_of_settled}
 use Rattle.kmin_jobs.specs.Answers.{AreAccepted}
 use Rattle.kmin_jobs.specs.StandardError.{TakesLines, none}
 use Rattle.kmin_jobs.specs.between.RunErrors.{status_of}
@@ -12,12 +12,15 @@ use Rattle.kmin_jobs.proofs.bundle_answer.bundle_tree.Goals as goal
 pub returns-clause-accepted : goal.returns-clause-accepted
 returns-clause-accepted g c =
     let texts = c.in_ok-insert.ensures.ok ∙ ap (λ (fs : Files). with_file fs (codes "Kconfig") c.args.tree.now) c.with_seed-texts.ensures in
-    subst (λ (fs : Files). IfOk c.settled_tree.result (λ settled. AreAccepted fs (codes "Kconfig") (tree_of_settled settled))) texts c.settled_tree.ensures.accepted
+    subst (λ (fs : Files). IfOk c.settled_tree.result (λ settled. AreAccepted fs (codes "Kconfig") (tree_of_settled settled))) texts
+    c.settled_tree.ensures.accepted
 
 pub returns-clause-stopped : goal.returns-clause-stopped
 returns-clause-stopped g c =
     let texts = c.in_ok-insert.ensures.ok ∙ ap (λ (fs : Files). with_file fs (codes "Kconfig") c.args.tree.now) c.with_seed-texts.ensures in
-    subst (λ (fs : Files). IfErr c.settled_tree.result (λ stop. (lines : List (List ℕ)) × StopsAtTexts fs (codes "Kconfig") (status_of stop) lines × TakesLines (g.E.Sink.taken c.args.err.now) (g.E.Sink.failures c.args.err.now) lines (g.E.Sink.taken c.settled_tree.new.err) (g.E.Sink.failures c.settled_tree.new.err))) texts c.settled_tree.ensures.stopped
+    subst (λ (fs : Files). IfErr c.settled_tree.result (λ stop. (lines : List (List ℕ)) × StopsAtTexts fs (codes "Kconfig") (status_of stop) lines × TakesLines
+    (g.E.Sink.taken c.args.err.now) (g.E.Sink.failures c.args.err.now) lines (g.E.Sink.taken c.settled_tree.new.err)
+    (g.E.Sink.failures c.settled_tree.new.err))) texts c.settled_tree.ensures.stopped
 
 pub returns-in_err-insert-clause-stopped : goal.returns-in_err-insert-clause-stopped
 returns-in_err-insert-clause-stopped g c = memory_err _ _ c.from_residual.ensures (λ stop status. ([], for_memory status refl, none))

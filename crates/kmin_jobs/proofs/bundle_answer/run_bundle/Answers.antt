@@ -9,8 +9,12 @@ use Rattle.kmin_jobs.proofs.bundle_answer.run_bundle.Goals as goal
 pub returns-in_err-text-clause-stopped : goal.returns-in_err-text-clause-stopped
 returns-in_err-text-clause-stopped g c =
     let stopped = c.in_err-text.ensures.stopped in
-    if_err c.from_residual-in_err-text.result c.in_err-text.field-0.0 _ (search rules)
-    (stopped.0, in_bundle c.in_ok-bundle.bundle.items c.in_ok-bundle.ensures.ok (rw c.deref.ensures.value at stopped.1), lines_append _ _ _ _ [] stopped.0 _ _ c.in_ok-bundle.ensures.unreported stopped.2)
+    if_err c.from_residual-in_err-text.result c.in_err-text.field-0.0 _ (search rules) (
+      stopped.0,
+      in_bundle c.in_ok-bundle.bundle.items c.in_ok-bundle.ensures.ok (rw c.deref.ensures.value at stopped.1),
+      lines_append _ _ _ _ [] stopped.0 _ _
+          c.in_ok-bundle.ensures.unreported stopped.2,
+    )
 
 pub returns-in-Ok-clause-ok : goal.returns-in-Ok-clause-ok
 returns-in-Ok-clause-ok g c =

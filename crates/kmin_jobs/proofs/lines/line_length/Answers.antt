@@ -1,12 +1,6 @@
-use Rattle.std.proofs.Common.{arith}
-use Rattle.std.proofs.lemmas.Grind.{common_steps}
+use Rattle.std.proofs.Common.{◌∙◌}
+use Rattle.kmin_jobs.proofs.Runs.{first_newline}
 use Rattle.kmin_jobs.proofs.lines.line_length.Goals as goal
 
-pub returns-then-byte-eq10-clause-run : goal.returns-then-byte-eq10-clause-run
-returns-then-byte-eq10-clause-run c = grind (arith, common_steps)
-
-pub loop-index-preserved : goal.loop-index-preserved
-loop-index-preserved c = grind (arith, common_steps)
-
 pub returns-clause-run : goal.returns-clause-run
-returns-clause-run c = grind (arith, common_steps)
+returns-clause-run c = c.unwrap_or.ensures ∙ first_newline c.args.text.now c.find_byte.result c.find_byte.ensures

@@ -1,8 +1,5 @@
-use Rattle.std.proofs.Common.{◌∷◌, [], List, ℕ, map, refl, arith, rules}
-use Rattle.std.proofs.lemmas.Grind.{common_steps}
+use Rattle.std.proofs.Common.{◌∷◌, [], List, ℕ, map, refl, rules}
 use Rattle.std.specs.Borrow.{Bor}
-use Rattle.kc_rules.specs.SettledViews.{tree_of_settled}
-use Rattle.kc_dotconfig_model.specs.ConfigFiles.{empty_assignment}
 use Rattle.kmin_jobs.specs.StandardError as taking
 use Rattle.kmin_jobs.specs.Stops as stops
 use Rattle.kmin_jobs.specs.Answers as answers
@@ -20,15 +17,20 @@ pub returns-in_err-config-clause-stopped : goal.returns-in_err-config-clause-sto
 returns-in_err-config-clause-stopped g c =
     let content_of = g.F.Files.content_of c.args.files.now in
     if_err c.from_residual-in_err-config.result c.in_err-config.field-0.0 _ (search rules)
-    (stopped_more content_of content_of _ _ _ _ _ _ _ (c.in-Some.first.now.now ∷ []) (map (λ (p : Bor (List ℕ)). p.now) c.in-Some.others.now) _ (mapped c.args.paths.now c.in-Some.first.now c.in-Some.others.now c.in-Some.ensures.cases.0) c.in_err-config.ensures.stopped)
+    (stopped_more content_of content_of _ _ _ _ _ _ _ (c.in-Some.first.now.now ∷ []) (map (λ (p : Bor (List ℕ)). p.now) c.in-Some.others.now) _
+    (mapped c.args.paths.now c.in-Some.first.now c.in-Some.others.now c.in-Some.ensures.cases.0) c.in_err-config.ensures.stopped)
 
 pub returns-clause-loaded : goal.returns-clause-loaded
 returns-clause-loaded g c =
-    loaded_rest (g.F.Files.content_of c.args.files.now) (g.F.Files.content_of c.configured_by.new.files) _ _ (c.in-Some.first.now.now ∷ []) (map (λ (p : Bor (List ℕ)). p.now) c.in-Some.others.now) _ _ c.in_ok-config.config.users _ _ _ _ _ _ c.overlaid.result
-    c.configured_by.ensures.same (mapped c.args.paths.now c.in-Some.first.now c.in-Some.others.now c.in-Some.ensures.cases.0) c.in_ok-config.ensures.loaded c.overlaid.ensures.loaded
+    loaded_rest (g.F.Files.content_of c.args.files.now) (g.F.Files.content_of c.configured_by.new.files) _ _ (c.in-Some.first.now.now ∷ [])
+    (map (λ (p : Bor (List ℕ)). p.now) c.in-Some.others.now) _ _ c.in_ok-config.config.users _ _ _ _ _ _ c.overlaid.result
+    c.configured_by.ensures.same (mapped c.args.paths.now c.in-Some.first.now c.in-Some.others.now c.in-Some.ensures.cases.0) c.in_ok-config.ensures.loaded
+    c.overlaid.ensures.loaded
 
 pub returns-clause-stopped : goal.returns-clause-stopped
 returns-clause-stopped g c =
     if_err_map c.overlaid.result _ _ (λ stop stopped.
-    stopped_later (g.F.Files.content_of c.args.files.now) (g.F.Files.content_of c.configured_by.new.files) _ _ _ _ _ _ _ (c.in-Some.first.now.now ∷ []) (map (λ (p : Bor (List ℕ)). p.now) c.in-Some.others.now) _ _ c.in_ok-config.config.users _ _
-    (mapped c.args.paths.now c.in-Some.first.now c.in-Some.others.now c.in-Some.ensures.cases.0) c.configured_by.ensures.same c.in_ok-config.ensures.loaded stopped) c.overlaid.ensures.stopped
+    stopped_later (g.F.Files.content_of c.args.files.now) (g.F.Files.content_of c.configured_by.new.files) _ _ _ _ _ _ _ (c.in-Some.first.now.now ∷ [])
+    (map (λ (p : Bor (List ℕ)). p.now) c.in-Some.others.now) _ _ c.in_ok-config.config.users _ _
+    (mapped c.args.paths.now c.in-Some.first.now c.in-Some.others.now c.in-Some.ensures.cases.0) c.configured_by.ensures.same c.in_ok-config.ensures.loaded
+    stopped) c.overlaid.ensures.stopped

@@ -1,10 +1,7 @@
-use Rattle.std.proofs.Common.{◌≡◌, ◌++◌, ◌∷◌, [], ℕ, suc, List, get_or, refl, sym, ap, subst, append_assoc, ◌∙◌, map, take, drop, arith, rules}
+use Rattle.std.proofs.Common.{◌≡◌, ◌++◌, ◌∷◌, [], ℕ, suc, List, get_or, refl, sym, append_assoc, ◌∙◌, map, take, drop, arith, rules}
 use Rattle.std.specs.Borrow.{Bor}
 use Rattle.std.proofs.lemmas.List.{take_all}
-use Rattle.kc_rules.specs.SettledViews.{tree_of_settled}
-use Rattle.kc_dotconfig_model.specs.Prefixes.{prefix_bytes}
-use Rattle.kmin_jobs.specs.between.Loaded.{AreLoaded}
-use Rattle.kmin_jobs.specs.StandardError as taking
+use Rattle.kc_rules.specs.between.SettledViews.{tree_of_settled}
 use Rattle.kmin_jobs.proofs.Sequences.{loaded_one, loaded_none, loaded_append, stopped_path, stopped_more, stopped_later, stopped_for_memory, if_err, memory_err, paths_next, paths_at}
 use Rattle.kmin_jobs.proofs.loading.overlaid.Goals as goal
 
@@ -28,7 +25,8 @@ loop-path-preserved g c =
       settled = search rules;
       solved = search rules;
       loaded = rw (paths_next c.args.paths.now c.loop-path.path-index absent (search rules))
-          (loaded_append content_of others _ tree _ (path.now ∷ []) c.args.begun.users c.loop-path.config.users _ _ _ _ _ _ _ c.loop-path.invariant.same c.loop-path.invariant.loaded
+          (loaded_append content_of others _ tree _ (path.now ∷ []) c.args.begun.users c.loop-path.config.users _ _ _ _ _ _ _ c.loop-path.invariant.same
+          c.loop-path.invariant.loaded
           (loaded_one others others _ tree path.now _ _ c.in_ok-fragment.fragment _ _ _ _ refl c.in_ok-fragment.ensures.loaded (search rules)));
     }
 
@@ -46,7 +44,8 @@ returns-in_err-fragment-clause-stopped g c =
     let k = c.loop-path.path-index in
     let path = get_or c.args.paths.now k absent in
     if_err c.from_residual.result c.in_err-fragment.field-0.0 _ (search rules)
-    (stopped_later content_of others _ _ _ _ _ _ _ (map (λ (p : Bor (List ℕ)). p.now) (take k c.args.paths.now)) (path.now ∷ map (λ (p : Bor (List ℕ)). p.now) (drop (suc k) c.args.paths.now)) _ c.args.begun.users c.loop-path.config.users _ _
+    (stopped_later content_of others _ _ _ _ _ _ _ (map (λ (p : Bor (List ℕ)). p.now) (take k c.args.paths.now))
+    (path.now ∷ map (λ (p : Bor (List ℕ)). p.now) (drop (suc k) c.args.paths.now)) _ c.args.begun.users c.loop-path.config.users _ _
     (paths_at c.args.paths.now k absent (search rules)) c.loop-path.invariant.same c.loop-path.invariant.loaded
     (stopped_more others others _ _ _ _ _ _ _ (path.now ∷ []) (map (λ (p : Bor (List ℕ)). p.now) (drop (suc k) c.args.paths.now)) _ refl
     (stopped_path others others _ _ _ _ _ _ _ path.now refl c.in_err-fragment.ensures.stopped)))
@@ -61,9 +60,11 @@ returns-in_err-merge-clause-stopped g c =
     let path = get_or c.args.paths.now k absent in
     let front = map (λ (p : Bor (List ℕ)). p.now) (take k c.args.paths.now) in
     memory_err _ _ c.from_residual-in_err-merge.ensures (λ stop status.
-    stopped_for_memory content_of content_of _ tree _ _ _ _ _ (front ++ path.now ∷ []) (map (λ (p : Bor (List ℕ)). p.now) (drop (suc k) c.args.paths.now)) _ c.args.begun.users _
+    stopped_for_memory content_of content_of _ tree _ _ _ _ _ (front ++ path.now ∷ []) (map (λ (p : Bor (List ℕ)). p.now) (drop (suc k) c.args.paths.now)) _
+    c.args.begun.users _
     (paths_at c.args.paths.now k absent (search rules) ∙ sym (append_assoc front (path.now ∷ []) _)) status
-    (loaded_append content_of others _ tree front (path.now ∷ []) c.args.begun.users c.loop-path.config.users _ _ _ _ _ _ _ c.loop-path.invariant.same c.loop-path.invariant.loaded
+    (loaded_append content_of others _ tree front (path.now ∷ []) c.args.begun.users c.loop-path.config.users _ _ _ _ _ _ _ c.loop-path.invariant.same
+    c.loop-path.invariant.loaded
     (loaded_one others others _ tree path.now _ _ c.in_ok-fragment.fragment _ _ _ _ refl c.in_ok-fragment.ensures.loaded refl)))
 
 pub returns-clause-loaded : goal.returns-clause-loaded

@@ -1,8 +1,8 @@
 use Rattle.std.proofs.Common.{◌≡◌, ℕ, List, map, take}
 use Rattle.std.specs.Borrow.{Bor}
-use Rattle.kc_rules.specs.SettledViews.{tree_of_settled}
+use Rattle.kc_rules.specs.between.SettledViews.{tree_of_settled}
 use Rattle.kc_dotconfig.specs.Configured.{IsSolved}
-use Rattle.kc_dotconfig_model.specs.Prefixes.{prefix_bytes}
+use Rattle.kc_dotconfig_model.specs.between.Prefixes.{prefix_bytes}
 use Rattle.kmin_jobs.specs.between.Loaded.{AreLoaded}
 use Rattle.kmin_jobs.proofs.loading.overlaid.Given as goal
 

@@ -12,5 +12,6 @@ returns-in-Read-clause-reported g c = rw c.in-Read.is (lines_one _ _ _ _ _ (rw c
 pub returns-in_default : goal.returns-in_default
 returns-in_default g c = record {
   status = load_status_4 c.args.fault.kind c.in_default.not-OutOfMemory c.in_default.not-Read;
-  reported = rw (load_lines_one c.args.path.now c.args.fault.line c.args.fault.kind c.in_default.not-OutOfMemory) (lines_one _ _ _ _ _ c.write_report-in_default.ensures);
+  reported = rw (load_lines_one c.args.path.now c.args.fault.line c.args.fault.kind c.in_default.not-OutOfMemory)
+      (lines_one _ _ _ _ _ c.write_report-in_default.ensures);
 }

@@ -11,4 +11,5 @@ loop-notice-init g c = none
 
 pub loop-notice-preserved : goal.loop-notice-preserved
 loop-notice-preserved g c =
-    lines_next (λ notice. notice_line c.args.path.now (notice_pair notice)) c.args.notices.now c.loop-notice.notice-index (record { line = 0; kind = UnknownSymbol }) _ _ _ _ _ _ (search rules) c.loop-notice.invariant c.write_report.ensures
+    lines_next (λ notice. notice_line c.args.path.now (notice_pair notice)) c.args.notices.now c.loop-notice.notice-index
+    (record { line = 0; kind = UnknownSymbol }) _ _ _ _ _ _ (search rules) c.loop-notice.invariant c.write_report.ensures

@@ -1,7 +1,4 @@
-use Rattle.std.proofs.Common.{rules, sym, ◌∙◌, ap, subst, List, ℕ}
-use Rattle.kmin_jobs.specs.Reports.{last_lines}
-use Rattle.kmin_jobs.specs.StandardError.{none, TakesLines}
-use Rattle.kmin_jobs.specs.between.RunErrors.{status_of}
+use Rattle.kmin_jobs.specs.StandardError.{none}
 use Rattle.kmin_jobs.proofs.Taking.{lines_one}
 use Rattle.kmin_jobs.proofs.EndingLines.{last_lines_none}
 use Rattle.kmin_jobs.proofs.output.exit_status.Goals as goal

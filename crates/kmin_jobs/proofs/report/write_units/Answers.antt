@@ -6,4 +6,5 @@ use Rattle.kmin_jobs.proofs.report.write_units.Goals as goal
 pub returns-in_err-write_unit-clause-part : goal.returns-in_err-write_unit-clause-part
 returns-in_err-write_unit-clause-part g c =
     let tree = c.args.tree.now.tree in
-    on_err _ _ (part_next (λ u. unit_text tree (slice_get tree.units u)) c.args.units.now c.loop-unit.unit-index 0 _ (g.W.Sink.taken c.loop-unit.sink) _ _ (g.W.Sink.failures c.loop-unit.sink) _ (search rules) c.loop-unit.invariant c.in_err-write_unit.ensures.part)
+    on_err _ _ (part_next (λ u. unit_text tree (slice_get tree.units u)) c.args.units.now c.loop-unit.unit-index 0 _ (g.W.Sink.taken c.loop-unit.sink) _ _
+    (g.W.Sink.failures c.loop-unit.sink) _ (search rules) c.loop-unit.invariant c.in_err-write_unit.ensures.part)

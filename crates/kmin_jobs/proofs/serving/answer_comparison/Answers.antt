@@ -13,7 +13,8 @@ returns-in_err-left-clause-stopped g c =
 pub returns-in_err-right-clause-stopped : goal.returns-in_err-right-clause-stopped
 returns-in_err-right-clause-stopped g c =
     if_err c.from_residual-in_err-right.result c.in_err-right.field-0.0 _ (search rules)
-    (stopped_later (g.F.Files.content_of c.args.files.now) (g.F.Files.content_of c.configured_by.new.files) _ _ _ _ _ _ _ (c.args.left.now ∷ []) (c.args.right.now ∷ []) _ _ _ _ _ refl
+    (stopped_later (g.F.Files.content_of c.args.files.now) (g.F.Files.content_of c.configured_by.new.files) _ _ _ _ _ _ _ (c.args.left.now ∷ [])
+    (c.args.right.now ∷ []) _ _ _ _ _ refl
     c.configured_by.ensures.same c.in_ok-left.ensures.loaded c.in_err-right.ensures.stopped)
 
 pub returns-in_err-answer-clause-stopped : goal.returns-in_err-answer-clause-stopped
@@ -29,6 +30,8 @@ returns-clause-status g c = subst (λ n. n ≤ 1) (sym c.in_ok-answer.ensures.st
 
 pub returns-clause-answer : goal.returns-clause-answer
 returns-clause-answer g c =
-    answers_comparison (g.F.Files.content_of c.args.files.now) (g.F.Files.content_of c.configured_by.new.files) (settings_view c.args.settings.now) c.in_ok-left.left c.in_ok-right.right c.args.settled.now c.args.left.now c.args.right.now _ _ _ _ _ _ _ _
-    c.configured_by.ensures.same c.in_ok-left.ensures.settled c.in_ok-right.ensures.settled c.requires.profile c.in_ok-left.ensures.solved c.in_ok-right.ensures.solved
+    answers_comparison (g.F.Files.content_of c.args.files.now) (g.F.Files.content_of c.configured_by.new.files) (settings_view c.args.settings.now)
+    c.in_ok-left.left c.in_ok-right.right c.args.settled.now c.args.left.now c.args.right.now _ _ _ _ _ _ _ _
+    c.configured_by.ensures.same c.in_ok-left.ensures.settled c.in_ok-right.ensures.settled c.requires.profile c.in_ok-left.ensures.solved
+    c.in_ok-right.ensures.solved
     c.in_ok-left.ensures.loaded c.in_ok-right.ensures.loaded c.in_ok-answer.ensures.text c.in_ok-answer.ensures.status

@@ -1,4 +1,5 @@
 use Rattle.std.proofs.Common.{[], refl, rules}
+use Rattle.kc_tree_model.specs.TreeFiles.{strict_files}
 use Rattle.kmin_jobs.specs.StandardError.{none}
 use Rattle.kmin_jobs.specs.between.TreeStops.{for_memory}
 use Rattle.kmin_jobs.proofs.Answering.{below_none}
@@ -7,7 +8,14 @@ use Rattle.kmin_jobs.proofs.serving.job_tree.Goals as goal
 
 pub returns-in_err-texts-clause-stopped : goal.returns-in_err-texts-clause-stopped
 returns-in_err-texts-clause-stopped g c =
-    memory_err _ _ c.from_residual.ensures (λ stop status. ([], [], below_none (g.F.Files.content_of c.args.files.now) c.args.settings.now.root.now, for_memory status refl, none))
+    memory_err _ _ c.from_residual.ensures (λ stop status. (
+      strict_files [],
+      [],
+      below_none (g.F.Files.content_of c.args.files.now) c.args.settings.now.root.now,
+      for_memory
+          status refl,
+      none,
+    ))
 
 pub returns-clause-stopped : goal.returns-clause-stopped
 returns-clause-stopped g c =

@@ -1,10 +1,11 @@
 use Rattle.std.proofs.Common.{◌≡◌, take}
 use Rattle.std.specs.List.{flat_map}
-use Rattle.kc_rules.specs.SettledViews.{tree_of_settled}
+use Rattle.kc_rules.specs.between.SettledViews.{tree_of_settled}
 use Rattle.kc_minimal.specs.declared.differing.Difference.{Difference as ToldDifference}
 use Rattle.kmin_jobs.specs.between.Lines.{line_between}
 use Rattle.kmin_jobs.proofs.symbol_lines.difference_lines.Given as goal
 
 -- the lines of the differences so far
 abbrev pub invariant-loop-difference : goal.invariant-loop-difference
-invariant-loop-difference l = l.text.items ≡ flat_map (λ (d : ToldDifference). line_between (tree_of_settled l.settled) l.left l.right d.symbol) (take l.difference-index l.differences)
+invariant-loop-difference l =
+    l.text.items ≡ flat_map (λ (d : ToldDifference). line_between (tree_of_settled l.settled) l.left l.right d.symbol) (take l.difference-index l.differences)

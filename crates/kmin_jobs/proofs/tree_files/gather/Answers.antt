@@ -1,5 +1,6 @@
 use Rattle.std.proofs.Common.{arith}
 use Rattle.std.proofs.lemmas.Grind.{common_steps}
+use Rattle.kmin_jobs.proofs.Answering.{below_none}
 use Rattle.kmin_jobs.proofs.tree_files.gather.Goals as goal
 
 pub returns-then-lacks_file-clause-read : goal.returns-then-lacks_file-clause-read
@@ -30,7 +31,7 @@ pub returns-clause-below : goal.returns-clause-below
 returns-clause-below c = grind (arith, common_steps)
 
 pub open_first-requires : goal.open_first-requires
-open_first-requires c = grind (arith, common_steps)
+open_first-requires g c = record { below = rw c.with_seed-texts.ensures (below_none (g.F.Files.content_of c.args.files.now) c.args.root.now) }
 
 pub returns-clause-read : goal.returns-clause-read
 returns-clause-read c = grind (arith, common_steps)

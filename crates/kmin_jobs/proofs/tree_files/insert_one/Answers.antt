@@ -5,7 +5,8 @@ use Rattle.kmin_jobs.proofs.tree_files.insert_one.Goals as goal
 
 pub returns-clause-below : goal.returns-clause-below
 returns-clause-below g c =
-    let put = inserted (g.F.Files.content_of c.args.files.now) c.args.root.now c.args.path.now c.in-Some.bytes.items c.args.texts.now c.requires.below (search rules) in
+    let put = inserted (g.F.Files.content_of c.args.files.now) c.args.root.now c.args.path.now c.in-Some.bytes.items c.args.texts.now c.requires.below
+    (search rules) in
     search rules
 
 pub returns-in_err-bytes-clause-below : goal.returns-in_err-bytes-clause-below

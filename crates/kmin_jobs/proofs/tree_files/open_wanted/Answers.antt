@@ -10,7 +10,8 @@ loop-preserved g c =
     record {
       same = λ other. put.same other ∙ i.same other;
       below = below_back (g.F.Files.content_of c.args.files.now) (g.F.Files.content_of c.loop.files) c.args.root.now c.insert_all.new.texts i.same put.below;
-      again = below_again (g.F.Files.content_of c.loop.files) (g.F.Files.content_of c.insert_all.new.files) c.args.root.now c.insert_all.new.texts put.same put.below;
+      again = below_again (g.F.Files.content_of c.loop.files) (g.F.Files.content_of c.insert_all.new.files) c.args.root.now c.insert_all.new.texts put.same
+          put.below;
     }
 
 pub returns-in-Err-clause-same : goal.returns-in-Err-clause-same

@@ -1,4 +1,3 @@
-use Rattle.std.proofs.Common.{rules}
 use Rattle.kmin_jobs.specs.StandardError.{none}
 use Rattle.kmin_jobs.proofs.Taking.{lines_one}
 use Rattle.kmin_jobs.proofs.trees.report_settle_fault.Goals as goal

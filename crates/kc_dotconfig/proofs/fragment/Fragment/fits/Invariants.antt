@@ -2,7 +2,7 @@ use Rattle.std.proofs.Common.{◌≡◌, ◌<◌, ◌+◌, ℕ, IsTrue, Some, le
 use Rattle.std.specs.Prelude.{slice_get, slice_index}
 use Rattle.kc_rules_model.specs.declared.values.UserValue.{UserValue}
 use Rattle.kc_rules_model.specs.Shapes.{user_fits}
-use Rattle.kc_rules.specs.SettledViews.{tree_of_settled}
+use Rattle.kc_rules.specs.between.SettledViews.{tree_of_settled}
 use Rattle.kc_dotconfig.specs.checker.Configs.{units_of, next_at}
 use Rattle.kc_dotconfig.proofs.fragment.Fragment.fits.Given as goal
 
@@ -11,5 +11,6 @@ abbrev pub invariant-loop-unit : goal.invariant-loop-unit
 invariant-loop-unit l = record {
   next : l.next ≡ next_at (units_of l.fn.self.assigns.items) l.unit-index;
   rises : (k : ℕ) → k + 1 < l.unit-index → slice_index (units_of l.fn.self.assigns.items) k < slice_index (units_of l.fn.self.assigns.items) (k + 1);
-  each : (k u : ℕ) (x : UserValue) → k < l.unit-index → slice_get l.fn.self.assigns.items k ≡ Some (u, x) → (u < length (tree_of_settled l.fn.settled).units) × IsTrue (user_fits (tree_of_settled l.fn.settled) u x);
+  each : (k u : ℕ) (x : UserValue) → k < l.unit-index → slice_get l.fn.self.assigns.items k ≡ Some (u, x)
+      → (u < length (tree_of_settled l.fn.settled).units) × IsTrue (user_fits (tree_of_settled l.fn.settled) u x);
 }

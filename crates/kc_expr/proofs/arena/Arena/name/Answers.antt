@@ -5,10 +5,11 @@ use Rattle.kc_expr.specs.checker.Store.{stored_names}
 use Rattle.kc_expr.proofs.arena.Arena.name.Goals as goal
 
 pub returns : goal.returns
-returns c =
-    c.name.ensures
-    ∙ ap (λ i. get_or (stored_names c.self.inside.store) i []) c.index.ensures
-    ∙ ap (λ (x : Exprs). get_or x.names c.args.id []) c.self.view_is
+returns c = record {
+  value = c.name.ensures.value
+      ∙ ap (λ i. get_or (stored_names c.self.inside.store) i []) c.index.ensures
+      ∙ ap (λ (x : Exprs). get_or x.names c.args.id []) c.self.view_is;
+}
 
 pub name-requires : goal.name-requires
 name-requires c = grind (arith, common_steps)

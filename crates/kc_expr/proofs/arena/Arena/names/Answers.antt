@@ -6,7 +6,7 @@ use Rattle.kc_expr.proofs.StoreLemmas.{within_nodes}
 use Rattle.kc_expr.proofs.arena.Arena.names.Goals as goal
 
 pub push_names-requires-clause-there : goal.push_names-requires-clause-there
-push_names-requires-clause-there c = rw c.index.ensures (within_nodes c.args.self.now c.self.inside.store c.args.id c.self.view_is c.requires)
+push_names-requires-clause-there c = rw c.index.ensures (within_nodes c.args.self.now c.self.inside.store c.args.id c.self.view_is c.requires.there)
 
 pub returns-clause-ascending : goal.returns-clause-ascending
 returns-clause-ascending c =

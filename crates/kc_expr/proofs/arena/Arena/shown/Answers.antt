@@ -4,7 +4,7 @@ use Rattle.kc_expr.proofs.StoreLemmas.{within_nodes, grows}
 use Rattle.kc_expr.proofs.arena.Arena.shown.Goals as goal
 
 pub push-requires-clause-fits : goal.push-requires-clause-fits
-push-requires-clause-fits c = rw c.number.ensures (within_nodes c.args.self.now c.self.inside.store c.args.id c.self.view_is c.requires)
+push-requires-clause-fits c = rw c.number.ensures (within_nodes c.args.self.now c.self.inside.store c.args.id c.self.view_is c.requires.there)
 
 pub returns-clause-grows : goal.returns-clause-grows
 returns-clause-grows c = rw (← c.self.view_is) (grows c.self.inside.store c.push.new.self c.self.invariant c.push.ensures.extends)

@@ -91,7 +91,7 @@ parse_factor-returns-then-not-is_kind_at-clause-parses t c =
 
 pub parse_factor-returns-then-depth-eq0-clause-parses : goal.parse_factor-returns-then-depth-eq0-clause-parses
 parse_factor-returns-then-depth-eq0-clause-parses t c =
-    factor_beyond (lexemes_of c.args.tokens.now) c.args.condition c.args.at c.args.depth _ c.if-depth-eq0.true (elim c.else-not-negated.branch [ parse_factor-else-not-negated-via-then-not-negated+else-not-is_kind_at w ↦ inr (w.is_kind_at.ensures.0 w.if-not-is_kind_at.false) | parse_factor-else-not-negated-via-else-not-negated w ↦ inl (c.is_kind_at-negated.ensures.0 w.if-not-negated.false) ]) c.too_deep.ensures
+    factor_beyond (lexemes_of c.args.tokens.now) c.args.condition c.args.at c.args.depth _ c.if-depth-eq0.true (elim c.else-not-negated.branch [ parse_factor-else-not-negated-via-then-not-negated+else-not-is_kind_at w ↦ inr (w.is_kind_at.ensures.0 w.if-not-is_kind_at.false) | parse_factor-else-not-negated-via-else-not-negated w ↦ inl (c.is_kind_at-negated.ensures.0 w.if-not-negated.false) ]) c.too_deep.ensures.fault
 
 pub parse_factor-returns-in_err-part-clause-parses : goal.parse_factor-returns-in_err-part-clause-parses
 parse_factor-returns-in_err-part-clause-parses t c =

@@ -31,10 +31,10 @@ pub returns-clause-sound : goal.returns-clause-sound
 returns-clause-sound c =
     let v = c.in_ok-from_str.field-0 in
     let distinct : AreDistinct (map string_bytes c.insert_full.new.self.keys) =
-    subst (λ (ks : List (String Global)). AreDistinct (map string_bytes ks)) (sym c.in_ok-index.ensures.keys) (distinct_pushed string_bytes (string_bytes v) v refl c.args.self.now.names.keys c.requires.distinct) in
+    subst (λ (ks : List (String Global)). AreDistinct (map string_bytes ks)) (sym c.in_ok-index.ensures.keys) (distinct_pushed string_bytes (string_bytes v) v refl c.args.self.now.names.keys c.requires.sound.distinct) in
     let few : length c.insert_full.new.self.keys ≤ 2 ^ 32 =
     omega (arith, ap length c.in_ok-index.ensures.keys, pushed_long (list_any (λ k. bytes_eq (string_bytes v) (string_bytes k)) c.args.self.now.names.keys) c.args.self.now.names.keys v, c.in_ok-index_of_32_bits.ensures.below, c.len.ensures) in
-    sound_on c.args.self.now (record c.args.self.now { names = c.insert_full.new.self }) c.requires (extended c) refl distinct few
+    sound_on c.args.self.now (record c.args.self.now { names = c.insert_full.new.self }) c.requires.sound (extended c) refl distinct few
 
 pub returns-clause-place : goal.returns-clause-place
 returns-clause-place c = placed c
@@ -53,13 +53,13 @@ pub returns-clause-name : goal.returns-clause-name
 returns-clause-name c = (place_there _ _ _ (placed c)).1
 
 pub returns-in_err-index_of_32_bits-clause-sound : goal.returns-in_err-index_of_32_bits-clause-sound
-returns-in_err-index_of_32_bits-clause-sound c = c.requires
+returns-in_err-index_of_32_bits-clause-sound c = c.requires.sound
 
 pub returns-in_err-index_of_32_bits-clause-extends : goal.returns-in_err-index_of_32_bits-clause-extends
 returns-in_err-index_of_32_bits-clause-extends c = extends_self c.args.self.now
 
 pub returns-in_err-from_str-clause-sound : goal.returns-in_err-from_str-clause-sound
-returns-in_err-from_str-clause-sound c = c.requires
+returns-in_err-from_str-clause-sound c = c.requires.sound
 
 pub returns-in_err-from_str-clause-extends : goal.returns-in_err-from_str-clause-extends
 returns-in_err-from_str-clause-extends c = extends_self c.args.self.now

@@ -4,10 +4,10 @@ use Rattle.kc_expr.proofs.Places.{place_there}
 use Rattle.kc_expr.proofs.store.Store.intern.Goals as goal
 
 pub returns-in-Some-clause-within : goal.returns-in-Some-clause-within
-returns-in-Some-clause-within c = (place_there _ _ _ (sym c.find.ensures ∙ c.in-Some.is)).0
+returns-in-Some-clause-within c = (place_there _ _ _ (sym c.find.ensures.value ∙ c.in-Some.is)).0
 
 pub returns-in-Some-clause-name : goal.returns-in-Some-clause-name
-returns-in-Some-clause-name c = (place_there _ _ _ (sym c.find.ensures ∙ c.in-Some.is)).1
+returns-in-Some-clause-name c = (place_there _ _ _ (sym c.find.ensures.value ∙ c.in-Some.is)).1
 
 pub returns-in-None-clause-sound : goal.returns-in-None-clause-sound
 returns-in-None-clause-sound c = grind (arith, common_steps)

@@ -12,10 +12,10 @@ pub returns-clause-extends : goal.returns-clause-extends
 returns-clause-extends c = extended c
 
 pub returns-clause-sound : goal.returns-clause-sound
-returns-clause-sound c = sound_on c.args.self.now (record c.args.self.now { texts = c.push.new.self }) c.requires (extended c) refl c.requires.distinct c.requires.few_names
+returns-clause-sound c = sound_on c.args.self.now (record c.args.self.now { texts = c.push.new.self }) c.requires.sound (extended c) refl c.requires.sound.distinct c.requires.sound.few_names
 
 pub returns-in_err-id-clause-sound : goal.returns-in_err-id-clause-sound
-returns-in_err-id-clause-sound c = c.requires
+returns-in_err-id-clause-sound c = c.requires.sound
 
 pub returns-in_err-id-clause-extends : goal.returns-in_err-id-clause-extends
 returns-in_err-id-clause-extends c = extends_self c.args.self.now

@@ -39,7 +39,7 @@ returns-clause-names c =
     (operand_on c.leaf_at.new.self c.leaf_at-2.new.self c.in-Some.left c.leaf_at-2.ensures.extends (rw c.in-Some.is at c.in_ok-left.ensures.fits)) c.in_ok-push.ensures.stands
 
 pub leaf_at-requires : goal.leaf_at-requires
-leaf_at-requires c = c.requires.sound
+leaf_at-requires c = record { sound = c.requires.sound }
 
 pub returns-in_err-left-clause-sound : goal.returns-in_err-left-clause-sound
 returns-in_err-left-clause-sound c = c.leaf_at.ensures.sound
@@ -82,7 +82,7 @@ pub returns-in_default-relation_at-clause-extends : goal.returns-in_default-rela
 returns-in_default-relation_at-clause-extends c = extends_on c.args.self.now c.leaf_at.new.self c.push_alone.new.self c.leaf_at.ensures.extends c.push_alone.ensures.extends
 
 pub leaf_at-requires-2 : goal.leaf_at-requires-2
-leaf_at-requires-2 c = c.leaf_at.ensures.sound
+leaf_at-requires-2 c = record { sound = c.leaf_at.ensures.sound }
 
 pub returns-in_err-right-clause-sound : goal.returns-in_err-right-clause-sound
 returns-in_err-right-clause-sound c = c.leaf_at-2.ensures.sound

@@ -43,7 +43,7 @@ pub returns-then-not-condition-clause-extends : goal.returns-then-not-condition-
 returns-then-not-condition-clause-extends c = c.push.ensures.extends
 
 pub intern-requires : goal.intern-requires
-intern-requires c = c.push.ensures.sound
+intern-requires c = record { sound = c.push.ensures.sound }
 
 pub returns-in_err-modules-clause-sound : goal.returns-in_err-modules-clause-sound
 returns-in_err-modules-clause-sound c = c.intern.ensures.sound

@@ -5,7 +5,7 @@ use Rattle.kc_expr.proofs.VisitLemmas.{stamped_set}
 use Rattle.kc_expr.proofs.visited.VisitedSet.mark.Goals as goal
 
 pub returns : goal.returns
-returns c = stamped_set c.self.inside.turn c.self.inside.stamps.items c.args.index ∙ ap (λ w. slice_set w c.args.index true) c.self.view_is
+returns c = record { marked = stamped_set c.self.inside.turn c.self.inside.stamps.items c.args.index ∙ ap (λ w. slice_set w c.args.index true) c.self.view_is }
 
 pub invariant_of-self : goal.invariant_of-self
 invariant_of-self c = grind (arith, common_steps)

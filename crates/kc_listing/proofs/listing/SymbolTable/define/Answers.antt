@@ -8,7 +8,8 @@ returns-clause-named c = λ name names h p n.
     let f = h.few in
     let m = c.name_count.ensures in
     rw (c.in-Ok-push.ensures.items, c.index.ensures)
-    (named_more c.args.self.now.arena c.args.self.now.arena c.args.self.now.symbols.items c.args.self.now.numbers.items c.pad_with_zeros.new.numbers.items names name c.args.id c.len-number.result
+    (named_more c.args.self.now.arena c.args.self.now.arena c.args.self.now.symbols.items c.args.self.now.numbers.items c.pad_with_zeros.new.numbers.items names
+    name c.args.id c.len-number.result
     (same_names c.args.self.now.arena) p
     (let w = c.requires.held in let k = c.in-Ok.ensures.many in omega arith)
     (let k = c.in-Ok.ensures.few (omega arith) in omega arith)

@@ -11,4 +11,5 @@ returns-in_err-id c =
 pub returns : goal.returns
 returns c =
     let numbers = c.args.self.now.numbers.items in
-    (rw c.as_slice.ensures.value at c.number_at.ensures) ∙ ap (option_and_then (λ i. number_in_slot (slice_index numbers i))) (sym c.in_ok-id.was ∙ c.find.ensures)
+    (rw c.as_slice.ensures.value at c.number_at.ensures) ∙ ap (option_and_then (λ i. number_in_slot (slice_index numbers i)))
+    (sym c.in_ok-id.was ∙ c.find.ensures)

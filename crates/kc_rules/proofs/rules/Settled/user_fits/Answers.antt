@@ -5,17 +5,21 @@ use Rattle.kc_rules.proofs.UserFits.{fits_symbol, fits_choice}
 use Rattle.kc_rules.proofs.rules.Settled.user_fits.Goals as goal
 
 pub returns-in-Symbol : goal.returns-in-Symbol
-returns-in-Symbol c =
-    let t = c.args.self.now.rules.tree in
-    c.is_kind_fit.ensures ∙ fits_symbol t.tree c.args.u c.in-Symbol.s (symbol_view t.exprs c.symbol.result) c.args.value.now c.in-Symbol.ensures.unit c.symbol.ensures.symbol
+returns-in-Symbol c = record {
+  value = let t = c.args.self.now.rules.tree in
+      c.is_kind_fit.ensures ∙ fits_symbol t.tree c.args.u c.in-Symbol.s (symbol_view t.exprs c.symbol.result) c.args.value.now c.in-Symbol.ensures.unit
+      c.symbol.ensures.symbol;
+}
 
 pub returns-in-Choice : goal.returns-in-Choice
-returns-in-Choice c =
-    let t = c.args.self.now.rules.tree in
-    c.is_choice_fit.ensures ∙ fits_choice t.tree c.args.u c.in-Choice.c (choice_view t.exprs c.choice.result) c.args.value.now c.in-Choice.ensures.unit c.choice.ensures.choice
+returns-in-Choice c = record {
+  value = let t = c.args.self.now.rules.tree in
+      c.is_choice_fit.ensures ∙ fits_choice t.tree c.args.u c.in-Choice.c (choice_view t.exprs c.choice.result) c.args.value.now c.in-Choice.ensures.unit
+      c.choice.ensures.choice;
+}
 
 pub symbol-requires : goal.symbol-requires
-symbol-requires c = grind (arith, elements)
+symbol-requires c = record { there = grind (arith, elements) }
 
 pub choice-requires : goal.choice-requires
 choice-requires c = grind (arith, common_steps)

@@ -11,7 +11,9 @@ pub returns-clause-fits : goal.returns-clause-fits
 returns-clause-fits c =
     let r = c.args.self.now.rules in
     let t = r.tree.tree in
-    IfOk-weaker c.value_of.result _ _ (λ value same. subst (λ w. IsTrue (value_fits t c.args.u w)) (sym same) (∥∥₁_elim r.consistent (Bool-set _ _) (λ sound. rules_fit r.profile t c.args.u (option_copied c.args.user) c.args.values.now sound c.requires.unit c.requires.user c.requires.values))) c.value_of.ensures
+    IfOk-weaker c.value_of.result _ _ (λ value same. subst (λ w. IsTrue (value_fits t c.args.u w)) (sym same)
+    (∥∥₁_elim r.consistent (Bool-set _ _) (λ sound. rules_fit r.profile t c.args.u (option_copied c.args.user) c.args.values.now sound c.requires.unit
+    c.requires.user c.requires.values))) c.value_of.ensures.ok
 
 pub returns-clause-step : goal.returns-clause-step
 returns-clause-step c = search rules

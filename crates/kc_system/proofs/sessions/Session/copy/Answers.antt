@@ -21,4 +21,4 @@ pub returns : goal.returns
 returns g c =
     let users = c.in_ok-users.ensures ∙ c.as_slice.ensures.value in
     let values = c.in_ok-values.ensures ∙ c.as_slice-2.ensures.value in
-    IfOk-weaker c.with_values.result _ _ (λ s e. e ∙ rw (users, values) c.self.view_is) c.with_values.ensures
+    IfOk-weaker c.with_values.result _ _ (λ s e. e ∙ rw (users, values) c.self.view_is) c.with_values.ensures.ok

@@ -28,10 +28,10 @@ with_values-requires-clause-gives g c =
     }
 
 pub returns-clause-system : goal.returns-clause-system
-returns-clause-system g c = IfOk-weaker c.with_values.result _ _ (λ s e. ap (λ (h : SessionState _ _ _). h.system) e) c.with_values.ensures
+returns-clause-system g c = IfOk-weaker c.with_values.result _ _ (λ s e. ap (λ (h : SessionState _ _ _). h.system) e) c.with_values.ensures.ok
 
 pub returns-clause-users : goal.returns-clause-users
-returns-clause-users g c = IfOk-weaker c.with_values.result _ _ (λ s e. ap (λ (h : SessionState _ _ _). h.users) e) c.with_values.ensures
+returns-clause-users g c = IfOk-weaker c.with_values.result _ _ (λ s e. ap (λ (h : SessionState _ _ _). h.users) e) c.with_values.ensures.ok
 
 pub returns-clause-gives : goal.returns-clause-gives
 returns-clause-gives g c =
@@ -42,4 +42,5 @@ returns-clause-gives g c =
       solves = rw c.as_slice.ensures.value at c.in_ok-values.ensures.solves;
       only = λ w b. c.in_ok-values.ensures.unique w values (rw (← c.as_slice.ensures.value) at b) c.in_ok-values.ensures.solves;
     } in
-    IfOk-weaker c.with_values.result _ _ (λ s e. subst (λ (h : SessionState _ _ _). UniquelySolves size rule h.users h.values) (sym e) gives) c.with_values.ensures
+    IfOk-weaker c.with_values.result _ _ (λ s e. subst (λ (h : SessionState _ _ _). UniquelySolves size rule h.users h.values) (sym e) gives)
+    c.with_values.ensures.ok

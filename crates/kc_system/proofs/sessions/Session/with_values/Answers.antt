@@ -3,7 +3,7 @@ use Rattle.std.proofs.lemmas.Grind.{common_steps}
 use Rattle.kc_system.proofs.sessions.Session.with_values.Goals as goal
 
 pub make_plan-requires : goal.make_plan-requires
-make_plan-requires g c = c.requires.order
+make_plan-requires g c = record { order = c.requires.order }
 
 pub invariant_of-result : goal.invariant_of-result
 invariant_of-result g c =

@@ -22,12 +22,14 @@ grouped-requires-6-clause-keys c = c.requires.keys.direct
 
 pub returns : goal.returns
 returns c = record {
-  prompts = c.in_ok-grouped.ensures;
-  defaults = c.in_ok-grouped-2.ensures;
-  ranges = c.in_ok-grouped-3.ensures;
-  selectors = c.in_ok-grouped-4.ensures;
-  impliers = c.in_ok-grouped-5.ensures;
-  direct = c.in_ok-grouped-6.ensures;
+  ok = record {
+    prompts = c.in_ok-grouped.ensures.ok;
+    defaults = c.in_ok-grouped-2.ensures.ok;
+    ranges = c.in_ok-grouped-3.ensures.ok;
+    selectors = c.in_ok-grouped-4.ensures.ok;
+    impliers = c.in_ok-grouped-5.ensures.ok;
+    direct = c.in_ok-grouped-6.ensures.ok;
+  };
 }
 
 pub grouped-requires-3-clause-few : goal.grouped-requires-3-clause-few

@@ -36,7 +36,8 @@ pub entry_conditions-requires-clause-held : goal.entry_conditions-requires-claus
 entry_conditions-requires-clause-held c = c.requires.lines
 
 pub push_conditions-requires-clause-held : goal.push_conditions-requires-clause-held
-push_conditions-requires-clause-held c = λ k d h. attribute_held c.args.self.now.arena c.entry_conditions.new.arena _ c.entry_conditions.ensures.grows (c.requires.lines k d h)
+push_conditions-requires-clause-held c =
+    λ k d h. attribute_held c.args.self.now.arena c.entry_conditions.new.arena _ c.entry_conditions.ensures.grows (c.requires.lines k d h)
 
 pub inside-requires-clause-enclosing : goal.inside-requires-clause-enclosing
 inside-requires-clause-enclosing c =
@@ -44,7 +45,8 @@ inside-requires-clause-enclosing c =
     let k = c.requires.walked in
     let t = top_shown w.arena k.0 w.yes (reverse w.stack.items) (open_blocks 0 k.1) (k.2 w.arena (grows_same w.arena)).stack_is in
     let a = subst (λ (x : EnclosingConditions). RepresentsEnclosing w.arena k.0 w.yes x (open_blocks 0 k.1)) (sym c.enclosing-enclosing.ensures) t in
-    there_on w.arena c.push_conditions.new.arena (grows_on w.arena c.entry_conditions.new.arena c.push_conditions.new.arena c.entry_conditions.ensures.grows c.push_conditions.ensures.grows) c.enclosing-enclosing.result.dependencies
+    there_on w.arena c.push_conditions.new.arena (grows_on w.arena c.entry_conditions.new.arena c.push_conditions.new.arena c.entry_conditions.ensures.grows
+    c.push_conditions.ensures.grows) c.enclosing-enclosing.result.dependencies
     (conjoins_there w.arena c.enclosing-enclosing.result.dependencies _ a.dependencies_are)
 
 pub push_conditions-requires-clause-dependencies : goal.push_conditions-requires-clause-dependencies
@@ -73,9 +75,11 @@ inside-requires-clause-prompt c =
     let t = top_shown w.arena k.0 w.yes (reverse w.stack.items) (open_blocks 0 k.1) here.stack_is in
     let a = subst (λ (x : EnclosingConditions). RepresentsEnclosing w.arena k.0 w.yes x (open_blocks 0 k.1)) (sym c.enclosing-enclosing.ensures) t in
     let j = c.in_ok-entry.ensures.joined _ _ a.dependencies_are a.visibles_are in
-    let b = c.in_ok-push_conditions.ensures.stand _ _ _ j (represents_on w.arena c.entry_conditions.new.arena w.yes (conjunction_of []) c.entry_conditions.ensures.grows here.yes_is) in
+    let b = c.in_ok-push_conditions.ensures.stand _ _ _ j (represents_on w.arena c.entry_conditions.new.arena w.yes (conjunction_of [])
+    c.entry_conditions.ensures.grows here.yes_is) in
     let l : c.len-first.result ≡ length w.conditions.items = omega (arith, c.len-first.ensures) in
-    prompt_there w.arena c.entry_conditions.new.arena c.push_conditions.new.arena w.conditions.items c.push_conditions.new.conditions.items _ _ c.args.lines.now b _ c.len-first.result l c.first_prompt_condition-prompt.ensures
+    prompt_there w.arena c.entry_conditions.new.arena c.push_conditions.new.arena w.conditions.items c.push_conditions.new.conditions.items _ _ c.args.lines.now
+    b _ c.len-first.result l c.first_prompt_condition-prompt.ensures.value
 
 pub returns-then-ends-clause-walked : goal.returns-then-ends-clause-walked
 returns-then-ends-clause-walked c = λ names texts before m walked what attributes_are.
@@ -85,15 +89,25 @@ returns-then-ends-clause-walked c = λ names texts before m walked what attribut
     let far = c.push_conditions.new.arena in
     let here = walked w.arena (grows_same w.arena) in
     let f = rw c.enclosing-enclosing.ensures at c.in_ok-entry.ensures.joined in
-    let j = entry_is w new texts before m mid far c.in_ok-entry.entry c.args.lines.now walked c.requires.lines attributes_are c.entry_conditions.ensures.grows c.push_conditions.ensures.grows f in
+    let j = entry_is w new texts before m mid far c.in_ok-entry.entry c.args.lines.now walked c.requires.lines attributes_are c.entry_conditions.ensures.grows
+    c.push_conditions.ensures.grows f in
     let b = c.in_ok-push_conditions.ensures.stand _ _ _ j (represents_on w.arena mid w.yes (conjunction_of []) c.entry_conditions.ensures.grows here.yes_is) in
-    let b2 = subst (λ xs. AreAppended mid far w.conditions.items xs (dependencies_of (context (open_blocks 0 before)) m) (context (open_blocks 0 before)).visibles c.args.lines.now) (sym c.end.ensures.conditions) b in
+    let b2 = subst (λ xs. AreAppended mid far w.conditions.items xs (dependencies_of (context (open_blocks 0 before)) m)
+    (context (open_blocks 0 before)).visibles c.args.lines.now) (sym c.end.ensures.conditions) b in
     let g : Grows far new.arena = subst (λ e. Grows far e) (sym c.end.ensures.arena) (grows_same far) in
     let l : c.len-first.result ≡ length w.conditions.items = omega (arith, c.len-first.ensures) in
     on_ok c.end.result _ _
-    (λ groups. ended w new texts before m mid far c.in_ok-entry.entry c.args.lines.now walked c.requires.lines attributes_are c.entry_conditions.ensures.grows c.push_conditions.ensures.grows
-    b2 g c.end.ensures.yes c.end.ensures.no (record { dependency = or_yes w.yes c.enclosing-enclosing.result.dependencies; visible = or_yes w.yes c.enclosing-enclosing.result.visibles; ended = c.enclosing-enclosing.result.title; first = c.len-first.result })
-    (end_side w.arena names texts c.args.head.now m what (sym c.ends.ensures ∙ c.if-ends.true)) (rw (c.enclosing-enclosing.ensures, l) refl) groups c.end.ensures.stack)
+    (λ groups. ended w new texts before m mid far c.in_ok-entry.entry c.args.lines.now walked c.requires.lines attributes_are c.entry_conditions.ensures.grows
+    c.push_conditions.ensures.grows
+    b2 g c.end.ensures.yes c.end.ensures.no (record {
+      dependency = or_yes w.yes c.enclosing-enclosing.result.dependencies;
+      visible = or_yes w.yes
+          c.enclosing-enclosing.result.visibles;
+      ended = c.enclosing-enclosing.result.title;
+      first = c.len-first.result;
+    })
+    (end_side w.arena names texts c.args.head.now m what (sym c.ends.ensures ∙ c.if-ends.true)) (rw (c.enclosing-enclosing.ensures, l) refl) groups
+    c.end.ensures.stack)
     c.end.ensures.groups
 
 pub returns-clause-walked : goal.returns-clause-walked
@@ -106,7 +120,8 @@ returns-clause-walked c = λ names texts before m walked what attributes_are.
     let s : List Group = open_blocks 0 before in
     let here = walked w.arena (grows_same w.arena) in
     let f = rw c.enclosing-enclosing.ensures at c.in_ok-entry.ensures.joined in
-    let j = entry_is w new texts before m mid far c.in_ok-entry.entry c.args.lines.now walked c.requires.lines attributes_are c.entry_conditions.ensures.grows c.push_conditions.ensures.grows f in
+    let j = entry_is w new texts before m mid far c.in_ok-entry.entry c.args.lines.now walked c.requires.lines attributes_are c.entry_conditions.ensures.grows
+    c.push_conditions.ensures.grows f in
     let y = represents_on w.arena mid w.yes (conjunction_of []) c.entry_conditions.ensures.grows here.yes_is in
     let b = c.in_ok-push_conditions.ensures.stand _ _ _ j y in
     let same = c.push_group.ensures.conditions ∙ c.enter.ensures.conditions in
@@ -115,17 +130,30 @@ returns-clause-walked c = λ names texts before m walked what attributes_are.
     let arena_is = c.push_group.ensures.arena ∙ c.enter.ensures.arena in
     let g : Grows far new.arena = subst (λ e. Grows far e) (sym arena_is) c.inside.ensures.grows in
     let l : c.len-first.result ≡ length w.conditions.items = omega (arith, c.len-first.ensures) in
-    let p0 = prompt_represents w.arena mid far w.conditions.items c.push_conditions.new.conditions.items _ _ c.args.lines.now b c.first_prompt_condition-prompt.result c.len-first.result c.entry_conditions.ensures.grows c.requires.lines l c.first_prompt_condition-prompt.ensures in
+    let p0 = prompt_represents w.arena mid far w.conditions.items c.push_conditions.new.conditions.items _ _ c.args.lines.now b
+    c.first_prompt_condition-prompt.result c.len-first.result c.entry_conditions.ensures.grows c.requires.lines l
+    c.first_prompt_condition-prompt.ensures.value in
     let p : RepresentsPrompt far c.first_prompt_condition-prompt.result (slice_get (prompts_of (context s) m) 0) = rw (← attributes_are) at p0 in
     let t = top_shown w.arena texts w.yes (reverse w.stack.items) s here.stack_is in
     let a = subst (λ (x : EnclosingConditions). RepresentsEnclosing w.arena texts w.yes x s) (sym c.enclosing-enclosing.ensures) t in
-    let shown = c.in_ok-opened.ensures.shown names texts w.yes m s (what_on w.arena far names texts c.args.head.now m.head to_far what) (around_on w.arena far texts w.yes c.enclosing-enclosing.result s to_far a)
-    (joined_on mid far c.push_conditions.ensures.grows c.in_ok-entry.entry _ _ _ j) p (represents_on mid far w.yes (conjunction_of []) c.push_conditions.ensures.grows y) (represents_on w.arena far w.no _ to_far here.no_is) in
+    let shown = c.in_ok-opened.ensures.shown names texts w.yes m s (what_on w.arena far names texts c.args.head.now m.head to_far what)
+    (around_on w.arena far texts w.yes c.enclosing-enclosing.result s to_far a)
+    (joined_on mid far c.push_conditions.ensures.grows c.in_ok-entry.entry _ _ _ j) p
+    (represents_on mid far w.yes (conjunction_of []) c.push_conditions.ensures.grows y) (represents_on w.arena far w.no _ to_far here.no_is) in
     on_ok c.push_group.result _ _
-    (λ groups. entered w new texts before m mid far c.in_ok-entry.entry c.args.lines.now walked c.requires.lines attributes_are c.entry_conditions.ensures.grows c.push_conditions.ensures.grows
-    b2 g (c.push_group.ensures.yes ∙ c.enter.ensures.yes) (c.push_group.ensures.no ∙ c.enter.ensures.no) (record { dependency = or_yes w.yes c.in_ok-entry.entry.dependencies; visible = or_yes w.yes c.in_ok-entry.entry.visibles; ended = None; first = c.len-first.result })
+    (λ groups. entered w new texts before m mid far c.in_ok-entry.entry c.args.lines.now walked c.requires.lines attributes_are c.entry_conditions.ensures.grows
+    c.push_conditions.ensures.grows
+    b2 g (c.push_group.ensures.yes ∙ c.enter.ensures.yes) (c.push_group.ensures.no ∙ c.enter.ensures.no)
+    (record {
+      dependency = or_yes w.yes c.in_ok-entry.entry.dependencies;
+      visible = or_yes w.yes c.in_ok-entry.entry.visibles;
+      ended = None;
+      first =
+          c.len-first.result;
+    })
     c.in_ok-opened.opened (other_side w.arena names texts c.args.head.now m what (sym c.ends.ensures ∙ c.if-ends.false)) j (rw l refl)
-    (rw (c.enter.ensures.yes, c.enter.ensures.groups) at groups) (c.push_group.ensures.stack ∙ c.in_ok-enter.ensures.stack) (λ later h. inside_on last later texts w.yes m s c.in_ok-opened.opened (subst (λ e. Grows e later) arena_is h) shown))
+    (rw (c.enter.ensures.yes, c.enter.ensures.groups) at groups) (c.push_group.ensures.stack ∙ c.in_ok-enter.ensures.stack)
+    (λ later h. inside_on last later texts w.yes m s c.in_ok-opened.opened (subst (λ e. Grows e later) arena_is h) shown))
     c.push_group.ensures.groups
 
 pub returns-in_err-push_conditions-clause-grows : goal.returns-in_err-push_conditions-clause-grows

@@ -21,19 +21,19 @@ pub returns-in-MenuBegins-clause-entry : goal.returns-in-MenuBegins-clause-entry
 returns-in-MenuBegins-clause-entry c =
     let p = c.args.self.now in
     let at = slice_get_read p.entries.items _ c.args.i c.index.result.now refl c.requires.there c.index.ensures in
-    rw c.title.ensures (map-get (entry_from_row p.arena p.titles.items) p.entries.items c.args.i _ (rw c.in-MenuBegins.is at at))
+    rw c.title.ensures.value (map-get (entry_from_row p.arena p.titles.items) p.entries.items c.args.i _ (rw c.in-MenuBegins.is at at))
 
 pub returns-in-MenuEnds-clause-entry : goal.returns-in-MenuEnds-clause-entry
 returns-in-MenuEnds-clause-entry c =
     let p = c.args.self.now in
     let at = slice_get_read p.entries.items _ c.args.i c.index.result.now refl c.requires.there c.index.ensures in
-    rw c.title-in-MenuEnds.ensures (map-get (entry_from_row p.arena p.titles.items) p.entries.items c.args.i _ (rw c.in-MenuEnds.is at at))
+    rw c.title-in-MenuEnds.ensures.value (map-get (entry_from_row p.arena p.titles.items) p.entries.items c.args.i _ (rw c.in-MenuEnds.is at at))
 
 pub returns-in-Comment-clause-entry : goal.returns-in-Comment-clause-entry
 returns-in-Comment-clause-entry c =
     let p = c.args.self.now in
     let at = slice_get_read p.entries.items _ c.args.i c.index.result.now refl c.requires.there c.index.ensures in
-    rw c.title-in-Comment.ensures (map-get (entry_from_row p.arena p.titles.items) p.entries.items c.args.i _ (rw c.in-Comment.is at at))
+    rw c.title-in-Comment.ensures.value (map-get (entry_from_row p.arena p.titles.items) p.entries.items c.args.i _ (rw c.in-Comment.is at at))
 
 pub returns-in-MenuEnds-clause-fits : goal.returns-in-MenuEnds-clause-fits
 returns-in-MenuEnds-clause-fits c = grind (arith, elements)

@@ -6,8 +6,8 @@ use Rattle.kc_tree.proofs.summary.Summary.new.Goals as goal
 pub returns-clause-summary : goal.returns-clause-summary
 unfolding IsSummary
 returns-clause-summary c = λ read h. record {
-  symbols = c.in_ok-symbols.ensures read h;
-  enclosing = c.in_ok-enclosing.ensures read h;
+  symbols = c.in_ok-symbols.ensures.ok read h;
+  enclosing = c.in_ok-enclosing.ensures.ok read h;
   choices = c.choice_count.ensures read h;
   member_keys = c.in_ok-members.ensures.keys read h;
   members = c.in_ok-members.ensures.members read h;

@@ -11,4 +11,4 @@ name-requires-clause-there c =
     omega arith
 
 pub returns : goal.returns
-returns c = rw (← c.self.view_is, ← c.number.ensures) c.name.ensures
+returns c = record { value = rw (← c.self.view_is, ← c.number.ensures) c.name.ensures.value }

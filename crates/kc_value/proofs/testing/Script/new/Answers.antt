@@ -2,4 +2,4 @@ use Rattle.std.proofs.Common.{arith}
 use Rattle.kc_value.proofs.testing.Script.new.Goals as goal
 
 pub invariant_of-result : goal.invariant_of-result
-invariant_of-result c = record { within = omega arith; gives = c.requires }
+invariant_of-result c = record { within = omega arith; gives = c.requires.some }

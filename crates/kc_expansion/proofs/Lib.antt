@@ -1,0 +1,10 @@
+pub mod PathLemmas
+pub mod MatchLemmas
+pub mod TableLemmas
+pub mod StoreLemmas
+pub mod ProgramLemmas
+pub mod PatternLemmas
+pub mod KeyLemmas
+pub mod SortLemmas
+pub mod WrittenLemmas
+pub mod SourceFaultLemmas

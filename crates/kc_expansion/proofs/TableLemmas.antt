@@ -1,0 +1,99 @@
+-- Tables by bytes, through the maps that hold them.
+use Rattle.std.proofs.Common.{◌≡◌, ℕ, Bool, true, false, cond, List, [], ◌∷◌, ◌++◌, map, Option, Some, None, refl, sym, ap, ◌∙◌, ◌⊎◌, inl, inr, subst}
+use Rattle.std.specs.Prelude.{Vec, bytes_eq, option_map, is_some, OnOk, OnErr, IfOk, Result, Ok, Err}
+use Rattle.std.specs.Option.{option_copied}
+use Rattle.std.specs.Borrow.{Bor}
+use Rattle.std.specs.declared.alloc.Global.{Global}
+use Rattle.std.proofs.lemmas.Slice.Eq.{bytes_eq-Decides}
+use Rattle.std.specs.Map.{lookup}
+use Rattle.indexmap.specs.IndexMap.{insert_entry}
+use Rattle.kc_tree_model.specs.Keywords.{keyword_in_table}
+
+pub bytes_eq_turned : (x y : List ℕ) → bytes_eq x y ≡ bytes_eq y x
+bytes_eq_turned x y = by_tests (bytes_eq x y) (bytes_eq y x) refl refl
+  where
+    by_tests : (b c : Bool) → bytes_eq x y ≡ b → bytes_eq y x ≡ c → b ≡ c
+    by_tests true true e f = refl
+    by_tests false false e f = refl
+    by_tests true false e f = let z : true ≡ false = sym ((bytes_eq-Decides y x).1 (sym ((bytes_eq-Decides x y).0 e))) ∙ f in cc
+    by_tests false true e f = let z : true ≡ false = sym ((bytes_eq-Decides x y).1 (sym ((bytes_eq-Decides y x).0 f))) ∙ e in cc
+
+pub bytes_eq_same : (x : List ℕ) → bytes_eq x x ≡ true
+bytes_eq_same x = (bytes_eq-Decides x x).1 refl
+
+pub copied_view : {X A : Type 0} (view : X → A) (o : Option (Bor X)) → option_map (λ (r : Bor X). view r.now) o ≡ option_map view (option_copied o)
+copied_view view None = refl
+copied_view view (Some r) = refl
+
+pub some_copied : {X : Type 0} (o : Option (Bor X)) → is_some o ≡ is_some (option_copied o)
+some_copied None = refl
+some_copied (Some r) = refl
+
+-- what holds after a call that changes something where it returns `Ok`, and nothing else
+pub by_result : {A E T : Type 0} (r : Result A E) (P : T → Type 0) (old grown new : T) → OnOk r (new ≡ grown) → OnErr r (new ≡ old) → P grown → P old → P new
+by_result (Ok x) P old grown new e f g h = subst P (sym e) g
+by_result (Err x) P old grown new e f g h = subst P (sym f) h
+
+pub if_grown : {A E T : Type 0} (r : Result A E) (P : T → Type 0) (grown new : T) → OnOk r (new ≡ grown) → P grown → IfOk r (λ x. P new)
+if_grown (Ok x) P grown new e g = subst P (sym e) g
+if_grown (Err x) P grown new e g = tt
+
+module _ {V A : Type 0} (view : V → A) where
+  abbrev pub entry_view : Vec ℕ Global × V → List ℕ × A
+  entry_view e = (e.0.items, view e.1)
+
+  found_by : (b : Bool) (e : Vec ℕ Global × V) (o : Option V) → cond b (Some (view e.1)) (option_map view o) ≡ option_map view (cond b (Some e.1) o)
+  found_by true e o = refl
+  found_by false e o = refl
+
+  -- a look-up by bytes
+  pub found : (path : List ℕ) (es : List (Vec ℕ Global × V)) → keyword_in_table (map entry_view es) path ≡ option_map view (lookup (λ (k : Vec ℕ Global). bytes_eq path k.items) es)
+  found path [] = refl
+  found path (e ∷ es) =
+      ap (λ b. cond b (Some (view e.1)) (keyword_in_table (map entry_view es) path)) (bytes_eq_turned e.0.items path)
+      ∙ ap (λ o. cond (bytes_eq path e.0.items) (Some (view e.1)) o) (found path es)
+      ∙ found_by (bytes_eq path e.0.items) e (lookup (λ (k : Vec ℕ Global). bytes_eq path k.items) es)
+
+  -- a key that isn't there goes last
+  pub inserted_new : (es : List (Vec ℕ Global × V)) (k : Vec ℕ Global) (v : V) → keyword_in_table (map entry_view es) k.items ≡ None
+      → map entry_view (insert_entry (λ (a b : Vec ℕ Global). bytes_eq a.items b.items) es k v) ≡ map entry_view es ++ (k.items, view v) ∷ []
+  inserted_new [] k v h = refl
+  inserted_new (e ∷ es) k v h = by_test (bytes_eq e.0.items k.items) (bytes_eq_turned k.items e.0.items) h (inserted_new es k v)
+    where
+      by_test : (b : Bool) → bytes_eq k.items e.0.items ≡ b → cond b (Some (view e.1)) (keyword_in_table (map entry_view es) k.items) ≡ None
+          → (keyword_in_table (map entry_view es) k.items ≡ None → map entry_view (insert_entry (λ (a b : Vec ℕ Global). bytes_eq a.items b.items) es k v) ≡ map entry_view es ++ (k.items, view v) ∷ [])
+          → map entry_view (cond (bytes_eq k.items e.0.items) ((e.0, v) ∷ es) (e ∷ insert_entry (λ (a b : Vec ℕ Global). bytes_eq a.items b.items) es k v)) ≡ entry_view e ∷ (map entry_view es ++ (k.items, view v) ∷ [])
+      by_test true e2 h ih = absurd (let z : ⊥ = cc in z)
+      by_test false e2 h ih = ap (λ b. map entry_view (cond b ((e.0, v) ∷ es) (e ∷ insert_entry (λ (a b : Vec ℕ Global). bytes_eq a.items b.items) es k v))) e2 ∙ ap (λ xs. entry_view e ∷ xs) (ih h)
+
+module _ {A : Type 0} where
+  -- what is there stays where another key goes last
+  pub stays_found : (t : List (List ℕ × A)) (new : List ℕ × A) (key : List ℕ) (x : A) → keyword_in_table t key ≡ Some x → keyword_in_table (t ++ new ∷ []) key ≡ Some x
+  stays_found [] new key x h = absurd (let z : ⊥ = cc in z)
+  stays_found (e ∷ t) new key x h = by_test (bytes_eq e.0 key) (stays_found t new key x) h
+    where
+      by_test : (b : Bool) → (keyword_in_table t key ≡ Some x → keyword_in_table (t ++ new ∷ []) key ≡ Some x) → cond b (Some e.1) (keyword_in_table t key) ≡ Some x → cond b (Some e.1) (keyword_in_table (t ++ new ∷ []) key) ≡ Some x
+      by_test true ih h = h
+      by_test false ih h = ih h
+
+  -- a new key is found
+  pub new_found : (t : List (List ℕ × A)) (key : List ℕ) (x : A) → keyword_in_table t key ≡ None → keyword_in_table (t ++ (key, x) ∷ []) key ≡ Some x
+  new_found [] key x h = ap (λ b. cond b (Some x) None) (bytes_eq_same key)
+  new_found (e ∷ t) key x h = by_test (bytes_eq e.0 key) (new_found t key x) h
+    where
+      by_test : (b : Bool) → (keyword_in_table t key ≡ None → keyword_in_table (t ++ (key, x) ∷ []) key ≡ Some x) → cond b (Some e.1) (keyword_in_table t key) ≡ None → cond b (Some e.1) (keyword_in_table (t ++ (key, x) ∷ []) key) ≡ Some x
+      by_test true ih h = absurd (let z : ⊥ = cc in z)
+      by_test false ih h = ih h
+
+  -- what is found with a new key was there, or is it
+  pub found_or_new : (t : List (List ℕ × A)) (key other : List ℕ) (x y : A) → keyword_in_table (t ++ (key, x) ∷ []) other ≡ Some y → (keyword_in_table t other ≡ Some y) ⊎ ((other ≡ key) × (y ≡ x))
+  found_or_new [] key other x y h = by_test (bytes_eq key other) refl h
+    where
+      by_test : (b : Bool) → bytes_eq key other ≡ b → cond b (Some x) None ≡ Some y → (None ≡ Some y) ⊎ ((other ≡ key) × (y ≡ x))
+      by_test true e h = inr (sym ((bytes_eq-Decides key other).0 e), cc)
+      by_test false e h = inl h
+  found_or_new (e ∷ t) key other x y h = by_test (bytes_eq e.0 other) (found_or_new t key other x y) h
+    where
+      by_test : (b : Bool) → (keyword_in_table (t ++ (key, x) ∷ []) other ≡ Some y → (keyword_in_table t other ≡ Some y) ⊎ ((other ≡ key) × (y ≡ x))) → cond b (Some e.1) (keyword_in_table (t ++ (key, x) ∷ []) other) ≡ Some y → (cond b (Some e.1) (keyword_in_table t other) ≡ Some y) ⊎ ((other ≡ key) × (y ≡ x))
+      by_test true ih h = inl h
+      by_test false ih h = ih h

@@ -1,0 +1,9 @@
+-- Lists of texts, as vectors have them.
+use Rattle.std.specs.Prelude.{ℕ, List, Vec, map}
+use Rattle.std.specs.declared.alloc.Global.{Global}
+
+abbrev pub items_of : List (Vec ℕ Global) → List (List ℕ)
+items_of vs = map (λ (v : Vec ℕ Global). v.items) vs
+
+abbrev pub texts_of : Vec (Vec ℕ Global) Global → List (List ℕ)
+texts_of vs = items_of vs.items

@@ -1,0 +1,7 @@
+pub mod PathViews
+pub mod EndMatches
+pub mod FileViews
+pub mod PatternRuns
+pub mod ExpandedViews
+pub mod WrittenViews
+pub mod Sizes

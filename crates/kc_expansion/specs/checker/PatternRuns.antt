@@ -1,0 +1,35 @@
+-- The paths of patterns, as the code finds them.
+use Rattle.std.specs.Prelude.{◌≡◌, ℕ, ◌<◌, length, List, [], ◌∷◌, ◌++◌, map, Result, Ok, Err}
+use Rattle.kc_macros_model.specs.Programs.{Place, Program, returns, ◌>>=◌}
+use Rattle.kc_macros_model.specs.Worlds.{returned, failed}
+use Rattle.kc_macros_model.specs.PathPatterns.{FoundPaths, found, path_pieces}
+use Rattle.kc_expansion.specs.declared.patterns.Found.{Found}
+use Rattle.kc_expansion.specs.declared.patterns.PatternStop.{PatternStop}
+use Rattle.kc_expansion.specs.declared.patterns.PatternStop.TheVariants.{TooMany, OutOfMemory}
+use Rattle.kc_expansion.specs.between.KnownFiles.{KnownFiles}
+use Rattle.kc_expansion.specs.between.FileRuns.{Comes, too_many_at}
+use Rattle.kc_expansion.specs.TextViews.{texts_of}
+
+abbrev pub found_of : Found → FoundPaths
+found_of f = found (texts_of f.paths) f.listed
+
+-- a program finds paths, or stops
+abbrev pub Finds : KnownFiles → Place → Program FoundPaths → Result Found PatternStop → Type 0
+Finds known at p (Ok f) = Comes known p (returned (found_of f))
+Finds known at p (Err TooMany) = Comes known p (failed (too_many_at at))
+Finds known at p (Err OutOfMemory) = Unit {0}
+
+-- a program finds the paths that were added to others, or stops
+abbrev pub FindsMore : {T : Type 0} → KnownFiles → Place → Program FoundPaths → (before after : FoundPaths) → Result T PatternStop → Type 0
+FindsMore known at p before after (Ok x) = (more : List (List ℕ)) × (after.paths ≡ before.paths ++ more) × Comes known p (returned (found more after.listed))
+FindsMore known at p before after (Err TooMany) = Comes known p (failed (too_many_at at))
+FindsMore known at p before after (Err OutOfMemory) = Unit {0}
+
+-- paths as folders, with a slash behind each
+abbrev pub slashed : Program FoundPaths → Program FoundPaths
+slashed p = p >>= λ f. returns (found (map (λ path. path ++ 47 ∷ []) f.paths) f.listed)
+
+-- a path, cut at its first slash
+pub record IsCut (path piece behind : List ℕ) : Type 0 where
+  pub pieces : path_pieces path ≡ piece ∷ path_pieces behind
+  pub shorter : length behind < length path

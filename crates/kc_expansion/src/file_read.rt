@@ -1,0 +1,81 @@
+//! Reading the bytes of a file.
+ghost use Rattle.std.specs.Prelude.{◌≡◌, ◌⊎◌, ◌≤◌, IfOk, IfSome, length};
+ghost use Rattle.std.specs.Io.KnownBytes.{Consumes, IsAtEnd};
+ghost use Rattle.kc_expansion.specs.between.KnownFiles.{MatchFile, content_of_reader};
+ghost use Rattle.kc_expansion.specs.checker.FileViews.{file_of};
+
+use super::files::TreeFiles;
+use kc_value::Source;
+use std::alloc::{AllocError, Global};
+use std::rc::Rc;
+
+/// The most bytes of a file that are read: one more than a tree may have.
+const MAX_READ: usize = 67_108_865;
+
+/// How many bytes are read at once.
+const BLOCK: usize = 8192;
+
+/// A file is missing, has these bytes, or has more bytes than may be read.
+#[derive(Drop)]
+pub(crate) enum FileRead {
+    Missing,
+    Whole(Rc<Vec<u8>>),
+    TooLong,
+}
+
+/// All bytes of a reader, or the first `MAX_READ` of more; nothing where a read fails. `room` is for how many bytes room is
+/// made at once.
+fn read_front<S: Source>(
+    alloc: Global,
+    source: &mut S,
+    room: usize,
+) -> Result<Option<Vec<u8>>, AllocError>
+    ensures bytes { IfOk result (λ found. IfSome found (λ bytes. Consumes (S.left source.old) (S.left source.new) bytes.items × (length bytes.items ≤ MAX_READ) × ((length bytes.items ≡ MAX_READ) ⊎ IsAtEnd (S.left source.new)))) }
+{
+    let mut bytes = Vec::with_capacity(alloc, room)?;
+    let mut block = [0; BLOCK];
+    while bytes.len() < MAX_READ {
+        let most = (MAX_READ - bytes.len()).min(BLOCK);
+        let Ok(count) = source.read_some(&mut block[..most]) else {
+            return Ok(None);
+        };
+        if count == 0 {
+            return Ok(Some(bytes));
+        }
+        bytes.extend_from_slice(&block[..count])?;
+    }
+    Ok(Some(bytes))
+}
+
+/// What is read of a reader's bytes.
+fn read_bytes<S: Source>(alloc: Global, source: &mut S, room: usize) -> Result<FileRead, AllocError>
+    ensures { IfOk result (λ read. MatchFile (content_of_reader (S.left source.old)) (file_of read)) }
+{
+    match read_front(alloc, source, room)? {
+        None => Ok(FileRead::Missing),
+        Some(bytes) if bytes.len() < MAX_READ => Ok(FileRead::Whole(Rc::new(alloc, bytes)?)),
+        Some(_) => Ok(FileRead::TooLong),
+    }
+}
+
+/// What is read of the file of a path, which is opened.
+///
+/// # Errors
+///
+/// Memory runs out.
+pub(crate) fn read_file<F: TreeFiles>(
+    alloc: Global,
+    files: &mut F,
+    path: &[u8],
+) -> Result<FileRead, AllocError>
+    ensures same { F.contents files.new ≡ F.contents files.old }
+    ensures matched { IfOk result (λ read. MatchFile ((F.contents files.old).file path.now) (file_of read)) }
+{
+    match files.open(path) {
+        Some(mut reader) => {
+            let room = files.size_of(&reader).min(MAX_READ);
+            read_bytes(alloc, &mut reader, room)
+        }
+        None => Ok(FileRead::Missing),
+    }
+}

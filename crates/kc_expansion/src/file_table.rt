@@ -1,0 +1,62 @@
+//! What was read of paths.
+ghost use Rattle.std.specs.Prelude.{◌≡◌, [], ◌∷◌, ◌++◌, None, OnOk, OnErr, option_map};
+ghost use Rattle.kc_tree_model.specs.Keywords.{keyword_in_table};
+ghost use Rattle.kc_expansion.specs.checker.FileViews.{file_of};
+
+use super::file_read::FileRead;
+use indexmap::IndexMap;
+use kc_value::Seed;
+use std::alloc::{AllocError, Global};
+use std::marker::Model;
+
+/// Paths, with what was read of them.
+#[derive(Drop)]
+pub(crate) struct FileTable {
+    alloc: Global,
+    entries: IndexMap<Vec<u8>, FileRead, Seed>,
+}
+
+impl Model for FileTable {
+    ghost use Rattle.std.specs.Prelude.{ℕ, List, map};
+    ghost use Rattle.kc_expansion.specs.between.KnownFiles.{FileRead as Read};
+
+    ghost Value = { List (List ℕ × Read) };
+
+    ghost use Rattle.kc_expansion.specs.checker.FileViews.{file_of_entry};
+
+    ghost view = { λ t. map file_of_entry t.entries.entries };
+}
+
+impl FileTable {
+    /// No paths; they are hashed by this seed.
+    pub(crate) fn new(alloc: Global, seed: Seed) -> FileTable
+        ensures { result ≡ [] }
+    {
+        FileTable {
+            alloc,
+            entries: IndexMap::with_hasher(alloc, seed),
+        }
+    }
+
+    /// What was read of a path, if it was.
+    pub(crate) fn get(&self, path: &[u8]) -> Option<&FileRead>
+        ensures { option_map (λ r. file_of r.now) result ≡ keyword_in_table self.now path.now }
+    {
+        self.entries.get(path)
+    }
+
+    /// Notes what was read of a path that isn't there.
+    ///
+    /// # Errors
+    ///
+    /// Where memory runs out, nothing is changed.
+    pub(crate) fn insert(&mut self, path: &[u8], read: FileRead) -> Result<(), AllocError>
+        requires { keyword_in_table self.old path.now ≡ None }
+        ensures ok { OnOk result (self.new ≡ self.old ++ (path.now, file_of read) ∷ []) }
+        ensures err { OnErr result (self.new ≡ self.old) }
+    {
+        let path = Vec::from_slice(self.alloc, path)?;
+        self.entries.insert(path, read)?;
+        Ok(())
+    }
+}

@@ -1,0 +1,45 @@
+//! The files of a tree, from outside.
+ghost use Rattle.std.specs.Prelude.{◌≡◌, IfOk, option_map};
+ghost use Rattle.kc_expansion.specs.TextViews.{texts_of};
+ghost use Rattle.kc_expansion.specs.TreeContents.{TreeContents, OpensAs, ListsAs};
+
+use kc_value::{Seed, Source};
+use std::alloc::{AllocError, Global};
+
+/// Opens the files of a tree and lists its folders, by their paths below its root.
+pub trait TreeFiles {
+    /// The reader of an open file.
+    type File: Source + Drop;
+
+    /// What is known of each path and each folder.
+    ghost contents: { Self → TreeContents };
+
+    /// The seed by which paths and names are hashed; it changes no answer.
+    fn seed(&self) -> Seed;
+
+    /// A reader of the bytes of a regular file, also of one that a link leads to. Anything else, and what can't be opened, has
+    /// none.
+    fn open(&mut self, path: &[u8]) -> Option<Self::File>
+        ensures same { contents self.new ≡ contents self.old }
+        ensures opens { OpensAs ((contents self.old).file path.now) (option_map Self.File.Source.left result) };
+
+    /// How many bytes an open file is likely to have, and 0 where that isn't known; it changes no answer.
+    fn size_of(&self, _file: &Self::File) -> usize {
+        0
+    }
+
+    /// The names in a folder, whose path is empty or ends in a slash; `None` where there are more than `most`. A folder that
+    /// can't be listed has no names.
+    ///
+    /// # Errors
+    ///
+    /// Memory runs out.
+    fn names_in(
+        &mut self,
+        alloc: Global,
+        folder: &[u8],
+        most: usize,
+    ) -> Result<Option<Vec<Vec<u8>>>, AllocError>
+        ensures same { contents self.new ≡ contents self.old }
+        ensures lists { IfOk result (λ names. ListsAs ((contents self.old).folder folder.now) most (option_map texts_of names)) };
+}

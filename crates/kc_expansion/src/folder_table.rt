@@ -1,0 +1,65 @@
+//! The names that folders have.
+ghost use Rattle.std.specs.Prelude.{◌≡◌, [], ◌∷◌, ◌++◌, None, OnOk, OnErr, option_map};
+ghost use Rattle.kc_tree_model.specs.Keywords.{keyword_in_table};
+ghost use Rattle.kc_expansion.specs.checker.FileViews.{folder_of_names};
+
+use indexmap::IndexMap;
+use kc_value::Seed;
+use std::alloc::{AllocError, Global};
+use std::marker::Model;
+
+/// Folders, with the names in them; one with more than may be listed has none.
+#[derive(Drop)]
+pub(crate) struct FolderTable {
+    alloc: Global,
+    entries: IndexMap<Vec<u8>, Option<Vec<Vec<u8>>>, Seed>,
+}
+
+impl Model for FolderTable {
+    ghost use Rattle.std.specs.Prelude.{ℕ, List, map};
+    ghost use Rattle.kc_expansion.specs.between.KnownFiles.{FolderRead};
+
+    ghost Value = { List (List ℕ × FolderRead) };
+
+    ghost use Rattle.kc_expansion.specs.checker.FileViews.{folder_of_entry};
+
+    ghost view = { λ t. map folder_of_entry t.entries.entries };
+}
+
+impl FolderTable {
+    /// No folders; they are hashed by this seed.
+    pub(crate) fn new(alloc: Global, seed: Seed) -> FolderTable
+        ensures { result ≡ [] }
+    {
+        FolderTable {
+            alloc,
+            entries: IndexMap::with_hasher(alloc, seed),
+        }
+    }
+
+    /// The names of a folder, if it was listed.
+    pub(crate) fn get(&self, folder: &[u8]) -> Option<&Option<Vec<Vec<u8>>>>
+        ensures { option_map (λ ns. folder_of_names ns.now) result ≡ keyword_in_table self.now folder.now }
+    {
+        self.entries.get(folder)
+    }
+
+    /// Notes the names of a folder that isn't there.
+    ///
+    /// # Errors
+    ///
+    /// Where memory runs out, nothing is changed.
+    pub(crate) fn insert(
+        &mut self,
+        folder: &[u8],
+        names: Option<Vec<Vec<u8>>>,
+    ) -> Result<(), AllocError>
+        requires { keyword_in_table self.old folder.now ≡ None }
+        ensures ok { OnOk result (self.new ≡ self.old ++ (folder.now, folder_of_names names) ∷ []) }
+        ensures err { OnErr result (self.new ≡ self.old) }
+    {
+        let folder = Vec::from_slice(self.alloc, folder)?;
+        self.entries.insert(folder, names)?;
+        Ok(())
+    }
+}

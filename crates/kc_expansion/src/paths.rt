@@ -1,0 +1,71 @@
+//! Paths of a tree's files.
+ghost use Rattle.std.specs.Prelude.{◌≡◌, ◌==◌, ◌&&◌, not, ◌++◌, ◌∷◌, decimal, IfOk, if◌then◌else◌};
+ghost use Rattle.std.specs.List.{list_any};
+ghost use Rattle.kc_macros_model.specs.PathPatterns.{is_pattern, is_wildcard};
+ghost use Rattle.kc_macros_model.specs.TreeExpansion.{begins_with_slash, folder_of, list_name, place};
+ghost use Rattle.kc_expansion.specs.checker.PathViews.{path_from};
+
+use std::alloc::{AllocError, Global};
+
+/// `*` or `?`.
+pub(crate) fn is_wildcard(byte: u8) -> bool
+    ensures { result ≡ is_wildcard byte }
+{
+    byte == b'*' || byte == b'?'
+}
+
+/// Whether a path has a `*` or a `?`.
+pub(crate) fn is_pattern(path: &[u8]) -> bool
+    ensures { result ≡ is_pattern path.now }
+{
+    path.iter().any(|byte| is_wildcard(*byte))
+}
+
+/// Whether a path has a `[`.
+pub(crate) fn has_bracket(path: &[u8]) -> bool
+    ensures { result ≡ list_any (λ c. c == 91) path.now }
+{
+    path.iter().any(|byte| *byte == b'[')
+}
+
+/// Whether a path begins with a slash.
+fn begins_with_slash(path: &[u8]) -> bool
+    ensures { result ≡ begins_with_slash path.now }
+{
+    match path.first() {
+        Some(byte) => *byte == b'/',
+        None => false,
+    }
+}
+
+/// The folder of a path, with its last slash.
+fn folder_of(path: &[u8]) -> &[u8]
+    ensures { result.now ≡ folder_of path.now }
+{
+    let mut end = path.len();
+    while end > 0 && path[end - 1] != b'/' {
+        end -= 1;
+    }
+    &path[..end]
+}
+
+/// The path that a `source` means in a file; a relative one begins in the folder of the file.
+///
+/// # Errors
+///
+/// Memory runs out.
+pub(crate) fn path_meant(
+    alloc: Global,
+    relative: bool,
+    file: &[u8],
+    given: &[u8],
+) -> Result<Vec<u8>, AllocError>
+    ensures { IfOk result (λ path. path.items ≡ path_from relative file.now given.now) }
+{
+    if relative && !begins_with_slash(given) {
+        let mut path = Vec::from_slice(alloc, folder_of(file))?;
+        path.extend_from_slice(given)?;
+        return Ok(path);
+    }
+    Vec::from_slice(alloc, given)
+}

@@ -1,0 +1,3 @@
+pub mod CutSteps
+pub mod Joining
+pub mod Indented

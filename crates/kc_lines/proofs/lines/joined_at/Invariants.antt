@@ -1,0 +1,9 @@
+use Rattle.std.proofs.Common.{◌-◌, length}
+use Rattle.kc_lines.specs.between.LinePlaces.{AreJoined}
+use Rattle.kc_lines.proofs.lines.joined_at.Given as goal
+
+abbrev pub invariant-loop-begin : goal.invariant-loop-begin
+invariant-loop-begin l = AreJoined l.bytes l.fn.at l.begin l.text.items l.lines
+
+abbrev pub decreases-loop-begin : goal.decreases-loop-begin
+decreases-loop-begin l = length l.bytes - l.begin

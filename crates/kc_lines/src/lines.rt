@@ -1,0 +1,102 @@
+//! Physical lines, and the logical lines that they are joined to.
+ghost use Rattle.std.specs.Prelude.{◌≡◌, ◌<◌, ◌≤◌, IfOk, length};
+ghost use Rattle.std.specs.Cow.{cow_slice_items};
+ghost use Rattle.kc_tree_model.specs.LogicalLines.{is_continued};
+ghost use Rattle.kc_lines.specs.between.LinePlaces.{line_of, IsLineAt, IsLogicalAt};
+
+use bstr::ByteSlice;
+use std::alloc::{AllocError, Global};
+use std::borrow::CowSlice;
+
+/// A physical line: where its text ends, where the next one begins, and whether a newline ends it.
+#[derive(Clone, Copy)]
+pub struct PhysicalLine {
+    pub end: usize,
+    pub next: usize,
+    pub ended: bool,
+}
+
+/// The line at a place.
+pub fn physical_at(bytes: &[u8], at: usize) -> PhysicalLine
+    requires there { at < length bytes.now }
+    ensures line { IsLineAt bytes.now at result }
+{
+    let rest = &bytes[at..];
+    let Some(n) = rest.find_byte(b'\n') else {
+        return PhysicalLine {
+            end: bytes.len(),
+            next: bytes.len(),
+            ended: false,
+        };
+    };
+    let next = at + n + 1;
+    let end = if n > 0 && rest[n - 1] == b'\r' {
+        at + n - 1
+    } else {
+        at + n
+    };
+    PhysicalLine {
+        end,
+        next,
+        ended: true,
+    }
+}
+
+/// Whether the line at a place goes on in the next one.
+fn is_joined(bytes: &[u8], at: usize, line: PhysicalLine) -> bool
+    requires start { at ≤ line.end }
+    requires within { line.end ≤ length bytes.now }
+    ensures value { result ≡ is_continued (line_of bytes.now at line) }
+{
+    line.ended && line.end > at && bytes[line.end - 1] == b'\\'
+}
+
+/// A logical line: its bytes, where the next one begins, and how many lines it takes.
+#[derive(Drop)]
+pub struct LogicalLine<'a> {
+    pub text: CowSlice<'a, u8>,
+    pub next: usize,
+    pub lines: usize,
+}
+
+/// The logical line at a place. An `Err` means out of memory.
+pub fn logical_at(alloc: Global, bytes: &[u8], at: usize) -> Result<LogicalLine<'_>, AllocError>
+    requires there { at < length bytes.now }
+    ensures line { IfOk result (λ l. IsLogicalAt bytes.now at (cow_slice_items l.text) l.next l.lines) }
+{
+    let line = physical_at(bytes, at);
+    if is_joined(bytes, at, line) {
+        let (text, next, lines) = joined_at(alloc, bytes, at)?;
+        return Ok(LogicalLine {
+            text: CowSlice::Owned(text),
+            next,
+            lines,
+        });
+    }
+    Ok(LogicalLine {
+        text: CowSlice::Borrowed(&bytes[at..line.end]),
+        next: line.next,
+        lines: 1,
+    })
+}
+
+/// The bytes of the logical line at a place, where the next one begins, and how many lines it takes.
+fn joined_at(alloc: Global, bytes: &[u8], at: usize) -> Result<(Vec<u8>, usize, usize), AllocError>
+    requires there { at < length bytes.now }
+    ensures line { IfOk result (λ r. IsLogicalAt bytes.now at r.0.items r.1 r.2) }
+{
+    let mut text = Vec::new(alloc);
+    let mut begin = at;
+    let mut lines = 0;
+    while begin < bytes.len() {
+        let line = physical_at(bytes, begin);
+        lines += 1;
+        if !is_joined(bytes, begin, line) {
+            text.extend_from_slice(&bytes[begin..line.end])?;
+            return Ok((text, line.next, lines));
+        }
+        text.extend_from_slice(&bytes[begin..line.end - 1])?;
+        begin = line.next;
+    }
+    Ok((text, begin, lines))
+}

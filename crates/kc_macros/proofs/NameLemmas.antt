@@ -1,0 +1,95 @@
+-- The values of names that are no variables.
+use Rattle.std.proofs.Common.{◌≡◌, ◌≢◌, ℕ, zero, suc, ◌<◌, Bool, true, false, cond, List, [], ◌∷◌, length, get_or, Option, Some, None, refl, sym, ap, ◌∙◌, subst, arith}
+use Rattle.std.specs.Prelude.{decimal, codes, bytes_eq}
+use Rattle.kc_macros_model.specs.declared.fault.MacroKind.TheVariants.{Undefined, Arguments, Error}
+use Rattle.kc_macros_model.specs.declared.fault.MacroNoticeKind.TheVariants.{Info, Warning}
+use Rattle.kc_macros_model.specs.Programs.{Place, Program, returns, fails}
+use Rattle.kc_macros_model.specs.Variables.{Value, is_number, is_environment_name, BuiltIn, filename, lineno, shell, info, warning_if, error_if}
+use Rattle.kc_macros_model.specs.Expansion.{fault, reported, asked_value, message_if, shell_value, built_in_value, other_value}
+use Rattle.kc_macros.specs.checker.BuiltIns.{arity_of, message_text, said}
+
+pub no_element : {A : Type 0} (xs : List A) → length xs ≡ 0 → xs ≡ []
+no_element [] h = refl
+no_element (x ∷ xs) h = absurd (omega arith)
+
+one_element : {A : Type 0} (xs : List A) (x : A) → length xs ≡ 1 → x ≡ get_or xs 0 x → xs ≡ x ∷ []
+one_element [] x h e = absurd (omega arith)
+one_element (y ∷ ys) x h e = ap (λ z. z ∷ ys) (sym e) ∙ ap (λ zs. x ∷ zs) (no_element ys (omega arith))
+
+two_elements : {A : Type 0} (xs : List A) (x y : A) → length xs ≡ 2 → x ≡ get_or xs 0 x → y ≡ get_or xs 1 y → xs ≡ x ∷ y ∷ []
+two_elements [] x y h e f = absurd (omega arith)
+two_elements (z ∷ zs) x y h e f = ap (λ v. v ∷ zs) (sym e) ∙ ap (λ vs. x ∷ vs) (one_element zs y (omega arith) f)
+
+-- a message by its condition and its text
+message_said : (m : List ℕ → Program Value) (condition text : Value) → message_if m condition text ≡ said m (message_text condition text)
+message_said m None text = refl
+message_said m (Some condition) None = refl
+message_said m (Some condition) (Some text) = by_test (bytes_eq condition (codes "y"))
+  where
+    by_test : (b : Bool) → cond b (m text) (returns (Some [])) ≡ said m (cond b (Some text) None)
+    by_test true = refl
+    by_test false = refl
+
+info_said : (m : List ℕ → Program Value) (text : Value) → message_if m (Some (codes "y")) text ≡ said m text
+info_said m None = refl
+info_said m (Some text) = refl
+
+module _ (at : Place) (name : List ℕ) (args : List Value) where
+  pub file_named : length args ≡ 0 → built_in_value at name filename args ≡ returns (Some at.file)
+  file_named h = ap (built_in_value at name filename) (no_element args h)
+
+  pub line_named : length args ≡ 0 → built_in_value at name lineno args ≡ returns (Some (decimal at.line))
+  line_named h = ap (built_in_value at name lineno) (no_element args h)
+
+  pub shell_called : (a : Value) → length args ≡ 1 → a ≡ get_or args 0 a → built_in_value at name shell args ≡ shell_value at a
+  shell_called a h e = ap (built_in_value at name shell) (one_element args a h e)
+
+  pub info_called : (a : Value) → length args ≡ 1 → a ≡ get_or args 0 a → built_in_value at name info args ≡ said (reported at Info) a
+  info_called a h e = ap (built_in_value at name info) (one_element args a h e) ∙ info_said (reported at Info) a
+
+  pub warning_called : (a b : Value) → length args ≡ 2 → a ≡ get_or args 0 a → b ≡ get_or args 1 b → built_in_value at name warning_if args ≡ said (reported at Warning) (message_text a b)
+  warning_called a b h e f = ap (built_in_value at name warning_if) (two_elements args a b h e f) ∙ message_said (reported at Warning) a b
+
+  pub error_called : (a b : Value) → length args ≡ 2 → a ≡ get_or args 0 a → b ≡ get_or args 1 b → built_in_value at name error_if args ≡ said (fault at Error) (message_text a b)
+  error_called a b h e f = ap (built_in_value at name error_if) (two_elements args a b h e f) ∙ message_said (fault at Error) a b
+
+  pub other_with_args : 0 < length args → other_value at name args ≡ fails (record { at = at; kind = Undefined; text = name })
+  other_with_args h = by_args args h
+    where
+      by_args : (xs : List Value) → 0 < length xs → other_value at name xs ≡ fails (record { at = at; kind = Undefined; text = name })
+      by_args [] h = absurd (omega arith)
+      by_args (x ∷ xs) h = refl
+
+  pub number_ungiven : length args ≡ 0 → is_number name ≡ true → other_value at name args ≡ returns (Some [])
+  number_ungiven h n = ap (other_value at name) (no_element args h) ∙ ap (λ b. cond b (returns (Some [])) (cond (is_environment_name name) (asked_value at name) (fails (record { at = at; kind = Undefined; text = name })))) n
+
+  pub name_asked : length args ≡ 0 → is_number name ≡ false → is_environment_name name ≡ true → other_value at name args ≡ asked_value at name
+  name_asked h n e =
+      ap (other_value at name) (no_element args h) ∙ ap (λ b. cond b (returns (Some [])) (cond (is_environment_name name) (asked_value at name) (fails (record { at = at; kind = Undefined; text = name })))) n
+      ∙ ap (λ b. cond b (asked_value at name) (fails (record { at = at; kind = Undefined; text = name }))) e
+
+  pub name_undefined : length args ≡ 0 → is_number name ≡ false → is_environment_name name ≡ false → other_value at name args ≡ fails (record { at = at; kind = Undefined; text = name })
+  name_undefined h n e =
+      ap (other_value at name) (no_element args h) ∙ ap (λ b. cond b (returns (Some [])) (cond (is_environment_name name) (asked_value at name) (fails (record { at = at; kind = Undefined; text = name })))) n
+      ∙ ap (λ b. cond b (asked_value at name) (fails (record { at = at; kind = Undefined; text = name }))) e
+
+-- another count of arguments
+pub wrong_count : (at : Place) (name : List ℕ) (f : BuiltIn) (args : List Value) → length args ≢ arity_of f → built_in_value at name f args ≡ fails (record { at = at; kind = Arguments; text = name })
+wrong_count at name filename [] h = absurd (h refl)
+wrong_count at name filename (a ∷ args) h = refl
+wrong_count at name lineno [] h = absurd (h refl)
+wrong_count at name lineno (a ∷ args) h = refl
+wrong_count at name shell [] h = refl
+wrong_count at name shell (a ∷ []) h = absurd (h refl)
+wrong_count at name shell (a ∷ b ∷ args) h = refl
+wrong_count at name info [] h = refl
+wrong_count at name info (a ∷ []) h = absurd (h refl)
+wrong_count at name info (a ∷ b ∷ args) h = refl
+wrong_count at name warning_if [] h = refl
+wrong_count at name warning_if (a ∷ []) h = refl
+wrong_count at name warning_if (a ∷ b ∷ []) h = absurd (h refl)
+wrong_count at name warning_if (a ∷ b ∷ d ∷ args) h = refl
+wrong_count at name error_if [] h = refl
+wrong_count at name error_if (a ∷ []) h = refl
+wrong_count at name error_if (a ∷ b ∷ []) h = absurd (h refl)
+wrong_count at name error_if (a ∷ b ∷ d ∷ args) h = refl

@@ -1,0 +1,27 @@
+use Rattle.std.proofs.Common.{◌≡◌, ◌∙◌, ◌∷◌, ◌++◌, [], Some, None, refl, sym, ap, arith}
+use Rattle.kc_macros_model.specs.Variables.{joined_values, simple, recursive}
+use Rattle.kc_macros_model.specs.Assignments.{appends, stored_simple, variable_assigned}
+use Rattle.kc_macros.specs.Runs.{place_of}
+use Rattle.kc_macros.specs.Variables.{bindings_of, variable_of}
+use Rattle.kc_macros.specs.Assigning.{operator_of}
+use Rattle.kc_macros.proofs.RunLemmas.{runs_out, passes_on, stops_early}
+use Rattle.kc_macros.proofs.ProgramLemmas.{runs_same}
+use Rattle.kc_macros.proofs.ExpandLemmas.{fails_so}
+use Rattle.kc_macros.proofs.AssignLemmas.{stores_too_much, stores_by, stored_stopped, stored_returned, value_stored, value_unstored, bound_after, append_unstored, append_stored}
+use Rattle.kc_macros.proofs.assignments.appended.Goals as goal
+
+pub returns-in_err-more-in-Simple : goal.returns-in_err-more-in-Simple
+returns-in_err-more-in-Simple c =
+    passes_on _ _ _ _ c.in_err-more-in-Simple.field-0.0 _ c.from_residual.ensures.1
+    (append_unstored c.args.run.now c.text_value.new.run (place_of c.args.at) (bindings_of c.args.bindings.now) c.args.text.now (Some (variable_of c.args.before.now)) c.in-Simple.value (ap (λ v. Some (variable_of v)) c.in-Simple.is) c.in_err-more-in-Simple.field-0.0 c.in_err-more-in-Simple.ensures)
+
+pub returns-in_err-whole-in-Simple : goal.returns-in_err-whole-in-Simple
+returns-in_err-whole-in-Simple c = runs_out _ _ _ _ _ c.from_residual-in_err-whole-in-Simple.ensures.1
+
+pub returns-in_err-whole-in-Recursive : goal.returns-in_err-whole-in-Recursive
+returns-in_err-whole-in-Recursive c = runs_out _ _ _ _ _ c.from_residual-in_err-whole-in-Recursive.ensures.1
+
+pub returns-in_ok-whole-in-Simple : goal.returns-in_ok-whole-in-Simple
+returns-in_ok-whole-in-Simple c =
+    append_stored c.args.run.now c.text_value.new.run (place_of c.args.at) (bindings_of c.args.bindings.now) c.args.text.now (Some (variable_of c.args.before.now)) c.in-Simple.value (ap (λ v. Some (variable_of v)) c.in-Simple.is)
+    c.stored_simple.new.run c.in_ok-more-in-Simple.more c.in_ok-whole-in-Simple.whole _ c.in_ok-whole-in-Simple.ensures c.in_ok-more-in-Simple.ensures c.stored_simple.ensures

@@ -1,0 +1,6 @@
+use Rattle.std.proofs.Common.{ap, map}
+use Rattle.kc_macros.specs.Variables.{bindings_of, entry_of}
+use Rattle.kc_macros.proofs.bindings.Bindings.new.Goals as goal
+
+pub returns : goal.returns
+returns c = ap (λ es. bindings_of (map entry_of es)) c.with_hasher.ensures.empty

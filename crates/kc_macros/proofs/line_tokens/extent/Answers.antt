@@ -1,0 +1,22 @@
+use Rattle.std.proofs.Common.{◌≡◌, ◌∙◌, ◌<◌, ◌≤◌, ◌+◌, ◌-◌, true, false, take, drop, length, sym, ap, arith, rules}
+use Rattle.std.specs.Prelude.{is_some}
+use Rattle.kc_macros_model.specs.References.{item_bytes}
+use Rattle.kc_macros_model.specs.LineTokens.{run_token, quoted_token}
+use Rattle.kc_macros.specs.checker.LineTexts.{first_item_of, ends_extent}
+use Rattle.kc_macros.proofs.CutLemmas.{rest_is}
+use Rattle.kc_macros.proofs.TokenLemmas.{items_first, extent_first, extent_ends, reference_length, unterminated_length, unterminated_by, plain_item, plain_ends, unterminated_later, unterminated_here, turned, two_bytes, two_of_pair, run_by, quoted_by, whole_text, later_within, later_counted, later_unterminated}
+use Rattle.kc_macros.proofs.line_tokens.extent.Goals as goal
+
+pub items-preserved : goal.items-preserved
+items-preserved c =
+    let rest = c.items.rest.now in
+    let n = c.item_length.result in
+    let quotes = c.is_some.ensures in
+    let found = c.item_length.ensures.length in
+    let len : n ≡ length (item_bytes (first_item_of (is_some c.args.quote) rest)) = cc in
+    let some : 0 < length rest = search rules in
+    let within = c.item_length.ensures.within in
+    record {
+      within = later_within (is_some c.args.quote) rest n some len within (ends_extent c.args.quote) c.args.text.now c.items.invariant.within;
+      counted = later_counted (is_some c.args.quote) rest n some len within (ends_extent c.args.quote) c.args.text.now c.items.invariant.within (sym c.ends_extent.ensures ∙ c.if-ends_extent.false) c.items.invariant.counted;
+    }

@@ -1,0 +1,28 @@
+use Rattle.std.proofs.Common.{◌≡◌, ◌∙◌, ◌<◌, ◌∷◌, [], false, true, length, take, drop, get_or, Some, refl, sym, ap, arith, rules}
+use Rattle.kc_macros_model.specs.Programs.{returns as returns_value}
+use Rattle.kc_macros_model.specs.References.{reference, unterminated, byte, escaped, items}
+use Rattle.kc_macros_model.specs.Rewriting.{body_of, written_token}
+use Rattle.kc_macros.specs.Runs.{place_of}
+use Rattle.kc_macros.specs.Variables.{bindings_of}
+use Rattle.kc_macros.specs.WrittenTokens.{token_of}
+use Rattle.kc_macros.specs.checker.Bodies.{body_of_code, bodies_left}
+use Rattle.kc_macros.specs.checker.LineTexts.{token_view}
+use Rattle.kc_macros.proofs.RunLemmas.{runs_out, passes_on, returns_as, then_runs, stops_early, runs_nothing}
+use Rattle.kc_macros.proofs.ProgramLemmas.{runs_same, leads_same, leads_then, steps_stopped, steps_out}
+use Rattle.kc_macros.proofs.ExpandLemmas.{fails_so, returns_so}
+use Rattle.kc_macros.proofs.NameLemmas.{no_element}
+use Rattle.kc_macros.proofs.TokenLemmas.{pair_front, byte_front}
+use Rattle.kc_macros.proofs.WrittenLemmas.{plain_run, run_stays, run_is_word, run_stopped, run_valued}
+use Rattle.kc_macros.proofs.BodyLemmas.{bodies_at_first, no_body_left, nothing_written, body_begins, body_ends, quoted_stopped, quoted_returned, item_written, item_fails, value_stopped, value_written}
+use Rattle.kc_macros.proofs.quoted_tokens.written_quoted.Goals as goal
+
+pub returns-in_err-body : goal.returns-in_err-body
+returns-in_err-body c =
+    passes_on _ _ _ _ c.in_err-body.field-0.0 _ c.from_residual.ensures.1 (quoted_stopped (place_of c.args.at) (bindings_of c.args.bindings.now) c.args.quote c.args.text.now c.args.run.now c.written_body.new.run c.in_err-body.field-0.0 c.in_err-body.ensures)
+
+pub returns-in_err-token_of_body : goal.returns-in_err-token_of_body
+returns-in_err-token_of_body c = runs_out _ _ _ _ _ c.from_residual-in_err-token_of_body.ensures.1
+
+pub returns : goal.returns
+returns c =
+    quoted_returned (place_of c.args.at) (bindings_of c.args.bindings.now) c.args.quote c.args.text.now c.args.run.now c.written_body.new.run (body_of_code c.in_ok-body.body) (token_of c.in_ok-token_of_body.field-0) c.in_ok-token_of_body.ensures c.in_ok-body.ensures

@@ -1,0 +1,11 @@
+use Rattle.std.proofs.Common.{◌≡◌, ◌≤◌, drop}
+use Rattle.kc_macros_model.specs.References.{inside_length}
+use Rattle.kc_macros.proofs.CutLemmas.{after}
+use Rattle.kc_macros.proofs.references.inside_length.Given as goal
+
+-- no `)` before the place closes
+abbrev pub invariant-bytes : goal.invariant-bytes
+invariant-bytes l = record {
+  few : l.depth ≤ l.i;
+  same : inside_length 0 l.text ≡ after l.i (inside_length l.depth (drop l.i l.text));
+}

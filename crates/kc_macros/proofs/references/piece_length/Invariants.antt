@@ -1,0 +1,11 @@
+use Rattle.std.proofs.Common.{◌≡◌, ◌≤◌, take, drop}
+use Rattle.kc_macros_model.specs.References.{pieces}
+use Rattle.kc_macros.proofs.CutLemmas.{front_onto}
+use Rattle.kc_macros.proofs.references.piece_length.Given as goal
+
+-- no comma before the place parts
+abbrev pub invariant-bytes : goal.invariant-bytes
+invariant-bytes l = record {
+  few : l.depth ≤ l.i;
+  same : pieces 0 l.inside ≡ front_onto (take l.i l.inside) (pieces l.depth (drop l.i l.inside));
+}

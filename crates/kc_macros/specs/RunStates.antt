@@ -1,0 +1,34 @@
+-- The state of a run of an expansion.
+use Rattle.std.specs.Prelude.{ℕ, Bool, List, [], ◌∷◌, ◌++◌, map, if◌then◌else◌}
+use Rattle.kc_tree_model.specs.Limits.{is_in_list}
+use Rattle.kc_macros_model.specs.Limits.{max_work}
+use Rattle.kc_macros_model.specs.Programs.{Notice, Answer}
+use Rattle.kc_macros_model.specs.AnswerFiles.{Recorded}
+use Rattle.kc_macros_model.specs.Worlds.{Outcome}
+
+-- the answers, whether all questions must be answered, the work that is left, the notices so far, and the questions without an answer so far
+pub record RunState : Type 0 where
+  pub answers : Recorded
+  pub all_answered : Bool
+  pub left : ℕ
+  pub notices : List Notice
+  pub questions : List (List ℕ)
+
+-- the questions of a table
+abbrev pub questions_of : Recorded → List (List ℕ)
+questions_of es = map (λ (e : List ℕ × Answer). e.0) es
+
+abbrev pub run_at_start : Recorded → Bool → RunState
+run_at_start answers all_answered = record { answers = answers; all_answered = all_answered; left = max_work; notices = []; questions = [] }
+
+-- questions, each once in order of first sight, and one more
+abbrev pub with_question : List (List ℕ) → List ℕ → List (List ℕ)
+with_question seen question = if is_in_list question seen then seen else seen ++ question ∷ []
+
+abbrev pub with_questions : List (List ℕ) → List (List ℕ) → List (List ℕ)
+with_questions seen [] = seen
+with_questions seen (question ∷ more) = with_questions (with_question seen question) more
+
+-- a run after an outcome
+abbrev pub after_outcome : {A : Type 0} → RunState → Outcome A → RunState
+after_outcome s o = record s { left = o.left; notices = s.notices ++ o.notices; questions = with_questions s.questions o.questions }

@@ -1,0 +1,34 @@
+-- Built-in functions, as the code has them, and what they say.
+use Rattle.std.specs.Prelude.{ℕ, List, [], ◌∷◌, Option, Some, None, bytes_eq, codes, if◌then◌else◌}
+use Rattle.kc_macros_model.specs.Programs.{Program, returns}
+use Rattle.kc_macros_model.specs.Variables.{Value, BuiltIn, filename, lineno, shell, info, warning_if, error_if}
+use Rattle.kc_macros.specs.declared.built_in.BuiltIn.{BuiltIn as CodeBuiltIn}
+use Rattle.kc_macros.specs.declared.built_in.BuiltIn.TheVariants as kinds
+
+abbrev pub built_in_of : CodeBuiltIn → BuiltIn
+built_in_of kinds.Filename = filename
+built_in_of kinds.Lineno = lineno
+built_in_of kinds.Shell = shell
+built_in_of kinds.Info = info
+built_in_of kinds.WarningIf = warning_if
+built_in_of kinds.ErrorIf = error_if
+
+-- how many arguments a function takes
+abbrev pub arity_of : BuiltIn → ℕ
+arity_of filename = 0
+arity_of lineno = 0
+arity_of shell = 1
+arity_of info = 1
+arity_of warning_if = 2
+arity_of error_if = 2
+
+-- the text of a message, if it is known and its condition is `y`
+abbrev pub message_text : Value → Value → Option (List ℕ)
+message_text (Some condition) (Some text) = if bytes_eq condition (codes "y") then Some text else None
+message_text (Some condition) None = None
+message_text None text = None
+
+-- a message, if there is one
+abbrev pub said : (List ℕ → Program Value) → Option (List ℕ) → Program Value
+said message (Some text) = message text
+said message None = returns (Some [])

@@ -1,0 +1,118 @@
+//! What a run does beside its values: work, notices, questions and faults.
+ghost use Rattle.std.specs.Prelude.{◌≡◌, Some, None, IfOk, option_map};
+ghost use Rattle.kc_tree_model.specs.Keywords.{keyword_in_table};
+ghost use Rattle.kc_macros_model.specs.Variables.{value_of_answer};
+ghost use Rattle.kc_macros_model.specs.Expansion.{asked_value, reported};
+ghost use Rattle.kc_macros.specs.Runs.{place_of, fault_of, notice_of, Runs, end_of};
+ghost use Rattle.kc_macros.specs.checker.Events.{FailsWith, spent};
+
+use super::bytes::Bytes;
+use super::run::Run;
+use super::stop::{MacroFault, MacroNotice, Place, Stop};
+use kc_macros_model::{MacroKind, MacroNoticeKind};
+use std::alloc::{AllocError, Global};
+
+/// A fault with its own copies of the path and the text.
+fn new_fault(
+    alloc: Global,
+    at: Place<'_>,
+    kind: MacroKind,
+    text: &[u8],
+) -> Result<MacroFault, AllocError>
+    ensures { IfOk result (λ f. fault_of f ≡ record { at = place_of at.entry; kind = kind; text = text.now }) }
+{
+    Ok(MacroFault {
+        file: Bytes::copied(alloc, at.file)?,
+        line: at.line,
+        kind,
+        text: Bytes::copied(alloc, text)?,
+    })
+}
+
+/// The stop for a fault; want of memory where it can't be kept.
+pub(crate) fn fault(alloc: Global, at: Place<'_>, kind: MacroKind, text: &[u8]) -> Stop
+    ensures { FailsWith (record { at = place_of at.entry; kind = kind; text = text.now }) result }
+{
+    match new_fault(alloc, at, kind, text) {
+        Ok(fault) => Stop::Fault(fault),
+        Err(_) => Stop::OutOfMemory,
+    }
+}
+
+/// A notice with its own copies of the path and the text.
+fn new_notice(
+    alloc: Global,
+    at: Place<'_>,
+    kind: MacroNoticeKind,
+    text: &[u8],
+) -> Result<MacroNotice, AllocError>
+    ensures { IfOk result (λ n. notice_of n ≡ record { at = place_of at.entry; kind = kind; text = text.now }) }
+{
+    Ok(MacroNotice {
+        file: Bytes::copied(alloc, at.file)?,
+        line: at.line,
+        kind,
+        text: Bytes::copied(alloc, text)?,
+    })
+}
+
+/// Does work, if as much is left.
+pub(crate) fn spend(run: &mut Run<'_>, at: Place<'_>, work: usize) -> Result<(), Stop>
+    ensures { Runs run.old run.new (spent (place_of at.entry) work) (end_of (λ u. u) result) }
+{
+    if run.left() < work {
+        return Err(fault(run.alloc(), at, MacroKind::TooMany, b""));
+    }
+    run.take_work(work);
+    Ok(())
+}
+
+/// Gives a notice, whose value is empty.
+pub(crate) fn report(
+    run: &mut Run<'_>,
+    at: Place<'_>,
+    kind: MacroNoticeKind,
+    text: &[u8],
+) -> Result<Option<Bytes>, Stop>
+    ensures { Runs run.old run.new (reported (place_of at.entry) kind text.now) (end_of (λ v. v) result) }
+{
+    let notice = new_notice(run.alloc(), at, kind, text)?;
+    run.push_notice(notice)?;
+    Ok(Some(Bytes::from_vec(Vec::new(run.alloc()))))
+}
+
+/// A copy of the value of a question by its answer.
+fn answered_value(alloc: Global, answer: Option<&[u8]>) -> Result<Bytes, AllocError>
+    ensures { IfOk result (λ v. Some v ≡ value_of_answer (Some (option_map (λ t. t.now) answer.entry))) }
+{
+    match answer {
+        Some(text) => Bytes::copied(alloc, text),
+        None => Ok(Bytes::from_vec(Vec::new(alloc))),
+    }
+}
+
+/// The value of a question without an answer.
+fn unanswered_value(
+    run: &mut Run<'_>,
+    at: Place<'_>,
+    question: &[u8],
+) -> Result<Option<Bytes>, Stop>
+    requires { keyword_in_table run.old.answers question.now ≡ None }
+    ensures { Runs run.old run.new (asked_value (place_of at.entry) question.now) (end_of (λ v. v) result) }
+{
+    if run.all_answered() {
+        return Err(fault(run.alloc(), at, MacroKind::Unanswered, question));
+    }
+    run.note_question(question)?;
+    Ok(None)
+}
+
+/// The value of a question.
+pub(crate) fn ask(run: &mut Run<'_>, at: Place<'_>, question: &[u8]) -> Result<Option<Bytes>, Stop>
+    ensures { Runs run.old run.new (asked_value (place_of at.entry) question.now) (end_of (λ v. v) result) }
+{
+    match run.answer(question) {
+        Some(answer) => Ok(Some(answered_value(run.alloc(), answer)?)),
+        None => unanswered_value(run, at, question),
+    }
+}

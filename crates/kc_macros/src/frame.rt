@@ -1,0 +1,53 @@
+//! Where a text is expanded.
+ghost use Rattle.std.specs.Prelude.{◌≡◌, ◌∷◌, IfOk, bytes_eq};
+ghost use Rattle.std.specs.List.{list_any};
+ghost use Rattle.kc_macros_model.specs.Expansion.{is_recursion};
+ghost use Rattle.kc_macros.specs.checker.Texts.{texts_of};
+
+use super::bindings::Bindings;
+use super::built_in::is_text;
+use super::bytes::Bytes;
+use super::stop::Place;
+use std::alloc::{AllocError, Global};
+
+/// Where a text is expanded: its line, the variables, the names whose values are being expanded, the arguments of the
+/// call, and how many expansions may still be open within each other.
+#[derive(Clone, Copy)]
+pub(crate) struct Frame<'a> {
+    pub(crate) at: Place<'a>,
+    pub(crate) bindings: &'a Bindings,
+    pub(crate) names: &'a [&'a [u8]],
+    pub(crate) args: &'a [Option<Bytes>],
+    pub(crate) more: u32,
+}
+
+/// Whether a name is among those whose values are being expanded.
+fn is_open(names: &[&[u8]], name: &[u8]) -> bool
+    ensures { result ≡ list_any (λ n. bytes_eq name.now n.now) names.now }
+{
+    names.iter().any(|other| is_text(name, other))
+}
+
+/// Whether the value of a variable without arguments is being expanded already.
+pub(crate) fn is_recursion(names: &[&[u8]], name: &[u8], args: &[Option<Bytes>]) -> bool
+    ensures { result ≡ is_recursion (texts_of names.now) name.now args.now }
+{
+    if args.is_empty() {
+        return is_open(names, name);
+    }
+    false
+}
+
+/// A name before others.
+pub(crate) fn with_name<'a>(
+    alloc: Global,
+    name: &'a [u8],
+    names: &[&'a [u8]],
+) -> Result<Vec<&'a [u8]>, AllocError>
+    ensures { IfOk result (λ ns. texts_of ns.items ≡ name.now ∷ texts_of names.now) }
+{
+    let mut all = Vec::new(alloc);
+    all.push(name)?;
+    all.extend_from_slice(names)?;
+    Ok(all)
+}

@@ -1,0 +1,178 @@
+//! What a name means that is no variable: a built-in function, a parameter that wasn't given, or a name of the environment.
+ghost use Rattle.std.specs.Prelude.{◌≡◌, ◌≢◌, ◌∷◌, [], Some, length, decimal, IfOk, option_map};
+ghost use Rattle.kc_tree_model.specs.Keywords.{keyword_in_table};
+ghost use Rattle.kc_macros_model.specs.Variables.{command_question, built_ins};
+ghost use Rattle.kc_macros_model.specs.Expansion.{fault as fault_program, reported, shell_value, built_in_value, other_value, unbound_value};
+ghost use Rattle.kc_macros.specs.Runs.{place_of, Runs, end_of};
+ghost use Rattle.kc_macros.specs.checker.BuiltIns.{built_in_of, arity_of, message_text, said};
+
+use super::answer_lines::{is_environment_name, without_white_end};
+use super::built_in::{BuiltIn, arity, built_in, is_text};
+use super::bytes::Bytes;
+use super::events::{ask, fault, report};
+use super::parameter::is_number;
+use super::run::Run;
+use super::stop::{Place, Stop};
+use itoa::Buffer;
+use kc_macros_model::{MacroKind, MacroNoticeKind};
+use std::alloc::{AllocError, Global};
+
+/// The decimal digits of a number.
+fn decimal_text(alloc: Global, number: u32) -> Result<Bytes, AllocError>
+    ensures { IfOk result (λ b. b ≡ decimal number) }
+{
+    let mut buffer = Buffer::new();
+    let digits = buffer.format(number);
+    Bytes::copied(alloc, digits.as_bytes())
+}
+
+/// The question for a command.
+fn command_question(alloc: Global, command: &[u8]) -> Result<Vec<u8>, AllocError>
+    ensures { IfOk result (λ q. q.items ≡ command_question command.now) }
+{
+    let mut question = Vec::from_slice(alloc, b"$ ")?;
+    question.extend_from_slice(without_white_end(command))?;
+    Ok(question)
+}
+
+/// The answer to a command, if it is known.
+fn shell_value(
+    run: &mut Run<'_>,
+    at: Place<'_>,
+    command: &Option<Bytes>,
+) -> Result<Option<Bytes>, Stop>
+    ensures { Runs run.old run.new (shell_value (place_of at.entry) command.now) (end_of (λ v. v) result) }
+{
+    match command {
+        Some(command) => {
+            let question = command_question(run.alloc(), command.as_slice())?;
+            ask(run, at, question.as_slice())
+        }
+        None => Ok(None),
+    }
+}
+
+/// The text of a message, if it is known and its condition is `y`.
+fn message<'a>(condition: &Option<Bytes>, text: &'a Option<Bytes>) -> Option<&'a [u8]>
+    ensures { option_map (λ t. t.now) result ≡ message_text condition.now text.now }
+{
+    match condition {
+        Some(condition) if is_text(condition.as_slice(), b"y") => known_text(text),
+        _ => None,
+    }
+}
+
+/// A text, if it is known.
+fn known_text(text: &Option<Bytes>) -> Option<&[u8]>
+    ensures { option_map (λ t. t.now) result ≡ text.now }
+{
+    match text {
+        Some(text) => Some(text.as_slice()),
+        None => None,
+    }
+}
+
+/// A notice, if there is one.
+fn notice_value(
+    run: &mut Run<'_>,
+    at: Place<'_>,
+    kind: MacroNoticeKind,
+    text: Option<&[u8]>,
+) -> Result<Option<Bytes>, Stop>
+    ensures { Runs run.old run.new (said (reported (place_of at.entry) kind) (option_map (λ t. t.now) text.entry)) (end_of (λ v. v) result) }
+{
+    match text {
+        Some(text) => report(run, at, kind, text),
+        None => Ok(Some(Bytes::from_vec(Vec::new(run.alloc())))),
+    }
+}
+
+/// A fault that a tree asks for, if there is one.
+fn error_value(run: &mut Run<'_>, at: Place<'_>, text: Option<&[u8]>) -> Result<Option<Bytes>, Stop>
+    ensures { Runs run.old run.new (said (fault_program (place_of at.entry) MacroKind.Error) (option_map (λ t. t.now) text.entry)) (end_of (λ v. v) result) }
+{
+    match text {
+        Some(text) => Err(fault(run.alloc(), at, MacroKind::Error, text)),
+        None => Ok(Some(Bytes::from_vec(Vec::new(run.alloc())))),
+    }
+}
+
+/// The value of a built-in function that has its count of arguments.
+fn called_value(
+    run: &mut Run<'_>,
+    at: Place<'_>,
+    name: &[u8],
+    function: BuiltIn,
+    args: &[Option<Bytes>],
+) -> Result<Option<Bytes>, Stop>
+    requires { length args.now ≡ arity_of (built_in_of function) }
+    ensures { Runs run.old run.new (built_in_value (place_of at.entry) name.now (built_in_of function) args.now) (end_of (λ v. v) result) }
+{
+    match function {
+        BuiltIn::Filename => Ok(Some(Bytes::copied(run.alloc(), at.file)?)),
+        BuiltIn::Lineno => Ok(Some(decimal_text(run.alloc(), at.line)?)),
+        BuiltIn::Shell => shell_value(run, at, &args[0]),
+        BuiltIn::Info => notice_value(run, at, MacroNoticeKind::Info, known_text(&args[0])),
+        BuiltIn::WarningIf => {
+            notice_value(
+                run,
+                at,
+                MacroNoticeKind::Warning,
+                message(&args[0], &args[1]),
+            )
+        }
+        BuiltIn::ErrorIf => error_value(run, at, message(&args[0], &args[1])),
+    }
+}
+
+/// The value of a built-in function; another count of arguments is a fault.
+fn built_in_value(
+    run: &mut Run<'_>,
+    at: Place<'_>,
+    name: &[u8],
+    function: BuiltIn,
+    args: &[Option<Bytes>],
+) -> Result<Option<Bytes>, Stop>
+    ensures { Runs run.old run.new (built_in_value (place_of at.entry) name.now (built_in_of function) args.now) (end_of (λ v. v) result) }
+{
+    if args.len() != arity(function) {
+        return Err(fault(run.alloc(), at, MacroKind::Arguments, name));
+    }
+    called_value(run, at, name, function, args)
+}
+
+/// The value of a name that is neither a variable nor built in.
+fn other_value(
+    run: &mut Run<'_>,
+    at: Place<'_>,
+    name: &[u8],
+    args: &[Option<Bytes>],
+) -> Result<Option<Bytes>, Stop>
+    ensures { Runs run.old run.new (other_value (place_of at.entry) name.now args.now) (end_of (λ v. v) result) }
+{
+    if !args.is_empty() {
+        return Err(fault(run.alloc(), at, MacroKind::Undefined, name));
+    }
+    if is_number(name) {
+        return Ok(Some(Bytes::from_vec(Vec::new(run.alloc()))));
+    }
+    if is_environment_name(name) {
+        return ask(run, at, name);
+    }
+    Err(fault(run.alloc(), at, MacroKind::Undefined, name))
+}
+
+/// The value of a name that is no variable, under arguments.
+pub(crate) fn unbound_value(
+    run: &mut Run<'_>,
+    at: Place<'_>,
+    name: &[u8],
+    args: &[Option<Bytes>],
+) -> Result<Option<Bytes>, Stop>
+    ensures { Runs run.old run.new (unbound_value (place_of at.entry) name.now args.now (keyword_in_table built_ins name.now)) (end_of (λ v. v) result) }
+{
+    match built_in(name) {
+        Some(function) => built_in_value(run, at, name, function, args),
+        None => other_value(run, at, name, args),
+    }
+}

@@ -1,0 +1,114 @@
+//! References in a text: where one begins and ends, and its pieces.
+ghost use Rattle.std.specs.Prelude.{◌≡◌, ◌==◌, ◌&&◌, ◌<◌, ◌≤◌, ◌+◌, ◌^◌, ℕ, Bool, List, true, false, [], ◌∷◌, ◌++◌, drop, take, length, map, IfOk, IfSome, IfNone};
+ghost use Rattle.kc_macros_model.specs.References.{Item, item_bytes, open_after, inside_length, pieces, byte, reference, unterminated, items};
+ghost use Rattle.kc_macros_model.specs.ExpansionRules.{begins_reference};
+ghost use Rattle.kc_macros.specs.checker.Texts.{pieces_from, texts_of};
+
+use std::alloc::{AllocError, Global};
+
+/// How many parentheses are open after a byte.
+fn open_after(byte: u8, depth: usize) -> usize
+    requires { depth < 2 ^ 63 }
+    ensures same { result ≡ open_after byte depth }
+    ensures few { result ≤ depth + 1 }
+{
+    match byte {
+        b'(' => depth + 1,
+        b')' => depth.saturating_sub(1),
+        _ => depth,
+    }
+}
+
+/// Whether a byte is this one outside parentheses.
+fn is_outside(byte: u8, other: u8, depth: usize) -> bool
+    ensures { result ≡ (byte == other && (depth == 0)) }
+{
+    byte == other && depth == 0
+}
+
+/// How many bytes come before the first `)` that closes no `(` among them.
+pub(crate) fn inside_length(text: &[u8]) -> Option<usize>
+    ensures place { result ≡ inside_length 0 text.now }
+    ensures within { IfSome result (λ n. n < length text.now) }
+{
+    let mut depth = 0;
+    'bytes: for i in 0..text.len() {
+        let byte = text[i];
+        if is_outside(byte, b')', depth) {
+            return Some(i);
+        }
+        depth = open_after(byte, depth);
+    }
+    None
+}
+
+/// How many bytes the first piece of an inside has: those before the first comma outside parentheses.
+fn piece_length(inside: &[u8]) -> usize
+    ensures within { result ≤ length inside.now }
+    ensures pieces { pieces 0 inside.now ≡ pieces_from result inside.now }
+{
+    let mut depth = 0;
+    'bytes: for i in 0..inside.len() {
+        let byte = inside[i];
+        if is_outside(byte, b',', depth) {
+            return i;
+        }
+        depth = open_after(byte, depth);
+    }
+    inside.len()
+}
+
+/// The pieces of an inside: a name and its arguments.
+pub(crate) fn pieces(alloc: Global, inside: &[u8]) -> Result<Vec<&[u8]>, AllocError>
+    ensures { IfOk result (λ ps. texts_of ps.items ≡ pieces 0 inside.now) }
+{
+    let mut pieces = Vec::new(alloc);
+    let mut rest = inside;
+    'pieces: loop {
+        let n = piece_length(rest);
+        pieces.push(&rest[..n])?;
+        if n >= rest.len() {
+            return Ok(pieces);
+        }
+        rest = &rest[n..];
+        rest = &rest[1..];
+    }
+}
+
+/// Whether a reference begins at a place.
+pub(crate) fn begins_reference_at(text: &[u8], at: usize) -> bool
+    requires { at < length text.now }
+    ensures { result ≡ begins_reference (drop at text.now) }
+{
+    text[at] == b'$' && at + 1 < text.len() && text[at + 1] == b'('
+}
+
+/// How many bytes come before the first `$(`.
+pub(crate) fn plain_length(text: &[u8]) -> usize
+    ensures within { result ≤ length text.now }
+    ensures items { items false 0 text.now ≡ map byte (take result text.now) ++ items false 0 (drop result text.now) }
+    ensures reference { result < length text.now → begins_reference (drop result text.now) ≡ true }
+{
+    'bytes: for i in 0..text.len() {
+        if begins_reference_at(text, i) {
+            return i;
+        }
+    }
+    text.len()
+}
+
+/// The inside of the reference at the front of a text, and the bytes after it; none where it doesn't end.
+pub(crate) fn reference_at_front(text: &[u8]) -> Option<(&[u8], &[u8])>
+    requires { begins_reference text.now ≡ true }
+    ensures reference { IfSome result (λ r. (q : Bool) → items q 0 text.now ≡ reference r.0.now ∷ items q 0 r.1.now) }
+    ensures shorter { IfSome result (λ r. length r.1.now < length text.now) }
+    ensures whole { IfSome result (λ r. take (length r.0.now + 3) text.now ≡ item_bytes (reference r.0.now)) }
+    ensures fits { IfSome result (λ r. length r.0.now + 3 ≤ length text.now) }
+    ensures unterminated { IfNone result ((q : Bool) → (more : List Item) × (items q 0 text.now ≡ unterminated (drop 2 text.now) ∷ more)) }
+{
+    let after = &text[2..];
+    match inside_length(after) {
+        Some(n) => Some((&after[..n], &after[n + 1..])),
+        None => None,
+    }
+}

@@ -1,0 +1,110 @@
+//! The state of a run of an expansion: its answers, the work that is left, its notices and its open questions.
+ghost use Rattle.std.specs.Prelude.{◌≡◌, ◌-◌, ◌≤◌, [], ◌∷◌, ◌++◌, OnOk, OnErr, map, option_map};
+ghost use Rattle.kc_tree_model.specs.Keywords.{keyword_in_table};
+ghost use Rattle.kc_macros.specs.RunStates.{run_at_start, with_question};
+ghost use Rattle.kc_macros.specs.Runs.{notice_of};
+
+use super::answer_table::AnswerTable;
+use super::answers::Answers;
+use super::stop::MacroNotice;
+use kc_value::Seed;
+use std::alloc::{AllocError, Global};
+use std::marker::Model;
+
+/// The most work of a run.
+const MAX_WORK: usize = 67_108_864;
+
+/// The state of a run: the answers, whether all questions must be answered, the work that is left, the notices and the
+/// questions without an answer so far, each once in order of first sight.
+#[derive(Drop)]
+pub struct Run<'a> {
+    alloc: Global,
+    answers: &'a Answers,
+    all_answered: bool,
+    left: usize,
+    notices: Vec<MacroNotice>,
+    questions: AnswerTable,
+}
+
+impl<'a> Model for Run<'a> {
+    ghost use Rattle.std.specs.Prelude.{map};
+    ghost use Rattle.kc_macros.specs.RunStates.{RunState, questions_of};
+    ghost use Rattle.kc_macros.specs.Runs.{notice_of};
+
+    ghost Value = { RunState };
+
+    ghost view = { λ r. record { answers = r.answers.now; all_answered = r.all_answered; left = r.left; notices = map notice_of r.notices.items; questions = questions_of r.questions } };
+}
+
+impl<'a> Run<'a> {
+    /// A run that has done nothing; `all_answered` says that each question must have an answer.
+    pub fn new(alloc: Global, seed: Seed, answers: &'a Answers, all_answered: bool) -> Run<'a>
+        ensures { result ≡ run_at_start answers.now all_answered }
+    {
+        Run {
+            alloc,
+            answers,
+            all_answered,
+            left: MAX_WORK,
+            notices: Vec::new(alloc),
+            questions: AnswerTable::new(alloc, seed),
+        }
+    }
+
+    /// Where memory comes from.
+    pub fn alloc(&self) -> Global {
+        self.alloc
+    }
+
+    /// Whether each question must have an answer.
+    pub fn all_answered(&self) -> bool
+        ensures { result ≡ self.now.all_answered }
+    {
+        self.all_answered
+    }
+
+    /// The notices so far.
+    pub fn notices(&self) -> &[MacroNotice]
+        ensures { map notice_of result.now ≡ self.now.notices }
+    {
+        self.notices.as_slice()
+    }
+
+    /// The work that is left.
+    pub(crate) fn left(&self) -> usize
+        ensures { result ≡ self.now.left }
+    {
+        self.left
+    }
+
+    /// The answer to a question.
+    pub(crate) fn answer(&self, question: &[u8]) -> Option<Option<&[u8]>>
+        ensures { option_map (λ a. option_map (λ t. t.now) a) result ≡ keyword_in_table self.now.answers question.now }
+    {
+        self.answers.answer(question)
+    }
+
+    /// Takes work from what is left.
+    pub(crate) fn take_work(&mut self, work: usize)
+        requires { work ≤ self.old.left }
+        ensures { self.new ≡ record self.old { left = self.old.left - work } }
+    {
+        self.left -= work;
+    }
+
+    /// A notice more.
+    pub(crate) fn push_notice(&mut self, notice: MacroNotice) -> Result<(), AllocError>
+        ensures { OnOk result (self.new ≡ record self.old { notices = self.old.notices ++ notice_of notice ∷ [] }) }
+    {
+        self.notices.push(notice)?;
+        Ok(())
+    }
+
+    /// A question without an answer, which is noted once.
+    pub(crate) fn note_question(&mut self, question: &[u8]) -> Result<(), AllocError>
+        ensures { OnOk result (self.new ≡ record self.old { questions = with_question self.old.questions question.now }) }
+    {
+        self.questions.note(question)?;
+        Ok(())
+    }
+}

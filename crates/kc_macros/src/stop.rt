@@ -1,0 +1,62 @@
+//! Places, faults and notices of the expansion, and why it stops.
+use super::bytes::Bytes;
+use kc_macros_model::{MacroKind, MacroNoticeKind};
+use std::alloc::{AllocError, AllocFailed};
+
+/// A line of a file, by the file's path.
+#[derive(Clone, Copy)]
+pub struct Place<'a> {
+    pub file: &'a [u8],
+    pub line: u32,
+}
+
+/// Why a tree can't be expanded, and where.
+#[derive(Drop)]
+pub struct MacroFault {
+    pub file: Bytes,
+    pub line: u32,
+    pub kind: MacroKind,
+    pub text: Bytes,
+}
+
+/// A message of a tree that refuses nothing, and where it comes from.
+#[derive(Drop)]
+pub struct MacroNotice {
+    pub file: Bytes,
+    pub line: u32,
+    pub kind: MacroNoticeKind,
+    pub text: Bytes,
+}
+
+/// Why an expansion stops.
+#[derive(Drop)]
+pub enum Stop {
+    /// A fault of the tree.
+    Fault(MacroFault),
+    /// All the rest depends on a question without an answer.
+    Unanswered,
+    /// Memory ran out.
+    OutOfMemory,
+}
+
+impl From<AllocError> for Stop {
+    ghost use Rattle.std.specs.Prelude.{◌≡◌};
+    ghost use Rattle.kc_macros.specs.declared.stop.Stop.TheVariants.{OutOfMemory};
+
+    ghost from_gives = { λ _ e. e ≡ OutOfMemory };
+
+    fn from(_error: AllocError) -> Stop {
+        Stop::OutOfMemory
+    }
+}
+
+impl<T: Drop> From<AllocFailed<T>> for Stop {
+    ghost use Rattle.std.specs.Prelude.{◌≡◌};
+    ghost use Rattle.kc_macros.specs.declared.stop.Stop.TheVariants.{OutOfMemory};
+
+    ghost from_gives = { λ _ e. e ≡ OutOfMemory };
+
+    fn from(_error: AllocFailed<T>) -> Stop {
+        Stop::OutOfMemory
+    }
+}

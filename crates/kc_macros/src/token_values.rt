@@ -1,0 +1,159 @@
+//! The tokens of a line with the values of their references.
+ghost use Rattle.std.specs.Prelude.{◌≡◌, ◌==◌, ◌<◌, [], ◌∷◌, false, length, OnOk, if◌then◌else◌};
+ghost use Rattle.std.specs.List.{list_any};
+ghost use Rattle.kc_macros_model.specs.References.{is_reference, is_plain_dollar, items};
+ghost use Rattle.kc_macros_model.specs.Rewriting.{run_value, written_run, joined_bodies, body_of, body_of_value};
+ghost use Rattle.kc_macros.specs.Variables.{bindings_of};
+ghost use Rattle.kc_macros.specs.WrittenTokens.{token_of};
+ghost use Rattle.kc_macros.specs.Runs.{place_of, Runs, end_of};
+ghost use Rattle.kc_macros.specs.checker.Bodies.{body_of_code};
+ghost use Rattle.kc_macros.specs.checker.LineTexts.{first_item_of};
+
+use super::bindings::Bindings;
+use super::bytes::Bytes;
+use super::expand::text_value;
+use super::line_tokens::item_length;
+use super::references::{begins_reference_at, inside_length};
+use super::run::Run;
+use super::stop::{Place, Stop};
+use super::written::{TokenSort, WrittenToken, new_token, push_escaped, token_of_value};
+use std::alloc::AllocError;
+
+/// Whether a text has a `$`.
+fn has_dollar(text: &[u8]) -> bool
+    ensures { result ≡ list_any (λ c. c == 36) text.now }
+{
+    text.iter().any(|&byte| byte == b'$')
+}
+
+/// The value of a run, which is its own text if it has no `$`.
+pub(crate) fn run_value(
+    run: &mut Run<'_>,
+    at: Place<'_>,
+    bindings: &Bindings,
+    text: &[u8],
+) -> Result<Option<Bytes>, Stop>
+    ensures { Runs run.old run.new (run_value (place_of at.entry) (bindings_of bindings.now) text.now) (end_of (λ v. v) result) }
+{
+    if has_dollar(text) {
+        return text_value(run, at, bindings, text);
+    }
+    Ok(Some(Bytes::copied(run.alloc(), text)?))
+}
+
+/// Whether a text begins with a reference that ends.
+fn is_reference_front(text: &[u8]) -> bool
+    requires { 0 < length text.now }
+    ensures { result ≡ is_reference (first_item_of false text.now) }
+{
+    if begins_reference_at(text, 0) {
+        return inside_length(&text[2..]).is_some();
+    }
+    false
+}
+
+/// Whether a text begins with a `$` that begins no reference.
+fn is_plain_dollar_front(text: &[u8]) -> bool
+    requires { 0 < length text.now }
+    ensures { result ≡ is_plain_dollar (first_item_of false text.now) }
+{
+    if begins_reference_at(text, 0) {
+        return false;
+    }
+    text[0] == b'$'
+}
+
+/// Whether a run has a reference.
+fn has_reference(text: &[u8]) -> bool
+    ensures { result ≡ list_any is_reference (items false 0 text.now) }
+{
+    let mut rest = text;
+    'items: while !rest.is_empty() {
+        if is_reference_front(rest) {
+            return true;
+        }
+        rest = &rest[item_length(rest, false)..];
+    }
+    false
+}
+
+/// Whether a run has a `$` that begins no reference.
+fn has_plain_dollar(text: &[u8]) -> bool
+    ensures { result ≡ list_any is_plain_dollar (items false 0 text.now) }
+{
+    let mut rest = text;
+    'items: while !rest.is_empty() {
+        if is_plain_dollar_front(rest) {
+            return true;
+        }
+        rest = &rest[item_length(rest, false)..];
+    }
+    false
+}
+
+/// A run as it is written; one with a `$` that begins no reference stays, for the reader to refuse.
+pub(crate) fn written_run(
+    run: &mut Run<'_>,
+    at: Place<'_>,
+    bindings: &Bindings,
+    text: &[u8],
+) -> Result<WrittenToken, Stop>
+    ensures { Runs run.old run.new (written_run (place_of at.entry) (bindings_of bindings.now) text.now) (end_of token_of result) }
+{
+    if has_plain_dollar(text) {
+        return Ok(new_token(run.alloc(), TokenSort::Other, text, b"")?);
+    }
+    if has_reference(text) {
+        let value = text_value(run, at, bindings, text)?;
+        return Ok(token_of_value(run.alloc(), &value)?);
+    }
+    Ok(new_token(run.alloc(), TokenSort::Word, text, text)?)
+}
+
+/// Bytes between quotes so far, and the text that they mean, if it is known.
+#[derive(Drop)]
+pub(crate) struct Body {
+    pub(crate) bytes: Vec<u8>,
+    pub(crate) meaning: Vec<u8>,
+    pub(crate) known: bool,
+}
+
+/// A byte between quotes; a `$` gets a backslash.
+pub(crate) fn push_byte(out: &mut Body, byte: u8) -> Result<(), AllocError>
+    ensures { OnOk result (body_of_code out.new ≡ joined_bodies (body_of_code out.old) (body_of (if byte == 36 then 92 ∷ byte ∷ [] else byte ∷ []) (byte ∷ []))) }
+{
+    if byte == b'$' {
+        out.bytes.push(b'\\')?;
+    }
+    out.bytes.push(byte)?;
+    out.meaning.push(byte)?;
+    Ok(())
+}
+
+/// A backslash and another byte between quotes.
+pub(crate) fn push_pair(out: &mut Body, byte: u8) -> Result<(), AllocError>
+    ensures { OnOk result (body_of_code out.new ≡ joined_bodies (body_of_code out.old) (body_of (92 ∷ byte ∷ []) (byte ∷ []))) }
+{
+    out.bytes.push(b'\\')?;
+    out.bytes.push(byte)?;
+    out.meaning.push(byte)?;
+    Ok(())
+}
+
+/// The value of a reference between quotes.
+pub(crate) fn push_reference(
+    out: &mut Body,
+    quote: u8,
+    value: &Option<Bytes>,
+) -> Result<(), AllocError>
+    ensures { OnOk result (body_of_code out.new ≡ joined_bodies (body_of_code out.old) (body_of_value quote value.now)) }
+{
+    match value {
+        Some(text) => {
+            push_escaped(&mut out.bytes, quote, text.as_slice())?;
+            out.meaning.extend_from_slice(text.as_slice())?;
+        }
+        None => out.known = false,
+    }
+    Ok(())
+}

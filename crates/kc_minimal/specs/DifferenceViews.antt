@@ -1,8 +1,0 @@
--- Differences as contracts see them.
-use Rattle.kc_rules.specs.SettledViews.{value_view}
-use Rattle.kc_minimal_model.specs.Differences.{Difference}
-use Rattle.kc_minimal.specs.declared.differing.Difference.{Difference as Told}
-
--- a symbol with its two values: of a bool or tristate a tristate, else a text
-abbrev pub difference_view : Difference → Told
-difference_view d = record { symbol = d.symbol; left = value_view d.left; right = value_view d.right }

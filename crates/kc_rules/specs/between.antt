@@ -1,0 +1,2 @@
+pub mod SettledViews
+pub mod Metered

@@ -1,0 +1,27 @@
+-- The tree that known files determine.
+use Rattle.std.specs.Prelude.{◌≡◌, ◌≢◌, ℕ, ◌+◌, List, Option, Some, None, take}
+use Rattle.kc_value.specs.declared.limits.TheConstants.{MAX_TREE_BYTES}
+use Rattle.kc_expr.specs.declared.language.Language.{Language}
+use Rattle.kc_tree_model.specs.TreeFiles.{Files, index_of_file}
+use Rattle.kc_tree_model.specs.Trees.{Tree}
+use Rattle.kc_tree_model.specs.MoreFiles.{reading_from}
+use Rattle.kc_tree_model.specs.Contents.{tree_of_groups}
+use Rattle.kmin_jobs.specs.FileContents.{FileContent, AreTextsBelow, path_below}
+use Rattle.kmin_jobs.specs.Answers.{AreAccepted}
+
+-- the known bytes of a file, up to one more than a tree may have
+abbrev pub known_bytes : FileContent → Option (List ℕ)
+known_bytes None = None
+known_bytes (Some None) = None
+known_bytes (Some (Some content)) = Some (take (MAX_TREE_BYTES + 1) content)
+
+-- the tree of files in a language, with these bytes and these numbers
+abbrev pub tree_of_bytes : Language → (bytes : List ℕ → Option (List ℕ)) → (number : List ℕ → ℕ) → (first : List ℕ) → Tree
+tree_of_bytes language bytes number first = tree_of_groups (reading_from (record { language = language; bytes = bytes; number = number; root = first })).read
+
+-- Where all is known of each path below the root, texts that are accepted have the tree of the known bytes: whichever files
+-- are among the texts, it is one tree, but for the numbers of its files, which are their places among the texts.
+abbrev pub KnownFilesDetermineTheTree : Type 0
+KnownFilesDetermineTheTree = (content_of : List ℕ → FileContent) (root first : List ℕ) (texts : Files) (tree : Tree)
+    → ((path : List ℕ) → content_of (path_below root path) ≢ None) → AreTextsBelow content_of root texts → AreAccepted texts first tree
+    → tree ≡ tree_of_bytes texts.language (λ path. known_bytes (content_of (path_below root path))) (index_of_file texts) first
