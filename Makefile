@@ -36,13 +36,16 @@ test:            # the gate: proves all, tries the wrong bodies, runs every test
 	tests/random_trees
 	tests/read_in_pieces
 	tests/check_texts
+	tests/random_macros
+	tests/answer_questions
 	tests/refuse_allocations
 
 bench:           # time, memory and instructions of the libraries and the program, beside other programs
 	bench/run
 
-install: build/kmin # program, manual page and completions, below DESTDIR and PREFIX
+install: build/kmin # program, script of answers, manual page and completions, below DESTDIR and PREFIX
 	install -D -m 755 build/kmin $(DESTDIR)$(PREFIX)/bin/kmin
+	install -D -m 755 kmin-answer $(DESTDIR)$(PREFIX)/bin/kmin-answer
 	install -D -m 644 man/kmin.1 $(DESTDIR)$(PREFIX)/share/man/man1/kmin.1
 	install -D -m 644 completions/kmin.bash $(DESTDIR)$(PREFIX)/share/bash-completion/completions/kmin
 	install -D -m 644 completions/kmin.zsh $(DESTDIR)$(PREFIX)/share/zsh/site-functions/_kmin

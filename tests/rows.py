@@ -2,11 +2,14 @@
 
 A line '== NAME' begins a row; lines '# ..' after it describe it. A line '$ kmin WORD ..' has the words, quoted as in a
 shell; in a word, too, \\xNN is a byte. A line '-- NAME' begins a part: the lines up to the next such line are its bytes,
-unchanged. Parts are 'stdin', 'stdout', 'stderr', and any other name is a file in the folder where the program runs.
+unchanged. Parts are 'stdin', 'stdout', 'stderr', 'word', a last word for the program, 'environment', lines NAME=VALUE of
+variables that it has besides, and any other name is a file in the folder where the program runs.
 After the name a part may have a word:
 
     escaped    the lines are joined, and \\n, \\r, \\t, \\\\, \\" and \\xNN are bytes
     repeated   each line is COUNT TEXT: TEXT, read as escaped, COUNT times, '{}' being its number from 0
+    link       a symbolic link to the path that the part's line has
+    pipe       a named pipe that nobody writes
     full       of stdout and stderr: a device on which no byte finds room, /dev/full
     closed     of stdout and stderr: it isn't open
     endless    of stdin: zero bytes without an end, /dev/zero
@@ -31,7 +34,8 @@ TOP = os.path.dirname(os.path.dirname(os.path.realpath(__file__)))
 PROGRAM = f"{TOP}/crates/kmin/out/kmin"
 SECONDS = 120
 COMMANDS = ("full", "min", "missed", "check", "compare")
-OPTIONS = ("--root", "--tree", "--prefix", "--imply")
+OPTIONS = ("--root", "--tree", "--language", "--prefix", "--imply")
+EXPANDING = ("--expand", "--answers", "--define", "--env")
 
 
 def unescaped(text):
@@ -90,11 +94,28 @@ def feed(stream, data):
         pass
 
 
+def content(how, text):
+    """The bytes of a part's text."""
+    if how == "escaped":
+        return unescaped("".join(text.splitlines()))
+    if how == "repeated":
+        return repeated(text.splitlines())
+    if how:
+        raise ValueError(f"no part has the form {how}")
+    return text.encode()
+
+
+def environment_of(settings):
+    """Settings as bytes."""
+    return {os.fsencode(key): os.fsencode(value) for key, value in settings.items()}
+
+
 class Row:
     def __init__(self, text):
         self.words, self.status, self.memory = [], 0, 0
         self.is_long = self.is_large = False
         self.parts, self.special = {"stdin": b"", "stdout": b"", "stderr": b""}, {}
+        self.links, self.pipes, self.environment = {}, [], {}
         head, *parts = re.split(r"^-- ", text, flags=re.M)
         self.name, *lines = head.splitlines()
         for line in lines:
@@ -119,16 +140,18 @@ class Row:
             self.is_long = True
         elif name == "large":
             self.is_long = self.is_large = True
+        elif how == "link":
+            self.links[name] = text.rstrip("\n")
+        elif how == "pipe":
+            self.pipes.append(name)
+        elif name == "word":
+            self.words.append(content(how, text).decode())
+        elif name == "environment":
+            self.environment.update(line.split(b"=", 1) for line in content(how, text).splitlines())
         elif how in ("full", "closed", "endless"):
             self.special[name] = how
-        elif how == "escaped":
-            self.parts[name] = unescaped("".join(text.splitlines()))
-        elif how == "repeated":
-            self.parts[name] = repeated(text.splitlines())
-        elif not how:
-            self.parts[name] = text.encode()
         else:
-            raise ValueError(f"{self.name}: {name} has no form {how}")
+            self.parts[name] = content(how, text)
 
     def files(self):
         """The files of the folder where the program runs."""
@@ -138,6 +161,14 @@ class Row:
         """Writes these files."""
         for name, data in self.files().items():
             write_file(folder, name, data)
+        for name, target in self.links.items():
+            os.symlink(target, f"{folder}/{name}")
+        for name in self.pipes:
+            os.mkfifo(f"{folder}/{name}")
+
+    def is_expanded(self):
+        """Whether the words ask for an expansion of the tree."""
+        return self.words[:1] == ["wants"] or any(os.fsdecode(word).partition("=")[0] in EXPANDING for word in self.words)
 
     def is_bundle(self):
         """Whether the program reads a bundle that ends."""
@@ -168,14 +199,15 @@ class Row:
             with tempfile.TemporaryDirectory(prefix="kmin-row-") as made:
                 self.place(made)
                 return self.run(made, settings)
-        words, streams = [PROGRAM, *self.words], {"env": {**os.environ, **settings}}
+        words, streams = [PROGRAM, *self.words], {"env": {**os.environb, **environment_of(settings), **self.environment}}
         if self.memory:
             words = ["sh", "-c", f'ulimit -v {self.memory} && exec "$@"', "", *words]
         for name, number in (("stdout", 1), ("stderr", 2)):
             how = self.special.get(name)
             streams[name] = open("/dev/full", "wb") if how == "full" else subprocess.PIPE
             if how == "closed":
-                words = ["sh", "-c", f'exec "$@" {number}>&-', "", "env", *(f"{key}={value}" for key, value in settings.items()), *words]
+                variables = {**environment_of(settings), **self.environment}
+                words = ["sh", "-c", f'exec "$@" {number}>&-', "", "env", *(key + b"=" + value for key, value in variables.items()), *words]
                 streams["env"] = None
         if self.special.get("stdin") == "unended":
             return self.run_unended(words, cwd=folder, **streams)

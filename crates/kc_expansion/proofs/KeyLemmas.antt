@@ -5,7 +5,7 @@ use Rattle.std.specs.List.{list_any, IsDistinct, AllByRecursion}
 use Rattle.std.specs.Map.{lookup}
 use Rattle.std.specs.declared.alloc.Global.{Global}
 use Rattle.indexmap.specs.IndexMap.{insert_entry}
-use Rattle.kc_macros_model.specs.ReadingStates.{ExpandedFile, has_key, is_taken, free_key}
+use Rattle.kc_macros_model.specs.ReadingStates.{ExpandedFile, has_key, is_taken, free_key, key_of}
 use Rattle.kc_expansion.specs.declared.expanded_files.FileOfKey.{FileOfKey}
 use Rattle.kc_expansion.specs.checker.ExpandedViews.{expanded_file, HasDistinctKeys, with_file}
 use Rattle.kc_expansion.proofs.TableLemmas.{bytes_eq_turned}
@@ -102,3 +102,18 @@ kept_new key path text files e = sym (ap (λ b. cond b files (files ++ record { 
 
 pub kept_there : (key path text : List ℕ) (files : List ExpandedFile) → has_key files key ≡ true → files ≡ with_file key path text files
 kept_there key path text files e = sym (ap (λ b. cond b files (files ++ record { key = key; path = path; text = text } ∷ [])) e)
+
+-- a path that is no key is free
+no_other : (key text : List ℕ) (files : List ExpandedFile) → has_key files key ≡ false → list_any (λ (f : ExpandedFile). bytes_eq f.key key && not (bytes_eq f.text text)) files ≡ false
+no_other key text [] h = refl
+no_other key text (f ∷ fs) h = by_test (bytes_eq f.key key) (no_other key text fs) h
+  where
+    by_test : (b : Bool) → (has_key fs key ≡ false → list_any (λ (f : ExpandedFile). bytes_eq f.key key && not (bytes_eq f.text text)) fs ≡ false) → (b || has_key fs key) ≡ false
+        → ((b && not (bytes_eq f.text text)) || list_any (λ (f : ExpandedFile). bytes_eq f.key key && not (bytes_eq f.text text)) fs) ≡ false
+    by_test true ih e = absurd (let z : true ≡ false = e in let y : ⊥ = cc in y)
+    by_test false ih e = ih e
+
+pub path_is_free : (root : List ℕ) (files : List ExpandedFile) (path text : List ℕ) → bytes_eq path root ≡ false → has_key files path ≡ false → key_of root files path text ≡ path
+path_is_free root files path text e h =
+    ap (λ b. elim b as (λ x. List ℕ) [ true ↦ free_key (length files) root files path text (path ++ 35 ∷ decimal 2) 3 | false ↦ path ])
+    (ap (λ b. b || list_any (λ (f : ExpandedFile). bytes_eq f.key path && not (bytes_eq f.text text)) files) e ∙ no_other path text files h)

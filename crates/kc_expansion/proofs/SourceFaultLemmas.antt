@@ -1,17 +1,21 @@
 -- Faults of `source` lines.
-use Rattle.std.proofs.Common.{◌≡◌, ℕ, ◌+◌, ◌<◌, ◌≤◌, Bool, true, false, cond, ◌||◌, List, [], ◌∷◌, ◌++◌, length, reverse, drop, get_or, Option, Some, None, refl, sym, ap, ◌∙◌, ◌⊎◌, inl, inr, arith}
-use Rattle.std.specs.Prelude.{Vec, bytes_eq, nat_le, nat_lt}
+use Rattle.std.proofs.Common.{◌≡◌, ℕ, ◌+◌, ◌<◌, ◌≤◌, Bool, true, false, cond, ◌||◌, List, [], ◌∷◌, ◌++◌, length, reverse, Option, Some, None, refl, ap, ◌∙◌, subst, arith}
+use Rattle.std.specs.Prelude.{bytes_eq, nat_le, nat_lt}
+use Rattle.std.specs.Borrow.{Bor}
+use Rattle.std.specs.List.{list_any}
 use Rattle.std.proofs.lemmas.Bool.Decides.{nat_tests}
-use Rattle.std.proofs.lemmas.List.{reverse-append, length-reverse, length-map}
-use Rattle.std.specs.declared.alloc.Global.{Global}
+use Rattle.std.proofs.lemmas.List.{reverse-append}
 use Rattle.kc_tree_model.specs.Limits.{is_in_list}
 use Rattle.kc_macros_model.specs.declared.fault.MacroKind.TheVariants.{SourceLoop, MissingFile, TooDeep, TooMany}
 use Rattle.kc_macros_model.specs.Limits.{max_files, max_bytes, max_open_files}
 use Rattle.kc_macros_model.specs.ReadingStates.{ReadingState}
 use Rattle.kc_macros_model.specs.TreeExpansion.{source_fault}
-use Rattle.kc_expansion.specs.TextViews.{items_of}
-use Rattle.kc_expansion.specs.checker.Sizes.{IsSize}
-use Rattle.kc_expansion.proofs.PatternLemmas.{cut_items}
+use Rattle.kc_macros_model.specs.declared.fault.MacroKind.{MacroKind}
+use Rattle.kc_expansion.specs.declared.source_faults.ReadCounts.{ReadCounts}
+use Rattle.kc_expansion.specs.between.KnownFiles.{FileRead, missing, whole, too_long, AreBytes}
+use Rattle.kc_expansion.specs.checker.Sizes.{size_fault}
+use Rattle.kc_expansion.specs.checker.Slices.{slices_of}
+use Rattle.kc_expansion.specs.checker.ReadingViews.{MayBeRead, MayNotBeRead}
 
 any_both : (x : List ℕ) (xs ys : List (List ℕ)) → is_in_list x (xs ++ ys) ≡ (is_in_list x xs || is_in_list x ys)
 any_both x [] ys = refl
@@ -32,40 +36,91 @@ pub in_reverse : (x : List ℕ) (xs : List (List ℕ)) → is_in_list x (reverse
 in_reverse x [] = refl
 in_reverse x (y ∷ xs) = ap (is_in_list x) (reverse-append (y ∷ []) xs) ∙ any_both x (reverse xs) (y ∷ []) ∙ or_turned (is_in_list x (reverse xs)) (bytes_eq y x) ∙ ap (λ b. bytes_eq y x || b) (in_reverse x xs)
 
+-- whether a path is open
+pub open_by : (path : List ℕ) (os : List (Bor (List ℕ))) → list_any (λ (o : Bor (List ℕ)). bytes_eq o.now path) os ≡ is_in_list path (slices_of os)
+open_by path [] = refl
+open_by path (o ∷ os) = ap (λ b. bytes_eq o.now path || b) (open_by path os)
+
 module _ (open_files : List (List ℕ)) (s : ReadingState) (path : List ℕ) where
-  pub loop_fault : (bytes : Option (List ℕ)) → is_in_list path open_files ≡ true → Some SourceLoop ≡ source_fault open_files s path bytes
-  loop_fault None e = ap (λ b. cond b (Some SourceLoop) (Some MissingFile)) (sym e)
-  loop_fault (Some there) e = ap (λ b. cond b (Some SourceLoop) (cond (nat_le max_open_files (length open_files)) (Some TooDeep) (cond (nat_le max_files s.files || nat_lt max_bytes (s.bytes + length there)) (Some TooMany) None))) (sym e)
+  pub loop_fault : (bytes : Option (List ℕ)) → is_in_list path open_files ≡ true → source_fault open_files s path bytes ≡ Some SourceLoop
+  loop_fault None e = ap (λ b. cond b (Some SourceLoop) (Some MissingFile)) e
+  loop_fault (Some there) e = ap (λ b. cond b (Some SourceLoop) (size_fault (length open_files) s.files (s.bytes + length there))) e
 
-  pub missing_fault : (bytes : Option (List ℕ)) → is_in_list path open_files ≡ false → bytes ≡ None → Some MissingFile ≡ source_fault open_files s path bytes
-  missing_fault bytes e m = ap (λ b. cond b (Some SourceLoop) (Some MissingFile)) (sym e) ∙ ap (source_fault open_files s path) (sym m)
-
-  both_many : (a : Bool) (n m : ℕ) → (n ≡ m) ⊎ ((max_bytes < n) × (max_bytes < m)) → (a || nat_lt max_bytes (s.bytes + n)) ≡ (a || nat_lt max_bytes (s.bytes + m))
-  both_many a n m (inl e) = ap (λ k. a || nat_lt max_bytes (s.bytes + k)) e
-  both_many a n m (inr (h, k)) = ap (λ b. a || b) (many n h ∙ sym (many m k))
-    where
-      many : (k : ℕ) → max_bytes < k → nat_lt max_bytes (s.bytes + k) ≡ true
-      many k h = grind (arith, nat_tests)
+  pub missing_fault : (bytes : Option (List ℕ)) → is_in_list path open_files ≡ false → bytes ≡ None → source_fault open_files s path bytes ≡ Some MissingFile
+  missing_fault bytes e m = ap (source_fault open_files s path) m ∙ ap (λ b. cond b (Some SourceLoop) (Some MissingFile)) e
 
   -- the fault of a file that is there and isn't open
-  pub fault_of_size : (bytes : Option (List ℕ)) (n : ℕ) (deep many : Bool) → is_in_list path open_files ≡ false → IsSize (Some n) bytes → nat_le max_open_files (length open_files) ≡ deep
-      → (nat_le max_files s.files || nat_lt max_bytes (s.bytes + n)) ≡ many → cond deep (Some TooDeep) (cond many (Some TooMany) None) ≡ source_fault open_files s path bytes
-  fault_of_size bytes n deep many e (there, b, size) d m =
-      ap (λ x. cond x (Some TooDeep) (cond many (Some TooMany) None)) (sym d)
-      ∙ ap (λ x. cond (nat_le max_open_files (length open_files)) (Some TooDeep) (cond x (Some TooMany) None)) (sym m ∙ both_many (nat_le max_files s.files) n (length there) size)
-      ∙ ap (λ x. cond x (Some SourceLoop) (cond (nat_le max_open_files (length open_files)) (Some TooDeep) (cond (nat_le max_files s.files || nat_lt max_bytes (s.bytes + length there)) (Some TooMany) None))) (sym e)
-      ∙ ap (source_fault open_files s path) (sym b)
+  pub fault_of_size : (bytes : Option (List ℕ)) (there : List ℕ) → is_in_list path open_files ≡ false → bytes ≡ Some there → source_fault open_files s path bytes ≡ size_fault (length open_files) s.files (s.bytes + length there)
+  fault_of_size bytes there e m = ap (source_fault open_files s path) m ∙ ap (λ b. cond b (Some SourceLoop) (size_fault (length open_files) s.files (s.bytes + length there))) e
 
-pub deep_by : (vs : List (Vec ℕ Global)) → 32 ≤ length vs → nat_le max_open_files (length (reverse (items_of vs))) ≡ true
-deep_by vs h = let a = length-reverse (items_of vs) in let b = length-map vs (λ (v : Vec ℕ Global). v.items) in let k : 32 ≤ length (reverse (items_of vs)) = omega arith in grind (arith, nat_tests)
+-- a limit that is passed
+pub fault_too_deep : (n files bytes : ℕ) → 32 ≤ n → size_fault n files bytes ≡ Some TooDeep
+fault_too_deep n files bytes h = ap (λ b. cond b (Some TooDeep) (cond (nat_le max_files files || nat_lt max_bytes bytes) (Some TooMany) None)) (let e : nat_le max_open_files n ≡ true = grind (arith, nat_tests) in e)
 
-pub not_deep_by : (vs : List (Vec ℕ Global)) → length vs < 32 → nat_le max_open_files (length (reverse (items_of vs))) ≡ false
-not_deep_by vs h = let a = length-reverse (items_of vs) in let b = length-map vs (λ (v : Vec ℕ Global). v.items) in let k : length (reverse (items_of vs)) < 32 = omega arith in grind (arith, nat_tests)
+pub fault_too_many : (n files bytes : ℕ) → n < 32 → 67108864 < bytes → size_fault n files bytes ≡ Some TooMany
+fault_too_many n files bytes h k =
+    ap (λ b. cond b (Some TooDeep) (cond (nat_le max_files files || nat_lt max_bytes bytes) (Some TooMany) None)) (let e : nat_le max_open_files n ≡ false = grind (arith, nat_tests) in e)
+    ∙ ap (λ b. cond (nat_le max_files files || b) (Some TooMany) None) (let e : nat_lt max_bytes bytes ≡ true = grind (arith, nat_tests) in e)
+    ∙ ap (λ b. cond b (Some TooMany) None) (or_true (nat_le max_files files))
+  where
+    or_true : (b : Bool) → (b || true) ≡ true
+    or_true true = refl
+    or_true false = refl
+
+-- no limit is passed
+pub no_limit_passed : (n files bytes : ℕ) → size_fault n files bytes ≡ None → (n < 32) × (files < 4096) × (bytes ≤ 67108864)
+no_limit_passed n files bytes h = by_tests (nat_le max_open_files n) (nat_le max_files files) (nat_lt max_bytes bytes) refl refl refl h
+  where
+    by_tests : (a b c : Bool) → nat_le max_open_files n ≡ a → nat_le max_files files ≡ b → nat_lt max_bytes bytes ≡ c → cond a (Some TooDeep) (cond (b || c) (Some TooMany) None) ≡ None → (n < 32) × (files < 4096) × (bytes ≤ 67108864)
+    by_tests true b c d e f h = absurd (let z : ⊥ = cc in z)
+    by_tests false true c d e f h = absurd (let z : ⊥ = cc in z)
+    by_tests false false true d e f h = absurd (let z : ⊥ = cc in z)
+    by_tests false false false d e f h = (
+      let x : n < 32 = grind (arith, nat_tests) in x,
+      let x : files < 4096 = grind (arith, nat_tests) in x,
+      let x : bytes ≤ 67108864 = grind (arith, nat_tests) in x,
+    )
 
 -- counts that are those of a state
-pub many_by : (s : ReadingState) (files bytes n : ℕ) (b : Bool) → s.files ≡ files → s.bytes ≡ bytes → b ≡ (nat_le max_files files || nat_lt max_bytes (bytes + n)) → (nat_le max_files s.files || nat_lt max_bytes (s.bytes + n)) ≡ b
-many_by s files bytes n b f g e = ap (λ k. nat_le max_files k || nat_lt max_bytes (s.bytes + n)) f ∙ ap (λ k. nat_le max_files files || nat_lt max_bytes (k + n)) g ∙ sym e
+pub fault_counted : (n files bytes len : ℕ) (s : ReadingState) → s.files ≡ files → s.bytes ≡ bytes → size_fault n s.files (s.bytes + len) ≡ size_fault n files (bytes + len)
+fault_counted n files bytes len s f g = ap (λ k. size_fault n k (s.bytes + len)) f ∙ ap (λ k. size_fault n files (k + len)) g
 
--- the open file at a place
-pub open_here : (vs : List (Vec ℕ Global)) (i : ℕ) (v : Vec ℕ Global) (path : List ℕ) → i < length vs → v ≡ get_or vs i v → is_in_list path (items_of (drop i vs)) ≡ (bytes_eq v.items path || is_in_list path (items_of (drop (i + 1) vs)))
-open_here vs i v path h e = ap (is_in_list path) (cut_items vs i v h e)
+module _ (open_files : List (List ℕ)) (counts : ReadCounts) (path : List ℕ) (read : FileRead) where
+  pub refused_open : is_in_list path open_files ≡ true → MayNotBeRead open_files counts path read SourceLoop
+  refused_open e = record { is_fault = λ s c bytes h. loop_fault open_files s path bytes e }
+
+  pub refused_missing : is_in_list path open_files ≡ false → read ≡ missing → MayNotBeRead open_files counts path read MissingFile
+  refused_missing e m = record { is_fault = λ s c bytes h. missing_fault open_files s path bytes e (subst (λ (r : FileRead). AreBytes r bytes) m h) }
+
+  module _ (there : List ℕ) (e : is_in_list path open_files ≡ false) (m : read ≡ whole there) where
+    abbrev fault_now : Option MacroKind
+    fault_now = size_fault (length open_files) counts.files (counts.bytes + length there)
+
+    pub refused_whole : (kind : MacroKind) → fault_now ≡ Some kind → MayNotBeRead open_files counts path read kind
+    refused_whole kind f = record {
+      is_fault = λ s c bytes h. fault_of_size open_files s path bytes there e (subst (λ (r : FileRead). AreBytes r bytes) m h) ∙ fault_counted (length open_files) counts.files counts.bytes (length there) s c.files c.bytes ∙ f;
+    }
+
+    pub read_whole : fault_now ≡ None → MayBeRead open_files counts path read there
+    read_whole f =
+        let w = no_limit_passed (length open_files) counts.files (counts.bytes + length there) f in
+        record {
+          is_whole = m;
+          no_fault = λ s c. fault_of_size open_files s path (Some there) there e refl ∙ fault_counted (length open_files) counts.files counts.bytes (length there) s c.files c.bytes ∙ f;
+          few_files = w.1;
+          few_bytes = w.2;
+          few_open = w.0;
+        }
+
+  module _ (e : is_in_list path open_files ≡ false) (m : read ≡ too_long) where
+    pub refused_deep : 32 ≤ length open_files → MayNotBeRead open_files counts path read TooDeep
+    refused_deep d = record { is_fault = λ s c bytes h. deep s bytes (subst (λ (r : FileRead). AreBytes r bytes) m h) }
+      where
+        deep : (s : ReadingState) (bytes : Option (List ℕ)) → AreBytes too_long bytes → source_fault open_files s path bytes ≡ Some TooDeep
+        deep s bytes (more, b, l) = fault_of_size open_files s path bytes more e b ∙ fault_too_deep (length open_files) s.files (s.bytes + length more) d
+
+    pub refused_long : length open_files < 32 → MayNotBeRead open_files counts path read TooMany
+    refused_long d = record { is_fault = λ s c bytes h. long s bytes (subst (λ (r : FileRead). AreBytes r bytes) m h) }
+      where
+        long : (s : ReadingState) (bytes : Option (List ℕ)) → AreBytes too_long bytes → source_fault open_files s path bytes ≡ Some TooMany
+        long s bytes (more, b, l) = fault_of_size open_files s path bytes more e b ∙ fault_too_many (length open_files) s.files (s.bytes + length more) d (let x : 67108864 < s.bytes + length more = omega (arith, l) in x)

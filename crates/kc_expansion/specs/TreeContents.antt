@@ -33,10 +33,13 @@ abbrev pub IsFolderRead : FolderContent → List (List ℕ) → Type 0
 IsFolderRead None names = Unit {0}
 IsFolderRead (Some known) names = names ≡ known
 
--- what is known of each path and each folder
+-- what is known of each path and each folder of a tree, and what stays as it is while a tree is read, though nothing here reads
+-- it: what is known of paths beside the tree, and where the files are read through a reference, its name
 pub record TreeContents : Type 0 where
   pub file : List ℕ → FileContent
   pub folder : List ℕ → FolderContent
+  pub beside : List ℕ → FileContent
+  pub reference : ℕ
 
 -- a world of these files and folders
 pub record IsWorldOf (contents : TreeContents) (w : World) : Type 0 where

@@ -1,2 +1,3 @@
 pub mod KnownFiles
 pub mod FileRuns
+pub mod Reads

@@ -5,3 +5,11 @@ pub mod PatternRuns
 pub mod ExpandedViews
 pub mod WrittenViews
 pub mod Sizes
+pub mod Leads
+pub mod ReadingViews
+pub mod ChoiceViews
+pub mod Slices
+pub mod KeptLines
+pub mod LineViews
+pub mod ExpansionViews
+pub mod HelpWords

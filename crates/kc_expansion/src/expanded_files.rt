@@ -1,8 +1,11 @@
 //! Expanded files and their keys.
-ghost use Rattle.std.specs.Prelude.{◌≡◌, ◌<◌, ◌^◌, ℕ, List, [], ◌∷◌, ◌++◌, decimal, length, IfOk, OnOk, OnErr, if◌then◌else◌};
+ghost use Rattle.std.specs.Prelude.{◌≡◌, ◌<◌, ◌^◌, ℕ, false, List, [], ◌∷◌, ◌++◌, decimal, length, IfOk, OnOk, OnErr, option_map, slice_get, if◌then◌else◌};
+ghost use Rattle.kc_expansion.specs.ExpandedTexts.{file_of_slices};
 ghost use Rattle.kc_macros_model.specs.ReadingStates.{is_taken, has_key, key_of};
+ghost use Rattle.kc_expansion.specs.PathsOfKeys.{path_of_key};
 ghost use Rattle.kc_expansion.specs.checker.ExpandedViews.{HasDistinctKeys, with_file};
 
+use super::expanded_tree::ExpandedText;
 use indexmap::IndexMap;
 use itoa::Buffer;
 use kc_value::Seed;
@@ -66,6 +69,20 @@ impl ExpandedFiles {
         self.files.len()
     }
 
+    /// The file at a place, if there are so many.
+    pub(crate) fn get(&self, at: usize) -> Option<ExpandedText<'_>>
+        ensures { option_map file_of_slices result ≡ slice_get self.now at }
+    {
+        match self.files.get_index(at) {
+            Some((key, file)) => Some(ExpandedText {
+                key,
+                path: &file.path,
+                text: &file.text,
+            }),
+            None => None,
+        }
+    }
+
     /// Whether there is a file with this key.
     fn has_key(&self, key: &[u8]) -> bool
         ensures { result ≡ has_key self.now key.now }
@@ -103,6 +120,37 @@ impl ExpandedFiles {
         Ok(key)
     }
 
+    /// Keeps a text under a key that no file has.
+    fn push(&mut self, key: &[u8], path: &[u8], text: Rc<Vec<u8>>) -> Result<(), AllocError>
+        requires { has_key self.old key.now ≡ false }
+        ensures ok { OnOk result (self.new ≡ self.old ++ record { key = key.now; path = path.now; text = text.value.items } ∷ []) }
+        ensures err { OnErr result (self.new ≡ self.old) }
+    {
+        let path = Vec::from_slice(self.alloc, path)?;
+        let key = Vec::from_slice(self.alloc, key)?;
+        self.files.insert(key, FileOfKey { path, text })?;
+        Ok(())
+    }
+
+    /// Keeps the text that was read for a path whose key may be another, as another file has that path.
+    fn keep_beside(
+        &mut self,
+        root: &[u8],
+        path: &[u8],
+        text: Rc<Vec<u8>>,
+    ) -> Result<Vec<u8>, AllocError>
+        ensures key { IfOk result (λ key. key.items ≡ key_of root.now self.old path.now text.value.items) }
+        ensures ok { IfOk result (λ key. self.new ≡ with_file (key_of root.now self.old path.now text.value.items) path.now text.value.items self.old) }
+        ensures err { OnErr result (self.new ≡ self.old) }
+    {
+        let key = self.key_of(root, path, &text)?;
+        if self.has_key(&key) {
+            return Ok(key);
+        }
+        self.push(&key, path, text)?;
+        Ok(key)
+    }
+
     /// Keeps the text that was read for a path, and returns its key; a text that is there under its key isn't kept twice.
     ///
     /// # Errors
@@ -118,12 +166,19 @@ impl ExpandedFiles {
         ensures ok { IfOk result (λ key. self.new ≡ with_file (key_of root.now self.old path.now text.value.items) path.now text.value.items self.old) }
         ensures err { OnErr result (self.new ≡ self.old) }
     {
-        let key = self.key_of(root, path, &text)?;
-        if !self.has_key(&key) {
-            let path = Vec::from_slice(self.alloc, path)?;
-            let copy = Vec::from_slice(self.alloc, &key)?;
-            self.files.insert(copy, FileOfKey { path, text })?;
+        if path == root || self.has_key(path) {
+            return self.keep_beside(root, path, text);
         }
+        let key = Vec::from_slice(self.alloc, path)?;
+        self.push(&key, path, text)?;
         Ok(key)
+    }
+
+    /// The path that was read for a key, if a file has it.
+    pub(crate) fn path_of(&self, key: &[u8]) -> Option<&[u8]>
+        ensures { option_map (λ p. p.now) result ≡ path_of_key self.now key.now }
+    {
+        let file = self.files.get(key)?;
+        Some(file.path.as_slice())
     }
 }

@@ -71,7 +71,7 @@ pub(crate) fn read_file<F: TreeFiles>(
     ensures same { F.contents files.new ≡ F.contents files.old }
     ensures matched { IfOk result (λ read. MatchFile ((F.contents files.old).file path.now) (file_of read)) }
 {
-    match files.open(path) {
+    match files.open(alloc, path)? {
         Some(mut reader) => {
             let room = files.size_of(&reader).min(MAX_READ);
             read_bytes(alloc, &mut reader, room)

@@ -19,9 +19,13 @@ pub trait TreeFiles {
 
     /// A reader of the bytes of a regular file, also of one that a link leads to. Anything else, and what can't be opened, has
     /// none.
-    fn open(&mut self, path: &[u8]) -> Option<Self::File>
+    ///
+    /// # Errors
+    ///
+    /// Memory runs out.
+    fn open(&mut self, alloc: Global, path: &[u8]) -> Result<Option<Self::File>, AllocError>
         ensures same { contents self.new ≡ contents self.old }
-        ensures opens { OpensAs ((contents self.old).file path.now) (option_map Self.File.Source.left result) };
+        ensures opens { IfOk result (λ reader. OpensAs ((contents self.old).file path.now) (option_map Self.File.Source.left reader)) };
 
     /// How many bytes an open file is likely to have, and 0 where that isn't known; it changes no answer.
     fn size_of(&self, _file: &Self::File) -> usize {

@@ -1,17 +1,33 @@
 //! The expansion of a tree: its files are read as their lines source them, and written with the values of macros.
 #![tactic(auto)]
 
+mod choice_names;
 mod expanded_files;
+mod expanded_tree;
+mod expansion;
+mod faults;
 mod file_read;
 mod file_table;
 mod files;
 mod folder_table;
+mod help_words;
+mod kept_lines;
+mod laws;
+mod line_places;
+mod line_steps;
 mod matching;
+mod open_files;
 mod paths;
 mod patterns;
+mod reading;
 mod source_faults;
 mod source_lines;
+mod source_paths;
 mod store;
+mod tree_reading;
 mod written_file;
 
+pub use expanded_tree::{ExpandedText, ExpandedTree};
+pub use expansion::{Expansion, expand, wants};
 pub use files::TreeFiles;
+pub use laws::{accepted_lines_stay, accepted_trees_stay, expanded_trees_stay};

@@ -73,7 +73,7 @@ pub(crate) fn matches(alloc: Global, piece: &[u8], name: &[u8]) -> Result<bool, 
 }
 
 /// Whether bytes are UTF-8.
-fn is_utf8(bytes: &[u8]) -> bool
+pub(crate) fn is_utf8(bytes: &[u8]) -> bool
     ensures { result ≡ is_utf8 bytes.now }
 {
     match std::str::from_utf8(bytes) {

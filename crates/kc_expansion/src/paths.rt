@@ -2,9 +2,12 @@
 ghost use Rattle.std.specs.Prelude.{◌≡◌, ◌==◌, ◌&&◌, not, ◌++◌, ◌∷◌, decimal, IfOk, if◌then◌else◌};
 ghost use Rattle.std.specs.List.{list_any};
 ghost use Rattle.kc_macros_model.specs.PathPatterns.{is_pattern, is_wildcard};
-ghost use Rattle.kc_macros_model.specs.TreeExpansion.{begins_with_slash, folder_of, list_name, place};
+ghost use Rattle.kc_macros_model.specs.TreeExpansion.{begins_with_slash, folder_of, list_name};
+ghost use Rattle.kc_macros.specs.Runs.{place_of};
 ghost use Rattle.kc_expansion.specs.checker.PathViews.{path_from};
 
+use itoa::Buffer;
+use kc_macros::Place;
 use std::alloc::{AllocError, Global};
 
 /// `*` or `?`.
@@ -68,4 +71,19 @@ pub(crate) fn path_meant(
         return Ok(path);
     }
     Vec::from_slice(alloc, given)
+}
+
+/// The name of the list of a line: the path of its file, `:` and its number.
+///
+/// # Errors
+///
+/// Memory runs out.
+pub(crate) fn list_name(alloc: Global, at: Place<'_>) -> Result<Vec<u8>, AllocError>
+    ensures { IfOk result (λ name. name.items ≡ list_name (place_of at.entry)) }
+{
+    let mut buffer = Buffer::new();
+    let mut name = Vec::from_slice(alloc, at.file)?;
+    name.push(b':')?;
+    name.extend_from_slice(buffer.format(at.line).as_bytes())?;
+    Ok(name)
 }

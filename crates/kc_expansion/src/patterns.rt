@@ -263,7 +263,7 @@ fn push_if(
 }
 
 /// Those paths that can be read.
-fn readable_paths<F: TreeFiles>(
+pub(crate) fn readable_paths<F: TreeFiles>(
     alloc: Global,
     store: &mut Store,
     files: &mut F,

@@ -1,22 +1,21 @@
 //! Faults of `source` lines.
-ghost use Rattle.std.specs.Prelude.{◌≡◌, ℕ, List, Option, ◌+◌, ◌||◌, nat_le, nat_lt, reverse};
-ghost use Rattle.kc_tree_model.specs.Limits.{is_in_list};
+ghost use Rattle.std.specs.Prelude.{◌≡◌, ◌+◌, ◌<◌, ◌≤◌, ◌||◌, nat_le, nat_lt, length, bytes_eq, IfOk, IfErr};
+ghost use Rattle.std.specs.List.{list_any};
 ghost use Rattle.kc_macros_model.specs.Limits.{max_files, max_bytes};
-ghost use Rattle.kc_macros_model.specs.ReadingStates.{ReadingState};
-ghost use Rattle.kc_macros_model.specs.TreeExpansion.{source_fault};
-ghost use Rattle.kc_expansion.specs.TextViews.{items_of};
-ghost use Rattle.kc_expansion.specs.between.KnownFiles.{AreBytes};
 ghost use Rattle.kc_expansion.specs.checker.FileViews.{file_of};
-ghost use Rattle.kc_expansion.specs.checker.Sizes.{IsSize};
+ghost use Rattle.kc_expansion.specs.checker.Slices.{slices_of};
+ghost use Rattle.kc_expansion.specs.checker.ReadingViews.{MayBeRead, MayNotBeRead};
+ghost use Rattle.kc_expansion.specs.checker.Sizes.{size_fault};
 
 use super::file_read::FileRead;
 use kc_macros_model::MacroKind;
+use std::rc::Rc;
 
 /// The most files that are read for a tree, lists of files among them.
 const MAX_FILES: usize = 4096;
 
 /// The most bytes that are read for a tree.
-const MAX_BYTES: usize = 67_108_864;
+pub(crate) const MAX_BYTES: usize = 67_108_864;
 
 /// The most files that are open within each other.
 const MAX_OPEN_FILES: usize = 32;
@@ -28,16 +27,32 @@ pub(crate) struct ReadCounts {
     pub bytes: usize,
 }
 
-/// Whether a path is open.
-fn is_open(open_files: &[Vec<u8>], path: &[u8]) -> bool
-    ensures { result ≡ is_in_list path.now (items_of open_files.now) }
-{
-    for other in open_files {
-        if other.as_slice() == path {
-            return true;
+impl ReadCounts {
+    /// The counts with a file of this many bytes more.
+    pub(crate) fn with(self, bytes: usize) -> ReadCounts
+        requires files { self.files < 4096 }
+        requires bytes { self.bytes + bytes ≤ 67108864 }
+        ensures { result ≡ record { files = self.files + 1; bytes = self.bytes + bytes } }
+    {
+        ReadCounts {
+            files: self.files + 1,
+            bytes: self.bytes + bytes,
         }
     }
-    false
+}
+
+/// Whether two paths are the same.
+fn is_same(one: &[u8], other: &[u8]) -> bool
+    ensures { result ≡ bytes_eq one.now other.now }
+{
+    one == other
+}
+
+/// Whether a path is open.
+fn is_open(open_files: &[&[u8]], path: &[u8]) -> bool
+    ensures { result ≡ list_any (λ o. bytes_eq o.now path.now) open_files.now }
+{
+    open_files.iter().any(|other| is_same(other, path))
 }
 
 /// Whether a file of this many bytes is one too many.
@@ -47,37 +62,43 @@ fn is_too_many(counts: ReadCounts, bytes: usize) -> bool
     counts.files >= MAX_FILES || counts.bytes.saturating_add(bytes) > MAX_BYTES
 }
 
-/// How many bytes a file has, if it isn't missing; of one with too many bytes this is one more than may be read.
-fn size_of(read: &FileRead) -> Option<usize>
-    ensures { (bytes : Option (List ℕ)) → AreBytes (file_of read.now) bytes → IsSize result bytes }
+/// The fault of a file of this many bytes that isn't open, where so many files are open within each other.
+fn size_fault(open_count: usize, counts: ReadCounts, size: usize) -> Option<MacroKind>
+    ensures { result ≡ size_fault open_count counts.files (counts.bytes + size) }
 {
-    match read {
-        FileRead::Missing => None,
-        FileRead::Whole(bytes) => Some(bytes.len()),
-        FileRead::TooLong => Some(MAX_BYTES + 1),
-    }
-}
-
-/// The fault of a file or a list that is read where these are open, each sourced by the one before.
-pub(crate) fn source_fault(
-    open_files: &[Vec<u8>],
-    counts: ReadCounts,
-    path: &[u8],
-    read: &FileRead,
-) -> Option<MacroKind>
-    ensures { (s : ReadingState) → s.files ≡ counts.files → s.bytes ≡ counts.bytes → (bytes : Option (List ℕ)) → AreBytes (file_of read.now) bytes → result ≡ source_fault (reverse (items_of open_files.now)) s path.now bytes }
-{
-    if is_open(open_files, path) {
-        return Some(MacroKind::SourceLoop);
-    }
-    let Some(size) = size_of(read) else {
-        return Some(MacroKind::MissingFile);
-    };
-    if open_files.len() >= MAX_OPEN_FILES {
+    if open_count >= MAX_OPEN_FILES {
         return Some(MacroKind::TooDeep);
     }
     if is_too_many(counts, size) {
         return Some(MacroKind::TooMany);
     }
     None
+}
+
+/// The bytes of a file or a list that is read where these files are open, the last one first.
+///
+/// # Errors
+///
+/// The fault of a path that is open already or missing, or of a limit that is passed.
+pub(crate) fn bytes_to_read(
+    open_files: &[&[u8]],
+    counts: ReadCounts,
+    path: &[u8],
+    read: FileRead,
+) -> Result<Rc<Vec<u8>>, MacroKind>
+    ensures ok { IfOk result (λ b. MayBeRead (slices_of open_files.now) counts path.now (file_of read) b.value.items) }
+    ensures err { IfErr result (λ kind. MayNotBeRead (slices_of open_files.now) counts path.now (file_of read) kind) }
+{
+    if is_open(open_files, path) {
+        return Err(MacroKind::SourceLoop);
+    }
+    match read {
+        FileRead::Missing => Err(MacroKind::MissingFile),
+        FileRead::Whole(bytes) => match size_fault(open_files.len(), counts, bytes.len()) {
+            Some(kind) => Err(kind),
+            None => Ok(bytes),
+        },
+        FileRead::TooLong if open_files.len() >= MAX_OPEN_FILES => Err(MacroKind::TooDeep),
+        FileRead::TooLong => Err(MacroKind::TooMany),
+    }
 }

@@ -1,16 +1,16 @@
 -- The steps of an assignment.
-use Rattle.std.proofs.Common.{◌≡◌, ℕ, ◌<◌, ◌≤◌, List, [], ◌∷◌, ◌++◌, Option, Some, refl, sym, ap, ◌∙◌, subst}
+use Rattle.std.proofs.Common.{◌≡◌, ℕ, ◌<◌, ◌≤◌, List, [], ◌∷◌, Option, Some, refl, sym, ap, subst}
 use Rattle.kc_macros_model.specs.Limits.{max_text_bytes}
 use Rattle.kc_macros_model.specs.Programs.{Place, Program, returns, fails, ◌>>=◌}
-use Rattle.kc_macros_model.specs.Variables.{Value, value_length, joined_values, Variable, simple, recursive, Bindings, with_variable}
-use Rattle.kc_macros_model.specs.Expansion.{text_value, spends, unless_too_long}
+use Rattle.kc_macros_model.specs.Variables.{Value, value_length, joined_values, Variable, simple, Bindings, with_variable}
+use Rattle.kc_macros_model.specs.Expansion.{text_value}
 use Rattle.kc_macros_model.specs.Assignments.{Operator, sets_now, appends, stored, stored_simple, variable_assigned}
 use Rattle.kc_macros_model.specs.Worlds.{returned}
 use Rattle.kc_macros.specs.declared.stop.Stop.{Stop}
 use Rattle.kc_macros.specs.RunStates.{RunState}
 use Rattle.kc_macros.specs.Runs.{RunEnd, ends, end_of_stop, Runs}
 use Rattle.kc_macros.specs.Assigning.{bindings_assigned}
-use Rattle.kc_macros.specs.checker.Events.{FailsWith, spent}
+use Rattle.kc_macros.specs.checker.Events.{spent}
 use Rattle.kc_macros.specs.checker.Gathering.{too_long}
 use Rattle.kc_macros.specs.checker.Storing.{stored_bytes}
 use Rattle.kc_macros.proofs.RunLemmas.{then_runs, stops_early, runs_nothing, returns_as}

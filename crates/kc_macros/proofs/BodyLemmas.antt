@@ -1,10 +1,8 @@
 -- Bytes between quotes, written item by item.
-use Rattle.std.proofs.Common.{◌≡◌, ℕ, ◌+◌, ◌<◌, ◌≤◌, Bool, true, false, ◌&&◌, cond, List, [], ◌∷◌, ◌++◌, length, take, drop, get_or, Option, Some, None, refl, sym, ap, ◌∙◌, append_assoc, arith}
-use Rattle.std.specs.Prelude.{◌==◌, nat_lt}
+use Rattle.std.proofs.Common.{◌≡◌, ℕ, true, List, [], ◌∷◌, ◌++◌, Some, refl, sym, ap, ◌∙◌, append_assoc}
 use Rattle.std.proofs.lemmas.List.{append-nil}
 use Rattle.kc_macros_model.specs.Programs.{Place, Fault, Program, returns, fails, ◌>>=◌}
-use Rattle.kc_macros_model.specs.References.{Item, byte, escaped, reference, unterminated, item_bytes, reference_of, items, inside_length}
-use Rattle.kc_macros_model.specs.ExpansionRules.{begins_reference}
+use Rattle.kc_macros_model.specs.References.{Item, reference, item_bytes, items}
 use Rattle.kc_macros_model.specs.Variables.{Value, joined_values, Bindings}
 use Rattle.kc_macros_model.specs.Expansion.{text_value}
 use Rattle.kc_macros_model.specs.Rewriting.{WrittenBody, WrittenToken, token_of_body, body_of, body_of_value, joined_bodies, written_item, written_items}
@@ -15,13 +13,10 @@ use Rattle.kc_macros.specs.Runs.{ends, end_of_stop, Runs}
 use Rattle.kc_macros.specs.checker.Events.{FailsWith}
 use Rattle.kc_macros.specs.checker.Bodies.{bodies_left, quoted_written}
 use Rattle.kc_macros.specs.checker.Leads.{Leads}
-use Rattle.kc_macros.specs.checker.LineTexts.{first_item_of}
 use Rattle.kc_macros.proofs.RunLemmas.{then_runs, stops_early, runs_nothing, returns_as}
 use Rattle.kc_macros.proofs.ProgramLemmas.{then_returns, then_then, then_same, runs_same, leads_same, leads_then, leads_on}
 use Rattle.kc_macros.proofs.GatheringLemmas.{joined_three, joined_nothing, nothing_joined}
 use Rattle.kc_macros.proofs.ExpandLemmas.{fails_so}
-use Rattle.kc_macros.proofs.TokenLemmas.{items_first}
-use Rattle.kc_macros.proofs.CutLemmas.{rest_is}
 
 same_body : (bytes bytes2 : List ℕ) (v v2 : Value) → bytes ≡ bytes2 → v ≡ v2 → (let a : WrittenBody = record { bytes = bytes; meaning = v } in let b : WrittenBody = record { bytes = bytes2; meaning = v2 } in a ≡ b)
 same_body bytes bytes2 v v2 h k = ap (λ x. let a : WrittenBody = record { bytes = x; meaning = v } in a) h ∙ ap (λ x. let a : WrittenBody = record { bytes = bytes2; meaning = x } in a) k

@@ -1,16 +1,16 @@
 -- The steps of a reference.
-use Rattle.std.proofs.Common.{◌≡◌, ℕ, zero, suc, ◌+◌, ◌-◌, ◌<◌, ◌≤◌, Bool, true, false, cond, List, [], ◌∷◌, ◌++◌, length, take, drop, get_or, Option, Some, None, refl, sym, ap, ◌∙◌, append_assoc, arith}
-use Rattle.std.specs.Prelude.{nat_le, bytes_eq, ◌||◌}
+use Rattle.std.proofs.Common.{◌≡◌, ℕ, suc, ◌+◌, ◌-◌, ◌<◌, ◌≤◌, Bool, true, false, List, [], ◌∷◌, ◌++◌, length, take, drop, get_or, Some, None, refl, sym, ap, ◌∙◌, append_assoc, arith}
+use Rattle.std.specs.Prelude.{bytes_eq, ◌||◌}
 use Rattle.std.specs.Borrow.{Bor}
 use Rattle.kc_macros.specs.checker.Texts.{texts_of}
 use Rattle.std.specs.List.{list_any}
 use Rattle.std.proofs.lemmas.Bool.{le-leb, lt-leb}
 use Rattle.std.proofs.lemmas.List.{append-nil, take_all, at_drop_more}
-use Rattle.kc_macros_model.specs.declared.fault.MacroKind.TheVariants.{Undefined, Recursion, Arguments}
+use Rattle.kc_macros_model.specs.declared.fault.MacroKind.TheVariants.{Recursion, Arguments}
 use Rattle.kc_macros_model.specs.Limits.{max_pieces}
-use Rattle.kc_macros_model.specs.Programs.{Place, Fault, Program, returns, fails, ◌>>=◌}
-use Rattle.kc_macros_model.specs.References.{Item, reference, pieces}
-use Rattle.kc_macros_model.specs.Variables.{Value, Variable, recursive, Bindings, argument_of}
+use Rattle.kc_macros_model.specs.Programs.{Place, Program, returns, fails, ◌>>=◌}
+use Rattle.kc_macros_model.specs.References.{reference, pieces}
+use Rattle.kc_macros_model.specs.Variables.{Value, recursive, Bindings, argument_of}
 use Rattle.kc_macros_model.specs.Expansion.{Expander, item_value, piece_values, call_value, named_value, reference_value, is_recursion}
 use Rattle.kc_macros.specs.checker.Pieces.{pieces_left}
 use Rattle.kc_macros_model.specs.Worlds.{returned}

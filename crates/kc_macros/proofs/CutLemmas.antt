@@ -1,12 +1,12 @@
 -- Insides, pieces and items of a text, byte by byte.
-use Rattle.std.proofs.Common.{◌≡◌, ℕ, zero, suc, ◌+◌, ◌<◌, ◌≤◌, Bool, true, false, ◌&&◌, cond, ltb, List, [], ◌∷◌, ◌++◌, length, take, drop, map, get_or, Option, Some, None, refl, sym, ap, ◌∙◌, subst, append_assoc, arith, add-zero, length-append}
-use Rattle.std.specs.Prelude.{◌==◌, ◌-◌, option_map, pred, nat_lt}
+use Rattle.std.proofs.Common.{◌≡◌, ℕ, zero, suc, ◌+◌, ◌<◌, ◌≤◌, Bool, true, false, ◌&&◌, cond, List, [], ◌∷◌, ◌++◌, length, take, drop, map, get_or, Option, Some, None, refl, sym, ap, ◌∙◌, append_assoc, arith, length-append}
+use Rattle.std.specs.Prelude.{◌==◌, ◌-◌, option_map, pred}
 use Rattle.std.specs.List.{onto_first}
-use Rattle.std.proofs.lemmas.List.{append-nil, at_drop_more, at_drop_all, take_more, take_all, drop_all}
+use Rattle.std.proofs.lemmas.List.{append-nil, at_drop_more, at_drop_all, take_more, take_all}
 use Rattle.std.proofs.Math.Seq.{take-append_seam}
 use Rattle.std.proofs.lemmas.Bool.{eqb-true, lt-ltb, le-ltb}
 use Rattle.std.specs.Cmp.{first_so, second_so}
-use Rattle.kc_macros_model.specs.References.{open_after, inside_length, pieces, Item, byte, escaped, reference, unterminated, item_bytes, reference_of, first_item, items}
+use Rattle.kc_macros_model.specs.References.{open_after, inside_length, pieces, Item, byte, reference, unterminated, item_bytes, reference_of, items}
 use Rattle.kc_macros_model.specs.ExpansionRules.{begins_reference}
 use Rattle.kc_macros_model.proofs.TextItems.{IsInside, inside_found, items_of_byte, items_of_reference}
 use Rattle.std.proofs.lemmas.Grind.{common_steps}

@@ -1,19 +1,19 @@
 -- Runs of programs of one event.
-use Rattle.std.proofs.Common.{◌≡◌, ℕ, ◌-◌, ◌<◌, ◌≤◌, Bool, true, false, cond, List, [], ◌∷◌, ◌++◌, Option, Some, None, Result, Ok, Err, refl, sym, ap, ◌∙◌, subst}
+use Rattle.std.proofs.Common.{◌≡◌, ℕ, ◌-◌, ◌<◌, ◌≤◌, Bool, true, false, cond, List, [], ◌∷◌, ◌++◌, Option, Some, None, Ok, Err, refl, sym, ap, ◌∙◌, subst}
 use Rattle.std.specs.Prelude.{nat_lt}
 use Rattle.std.proofs.lemmas.Bool.{lt-ltb, le-ltb}
 use Rattle.std.proofs.lemmas.List.{append-nil}
 use Rattle.kc_tree_model.specs.Keywords.{keyword_in_table}
 use Rattle.kc_macros_model.specs.declared.fault.MacroKind.TheVariants.{Unanswered, TooMany}
 use Rattle.kc_macros_model.specs.declared.fault.MacroNoticeKind.{MacroNoticeKind}
-use Rattle.kc_macros_model.specs.Programs.{Place, Fault, Notice, Answer, spend, report, ask, Program, returns, fails, stops, does}
+use Rattle.kc_macros_model.specs.Programs.{Place, Fault, Notice, Answer, spend, Program, returns, fails}
 use Rattle.kc_macros_model.specs.Variables.{Value, value_of_answer}
 use Rattle.kc_macros_model.specs.Expansion.{asked_value, reported}
-use Rattle.kc_macros_model.specs.Worlds.{World, if_unanswered, unless_unanswered, unless_fault, Ending, returned, failed, stopped, Outcome, outcome, after_event}
+use Rattle.kc_macros_model.specs.Worlds.{World, if_unanswered, unless_unanswered, unless_fault, Ending, returned, failed, Outcome, outcome, after_event}
 use Rattle.kc_macros.specs.declared.stop.Stop.{Stop}
 use Rattle.kc_macros.specs.declared.stop.Stop.TheVariants as kinds
-use Rattle.kc_macros.specs.RunStates.{RunState, with_question, with_questions, after_outcome}
-use Rattle.kc_macros.specs.Runs.{fault_of, RunEnd, ends, out_of_memory, end_of_stop, HasAnswers, Runs, ran, cut_short}
+use Rattle.kc_macros.specs.RunStates.{RunState, with_question, after_outcome}
+use Rattle.kc_macros.specs.Runs.{ends, end_of_stop, HasAnswers, Runs, cut_short}
 use Rattle.kc_macros.specs.checker.Events.{FailsWith, spent}
 use Rattle.kc_macros.proofs.RunLemmas.{RunsIn, in_each_world, runs_fault}
 

@@ -1,26 +1,23 @@
 -- The steps of an expansion.
-use Rattle.std.proofs.Common.{◌≡◌, ℕ, zero, suc, ◌+◌, ◌-◌, ◌<◌, ◌≤◌, Bool, true, false, ◌&&◌, cond, List, [], ◌∷◌, ◌++◌, length, take, drop, map, Option, Some, None, Result, Ok, Err, refl, sym, ap, ◌∙◌, subst, append_assoc, arith}
-use Rattle.std.specs.Prelude.{nat_le, nat_lt, is_some}
-use Rattle.std.proofs.lemmas.Bool.{le-leb, lt-leb}
-use Rattle.std.proofs.lemmas.List.{append-nil}
-use Rattle.kc_macros_model.specs.declared.fault.MacroKind.{MacroKind}
-use Rattle.kc_macros_model.specs.declared.fault.MacroKind.TheVariants.{Unterminated, Undefined, Recursion, Arguments, TooDeep}
-use Rattle.kc_macros_model.specs.Limits.{max_text_bytes, max_pieces}
-use Rattle.kc_macros_model.specs.Programs.{Place, Fault, Program, returns, fails, stops, does, ◌>>=◌}
-use Rattle.kc_macros_model.specs.References.{Item, byte, reference, unterminated, items, pieces}
-use Rattle.kc_macros_model.specs.Variables.{Value, value_length, Variable, simple, recursive, Bindings, argument_of, built_ins}
-use Rattle.kc_macros_model.specs.Expansion.{spends, Expander, unless_too_long, item_value, item_values, expanded, piece_values, call_value, named_value, reference_value, is_recursion}
-use Rattle.kc_macros_model.specs.Worlds.{returned, failed}
+use Rattle.std.proofs.Common.{◌≡◌, ℕ, suc, ◌+◌, ◌-◌, ◌<◌, ◌≤◌, Bool, true, false, ◌&&◌, List, [], ◌∷◌, ◌++◌, length, map, Some, sym, ap, ◌∙◌, subst, arith}
+use Rattle.std.specs.Prelude.{is_some}
+use Rattle.kc_macros_model.specs.declared.fault.MacroKind.TheVariants.{TooDeep}
+use Rattle.kc_macros_model.specs.Limits.{max_text_bytes}
+use Rattle.kc_macros_model.specs.Programs.{Place, Fault, Program, returns, fails, ◌>>=◌}
+use Rattle.kc_macros_model.specs.References.{Item, byte, items}
+use Rattle.kc_macros_model.specs.Variables.{Value, value_length, Bindings}
+use Rattle.kc_macros_model.specs.Expansion.{spends, unless_too_long, item_value, item_values, expanded}
+use Rattle.kc_macros_model.specs.Worlds.{returned}
 use Rattle.kc_macros.specs.declared.stop.Stop.{Stop}
 use Rattle.kc_macros.specs.declared.stop.Stop.TheVariants as kinds
 use Rattle.kc_macros.specs.RunStates.{RunState}
-use Rattle.kc_macros.specs.Runs.{RunEnd, ends, end_of_stop, end_of, fault_of, Runs, cut_short}
+use Rattle.kc_macros.specs.Runs.{RunEnd, ends, end_of_stop, Runs, cut_short}
 use Rattle.kc_macros.specs.checker.Events.{FailsWith, FailsIf, spent}
 use Rattle.kc_macros.specs.checker.Gathering.{known_bytes, gathered_value, too_long, values_left}
 use Rattle.kc_macros.specs.checker.Leads.{Leads}
 use Rattle.kc_macros.proofs.RunLemmas.{then_runs, stops_early, runs_nothing}
 use Rattle.kc_macros.proofs.EventLemmas.{runs_failed}
-use Rattle.kc_macros.proofs.ProgramLemmas.{then_then, then_same, runs_same, leads_same, leads_then, leads_on}
+use Rattle.kc_macros.proofs.ProgramLemmas.{runs_same, leads_same, leads_then, leads_on}
 use Rattle.kc_macros.proofs.GatheringLemmas.{fits, fits_not, all_left, none_left, one_left, text_left, text_left_out}
 
 -- a program that fails

@@ -4,6 +4,7 @@ pub mod WholeFiles
 pub mod RunLemmas
 pub mod EventLemmas
 pub mod CutLemmas
+pub mod InsertLemmas
 pub mod BindingLemmas
 pub mod ProgramLemmas
 pub mod GatheringLemmas
@@ -16,3 +17,8 @@ pub mod TokenLemmas
 pub mod WrittenLemmas
 pub mod BodyLemmas
 pub mod RowLemmas
+pub mod FrontLemmas
+pub mod LineContentLemmas
+pub mod RealTokenLemmas
+pub mod CopiedLemmas
+pub mod QuietLemmas

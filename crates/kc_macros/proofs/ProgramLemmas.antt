@@ -1,8 +1,8 @@
 -- Programs one after another, as equations, and what is left of a run.
 use mathlib.Core.Path.{fun_ext}
-use Rattle.std.proofs.Common.{◌≡◌, ℕ, List, Result, Ok, Err, refl, sym, ap, ◌∙◌, subst}
+use Rattle.std.proofs.Common.{◌≡◌, Result, Ok, Err, refl, sym, ap, subst}
 use Rattle.std.specs.Prelude.{IsErrAnd}
-use Rattle.kc_macros_model.specs.Programs.{Event, Reply, Program, returns, fails, stops, does, ◌>>=◌}
+use Rattle.kc_macros_model.specs.Programs.{Program, returns, fails, stops, does, ◌>>=◌}
 use Rattle.kc_macros_model.specs.Worlds.{returned}
 use Rattle.kc_macros.specs.declared.stop.Stop.{Stop}
 use Rattle.kc_macros.specs.declared.stop.Stop.TheVariants as kinds

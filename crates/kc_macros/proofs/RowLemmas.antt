@@ -1,5 +1,5 @@
 -- A line is its tokens in a row.
-use Rattle.std.proofs.Common.{◌≡◌, ℕ, zero, suc, ◌+◌, ◌-◌, ◌<◌, ◌≤◌, Bool, true, false, ◌||◌, cond, List, [], ◌∷◌, ◌++◌, length, take, drop, get_or, refl, sym, ap, ◌∙◌, subst, arith, append_assoc, length-append}
+use Rattle.std.proofs.Common.{◌≡◌, ℕ, zero, suc, ◌-◌, ◌<◌, ◌≤◌, Bool, true, false, ◌||◌, cond, List, [], ◌∷◌, ◌++◌, length, take, drop, get_or, refl, sym, ap, ◌∙◌, subst, arith, length-append}
 use Rattle.std.specs.Prelude.{◌==◌, pred, not, nat_lt}
 use Rattle.std.specs.List.{list_any}
 use Rattle.std.proofs.lemmas.List.{append-nil, drop_all}
@@ -88,7 +88,7 @@ row_of_tokens zero (c ∷ s) =
     let t = first_token c s in
     ap (λ x. token_bytes t ++ x) (row_of_tokens (pred (length (token_bytes t))) s) ∙ sym (first_is c s).row
 
-tokens_skip : (n : ℕ) (s : List ℕ) → line_tokens n s ≡ line_tokens 0 (drop n s)
+pub tokens_skip : (n : ℕ) (s : List ℕ) → line_tokens n s ≡ line_tokens 0 (drop n s)
 tokens_skip zero s = refl
 tokens_skip (suc n) [] = refl
 tokens_skip (suc n) (c ∷ s) = tokens_skip n s

@@ -1,13 +1,13 @@
 -- Questions and answers, through the map that holds them.
 use Rattle.std.proofs.Common.{◌≡◌, ℕ, zero, suc, Bool, true, false, cond, List, [], ◌∷◌, ◌++◌, length, take, map, Option, Some, None, refl, sym, ap, ◌∙◌}
-use Rattle.std.specs.Prelude.{Vec, bytes_eq, option_map, is_some, ◌||◌}
+use Rattle.std.specs.Prelude.{Vec, bytes_eq, option_map, is_some, IfOk, Result, Ok, Err, ◌||◌}
 use Rattle.kc_tree_model.specs.Limits.{is_in_list}
 use Rattle.kc_macros_model.specs.AnswerFiles.{Recorded}
 use Rattle.kc_macros.specs.RunStates.{questions_of, with_question}
 use Rattle.std.specs.declared.alloc.Global.{Global}
 use Rattle.std.proofs.lemmas.Slice.Eq.{bytes_eq-Decides}
 use Rattle.indexmap.specs.IndexMap.{insert_entry}
-use Rattle.std.specs.Map.{lookup}
+use Rattle.std.specs.Map.{keys_of, lookup}
 use Rattle.kc_tree_model.specs.Keywords.{keyword_in_table}
 use Rattle.kc_macros_model.specs.Programs.{Answer}
 use Rattle.kc_macros.specs.checker.TableView.{answer_of_entry}
@@ -84,3 +84,13 @@ noted es question f found b e h = ap (λ t. cond t (questions_of es) (questions_
 pub questions_of_append : (es fs : Recorded) → questions_of (es ++ fs) ≡ questions_of es ++ questions_of fs
 questions_of_append [] fs = refl
 questions_of_append (e ∷ es) fs = ap (λ qs. e.0 ∷ qs) (questions_of_append es fs)
+
+questions_of_keys : (es : List Entry) → map (λ (q : Vec ℕ Global). q.items) (keys_of es) ≡ questions_of (map answer_of_entry es)
+questions_of_keys [] = refl
+questions_of_keys (e ∷ es) = ap (λ xs. e.0.items ∷ xs) (questions_of_keys es)
+
+-- the keys of the map, collected
+pub questions_collected : {E : Type 0} (r : Result (Vec (Vec ℕ Global) Global) E) (es : List Entry) (table : Recorded) → map answer_of_entry es ≡ table → IfOk r (λ qs. qs.items ≡ keys_of es)
+    → IfOk r (λ qs. map (λ (q : Vec ℕ Global). q.items) qs.items ≡ questions_of table)
+questions_collected (Ok qs) es table e h = ap (λ ks. map (λ (q : Vec ℕ Global). q.items) ks) h ∙ questions_of_keys es ∙ ap questions_of e
+questions_collected (Err x) es table e h = tt

@@ -1,6 +1,9 @@
 pub mod ReadAnswers
 pub mod Variables
 pub mod WrittenTokens
+pub mod LineContents
+pub mod LineFormViews
+pub mod CopiedLines
 pub mod Assigning
 pub mod RunStates
 pub mod Runs

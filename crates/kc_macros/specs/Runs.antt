@@ -3,7 +3,7 @@ use Rattle.std.specs.Prelude.{◌≡◌, ℕ, List, Result, Ok, Err}
 use Rattle.kc_tree_model.specs.Keywords.{keyword_in_table}
 use Rattle.kc_macros_model.specs.AnswerFiles.{Recorded}
 use Rattle.kc_macros_model.specs.Programs.{Place, Fault, Notice, Program}
-use Rattle.kc_macros_model.specs.Worlds.{World, Ending, returned, failed, stopped, Outcome, outcome}
+use Rattle.kc_macros_model.specs.Worlds.{World, Ending, returned, failed, stopped, outcome}
 use Rattle.kc_macros.specs.declared.stop.Place.{Place as LinePlace}
 use Rattle.kc_macros.specs.declared.stop.MacroFault.{MacroFault}
 use Rattle.kc_macros.specs.declared.stop.MacroNotice.{MacroNotice}

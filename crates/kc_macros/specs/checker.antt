@@ -1,5 +1,8 @@
 pub mod Bodies
 pub mod LineTexts
+pub mod LinesLeft
+pub mod RealTokens
+pub mod QuietLines
 pub mod Storing
 pub mod Pieces
 pub mod Frames

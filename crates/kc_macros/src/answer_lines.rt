@@ -66,7 +66,7 @@ pub(crate) fn is_environment_name(text: &[u8]) -> bool
 }
 
 /// The byte at a place, and 0 after the end.
-fn byte_at(line: &[u8], at: usize) -> u8
+pub(crate) fn byte_at(line: &[u8], at: usize) -> u8
     ensures { result ≡ slice_index line.now at }
 {
     match line.get(at) {

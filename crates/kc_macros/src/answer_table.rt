@@ -1,5 +1,5 @@
 //! Questions with their answers.
-ghost use Rattle.std.specs.Prelude.{◌≡◌, ℕ, [], ◌∷◌, ◌++◌, length, take, None, OnOk, OnErr, IfOk, Vec, option_map};
+ghost use Rattle.std.specs.Prelude.{◌≡◌, ℕ, List, [], ◌∷◌, ◌++◌, length, take, Some, None, OnOk, OnErr, IfOk, Vec, bytes_eq, map, option_map, if◌then◌else◌};
 ghost use Rattle.std.specs.declared.alloc.Global.{Global};
 ghost use Rattle.kc_tree_model.specs.Keywords.{keyword_in_table};
 ghost use Rattle.kc_macros.specs.RunStates.{questions_of, with_question};
@@ -68,8 +68,23 @@ impl AnswerTable {
         question: &[u8],
         answer: Option<&[u8]>,
     ) -> Result<(), AllocError>
-        requires { keyword_in_table self.old question.now ≡ None }
+        requires absent { keyword_in_table self.old question.now ≡ None }
         ensures ok { OnOk result (self.new ≡ self.old ++ (question.now, option_map (λ t. t.now) answer.entry) ∷ []) }
+        ensures err { OnErr result (self.new ≡ self.old) }
+    {
+        let question = Vec::from_slice(self.alloc, question)?;
+        let answer = copied(self.alloc, answer)?;
+        self.entries.insert(question, answer)?;
+        Ok(())
+    }
+
+    /// Gives a question this answer, in place of one that it has; both are copied.
+    ///
+    /// # Errors
+    ///
+    /// Where memory runs out, nothing is changed.
+    pub(crate) fn set(&mut self, question: &[u8], answer: Option<&[u8]>) -> Result<(), AllocError>
+        ensures ok { OnOk result ((other : List ℕ) → keyword_in_table self.new other ≡ (if bytes_eq other question.now then Some (option_map (λ t. t.now) answer.entry) else keyword_in_table self.old other)) }
         ensures err { OnErr result (self.new ≡ self.old) }
     {
         let question = Vec::from_slice(self.alloc, question)?;
@@ -90,6 +105,14 @@ impl AnswerTable {
             self.insert(question, None)?;
         }
         Ok(())
+    }
+
+    /// The questions in their order.
+    pub(crate) fn into_questions(self) -> Result<Vec<Vec<u8>>, AllocError>
+        ensures { IfOk result (λ qs. map (λ (q : Vec ℕ Global). q.items) qs.items ≡ questions_of self) }
+    {
+        let alloc = self.alloc;
+        self.entries.into_keys().collect(alloc)
     }
 
     /// The number of questions.

@@ -1,18 +1,16 @@
 //! Answers to questions.
-ghost use Rattle.std.specs.Prelude.{◌≡◌, ◌⊎◌, ◌+◌, ◌<◌, ◌≤◌, [], length, take, None, Ok, OnOk, OnErr, IfOk, IfErr, option_map};
+ghost use Rattle.std.specs.Prelude.{◌≡◌, ◌⊎◌, ◌+◌, ◌<◌, ◌≤◌, ℕ, List, [], length, take, Some, None, Ok, OnOk, OnErr, IfOk, IfErr, bytes_eq, is_some, option_map, if◌then◌else◌};
 ghost use Rattle.std.specs.Io.KnownBytes.{Consumes, IsAtEnd};
 ghost use Rattle.kc_tree_model.specs.Keywords.{keyword_in_table};
 ghost use Rattle.kc_macros.specs.ReadAnswers.{ReadsToEnd, AreRecorded, IsRefused};
 
 use super::answer_table::AnswerTable;
+use super::limits::MAX_ANSWER_BYTES;
 use super::recording_lines::record_lines;
 use kc_macros_model::{AnswersFault, AnswersKind};
 use kc_value::{ReadBytes, ReadEnd, Seed, Source, read_up_to};
 use std::alloc::{AllocError, Global};
 use std::marker::Model;
-
-/// The most bytes of a file of answers.
-const MAX_BYTES: usize = 67_108_864;
 
 /// Reads what a reader has left, up to the first byte too many. Returns it with the fault that cuts it there, if one does.
 fn read_whole<R: Source>(
@@ -23,7 +21,7 @@ fn read_whole<R: Source>(
     ensures end { IfOk result (λ r. ReadsToEnd (R.left source.new) (R.failures source.old) (R.failures source.new) r.0.items r.1) }
     ensures unfailed { OnErr result (R.failures source.new ≡ R.failures source.old) }
 {
-    let ReadBytes { bytes, end } = read_up_to(alloc, source, MAX_BYTES + 1, 0)?;
+    let ReadBytes { bytes, end } = read_up_to(alloc, source, MAX_ANSWER_BYTES + 1, 0)?;
     match end {
         ReadEnd::AtEnd => Ok((bytes, None)),
         ReadEnd::AtLimit => Ok((bytes, Some(AnswersKind::TooLarge))),
@@ -33,10 +31,10 @@ fn read_whole<R: Source>(
 
 /// The bytes before the first byte too many.
 fn within_size(bytes: &[u8]) -> &[u8]
-    ensures { result.now ≡ take MAX_BYTES bytes.now }
+    ensures { result.now ≡ take MAX_ANSWER_BYTES bytes.now }
 {
-    if bytes.len() > MAX_BYTES {
-        &bytes[..MAX_BYTES]
+    if bytes.len() > MAX_ANSWER_BYTES {
+        &bytes[..MAX_ANSWER_BYTES]
     } else {
         bytes
     }
@@ -75,6 +73,25 @@ impl Answers {
         ensures { option_map (λ a. option_map (λ t. t.now) a) result ≡ keyword_in_table self.now question.now }
     {
         self.table.get(question)
+    }
+
+    /// Whether a question has an answer.
+    pub fn has(&self, question: &[u8]) -> bool
+        ensures { result ≡ is_some (keyword_in_table self.now question.now) }
+    {
+        self.answer(question).is_some()
+    }
+
+    /// Gives a question this answer, in place of one that it has: a text, or that a name isn't set. Both are copied.
+    ///
+    /// # Errors
+    ///
+    /// Memory ran out; the answers are then as they were.
+    pub fn set(&mut self, question: &[u8], answer: Option<&[u8]>) -> Result<(), AllocError>
+        ensures ok { OnOk result ((other : List ℕ) → keyword_in_table self.new other ≡ (if bytes_eq other question.now then Some (option_map (λ t. t.now) answer.entry) else keyword_in_table self.old other)) }
+        ensures err { OnErr result (self.new ≡ self.old) }
+    {
+        self.table.set(question, answer)
     }
 
     /// Reads a file of answers to its end, at most 8,192 bytes at once, and records what it has after the files before it.

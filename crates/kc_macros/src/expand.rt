@@ -18,6 +18,7 @@ use super::frame::{Frame, is_recursion, with_name};
 use super::gathered::{
     Gathered, copied_value, gathered_value, nothing_gathered, push_text, push_value, value_length,
 };
+use super::limits::{MAX_OPEN_EXPANSIONS, MAX_PIECES};
 use super::names::unbound_value;
 use super::parameter::argument_of;
 use super::references::{pieces, plain_length, reference_at_front};
@@ -25,12 +26,6 @@ use super::run::Run;
 use super::stop::{Place, Stop};
 use super::variable::Variable;
 use kc_macros_model::MacroKind;
-
-/// The most pieces of a reference: a name and 15 arguments.
-const MAX_PIECES: usize = 16;
-
-/// How many expansions may be open within each other.
-const MAX_OPEN: u32 = 64;
 
 /// The value of a text.
 #[cycle(expansion)]
@@ -212,7 +207,7 @@ pub fn text_value(
         bindings,
         names: &[],
         args: &[],
-        more: MAX_OPEN,
+        more: MAX_OPEN_EXPANSIONS,
     };
     expanded(run, &frame, text)
 }

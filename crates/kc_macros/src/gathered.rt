@@ -8,12 +8,10 @@ ghost use Rattle.kc_macros.specs.checker.Gathering.{known_bytes, gathered_value,
 
 use super::bytes::Bytes;
 use super::events::fault;
+use super::limits::MAX_TEXT_BYTES;
 use super::stop::{Place, Stop};
 use kc_macros_model::MacroKind;
 use std::alloc::{AllocError, Global};
-
-/// The most bytes of a text.
-pub(crate) const MAX_TEXT_BYTES: usize = 65_536;
 
 /// The values of items so far, one after the other; unknown where one is.
 #[derive(Drop)]
@@ -44,7 +42,7 @@ pub(crate) fn push_text(
     at: Place<'_>,
     text: &[u8],
 ) -> Result<(), Stop>
-    requires { length out.old.bytes.items ≤ max_text_bytes }
+    requires before { length out.old.bytes.items ≤ max_text_bytes }
     ensures bytes { OnOk result (out.new.bytes.items ≡ out.old.bytes.items ++ text.now) }
     ensures known { OnOk result (out.new.known ≡ out.old.known) }
     ensures within { OnOk result (length out.old.bytes.items + length text.now ≤ max_text_bytes) }
@@ -68,7 +66,7 @@ pub(crate) fn push_value(
     at: Place<'_>,
     value: Option<Bytes>,
 ) -> Result<(), Stop>
-    requires { length out.old.bytes.items ≤ max_text_bytes }
+    requires before { length out.old.bytes.items ≤ max_text_bytes }
     ensures bytes { OnOk result (out.new.bytes.items ≡ out.old.bytes.items ++ known_bytes value) }
     ensures known { OnOk result (out.new.known ≡ (out.old.known && is_some value)) }
     ensures within { OnOk result (length out.old.bytes.items + value_length value ≤ max_text_bytes) }

@@ -51,7 +51,7 @@ static LINE_KEYWORDS: [&[u8]; 37] = [
 static INNER_KEYWORDS: [&[u8]; 4] = [b"on", b"env", b"defconfig_list", b"allnoconfig_y"];
 
 /// Whether a word is among others.
-fn is_among(words: &[&[u8]], word: &[u8]) -> bool
+pub(crate) fn is_among(words: &[&[u8]], word: &[u8]) -> bool
     ensures { result ≡ list_any (λ w. bytes_eq w.now word.now) words.now }
 {
     words.iter().any(|other| is_text(other, word))

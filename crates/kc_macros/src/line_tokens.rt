@@ -8,6 +8,7 @@ ghost use Rattle.kc_macros.specs.checker.LineTexts.{first_item_of, first_token_o
 
 use super::answer_lines::is_white;
 use super::references::{begins_reference_at, inside_length};
+use super::token_values::has_dollar;
 
 /// A token of a logical line: white or a comment; a run of word bytes, references and `$`; the bytes between two quotes;
 /// other bytes; the rest of a line that has a `$(` without its `)`.
@@ -21,10 +22,12 @@ pub(crate) enum LineToken<'a> {
 }
 
 /// A letter, a digit, `_`, `-`, `.`, `/` or `$`.
-fn is_run_byte(byte: u8) -> bool
+pub(crate) fn is_run_byte(byte: u8) -> bool
     ensures { result ≡ is_run_byte byte }
 {
-    byte.is_ascii_alphanumeric() || matches!(byte, b'_' | b'-' | b'.' | b'/' | b'$')
+    byte.is_ascii_lowercase()
+        || byte.is_ascii_alphanumeric()
+        || matches!(byte, b'_' | b'-' | b'.' | b'/' | b'$')
 }
 
 /// Whether a text begins with a `$(` without its `)`.
@@ -40,7 +43,7 @@ fn is_unterminated_front(text: &[u8], in_quotes: bool) -> bool
 
 /// How many bytes the reference at the front of a text has; all where it doesn't end.
 fn reference_length(text: &[u8]) -> usize
-    requires { begins_reference text.now ≡ true }
+    requires begins { begins_reference text.now ≡ true }
     ensures length { (q : Bool) → result ≡ length (item_bytes (first_item_of q text.now)) }
     ensures some { 0 < result }
     ensures within { result ≤ length text.now }
@@ -61,7 +64,7 @@ pub(crate) fn is_pair(text: &[u8], in_quotes: bool) -> bool
 
 /// How many bytes the first item of a text has.
 pub(crate) fn item_length(text: &[u8], in_quotes: bool) -> usize
-    requires { 0 < length text.now }
+    requires some { 0 < length text.now }
     ensures length { result ≡ length (item_bytes (first_item_of in_quotes text.now)) }
     ensures some { 0 < result }
     ensures within { result ≤ length text.now }
@@ -79,6 +82,9 @@ pub(crate) fn item_length(text: &[u8], in_quotes: bool) -> usize
 fn has_unterminated(text: &[u8], in_quotes: bool) -> bool
     ensures { result ≡ list_any is_unterminated (items in_quotes 0 text.now) }
 {
+    if !has_dollar(text) {
+        return false;
+    }
     let mut rest = text;
     'items: while !rest.is_empty() {
         if is_unterminated_front(rest, in_quotes) {

@@ -1,12 +1,12 @@
 //! Quoted tokens, and all tokens of a line, with the values of their references.
-ghost use Rattle.std.specs.Prelude.{◌≡◌, ◌<◌, true, length, IfOk};
+ghost use Rattle.std.specs.Prelude.{◌≡◌, ◌<◌, [], true, length, IfOk};
 ghost use Rattle.kc_macros_model.specs.References.{items};
 ghost use Rattle.kc_macros_model.specs.ExpansionRules.{begins_reference};
-ghost use Rattle.kc_macros_model.specs.Rewriting.{written_items, written_token, token_of_body};
+ghost use Rattle.kc_macros_model.specs.Rewriting.{body_of, written_items, written_token, token_of_body};
 ghost use Rattle.kc_macros.specs.Variables.{bindings_of};
 ghost use Rattle.kc_macros.specs.WrittenTokens.{token_of};
 ghost use Rattle.kc_macros.specs.Runs.{place_of, Runs, end_of};
-ghost use Rattle.kc_macros.specs.checker.Bodies.{body_of_code, bodies_left, quoted_written};
+ghost use Rattle.kc_macros.specs.checker.Bodies.{body_of_code, has_dollar_or_backslash, bodies_left, quoted_written};
 ghost use Rattle.kc_macros.specs.checker.Leads.{Steps};
 ghost use Rattle.kc_macros.specs.checker.LineTexts.{token_view};
 
@@ -32,7 +32,7 @@ fn next_reference<'t>(
     text: &'t [u8],
     out: &mut Body,
 ) -> Result<&'t [u8], Stop>
-    requires { begins_reference text.now ≡ true }
+    requires begins { begins_reference text.now ≡ true }
     ensures steps { Steps run.old run.new (bodies_left (place_of at.entry) (bindings_of bindings.now) quote (body_of_code out.old) (items true 0 text.now)) (λ rest. bodies_left (place_of at.entry) (bindings_of bindings.now) quote (body_of_code out.new) (items true 0 rest.now)) result }
     ensures shorter { IfOk result (λ rest. length rest.now < length text.now) }
 {
@@ -53,7 +53,7 @@ fn next_item<'t>(
     text: &'t [u8],
     out: &mut Body,
 ) -> Result<&'t [u8], Stop>
-    requires { 0 < length text.now }
+    requires some { 0 < length text.now }
     ensures steps { Steps run.old run.new (bodies_left (place_of at.entry) (bindings_of bindings.now) quote (body_of_code out.old) (items true 0 text.now)) (λ rest. bodies_left (place_of at.entry) (bindings_of bindings.now) quote (body_of_code out.new) (items true 0 rest.now)) result }
     ensures shorter { IfOk result (λ rest. length rest.now < length text.now) }
 {
@@ -68,6 +68,39 @@ fn next_item<'t>(
     Ok(&text[1..])
 }
 
+/// Whether a text has a `$` or a `\`.
+fn has_dollar_or_backslash(text: &[u8]) -> bool
+    ensures { result ≡ has_dollar_or_backslash text.now }
+{
+    let mut found = false;
+    for byte in text {
+        found |= *byte == b'$' || *byte == b'\\';
+    }
+    found
+}
+
+/// Bytes between quotes that are written as they are.
+fn plain_body(alloc: Global, text: &[u8]) -> Result<Body, AllocError>
+    ensures { IfOk result (λ body. body_of_code body ≡ body_of text.now text.now) }
+{
+    Ok(Body {
+        bytes: Vec::from_slice(alloc, text)?,
+        meaning: Vec::from_slice(alloc, text)?,
+        known: true,
+    })
+}
+
+/// No bytes between quotes, with room for so many.
+fn empty_body(alloc: Global, room: usize) -> Result<Body, AllocError>
+    ensures { IfOk result (λ body. body_of_code body ≡ body_of [] []) }
+{
+    Ok(Body {
+        bytes: Vec::with_capacity(alloc, room)?,
+        meaning: Vec::with_capacity(alloc, room)?,
+        known: true,
+    })
+}
+
 /// The bytes between quotes as they are written.
 fn written_body(
     run: &mut Run<'_>,
@@ -78,11 +111,10 @@ fn written_body(
 ) -> Result<Body, Stop>
     ensures { Runs run.old run.new (written_items (place_of at.entry) (bindings_of bindings.now) quote (items true 0 text.now)) (end_of body_of_code result) }
 {
-    let mut out = Body {
-        bytes: Vec::new(run.alloc()),
-        meaning: Vec::new(run.alloc()),
-        known: true,
-    };
+    if !has_dollar_or_backslash(text) {
+        return Ok(plain_body(run.alloc(), text)?);
+    }
+    let mut out = empty_body(run.alloc(), text.len())?;
     let mut rest = text;
     'items: while !rest.is_empty() {
         rest = next_item(run, at, bindings, quote, rest, &mut out)?;
@@ -94,7 +126,7 @@ fn written_body(
 fn token_of_body(alloc: Global, quote: u8, body: Body) -> Result<WrittenToken, AllocError>
     ensures { IfOk result (λ t. token_of t ≡ token_of_body quote (body_of_code body)) }
 {
-    let mut bytes = Vec::new(alloc);
+    let mut bytes = Vec::with_capacity(alloc, body.bytes.len().saturating_add(2))?;
     bytes.push(quote)?;
     bytes.extend_from_slice(body.bytes.as_slice())?;
     bytes.push(quote)?;

@@ -8,17 +8,12 @@ ghost use Rattle.kc_macros.specs.checker.LinesView.{bytes_of, lines_view};
 
 use super::answer_lines::{AnswerLine, meaning_of_line, without_white_end};
 use super::answer_table::AnswerTable;
+use super::limits::{MAX_ANSWER_LINE_BYTES, MAX_ANSWER_LINES};
 use kc_macros_model::{AnswersFault, AnswersKind};
-
-/// The most lines of a file of answers.
-pub(crate) const MAX_LINES: u32 = 1_048_576;
-
-/// The most bytes of a line.
-const MAX_LINE_BYTES: usize = 65_536;
 
 /// A fault of the line after this many.
 pub(crate) fn fault_on_next_line(count: u32, kind: AnswersKind) -> AnswersFault
-    requires { count ≤ MAX_LINES }
+    requires { count ≤ MAX_ANSWER_LINES }
     ensures { result ≡ fault_at (count + 1) kind }
 {
     AnswersFault {
@@ -29,7 +24,7 @@ pub(crate) fn fault_on_next_line(count: u32, kind: AnswersKind) -> AnswersFault
 
 /// The fault of a malformed line after this many, which is the command's where one waits for its answer.
 pub(crate) fn malformed_line(count: u32, waiting: Option<&[u8]>) -> AnswersFault
-    requires { count ≤ MAX_LINES }
+    requires { count ≤ MAX_ANSWER_LINES }
     ensures { result ≡ malformed_line count (bytes_of waiting.entry) }
 {
     match waiting {
@@ -44,19 +39,19 @@ pub(crate) fn malformed_line(count: u32, waiting: Option<&[u8]>) -> AnswersFault
 /// The fault of bytes at the front of a line after this many.
 pub(crate) fn fault_of_size(count: u32, line: &[u8]) -> Option<AnswersKind>
     ensures fault { result ≡ fault_of_size count line.now }
-    ensures few { result ≡ None → count < MAX_LINES }
+    ensures few { result ≡ None → count < MAX_ANSWER_LINES }
 {
-    if count >= MAX_LINES {
+    if count >= MAX_ANSWER_LINES {
         return Some(AnswersKind::TooManyLines);
     }
-    if line.len() > MAX_LINE_BYTES {
+    if line.len() > MAX_ANSWER_LINE_BYTES {
         return Some(AnswersKind::LineTooLong);
     }
     None
 }
 
 /// Whether bytes are UTF-8.
-fn is_utf8(bytes: &[u8]) -> bool
+pub(crate) fn is_utf8(bytes: &[u8]) -> bool
     ensures { result ≡ is_utf8 bytes.now }
 {
     match std::str::from_utf8(bytes) {
@@ -68,7 +63,7 @@ fn is_utf8(bytes: &[u8]) -> bool
 /// The fault of a line after this many.
 fn fault_of_line(count: u32, line: &[u8]) -> Option<AnswersKind>
     ensures fault { result ≡ fault_of_line count line.now }
-    ensures few { result ≡ None → count < MAX_LINES }
+    ensures few { result ≡ None → count < MAX_ANSWER_LINES }
 {
     let fault = fault_of_size(count, line);
     if fault.is_none() && !is_utf8(line) {
@@ -95,7 +90,7 @@ fn record_answer(
     question: &[u8],
     answer: Option<&[u8]>,
 ) -> Result<(), AnswersFault>
-    requires { count < MAX_LINES }
+    requires room { count < MAX_ANSWER_LINES }
     ensures ok { OnOk result (with_answer (lines_view count None table.old) question.now (bytes_of answer.entry) (keyword_in_table table.old question.now) ≡ Ok (lines_view (count + 1) None table.new)) }
     ensures err { IfErr result (λ f. (f.kind ≡ AnswersKind.OutOfMemory) ⊎ (with_answer (lines_view count None table.old) question.now (bytes_of answer.entry) (keyword_in_table table.old question.now) ≡ Err f)) }
     ensures extends { take (length table.old) table.new ≡ table.old }
@@ -117,7 +112,7 @@ fn record_meaning<'a>(
     waiting: Option<&'a [u8]>,
     meaning: AnswerLine<'a>,
 ) -> Result<Option<&'a [u8]>, AnswersFault>
-    requires { count < MAX_LINES }
+    requires room { count < MAX_ANSWER_LINES }
     ensures ok { IfOk result (λ next. with_meaning (lines_view count (bytes_of waiting.entry) table.old) (line_view meaning.entry) ≡ Ok (lines_view (count + 1) (bytes_of next) table.new)) }
     ensures err { IfErr result (λ f. (f.kind ≡ AnswersKind.OutOfMemory) ⊎ (with_meaning (lines_view count (bytes_of waiting.entry) table.old) (line_view meaning.entry) ≡ Err f)) }
     ensures extends { take (length table.old) table.new ≡ table.old }
@@ -140,9 +135,9 @@ pub(crate) fn record_line<'a>(
     waiting: Option<&'a [u8]>,
     line: &'a [u8],
 ) -> Result<Option<&'a [u8]>, AnswersFault>
-    requires { count ≤ MAX_LINES }
+    requires room { count ≤ MAX_ANSWER_LINES }
     ensures ok { IfOk result (λ next. with_line (lines_view count (bytes_of waiting.entry) table.old) line.now ≡ Ok (lines_view (count + 1) (bytes_of next) table.new)) }
-    ensures few { OnOk result (count < MAX_LINES) }
+    ensures few { OnOk result (count < MAX_ANSWER_LINES) }
     ensures err { IfErr result (λ f. (f.kind ≡ AnswersKind.OutOfMemory) ⊎ (with_line (lines_view count (bytes_of waiting.entry) table.old) line.now ≡ Err f)) }
     ensures extends { take (length table.old) table.new ≡ table.old }
 {

@@ -6,7 +6,8 @@ ghost use Rattle.kc_macros.specs.ReadAnswers.{end_of_file};
 ghost use Rattle.kc_macros.specs.checker.LinesView.{bytes_of, lines_view, last_line};
 
 use super::answer_table::AnswerTable;
-use super::recording::{MAX_LINES, fault_of_size, fault_on_next_line, malformed_line, record_line};
+use super::limits::MAX_ANSWER_LINES;
+use super::recording::{fault_of_size, fault_on_next_line, malformed_line, record_line};
 use bstr::ByteSlice;
 use kc_macros_model::{AnswersFault, AnswersKind};
 
@@ -16,7 +17,7 @@ fn end_of_lines(
     waiting: Option<&[u8]>,
     cut: Option<AnswersKind>,
 ) -> Result<(), AnswersFault>
-    requires { count ≤ MAX_LINES }
+    requires room { count ≤ MAX_ANSWER_LINES }
     ensures ok { OnOk result ((recorded : Recorded) → recorded_at_end (end_of_file cut) (lines_view count (bytes_of waiting.entry) recorded) ≡ Ok recorded) }
     ensures err { IfErr result (λ f. (recorded : Recorded) → recorded_at_end (end_of_file cut) (lines_view count (bytes_of waiting.entry) recorded) ≡ Err f) }
 {
@@ -31,7 +32,7 @@ fn end_of_lines(
 
 /// The fault of a last line that a fault cuts.
 fn fault_of_cut_line(count: u32, line: &[u8], kind: AnswersKind) -> AnswersFault
-    requires { count ≤ MAX_LINES }
+    requires { count ≤ MAX_ANSWER_LINES }
     ensures { (waiting : Option (List ℕ)) → (recorded : Recorded) → result ≡ cut_line kind (lines_view count waiting recorded) line.now }
 {
     match fault_of_size(count, line) {
@@ -48,7 +49,7 @@ fn record_last<'a>(
     rest: &'a [u8],
     cut: Option<AnswersKind>,
 ) -> Result<(), AnswersFault>
-    requires { count ≤ MAX_LINES }
+    requires room { count ≤ MAX_ANSWER_LINES }
     ensures ok { OnOk result (recorded_from (end_of_file cut) (lines_view count (bytes_of waiting.entry) table.old) (last_line rest.now) ≡ Ok table.new) }
     ensures err { IfErr result (λ f. (f.kind ≡ AnswersKind.OutOfMemory) ⊎ (recorded_from (end_of_file cut) (lines_view count (bytes_of waiting.entry) table.old) (last_line rest.now) ≡ Err f)) }
     ensures extends { take (length table.old) table.new ≡ table.old }

@@ -8,7 +8,7 @@ use std::alloc::{AllocError, Global};
 
 /// How many parentheses are open after a byte.
 fn open_after(byte: u8, depth: usize) -> usize
-    requires { depth < 2 ^ 63 }
+    requires small { depth < 2 ^ 63 }
     ensures same { result ≡ open_after byte depth }
     ensures few { result ≤ depth + 1 }
 {
@@ -99,7 +99,7 @@ pub(crate) fn plain_length(text: &[u8]) -> usize
 
 /// The inside of the reference at the front of a text, and the bytes after it; none where it doesn't end.
 pub(crate) fn reference_at_front(text: &[u8]) -> Option<(&[u8], &[u8])>
-    requires { begins_reference text.now ≡ true }
+    requires begins { begins_reference text.now ≡ true }
     ensures reference { IfSome result (λ r. (q : Bool) → items q 0 text.now ≡ reference r.0.now ∷ items q 0 r.1.now) }
     ensures shorter { IfSome result (λ r. length r.1.now < length text.now) }
     ensures whole { IfSome result (λ r. take (length r.0.now + 3) text.now ≡ item_bytes (reference r.0.now)) }

@@ -1,18 +1,17 @@
 //! The state of a run of an expansion: its answers, the work that is left, its notices and its open questions.
-ghost use Rattle.std.specs.Prelude.{◌≡◌, ◌-◌, ◌≤◌, [], ◌∷◌, ◌++◌, OnOk, OnErr, map, option_map};
+ghost use Rattle.std.specs.Prelude.{◌≡◌, ℕ, ◌-◌, ◌≤◌, [], ◌∷◌, ◌++◌, IfOk, OnOk, OnErr, Vec, map, option_map};
+ghost use Rattle.std.specs.declared.alloc.Global.{Global};
 ghost use Rattle.kc_tree_model.specs.Keywords.{keyword_in_table};
 ghost use Rattle.kc_macros.specs.RunStates.{run_at_start, with_question};
 ghost use Rattle.kc_macros.specs.Runs.{notice_of};
 
 use super::answer_table::AnswerTable;
 use super::answers::Answers;
+use super::limits::MAX_WORK;
 use super::stop::MacroNotice;
 use kc_value::Seed;
 use std::alloc::{AllocError, Global};
 use std::marker::Model;
-
-/// The most work of a run.
-const MAX_WORK: usize = 67_108_864;
 
 /// The state of a run: the answers, whether all questions must be answered, the work that is left, the notices and the
 /// questions without an answer so far, each once in order of first sight.
@@ -68,6 +67,24 @@ impl<'a> Run<'a> {
         ensures { map notice_of result.now ≡ self.now.notices }
     {
         self.notices.as_slice()
+    }
+
+    /// The notices of a run that is over.
+    pub fn into_notices(self) -> Vec<MacroNotice>
+        ensures { map notice_of result.items ≡ self.entry.notices }
+    {
+        self.notices
+    }
+
+    /// The questions without an answer of a run that is over, each once in order of first sight.
+    ///
+    /// # Errors
+    ///
+    /// Memory ran out.
+    pub fn into_questions(self) -> Result<Vec<Vec<u8>>, AllocError>
+        ensures { IfOk result (λ qs. map (λ (q : Vec ℕ Global). q.items) qs.items ≡ self.entry.questions) }
+    {
+        self.questions.into_questions()
     }
 
     /// The work that is left.

@@ -20,7 +20,7 @@ use super::written::{TokenSort, WrittenToken, new_token, push_escaped, token_of_
 use std::alloc::AllocError;
 
 /// Whether a text has a `$`.
-fn has_dollar(text: &[u8]) -> bool
+pub(crate) fn has_dollar(text: &[u8]) -> bool
     ensures { result ≡ list_any (λ c. c == 36) text.now }
 {
     text.iter().any(|&byte| byte == b'$')

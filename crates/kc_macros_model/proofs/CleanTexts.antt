@@ -29,11 +29,11 @@ clean_none = clean refl
 pub clean_cons : {c : ℕ} {s : List ℕ} → (c == 10) ≡ false → IsClean s → IsClean (c ∷ s)
 clean_cons {c = c} {s = s} e (clean h) = clean (ap (λ b. b || has_newline s) e ∙ h)
 
-neither_first : (x y : Bool) → (x || y) ≡ false → x ≡ false
+pub neither_first : (x y : Bool) → (x || y) ≡ false → x ≡ false
 neither_first true y e = absurd (let z : ⊥ = cc in z)
 neither_first false y e = refl
 
-neither_second : (x y : Bool) → (x || y) ≡ false → y ≡ false
+pub neither_second : (x y : Bool) → (x || y) ≡ false → y ≡ false
 neither_second true y e = absurd (let z : ⊥ = cc in z)
 neither_second false y e = e
 

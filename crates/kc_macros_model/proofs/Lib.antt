@@ -1,5 +1,10 @@
 mod Rows
+mod PlainRows
 pub mod Outcomes
+pub mod NeverStops
+pub mod KnownTexts
+pub mod KnownLines
+pub mod KnownTrees
 pub mod TreeAnswers
 pub mod TextItems
 pub mod ExpansionByRules
@@ -17,3 +22,14 @@ pub mod CleanLines
 pub mod LineCounts
 pub mod KeptLines
 pub mod TreeLines
+pub mod Keys
+pub mod ReadingsKeep
+pub mod BoundedReadings
+pub mod TokensOfLines
+pub mod PlainTokens
+pub mod QuotedBodies
+pub mod TokenCuts
+pub mod WrittenAgain
+pub mod PlainLines
+pub mod PlainTrees
+pub mod HeldKeys

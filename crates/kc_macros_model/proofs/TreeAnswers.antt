@@ -6,9 +6,10 @@ use Rattle.kc_macros_model.specs.Limits.{max_work}
 use Rattle.kc_macros_model.specs.Programs.{Fault}
 use Rattle.kc_macros_model.specs.ReadingStates.{ExpandedFile}
 use Rattle.kc_macros_model.specs.TreeExpansion.{tree_read}
-use Rattle.kc_macros_model.specs.Worlds.{Ending, failed, Outcome, outcome, expansion, questions_or_fault, wanted}
-use Rattle.kc_macros_model.specs.TreeLaws.{AnswersNotAskedChangeNothing, NothingWantedIsExpanded}
+use Rattle.kc_macros_model.specs.Worlds.{Ending, returned, failed, stopped, Outcome, outcome, expansion, questions_or_fault, wanted}
+use Rattle.kc_macros_model.specs.TreeLaws.{AnswersNotAskedChangeNothing, NothingWantedIsExpanded, NothingWantedReturnsFiles}
 use Rattle.kc_macros_model.proofs.Outcomes.{same_if_answered, same_if_none_open}
+use Rattle.kc_macros_model.proofs.KnownTrees.{expansion_never_stops}
 use Rattle.std.proofs.lemmas.List.{reverse-reverse}
 
 pub answers_not_asked : AnswersNotAskedChangeNothing
@@ -47,3 +48,11 @@ nothing_wanted w root f e h =
     let none : o.questions ≡ [] = sym (reverse-reverse o.questions) ∙ ap reverse (none_of_none (reverse o.questions) n) in
     let same = same_if_none_open w max_work (tree_read root) none in
     not_failed o.ending f (ap (λ qs. questions_or_fault qs o.ending) (sym n) ∙ e) (ap (λ (x : Outcome (List ExpandedFile)). x.ending) (sym same) ∙ h)
+
+returned_files : {A : Type 0} (end : Ending A) → (end ≡ stopped → ⊥) → ((f : Fault) → end ≡ failed f → ⊥) → (x : A) × (end ≡ returned x)
+returned_files (returned x) s n = (x, refl)
+returned_files (failed f) s n = absurd (n f refl)
+returned_files stopped s n = absurd (s refl)
+
+pub nothing_wanted_returns : NothingWantedReturnsFiles
+nothing_wanted_returns w root e = returned_files (expansion w root).ending (expansion_never_stops w root) (λ f h. nothing_wanted w root f e h)

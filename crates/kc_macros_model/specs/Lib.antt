@@ -16,3 +16,6 @@ pub mod AnswerFiles
 pub mod ProgramLaws
 pub mod ExpansionLaws
 pub mod TreeLaws
+pub mod ReadingLaws
+pub mod PlainLines
+pub mod OnceLaws

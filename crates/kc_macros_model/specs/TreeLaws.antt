@@ -6,7 +6,7 @@ use Rattle.kc_tree_model.specs.TreeLookup.{has_newline}
 use Rattle.kc_macros_model.specs.Programs.{Place, Fault}
 use Rattle.kc_macros_model.specs.ReadingStates.{ExpandedFile}
 use Rattle.kc_macros_model.specs.TreeExpansion.{list_name}
-use Rattle.kc_macros_model.specs.Worlds.{World, returned, failed, expansion, wanted}
+use Rattle.kc_macros_model.specs.Worlds.{World, returned, failed, stopped, expansion, wanted}
 use Rattle.kc_macros_model.specs.ProgramLaws.{Extends, is_unanswered}
 
 -- answers that aren't asked for change nothing: files, faults, notices and work are the same under more answers
@@ -16,6 +16,14 @@ AnswersNotAskedChangeNothing = (w more : World) (root : List ℕ) → Extends w 
 -- where no question is wanted and no fault was met, no expansion fails
 abbrev pub NothingWantedIsExpanded : Type 0
 NothingWantedIsExpanded = (w : World) (root : List ℕ) (f : Fault) → wanted w root ≡ Ok [] → (expansion w root).ending ≡ failed f → ⊥
+
+-- no expansion stops for want of an answer: it returns files or fails
+abbrev pub ExpansionNeverStops : Type 0
+ExpansionNeverStops = (w : World) (root : List ℕ) → (expansion w root).ending ≡ stopped → ⊥
+
+-- where no question is wanted and no fault was met, the expansion returns files
+abbrev pub NothingWantedReturnsFiles : Type 0
+NothingWantedReturnsFiles = (w : World) (root : List ℕ) → wanted w root ≡ Ok [] → (files : List ExpandedFile) × ((expansion w root).ending ≡ returned files)
 
 -- where a question is wanted, no expansion succeeds without its answer, whatever else is answered
 abbrev pub WantedIsNeeded : Type 0

@@ -1,6 +1,9 @@
 //! Laws of the definitions.
 ghost use Rattle.kc_macros_model.specs.ExpansionLaws.{ExpansionKeepsTheRules, RulesAreExpanded, PlainTextsStay, ValuesAreBounded, VariablesAreBounded};
-ghost use Rattle.kc_macros_model.specs.TreeLaws.{AnswersNotAskedChangeNothing, NothingWantedIsExpanded, WantedIsNeeded, LinesAreKept};
+ghost use Rattle.kc_macros_model.specs.OnceLaws.{NothingIsLeftToExpand, WrittenLinesStay};
+ghost use Rattle.kc_macros_model.specs.PlainLines.{LinesWithoutDollars, PlainLinesStay, PlainFilesStay, PlainTreesStay};
+ghost use Rattle.kc_macros_model.specs.ReadingLaws.{CountsAreBounded, TreeCountsAreBounded, KeysAreBounded, KeysAreHeld, KeysDiffer, FilesAreBounded, WorkIsBounded};
+ghost use Rattle.kc_macros_model.specs.TreeLaws.{AnswersNotAskedChangeNothing, ExpansionNeverStops, NothingWantedIsExpanded, NothingWantedReturnsFiles, WantedIsNeeded, LinesAreKept};
 
 /// The function that expands a text and the rules of expansion agree: it returns only values that the rules give, and
 /// each of them, unless a limit or a variable that needs itself is met.
@@ -25,9 +28,15 @@ pub fn answers_not_asked_change_nothing()
     ensures { AnswersNotAskedChangeNothing }
 {}
 
+/// The expansion of a tree ends with the expanded files or with a fault, and never stops for want of an answer.
+pub fn expansion_never_stops()
+    ensures { ExpansionNeverStops }
+{}
+
 /// Where no question is wanted and no fault was met, the tree is expanded.
 pub fn nothing_wanted_is_expanded()
-    ensures { NothingWantedIsExpanded }
+    ensures no_fault { NothingWantedIsExpanded }
+    ensures files { NothingWantedReturnsFiles }
 {}
 
 /// Each question that is wanted is needed: no expansion succeeds without its answer, whatever else is answered.
@@ -39,4 +48,36 @@ pub fn wanted_is_needed()
 /// file of an expanded tree is the list of the files of one line.
 pub fn lines_are_kept()
     ensures { LinesAreKept }
+{}
+
+/// A reading keeps its counts of files, bytes and listed names within their limits, a tree has no more expanded files
+/// than files may be read, and its expansion does no more work than is allowed.
+pub fn readings_are_bounded()
+    ensures sources { CountsAreBounded }
+    ensures trees { TreeCountsAreBounded }
+    ensures files { FilesAreBounded }
+    ensures work { WorkIsBounded }
+{}
+
+/// The key of an expanded file is its path, or its path with `#` and a number, no two files have one key, and the key
+/// that takes the place of a source is that of an expanded file.
+pub fn keys_are_bounded()
+    ensures paths { KeysAreBounded }
+    ensures differ { KeysDiffer }
+    ensures held { KeysAreHeld }
+{}
+
+/// Where nothing acts on the lines of a file it keeps its bytes, and so do the files of a tree of such lines, under
+/// their paths, without notices and questions and whatever the answers.
+pub fn plain_trees_stay()
+    ensures tokens { LinesWithoutDollars }
+    ensures lines { PlainLinesStay }
+    ensures files { PlainFilesStay }
+    ensures trees { PlainTreesStay }
+{}
+
+/// What is written of a line has nothing left to expand, and stays when it is expanded again.
+pub fn nothing_is_left_to_expand()
+    ensures tokens { NothingIsLeftToExpand }
+    ensures lines { WrittenLinesStay }
 {}

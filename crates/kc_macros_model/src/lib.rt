@@ -6,6 +6,7 @@ mod laws;
 
 pub use fault::{AnswersFault, AnswersKind, MacroKind, MacroNoticeKind};
 pub use laws::{
-    answers_not_asked_change_nothing, expansion_follows_rules, lines_are_kept,
-    nothing_wanted_is_expanded, plain_texts_stay, values_are_bounded, wanted_is_needed,
+    answers_not_asked_change_nothing, expansion_follows_rules, expansion_never_stops,
+    keys_are_bounded, lines_are_kept, nothing_is_left_to_expand, nothing_wanted_is_expanded,
+    plain_texts_stay, plain_trees_stay, readings_are_bounded, values_are_bounded, wanted_is_needed,
 };

@@ -36,6 +36,8 @@ mod configurations;
 #[cfg(test)]
 mod disks;
 #[cfg(test)]
+mod expansions;
+#[cfg(test)]
 mod expressions;
 #[cfg(test)]
 mod fault_names;
@@ -43,6 +45,8 @@ mod fault_names;
 mod loads;
 #[cfg(test)]
 mod macro_answers;
+#[cfg(test)]
+mod macro_lines;
 #[cfg(test)]
 mod minimal;
 #[cfg(test)]
@@ -62,7 +66,11 @@ mod sums;
 #[cfg(test)]
 mod systems;
 #[cfg(test)]
+mod text_lines;
+#[cfg(test)]
 mod texts;
+#[cfg(test)]
+mod tidied_files;
 #[cfg(test)]
 mod tree_sessions;
 #[cfg(test)]

@@ -3,10 +3,14 @@ ghost use Rattle.std.specs.Prelude.{None};
 
 use kc_value::{Failed, FromRead, Seed, Source};
 use kmin_jobs::Files;
-use std::fs::File;
+use std::alloc::{AllocError, Global};
+use std::env::VarError;
+use std::fs::{DirEntry, File};
+use std::io::ErrorKind;
 use std::random::RandomSource;
+use std::{env, fs, io};
 
-/// The files of the system, of which nothing is known. Paths and names are hashed by a seed of this run's own.
+/// The files and the environment of the system, of which nothing is known. Paths and names are hashed by a seed of this run's own.
 #[derive(Drop)]
 pub(crate) struct Disk<'a> {
     runtime: &'a HostRuntime,
@@ -58,10 +62,33 @@ fn size_now(file: &File) -> usize {
     }
 }
 
+/// Whether a path leads to a regular file. This opens nothing, so it doesn't wait at a pipe.
+fn is_regular(runtime: &HostRuntime, path: &str) -> bool {
+    match fs::metadata(runtime, path) {
+        Ok(metadata) => metadata.is_file(),
+        Err(_) => false,
+    }
+}
+
+/// The name of an entry of a folder; `None` for one that isn't UTF-8, or can't be read.
+fn name_of(alloc: Global, entry: io::Result<DirEntry>) -> Result<Option<Vec<u8>>, AllocError> {
+    match entry {
+        Ok(entry) => Ok(Some(Vec::from_slice(alloc, entry.file_name().as_bytes())?)),
+        Err(error) if error.kind() == ErrorKind::OutOfMemory => Err(AllocError),
+        Err(_) => Ok(None),
+    }
+}
+
 impl Files for Disk<'_> {
     type File = OpenFile;
 
     ghost content_of = { λ _ _. None };
+
+    ghost regular_content_of = { λ _ _. None };
+
+    ghost names_of = { λ _ _. None };
+
+    ghost variable_of = { λ _ _. None };
 
     fn seed(&self) -> Seed {
         self.seed
@@ -74,6 +101,45 @@ impl Files for Disk<'_> {
             reader: FromRead::new(file),
             size,
         })
+    }
+
+    fn regular_reader_for(&mut self, path: &str) -> Option<OpenFile> {
+        if !is_regular(self.runtime, path) {
+            return None;
+        }
+        self.reader_for(path)
+    }
+
+    fn names_in(
+        &mut self,
+        alloc: Global,
+        folder: &str,
+        most: usize,
+    ) -> Result<Option<Vec<Vec<u8>>>, AllocError> {
+        let mut names = Vec::new(alloc);
+        let entries = match fs::read_dir(self.runtime, folder) {
+            Ok(entries) => entries,
+            Err(error) if error.kind() == ErrorKind::OutOfMemory => return Err(AllocError),
+            Err(_) => return Ok(Some(names)),
+        };
+        for entry in entries {
+            let Some(name) = name_of(alloc, entry)? else {
+                continue;
+            };
+            if names.len() == most {
+                return Ok(None);
+            }
+            names.push(name)?;
+        }
+        Ok(Some(names))
+    }
+
+    fn variable(&mut self, _alloc: Global, name: &str) -> Result<Option<String>, AllocError> {
+        match env::var(self.runtime, name) {
+            Ok(value) => Ok(Some(value)),
+            Err(VarError::OutOfMemory) => Err(AllocError),
+            Err(VarError::NotPresent | VarError::NotUnicode) => Ok(None),
+        }
     }
 
     fn size_of(&self, file: &OpenFile) -> usize {

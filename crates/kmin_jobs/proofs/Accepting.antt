@@ -19,12 +19,12 @@ use Rattle.kmin_jobs.specs.between.RunErrors.{status_of}
 use Rattle.kmin_jobs.specs.between.TreeStops.{StopsAtTexts, at_texts, for_memory, settle_status, settle_lines}
 
 -- a tree that isn't settled ends a run by its cycle, or for lack of memory
-pub settle_stops : (texts : Files) (first : List ℕ) (tree : Tree) (fault : SettleFault) (stop : RunError) → first_tree_fault texts first ≡ None
+pub settle_stops : (texts names : Files) (first : List ℕ) (tree : Tree) (fault : SettleFault) (stop : RunError) → first_tree_fault texts first ≡ None
     → tree ≡ tree_of_files texts first
     → ReportsTreeCycle (length tree.units) (dependencies tree) fault → status_of stop ≡ settle_status fault
-    → StopsAtTexts texts first (status_of stop) (settle_lines texts first tree fault)
-settle_stops texts first tree (Cycle units) stop read same cycle status = at_texts _ (cyclic tree units.items read same cycle.0 cycle.1 refl) status refl
-settle_stops texts first tree SettleMemory stop read same cycle status = for_memory status refl
+    → StopsAtTexts texts names first (status_of stop) (settle_lines names first tree fault)
+settle_stops texts names first tree (Cycle units) stop read same cycle status = at_texts _ (cyclic tree units.items read same cycle.0 cycle.1 refl) status refl
+settle_stops texts names first tree SettleMemory stop read same cycle status = for_memory status refl
 
 -- reading by its clauses: a fault other than of memory is the first of the texts
 first_unless_memory : (texts : Files) (first : List ℕ) (fault : TreeFault) → (fault ≡ no_memory) ⊎ (first_tree_fault texts first ≡ Some fault)

@@ -1,9 +1,10 @@
 -- The answers of commands.
-use Rattle.std.proofs.Common.{◌≡◌, ◌≢◌, ℕ, zero, suc, ◌≤◌, ◌⊎◌, inl, inr, append-nil, List, [], ◌∷◌, ◌++◌, Option, Result, Ok, Err, Vec, IfOk, IfErr, refl, sym, subst, arith}
+use Rattle.std.proofs.Common.{◌≡◌, ◌≢◌, ℕ, zero, suc, ◌≤◌, ◌⊎◌, inl, inr, append-nil, List, [], ◌∷◌, ◌++◌, Option, Some, Result, Ok, Err, Vec, IfOk, IfErr, refl, sym, ap, ◌∙◌, subst, arith}
 use Rattle.std.specs.declared.alloc.AllocError.{AllocError}
 use Rattle.std.specs.declared.alloc.Global.{Global}
 use Rattle.std.specs.List.{flat_map}
-use Rattle.kc_tree_model.specs.TreeFiles.{Files, strict_files}
+use Rattle.kc_expr.specs.declared.language.Language.{Language}
+use Rattle.kc_tree_model.specs.TreeFiles.{Files, file_at}
 use Rattle.kc_tree_model.specs.Trees.{Tree}
 use Rattle.kc_rules_model.specs.declared.profile.Profile.{Profile}
 use Rattle.kc_rules.specs.declared.rules.Settled.{Settled}
@@ -20,16 +21,15 @@ use Rattle.kc_minimal_model.specs.CanonicalText.{IsCanonicalText}
 use Rattle.kc_rules_model.specs.declared.values.UserValue.{UserValue}
 use Rattle.kmin_jobs.specs.declared.run_error.RunError.{RunError}
 use Rattle.kmin_jobs.specs.declared.verb_texts.AnswerText.{AnswerText}
-use Rattle.kmin_jobs.specs.FileContents.{FileContent, AreTextsBelow}
+use Rattle.kmin_jobs.specs.FileContents.{FileContent, Known, AreTextsBelow}
+use Rattle.kmin_jobs.specs.JobTexts.{TreeTexts, AreTextsOfJob}
 use Rattle.kmin_jobs.specs.Reports.{notice_lines, output_line, last_lines}
 use Rattle.kmin_jobs.specs.StandardError.{TakesLines}
 use Rattle.kmin_jobs.specs.Answers.{AreAccepted, Resolve, Answer, files_assignment, of_files, of_comparison, IsTextOfVerb, difference_line, status_of_differences}
-use Rattle.kmin_jobs.specs.Stops.{Stops, StopsAmongFiles, at_tree, among_files, for_memory}
+use Rattle.kmin_jobs.specs.Stops.{Stops, StopsAmongFiles, among_files}
 use Rattle.kmin_jobs.specs.Stops as stops
 use Rattle.kmin_jobs.specs.between.Loaded.{AreLoaded}
 use Rattle.kmin_jobs.specs.between.RunErrors.{status_of}
-use Rattle.kmin_jobs.specs.between.TreeStops.{StopsAtTexts}
-use Rattle.kmin_jobs.specs.between.TreeStops as tree_stops
 use Rattle.kmin_jobs.proofs.Taking.{lines_append}
 use Rattle.kmin_jobs.proofs.Sequences.{mean_again}
 
@@ -102,15 +102,9 @@ answers_comparison content_of others settings left right settled a b text status
 )
 
 -- no texts
-pub below_none : (content_of : List ℕ → FileContent) (root : List ℕ) → AreTextsBelow content_of root (strict_files [])
-below_none content_of root = record { language = refl; content = λ path bytes e. cc }
-
--- a job ends where its tree does
-pub tree_stops_job : (content_of : List ℕ → FileContent) (settings : Settings) (task : Task) (texts : Files) (status : ℕ) (lines : List (List ℕ))
-    → AreTextsBelow content_of settings.root texts
-    → StopsAtTexts texts settings.tree status lines → Stops content_of settings task status lines
-tree_stops_job content_of settings task texts status lines below (tree_stops.at_texts line r s e) = at_tree texts line below r s e
-tree_stops_job content_of settings task texts status lines below (tree_stops.for_memory s e) = for_memory s e
+pub below_none : (content_of : List ℕ → FileContent) (root : List ℕ) (language : Language) (texts : Files) → texts.language ≡ language → texts.list ≡ []
+    → AreTextsBelow content_of root language texts
+below_none content_of root language texts e f = record { in_language = e; content = λ path bytes h. (let z : file_at (record { language = texts.language; list = [] }) path ≡ Some bytes = ap (λ (fs : List (List ℕ × List ℕ)). file_at (record { language = texts.language; list = fs }) path) (sym f) ∙ h in cc) }
 
 -- what is known of files stays
 among_again : (content_of others : List ℕ → FileContent) (prefix : List ℕ) (tree : Tree) (paths : List (List ℕ)) (status : ℕ) (lines : List (List ℕ))
@@ -131,34 +125,34 @@ answer_again content_of others settings texts task text status notices same (of_
     of_comparison tree left right lm rm v w k a (resolve_again content_of others settings tree (left ∷ []) lm v same r)
     (resolve_again content_of others settings tree (right ∷ []) rm w same q) t s n
 
--- the answer of a job, or its end, over the texts that were gathered
-module _ (content_of others : List ℕ → FileContent) (settings : Settings) (task : Task) (tree : Tree) (texts : Files) (same : (path : List ℕ) → others path ≡ content_of path)
-    (below : AreTextsBelow content_of settings.root texts) (accepted : AreAccepted texts settings.tree tree)
-    (taken middle taken_after : Option (List ℕ)) (failed failed_middle failed_after : ℕ) (before : TakesLines taken failed [] middle failed_middle) where
+-- the answer of a job, or its end, over the texts of its tree
+module _ (known : Known) (others : List ℕ → FileContent) (settings : Settings) (task : Task) (tree : Tree) (t : TreeTexts) (same : (path : List ℕ) → others path ≡ known.content path)
+    (are : AreTextsOfJob known settings t) (accepted : AreAccepted t.texts settings.tree tree)
+    (taken middle taken_after : Option (List ℕ)) (failed failed_middle failed_after : ℕ) (before : TakesLines taken failed t.lines middle failed_middle) where
   pub job_answers : (r : Result AnswerText RunError)
       → IfOk r (λ answer. (notices : List (List ℕ)) × ((texts : Files) → AreAccepted texts settings.tree tree
       → Answer others settings texts task answer.text.items answer.status notices) × TakesLines middle failed_middle notices taken_after failed_after)
-      → IfOk r (λ answer. (texts : Files) × (notices : List (List ℕ)) × AreTextsBelow content_of settings.root texts × Answer content_of settings texts task
-      answer.text.items answer.status notices × TakesLines taken failed notices taken_after failed_after)
+      → IfOk r (λ answer. (t : TreeTexts) × (notices : List (List ℕ)) × AreTextsOfJob known settings t × Answer known.content settings t.texts task
+      answer.text.items answer.status notices × TakesLines taken failed (t.lines ++ notices) taken_after failed_after)
   job_answers (Err stop) h = tt
   job_answers (Ok answer) h = (
-    texts,
+    t,
     h.0,
-    below,
-    answer_again content_of others settings texts task answer.text.items answer.status h.0 same (h.1 texts accepted),
-    lines_append taken middle failed failed_middle [] h.0 taken_after failed_after before h.2,
+    are,
+    answer_again known.content others settings t.texts task answer.text.items answer.status h.0 same (h.1 t.texts accepted),
+    lines_append taken middle failed failed_middle t.lines h.0 taken_after failed_after before h.2,
   )
 
   pub job_stops : (r : Result AnswerText RunError)
       → IfErr r (λ stop. (lines : List (List ℕ)) × StopsAmongFiles others settings.prefix tree (paths_of task) (status_of stop) lines × TakesLines middle
       failed_middle lines taken_after failed_after)
-      → IfErr r (λ stop. (lines : List (List ℕ)) × Stops content_of settings task (status_of stop) lines × TakesLines taken failed lines taken_after
+      → IfErr r (λ stop. (lines : List (List ℕ)) × Stops known settings task (status_of stop) lines × TakesLines taken failed lines taken_after
       failed_after)
   job_stops (Ok answer) h = tt
   job_stops (Err stop) h = (
-    h.0,
-    among_files texts tree below accepted (among_again content_of others settings.prefix tree (paths_of task) (status_of stop) h.0 same h.1),
-    lines_append taken middle failed failed_middle [] h.0 taken_after failed_after before h.2,
+    t.lines ++ h.0,
+    among_files t tree h.0 are accepted (among_again known.content others settings.prefix tree (paths_of task) (status_of stop) h.0 same h.1) refl,
+    lines_append taken middle failed failed_middle t.lines h.0 taken_after failed_after before h.2,
   )
 
 -- nothing more was reported
@@ -179,28 +173,28 @@ pub no_other_status : (n : ℕ) → n ≤ 1 → (n ≢ 0) × (n ≢ 1) → ⊥
 no_other_status n h k = elim (small n h) [ inl e ↦ k.0 e | inr e ↦ k.1 e ]
 
 -- a write of an answer failed
-pub write_stops : (content_of : List ℕ → FileContent) (settings : Settings) (task : Task) (text : List ℕ) (made status : ℕ) (taken middle taken_after : Option (List ℕ)) (failed failed_middle failed_after : ℕ)
+pub write_stops : (known : Known) (settings : Settings) (task : Task) (text : List ℕ) (made status : ℕ) (taken middle taken_after : Option (List ℕ)) (failed failed_middle failed_after : ℕ)
     → status ≡ 5
-    → (texts : Files) × (notices : List (List ℕ)) × AreTextsBelow content_of settings.root texts × Answer content_of settings texts task text made notices
-    × TakesLines taken failed notices middle failed_middle
+    → (t : TreeTexts) × (notices : List (List ℕ)) × AreTextsOfJob known settings t × Answer known.content settings t.texts task text made notices
+    × TakesLines taken failed (t.lines ++ notices) middle failed_middle
     → TakesLines middle failed_middle (output_line ∷ []) taken_after failed_after
-    → (lines : List (List ℕ)) × Stops content_of settings task status lines × TakesLines taken failed (lines ++ last_lines status) taken_after failed_after
-write_stops content_of settings task text made status taken middle taken_after failed failed_middle failed_after e w h = (
-  w.1 ++ output_line ∷ [],
+    → (lines : List (List ℕ)) × Stops known settings task status lines × TakesLines taken failed (lines ++ last_lines status) taken_after failed_after
+write_stops known settings task text made status taken middle taken_after failed failed_middle failed_after e w h = (
+  (w.0.lines ++ w.1) ++ output_line ∷ [],
   stops.at_write w.0 text made w.1 w.2 w.3 e refl,
-  rw e (subst (λ all. TakesLines taken failed all taken_after failed_after) (sym (append-nil (w.1 ++ output_line ∷ [])))
-      (lines_append taken middle failed failed_middle w.1 (output_line ∷ []) taken_after failed_after w.4 h)),
+  rw e (subst (λ all. TakesLines taken failed all taken_after failed_after) (sym (append-nil ((w.0.lines ++ w.1) ++ output_line ∷ [])))
+      (lines_append taken middle failed failed_middle (w.0.lines ++ w.1) (output_line ∷ []) taken_after failed_after w.4 h)),
 )
 
 -- a job ended, and its last line is reported
-pub job_ends : (content_of : List ℕ → FileContent) (settings : Settings) (task : Task) (stop : RunError) (status : ℕ) (taken middle taken_after : Option (List ℕ)) (failed failed_middle failed_after : ℕ)
+pub job_ends : (known : Known) (settings : Settings) (task : Task) (stop : RunError) (status : ℕ) (taken middle taken_after : Option (List ℕ)) (failed failed_middle failed_after : ℕ)
     → status ≡ status_of stop
-    → (lines : List (List ℕ)) × Stops content_of settings task (status_of stop) lines × TakesLines taken failed lines middle failed_middle
+    → (lines : List (List ℕ)) × Stops known settings task (status_of stop) lines × TakesLines taken failed lines middle failed_middle
     → TakesLines middle failed_middle (last_lines status) taken_after failed_after
-    → (lines : List (List ℕ)) × Stops content_of settings task status lines × TakesLines taken failed (lines ++ last_lines status) taken_after failed_after
-job_ends content_of settings task stop status taken middle taken_after failed failed_middle failed_after e w h = (
+    → (lines : List (List ℕ)) × Stops known settings task status lines × TakesLines taken failed (lines ++ last_lines status) taken_after failed_after
+job_ends known settings task stop status taken middle taken_after failed failed_middle failed_after e w h = (
   w.0,
-  subst (λ n. Stops content_of settings task n w.0) (sym e) w.1,
+  subst (λ n. Stops known settings task n w.0) (sym e) w.1,
   lines_append taken middle failed failed_middle w.0 (last_lines status) taken_after
       failed_after w.2 h,
 )

@@ -73,13 +73,13 @@ full_answers text prefix bytes config settled taken taken_after failed failed_af
 
 -- a bundle ends where its tree does
 tree_stops_bundle : (bundle tree configuration : List ℕ) (status : ℕ) (lines : List (List ℕ)) → IsBundle bundle tree configuration
-    → StopsAtTexts (bundle_files tree) (codes "Kconfig") status lines → StopsInBundle bundle status lines
+    → StopsAtTexts (bundle_files tree) (bundle_files tree) (codes "Kconfig") status lines → StopsInBundle bundle status lines
 tree_stops_bundle bundle tree configuration status lines parts (at_texts line r s e) = at_tree tree configuration line parts r s e
 tree_stops_bundle bundle tree configuration status lines parts (for_memory s e) = bundles.for_memory s e
 
 module _ (bundle tree configuration : List ℕ) (parts : IsBundle bundle tree configuration) where
   pub tree_stopped : (status : ℕ) (taken taken_after : Option (List ℕ)) (failed failed_after : ℕ)
-      → (lines : List (List ℕ)) × StopsAtTexts (bundle_files tree) (codes "Kconfig") status lines × TakesLines taken failed lines taken_after failed_after
+      → (lines : List (List ℕ)) × StopsAtTexts (bundle_files tree) (bundle_files tree) (codes "Kconfig") status lines × TakesLines taken failed lines taken_after failed_after
       → (lines : List (List ℕ)) × StopsInBundle bundle status lines × TakesLines taken failed lines taken_after failed_after
   tree_stopped status taken taken_after failed failed_after h = (h.0, tree_stops_bundle bundle tree configuration status h.0 parts h.1, h.2)
 

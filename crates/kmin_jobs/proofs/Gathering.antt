@@ -9,6 +9,7 @@ use Rattle.std.specs.declared.alloc.Global.{Global}
 use Rattle.std.specs.declared.alloc.AllocError.{AllocError}
 use Rattle.std.specs.Map.{lookup}
 use Rattle.kc_value.specs.declared.limits.TheConstants.{MAX_TREE_BYTES}
+use Rattle.kc_expr.specs.declared.language.Language.{Language}
 use Rattle.kc_tree_model.specs.TreeFiles.{Files, file_at, with_path, with_file}
 use Rattle.kmin_jobs.specs.FileContents.{FileContent, OpensAs, MatchContentStart, AreTextsBelow, path_below}
 
@@ -67,22 +68,24 @@ module _ (p b q c : List ℕ) where
   at_inserted [] h = on_new (bytes_eq q p) (bytes_eq-Decides q p) h
   at_inserted (f ∷ fs) h = on_path (bytes_eq p f.0) f fs (bytes_eq-Decides p f.0) (at_inserted fs) h
 
-inserted_one : (content_of : List ℕ → FileContent) (root p b q c : List ℕ) (texts : Files) → AreTextsBelow content_of root texts
+inserted_one : (content_of : List ℕ → FileContent) (root p b q c : List ℕ) (texts : Files) → AreTextsBelow content_of root texts.language texts
     → MatchContentStart (content_of (path_below root p)) b
     → ((q ≡ p) × (b ≡ c)) ⊎ (file_at texts q ≡ Some c) → MatchContentStart (content_of (path_below root q)) c
 inserted_one content_of root p b q c texts h k (inl e) = rw (e.0, ← e.1) k
 inserted_one content_of root p b q c texts h k (inr e) = h.content q c e
 
-pub inserted : (content_of : List ℕ → FileContent) (root p b : List ℕ) (texts : Files) → AreTextsBelow content_of root texts
+pub inserted : (content_of : List ℕ → FileContent) (root p b : List ℕ) (texts : Files) → AreTextsBelow content_of root texts.language texts
     → MatchContentStart (content_of (path_below root p)) b
-    → AreTextsBelow content_of root (with_file texts p b)
-inserted content_of root p b texts h k = record { language = h.language; content = λ q c e. inserted_one content_of root p b q c texts h k (at_inserted p b q c texts.list e) }
+    → AreTextsBelow content_of root texts.language (with_file texts p b)
+inserted content_of root p b texts h k = record { in_language = refl; content = λ q c e. inserted_one content_of root p b q c texts h k (at_inserted p b q c texts.list e) }
 
--- files that tell the same
-pub below_again : (content_of others : List ℕ → FileContent) (root : List ℕ) (texts : Files) → ((path : List ℕ) → others path ≡ content_of path)
-    → AreTextsBelow content_of root texts → AreTextsBelow others root texts
-below_again content_of others root texts same h = record { language = h.language; content = λ path bytes e. rw (same (path_below root path)) (h.content path bytes e) }
+-- files that tell the same, in a language that is the same
+pub below_again : (content_of others : List ℕ → FileContent) (root : List ℕ) (was language : Language) (texts : Files) → was ≡ language
+    → ((path : List ℕ) → others path ≡ content_of path) → AreTextsBelow content_of root was texts → AreTextsBelow others root language texts
+below_again content_of others root was language texts e same h =
+    record { in_language = h.in_language ∙ e; content = λ path bytes f. rw (same (path_below root path)) (h.content path bytes f) }
 
-pub below_back : (content_of others : List ℕ → FileContent) (root : List ℕ) (texts : Files) → ((path : List ℕ) → others path ≡ content_of path)
-    → AreTextsBelow others root texts → AreTextsBelow content_of root texts
-below_back content_of others root texts same h = record { language = h.language; content = λ path bytes e. rw (← same (path_below root path)) (h.content path bytes e) }
+pub below_back : (content_of others : List ℕ → FileContent) (root : List ℕ) (was language : Language) (texts : Files) → was ≡ language
+    → ((path : List ℕ) → others path ≡ content_of path) → AreTextsBelow others root was texts → AreTextsBelow content_of root language texts
+below_back content_of others root was language texts e same h =
+    record { in_language = h.in_language ∙ e; content = λ path bytes f. rw (← same (path_below root path)) (h.content path bytes f) }

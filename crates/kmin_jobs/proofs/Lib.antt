@@ -8,6 +8,13 @@ pub mod NamedLines
 pub mod Taking
 pub mod CycleLines
 pub mod Sequences
+pub mod AnswerFilesRead
+pub mod LentAnswers
+pub mod TreesBelow
+pub mod ExpandedTexts
+pub mod FileNaming
+pub mod JobTrees
+pub mod QuestionEnds
 pub mod Answering
 pub mod BundleAnswering
 pub mod EndingLines

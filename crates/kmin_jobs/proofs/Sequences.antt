@@ -53,7 +53,7 @@ whole_content (Some (Some known)) before after bytes o h e =
     sym (whole_memory known after bytes (rw s at h) e)
 
 -- the lines of the notices of what was read are those of the file
-map_twice : {A B C : Type 0} (f : B → C) (g : A → B) (xs : List A) → map (λ x. f (g x)) xs ≡ map f (map g xs)
+pub map_twice : {A B C : Type 0} (f : B → C) (g : A → B) (xs : List A) → map (λ x. f (g x)) xs ≡ map f (map g xs)
 map_twice f g [] = refl
 map_twice f g (x ∷ xs) = ap (λ ys. f (g x) ∷ ys) (map_twice f g xs)
 

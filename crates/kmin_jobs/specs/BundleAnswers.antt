@@ -1,7 +1,8 @@
 -- The answer to a bundle, and when a bundle is refused.
-use Rattle.std.specs.Prelude.{◌≡◌, ℕ, ◌<◌, List, [], ◌∷◌, ◌++◌, Option, Some, take, length, codes}
+use Rattle.std.specs.Prelude.{◌≡◌, ℕ, ◌<◌, List, [], ◌∷◌, ◌++◌, Option, Some, None, take, length, codes}
 use Rattle.std.specs.Io.KnownBytes.{Appends, Consumes}
 use Rattle.kc_value.specs.declared.limits.TheConstants.{MAX_BUNDLE_BYTES}
+use Rattle.kc_expr.specs.declared.language.Language.TheVariants.{Strict}
 use Rattle.kc_tree_model.specs.Trees.{Tree}
 use Rattle.kc_tree_model.specs.TreeFiles.{Files, strict_files}
 use Rattle.kc_rules_model.specs.declared.profile.Profile.TheVariants.{Present}
@@ -17,7 +18,7 @@ use Rattle.kmin_jobs.specs.Stops.{RefusesTexts, StopsAmongFiles}
 
 -- the options of a bundle
 abbrev pub bundle_settings : Settings
-bundle_settings = record { root = []; tree = codes "Kconfig"; prefix = codes "CONFIG_"; profile = Present }
+bundle_settings = record { root = []; tree = codes "Kconfig"; language = Strict; prefix = codes "CONFIG_"; profile = Present; expansion = None }
 
 -- the command of a bundle: the full file of its configuration
 abbrev pub bundle_task : Task
@@ -54,7 +55,7 @@ pub record AnswersBundle (bundle text : List ℕ) (notices : List (List ℕ)) : 
 -- or its configuration, or memory runs out.
 pub data StopsInBundle (bundle : List ℕ) (status : ℕ) (lines : List (List ℕ)) : Type 0 where
   at_tree : (tree configuration line : List ℕ) → IsBundle bundle tree configuration
-      → RefusesTexts (bundle_files tree) (codes "Kconfig") line → status ≡ 3 → lines ≡ line ∷ [] → StopsInBundle bundle status lines
+      → RefusesTexts (bundle_files tree) (bundle_files tree) (codes "Kconfig") line → status ≡ 3 → lines ≡ line ∷ [] → StopsInBundle bundle status lines
   in_configuration : (tree configuration : List ℕ) (whole : Tree) → IsBundle bundle tree configuration
       → AreAccepted (bundle_files tree) (codes "Kconfig") whole
       → StopsAmongFiles (bundle_content configuration) (codes "CONFIG_") whole (codes "config" ∷ []) status lines

@@ -23,5 +23,5 @@ tree_of_bytes language bytes number first = tree_of_groups (reading_from (record
 -- are among the texts, it is one tree, but for the numbers of its files, which are their places among the texts.
 abbrev pub KnownFilesDetermineTheTree : Type 0
 KnownFilesDetermineTheTree = (content_of : List ℕ → FileContent) (root first : List ℕ) (texts : Files) (tree : Tree)
-    → ((path : List ℕ) → content_of (path_below root path) ≢ None) → AreTextsBelow content_of root texts → AreAccepted texts first tree
+    → ((path : List ℕ) → content_of (path_below root path) ≢ None) → AreTextsBelow content_of root texts.language texts → AreAccepted texts first tree
     → tree ≡ tree_of_bytes texts.language (λ path. known_bytes (content_of (path_below root path))) (index_of_file texts) first

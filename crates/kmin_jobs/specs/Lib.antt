@@ -2,6 +2,12 @@ pub mod StandardError
 pub mod Reports
 pub mod Bundles
 pub mod FileContents
+pub mod MacroReports
+pub mod TreesBelow
+pub mod JobAnswers
+pub mod JobTexts
+pub mod AnswerStops
+pub mod WantedQuestions
 pub mod Answers
 pub mod KnownTrees
 pub mod Stops

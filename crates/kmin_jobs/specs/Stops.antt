@@ -1,5 +1,5 @@
 -- Jobs that end without an answer: the exit status, and the lines of standard error before those of `last_lines`.
-use Rattle.std.specs.Prelude.{◌≡◌, ℕ, List, [], ◌∷◌, ◌++◌, Some, None, length}
+use Rattle.std.specs.Prelude.{◌≡◌, ℕ, List, [], ◌∷◌, ◌++◌, Some, None, Err, length, map}
 use Rattle.kc_tree_model.specs.TreeFiles.{Files}
 use Rattle.kc_tree_model.specs.Trees.{Tree}
 use Rattle.kc_tree_model.specs.TreeFaults.{first_tree_fault}
@@ -11,18 +11,27 @@ use Rattle.kc_dotconfig_model.specs.declared.fault.LoadKind.{LoadKind}
 use Rattle.kc_dotconfig_model.specs.declared.fault.LoadKind.TheVariants.{Read}
 use Rattle.kc_dotconfig_model.specs.ConfigLines.{LineMeaning}
 use Rattle.kc_dotconfig_model.specs.LoadFaults.{IsFirstFault, complete, cut_short}
-use Rattle.kmin_words.specs.Jobs.{Settings, Task, paths_of}
-use Rattle.kmin_jobs.specs.FileContents.{FileContent, MatchContent, OpensAs, AreTextsBelow}
+use Rattle.kc_macros_model.specs.Programs.{Fault, Notice}
+use Rattle.kc_macros_model.specs.AnswerFiles.{Recorded}
+use Rattle.kc_expansion.specs.Expansions.{IsExpansion}
+use Rattle.kmin_words.specs.Jobs.{Expansion, Settings, Task, paths_of}
+use Rattle.kmin_jobs.specs.FileContents.{FileContent, MatchContent, OpensAs, Known}
+use Rattle.kmin_jobs.specs.JobAnswers.{AreJobAnswers}
+use Rattle.kmin_jobs.specs.JobTexts.{TreeTexts, AreTextsOfJob}
+use Rattle.kmin_jobs.specs.TreesBelow.{contents_below}
+use Rattle.kmin_jobs.specs.AnswerStops.{StopsAmongAnswers}
+use Rattle.kmin_jobs.specs.MacroReports.{macro_fault_line, macro_notice_line}
 use Rattle.kmin_jobs.specs.Reports.{tree_fault_line, cycle_line, fault_line, notice_lines, output_line}
 use Rattle.kmin_jobs.specs.Answers.{AreAccepted, FilesMean, Answer}
 
--- Texts are refused as a tree, with this line: by their first fault, or by the cycle that their units have.
-pub data RefusesTexts (texts : Files) (first line : List ℕ) : Type 0 where
-  faulty : (fault : TreeFault) → first_tree_fault texts first ≡ Some fault → line ≡ tree_fault_line texts first fault
-      → RefusesTexts texts first line
+-- Texts are refused as a tree, with this line: by their first fault, or by the cycle that their units have. The line names
+-- files as `names` has them.
+pub data RefusesTexts (texts names : Files) (first line : List ℕ) : Type 0 where
+  faulty : (fault : TreeFault) → first_tree_fault texts first ≡ Some fault → line ≡ tree_fault_line names first fault
+      → RefusesTexts texts names first line
   cyclic : (tree : Tree) (units : List ℕ) → first_tree_fault texts first ≡ None → tree ≡ tree_of_files texts first
       → IsNamedCycle (length tree.units) (dependencies tree) units → IsCycle (length tree.units) (dependencies tree) units
-      → line ≡ cycle_line texts first tree units → RefusesTexts texts first line
+      → line ≡ cycle_line names first tree units → RefusesTexts texts names first line
 
 -- A configuration file ends a job with this status and this line: by its first fault, by a read that fails before one, or
 -- since it can't be opened.
@@ -46,13 +55,29 @@ pub data StopsAmongFiles (content_of : List ℕ → FileContent) (prefix : List 
       → FilesMean content_of prefix tree front meanings → status ≡ 6 → lines ≡ notice_lines front meanings
       → StopsAmongFiles content_of prefix tree paths status lines
 
+-- A job ends at the expansion of its tree: among its files of answers, or by the expansion's fault after its notices.
+pub data StopsInExpansion (known : Known) (root first : List ℕ) (expansion : Expansion) (status : ℕ) (lines : List (List ℕ)) : Type 0 where
+  among_answers : StopsAmongAnswers known.content expansion.answers status lines → StopsInExpansion known root first expansion status lines
+  at_fault : (answers : Recorded) (notices : List Notice) (fault : Fault) → AreJobAnswers known.content known.variable expansion answers
+      → IsExpansion (contents_below known root) answers first notices (Err fault)
+      → status ≡ 3 → lines ≡ map macro_notice_line notices ++ macro_fault_line fault ∷ [] → StopsInExpansion known root first expansion status lines
+  for_memory : status ≡ 6 → lines ≡ [] → StopsInExpansion known root first expansion status lines
+
+-- A job ends at its tree: in its expansion, at its texts, or for lack of memory while they are read.
+pub data StopsAtTree (known : Known) (settings : Settings) (status : ℕ) (lines : List (List ℕ)) : Type 0 where
+  in_expansion : (expansion : Expansion) → settings.expansion ≡ Some expansion
+      → StopsInExpansion known settings.root settings.tree expansion status lines → StopsAtTree known settings status lines
+  at_texts : (t : TreeTexts) (line : List ℕ) → AreTextsOfJob known settings t → RefusesTexts t.texts t.names settings.tree line
+      → status ≡ 3 → lines ≡ t.lines ++ line ∷ [] → StopsAtTree known settings status lines
+  for_memory : (t : TreeTexts) → AreTextsOfJob known settings t → status ≡ 6 → lines ≡ t.lines → StopsAtTree known settings status lines
+
 -- A job ends at its tree, among its configuration files, at a write of its answer, or for lack of memory before.
-pub data Stops (content_of : List ℕ → FileContent) (settings : Settings) (task : Task) (status : ℕ) (lines : List (List ℕ)) : Type 0 where
-  at_tree : (texts : Files) (line : List ℕ) → AreTextsBelow content_of settings.root texts
-      → RefusesTexts texts settings.tree line → status ≡ 3 → lines ≡ line ∷ [] → Stops content_of settings task status lines
-  among_files : (texts : Files) (tree : Tree) → AreTextsBelow content_of settings.root texts → AreAccepted texts settings.tree tree
-      → StopsAmongFiles content_of settings.prefix tree (paths_of task) status lines → Stops content_of settings task status lines
-  at_write : (texts : Files) (text : List ℕ) (made : ℕ) (notices : List (List ℕ)) → AreTextsBelow content_of settings.root texts
-      → Answer content_of settings texts task text made notices → status ≡ 5 → lines ≡ notices ++ output_line ∷ []
-      → Stops content_of settings task status lines
-  for_memory : status ≡ 6 → lines ≡ [] → Stops content_of settings task status lines
+pub data Stops (known : Known) (settings : Settings) (task : Task) (status : ℕ) (lines : List (List ℕ)) : Type 0 where
+  at_tree : StopsAtTree known settings status lines → Stops known settings task status lines
+  among_files : (t : TreeTexts) (tree : Tree) (more : List (List ℕ)) → AreTextsOfJob known settings t → AreAccepted t.texts settings.tree tree
+      → StopsAmongFiles known.content settings.prefix tree (paths_of task) status more → lines ≡ t.lines ++ more
+      → Stops known settings task status lines
+  at_write : (t : TreeTexts) (text : List ℕ) (made : ℕ) (notices : List (List ℕ)) → AreTextsOfJob known settings t
+      → Answer known.content settings t.texts task text made notices → status ≡ 5 → lines ≡ t.lines ++ notices ++ output_line ∷ []
+      → Stops known settings task status lines
+  for_memory : status ≡ 6 → lines ≡ [] → Stops known settings task status lines

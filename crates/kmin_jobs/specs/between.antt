@@ -6,3 +6,8 @@ pub mod Readings
 pub mod ReportLines
 pub mod RunErrors
 pub mod TreeStops
+pub mod AnswerSteps
+pub mod ExpansionStops
+pub mod ExpandedStops
+pub mod FileNames
+pub mod FilesByPlace

@@ -17,6 +17,7 @@ ghost use Rattle.kmin_jobs.specs.between.RunErrors.{status_of};
 ghost use Rattle.kmin_jobs.specs.between.TreeStops.{StopsAtTexts};
 
 use crate::bundle::{cut, read_whole};
+use crate::file_names::FileNames;
 use crate::loading::load;
 use crate::memory_reader::MemoryReader;
 use crate::output::write_answer;
@@ -80,12 +81,21 @@ fn bundle_tree<E: Sink>(
     ensures accepted { IfOk result (λ settled. AreAccepted (bundle_files tree.now) (codes "Kconfig") (tree_of_settled settled)) }
     ensures profile { IfOk result (λ settled. profile_of settled ≡ Present) }
     ensures unreported { OnOk result (TakesLines (E.taken err.old) (E.failures err.old) [] (E.taken err.new) (E.failures err.new)) }
-    ensures stopped { IfErr result (λ stop. (lines : List (List ℕ)) × StopsAtTexts (bundle_files tree.now) (codes "Kconfig") (status_of stop) lines × TakesLines (E.taken err.old) (E.failures err.old) lines (E.taken err.new) (E.failures err.new)) }
+    ensures stopped { IfErr result (λ stop. (lines : List (List ℕ)) × StopsAtTexts (bundle_files tree.now) (bundle_files tree.now) (codes "Kconfig") (status_of stop) lines × TakesLines (E.taken err.old) (E.failures err.old) lines (E.taken err.new) (E.failures err.new)) }
 {
     let mut texts = Texts::with_seed(alloc, seed);
     texts.insert("Kconfig", tree)?;
     let read = read_texts(alloc, &texts, "Kconfig");
-    settled_tree(alloc, &texts, "Kconfig", read, Profile::Present, err)
+    let names = FileNames::of_texts(&texts);
+    settled_tree(
+        alloc,
+        &texts,
+        &names,
+        "Kconfig",
+        read,
+        Profile::Present,
+        err,
+    )
 }
 
 /// The full file of a configuration over a settled tree, in the plain form; reports its notices and its fault.

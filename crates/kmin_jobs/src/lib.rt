@@ -3,10 +3,15 @@
 
 mod bundle;
 mod bundle_answer;
+mod expanded_trees;
+mod file_names;
 mod files;
+mod job_answers;
+mod job_trees;
 mod laws;
 mod lines;
 mod loading;
+mod macro_names;
 mod memory_reader;
 mod output;
 mod prefetch;
@@ -15,11 +20,14 @@ mod run_error;
 mod running;
 mod serving;
 mod symbol_lines;
+mod tree_below;
 mod tree_files;
 mod trees;
 mod verb_texts;
+mod wanting;
 
 pub use files::Files;
 pub use laws::known_files_determine_the_tree;
 pub use running::run;
 pub use serving::serve;
+pub use wanting::list_questions;

@@ -3,13 +3,17 @@ ghost use Rattle.std.specs.Prelude.{◌≡◌, ◌++◌, ◌∷◌, [], ℕ, Lis
 ghost use Rattle.std.specs.List.{flat_map};
 ghost use Rattle.std.specs.Borrow.{Bor};
 ghost use Rattle.std.specs.Fmt.{decimal};
+ghost use Rattle.kc_macros.specs.Runs.{fault_of, notice_of};
+ghost use Rattle.kmin_jobs.specs.MacroReports.{macro_fault_line, macro_notice_line, message_line};
 ghost use Rattle.kmin_jobs.specs.Reports.{place_line, first_member_name, unit_text, units_text};
 ghost use Rattle.kmin_jobs.specs.StandardError.{TakesWhole, TakesPart, TakesLine, TakesLines};
 ghost use Rattle.kmin_jobs.specs.between.ReportLines.{report_line};
 
+use crate::macro_names::{answers_kind_name, macro_kind_name, macro_notice_name};
 use crate::symbol_lines::name_of;
 use itoa::Buffer;
 use kc_dotconfig::{LoadKind, NoticeKind};
+use kc_macros::{AnswersKind, MacroFault, MacroNotice};
 use kc_minimal::{WriteFault, write_out};
 use kc_tree::{Tree, TreeKind, Unit};
 use kc_value::Sink;
@@ -19,13 +23,13 @@ use kc_value::Sink;
 pub(crate) enum Report<'a> {
     /// A fault of a tree.
     TreeFault {
-        path: &'a str,
+        path: &'a [u8],
         line: u32,
         kind: TreeKind,
     },
     /// Units of a tree that depend on each other in a circle, at the place of the first.
     Cycle {
-        path: &'a str,
+        path: &'a [u8],
         line: u32,
         tree: &'a Tree,
         units: &'a [u32],
@@ -42,6 +46,16 @@ pub(crate) enum Report<'a> {
         line: u32,
         kind: NoticeKind,
     },
+    /// A fault of a file of answers.
+    AnswersFault {
+        path: &'a str,
+        line: u32,
+        kind: AnswersKind,
+    },
+    /// A message of the macros of a tree.
+    MacroNotice(&'a MacroNotice),
+    /// A fault of the macros of a tree.
+    MacroFault(&'a MacroFault),
     /// The answer can't be written.
     OutputFault,
     /// Memory was refused.
@@ -70,27 +84,90 @@ fn write_line<W: Sink>(report: &Report<'_>, sink: &mut W) -> Result<(), WriteFau
             tree,
             units,
         } => write_cycle(path, *line, tree, units, sink),
-        Report::FileFault { path, line, kind } => write_place(path, *line, kind.name(), sink),
-        Report::Notice { path, line, kind } => write_place(path, *line, kind.name(), sink),
-        Report::OutputFault => write_pieces(&["output: Write\n"], sink),
-        Report::OutOfMemory => write_pieces(&["out of memory\n"], sink),
-        Report::RefusedWords(message) => write_pieces(&[*message], sink),
+        Report::FileFault { path, line, kind } => {
+            write_place(path.as_bytes(), *line, kind.name(), sink)
+        }
+        Report::Notice { path, line, kind } => {
+            write_place(path.as_bytes(), *line, kind.name(), sink)
+        }
+        Report::AnswersFault { path, line, kind } => {
+            write_place(path.as_bytes(), *line, answers_kind_name(*kind), sink)
+        }
+        Report::MacroNotice(notice) => write_macro_notice(notice, sink),
+        Report::MacroFault(fault) => write_macro_fault(fault, sink),
+        Report::OutputFault => write_pieces(&[b"output: Write\n"], sink),
+        Report::OutOfMemory => write_pieces(&[b"out of memory\n"], sink),
+        Report::RefusedWords(message) => write_pieces(&[message.as_bytes()], sink),
     }
 }
 
 /// Writes `FILE:LINE: KIND`.
-fn write_place<W: Sink>(path: &str, line: u32, kind: &str, sink: &mut W) -> Result<(), WriteFault>
+fn write_place<W: Sink>(path: &[u8], line: u32, kind: &str, sink: &mut W) -> Result<(), WriteFault>
     ensures whole { OnOk result (TakesWhole (W.taken sink.old) (W.failures sink.old) (place_line path.now line kind.now) (W.taken sink.new) (W.failures sink.new)) }
     ensures part { OnErr result (TakesPart (W.taken sink.old) (W.failures sink.old) (place_line path.now line kind.now) (W.taken sink.new) (W.failures sink.new)) }
 {
     let mut digits = Buffer::new();
     let number = digits.format(line);
-    write_pieces(&[path, ":", number, ": ", kind, "\n"], sink)
+    write_pieces(
+        &[path, b":", number.as_bytes(), b": ", kind.as_bytes(), b"\n"],
+        sink,
+    )
+}
+
+/// Writes `FILE:LINE: KIND TEXT`, or `FILE:LINE: KIND` where the text is empty.
+fn write_message<'a, W: Sink>(
+    path: &'a [u8],
+    line: u32,
+    kind: &'a str,
+    text: &'a [u8],
+    sink: &mut W,
+) -> Result<(), WriteFault>
+    ensures whole { OnOk result (TakesWhole (W.taken sink.old) (W.failures sink.old) (message_line path.now line kind.now text.now) (W.taken sink.new) (W.failures sink.new)) }
+    ensures part { OnErr result (TakesPart (W.taken sink.old) (W.failures sink.old) (message_line path.now line kind.now text.now) (W.taken sink.new) (W.failures sink.new)) }
+{
+    if text.is_empty() {
+        return write_place(path, line, kind, sink);
+    }
+    let mut digits = Buffer::new();
+    let number = digits.format(line);
+    write_pieces(
+        &[
+            path,
+            b":",
+            number.as_bytes(),
+            b": ",
+            kind.as_bytes(),
+            b" ",
+            text,
+            b"\n",
+        ],
+        sink,
+    )
+}
+
+/// Writes the line of a notice of macros.
+fn write_macro_notice<W: Sink>(notice: &MacroNotice, sink: &mut W) -> Result<(), WriteFault>
+    ensures whole { OnOk result (TakesWhole (W.taken sink.old) (W.failures sink.old) (macro_notice_line (notice_of notice.now)) (W.taken sink.new) (W.failures sink.new)) }
+    ensures part { OnErr result (TakesPart (W.taken sink.old) (W.failures sink.old) (macro_notice_line (notice_of notice.now)) (W.taken sink.new) (W.failures sink.new)) }
+{
+    let path = notice.file.as_slice();
+    let kind = macro_notice_name(notice.kind);
+    write_message(path, notice.line, kind, notice.text.as_slice(), sink)
+}
+
+/// Writes the line of a fault of macros.
+fn write_macro_fault<W: Sink>(fault: &MacroFault, sink: &mut W) -> Result<(), WriteFault>
+    ensures whole { OnOk result (TakesWhole (W.taken sink.old) (W.failures sink.old) (macro_fault_line (fault_of fault.now)) (W.taken sink.new) (W.failures sink.new)) }
+    ensures part { OnErr result (TakesPart (W.taken sink.old) (W.failures sink.old) (macro_fault_line (fault_of fault.now)) (W.taken sink.new) (W.failures sink.new)) }
+{
+    let path = fault.file.as_slice();
+    let kind = macro_kind_name(fault.kind);
+    write_message(path, fault.line, kind, fault.text.as_slice(), sink)
 }
 
 /// Writes `FILE:LINE: Cycle A B`.
 fn write_cycle<W: Sink>(
-    path: &str,
+    path: &[u8],
     line: u32,
     tree: &Tree,
     units: &[u32],
@@ -101,9 +178,9 @@ fn write_cycle<W: Sink>(
 {
     let mut digits = Buffer::new();
     let number = digits.format(line);
-    write_pieces(&[path, ":", number, ": Cycle"], sink)?;
+    write_pieces(&[path, b":", number.as_bytes(), b": Cycle"], sink)?;
     write_units(tree, units, sink)?;
-    write_pieces(&["\n"], sink)
+    write_pieces(&[b"\n"], sink)
 }
 
 /// Writes the names of units, each after a space.
@@ -126,8 +203,10 @@ fn write_unit<W: Sink>(tree: &Tree, unit: u32, sink: &mut W) -> Result<(), Write
         return Ok(());
     }
     match tree.unit(unit) {
-        Unit::Symbol(symbol) => write_pieces(&[" ", tree.name(symbol)], sink),
-        Unit::Choice(choice) => write_pieces(&[" choice:", member_name(tree, choice)], sink),
+        Unit::Symbol(symbol) => write_pieces(&[b" ", tree.name(symbol).as_bytes()], sink),
+        Unit::Choice(choice) => {
+            write_pieces(&[b" choice:", member_name(tree, choice).as_bytes()], sink)
+        }
     }
 }
 
@@ -143,12 +222,12 @@ fn member_name(tree: &Tree, choice: u32) -> &str
 }
 
 /// Writes texts, one after another, up to the first write that fails.
-fn write_pieces<W: Sink>(pieces: &[&str], sink: &mut W) -> Result<(), WriteFault>
+fn write_pieces<W: Sink>(pieces: &[&[u8]], sink: &mut W) -> Result<(), WriteFault>
     ensures whole { OnOk result (TakesWhole (W.taken sink.old) (W.failures sink.old) (flat_map (λ (piece : Bor (List ℕ)). piece.now) pieces.now) (W.taken sink.new) (W.failures sink.new)) }
     ensures part { OnErr result (TakesPart (W.taken sink.old) (W.failures sink.old) (flat_map (λ (piece : Bor (List ℕ)). piece.now) pieces.now) (W.taken sink.new) (W.failures sink.new)) }
 {
     for piece in pieces {
-        write_out(sink, piece.as_bytes())?;
+        write_out(sink, piece)?;
     }
     Ok(())
 }

@@ -13,6 +13,7 @@ use crate::output::{exit_status, write_answer};
 use crate::report::{Report, write_report};
 use crate::run_error::RunError;
 use crate::serving::serve;
+use crate::wanting::list_questions;
 use kc_value::{Sink, Source};
 use kmin_words::{ParsedWords, read_words};
 use std::alloc::Global;
@@ -20,8 +21,9 @@ use std::alloc::Global;
 /// Runs the program on its words, the files, a reader and two writers, and returns the exit status.
 ///
 /// Without words it reads a bundle, a Kconfig tree, a line `%%` and a configuration file, and writes the full file. Else
-/// the words are a command. Statuses: 0 done, 1 a comparison found differences, 2 words refused, 3 tree refused, 4
-/// configuration refused or bundle too large, 5 a read or write failed, 6 out of memory.
+/// the words are a command. Statuses: 0 done, 1 a comparison found differences or a tree has questions without an answer, 2
+/// words refused, 3 tree refused, also by its expansion, 4 configuration or file of answers refused or bundle too large, 5 a
+/// read or write failed, 6 out of memory.
 pub fn run<F: Files, I: Source, O: Sink, E: Sink>(
     alloc: Global,
     words: &[&str],
@@ -66,6 +68,7 @@ fn run_words<F: Files, O: Sink, E: Sink>(
 {
     match read_words(alloc, words) {
         Ok(ParsedWords::Job(job)) => serve(alloc, &job, files, out, err),
+        Ok(ParsedWords::Questions(questions)) => list_questions(alloc, &questions, files, out, err),
         Ok(ParsedWords::Help(text)) => write_help(&text, out, err),
         Ok(ParsedWords::Refused(text)) => {
             write_report(Report::RefusedWords(text.as_str()), err);

@@ -6,20 +6,19 @@ ghost use Rattle.kc_tree_model.specs.TreeFiles as trees;
 ghost use Rattle.kc_rules.specs.between.SettledViews.{tree_of_settled, profile_of};
 ghost use Rattle.kmin_words.specs.Jobs.{settings_view, task_view, over, compare, paths_of};
 ghost use Rattle.kmin_jobs.specs.Answers.{Answer, AreAccepted};
-ghost use Rattle.kmin_jobs.specs.FileContents.{AreTextsBelow};
+ghost use Rattle.kmin_jobs.specs.FileContents.{known_by};
+ghost use Rattle.kmin_jobs.specs.JobTexts.{TreeTexts, AreTextsOfJob};
 ghost use Rattle.kmin_jobs.specs.PartialAnswers.{AnswersInPart};
 ghost use Rattle.kmin_jobs.specs.Reports.{last_lines};
 ghost use Rattle.kmin_jobs.specs.StandardError.{TakesLines};
 ghost use Rattle.kmin_jobs.specs.Stops.{Stops, StopsAmongFiles};
 ghost use Rattle.kmin_jobs.specs.between.RunErrors.{status_of};
-ghost use Rattle.kmin_jobs.specs.between.TreeStops.{StopsAtTexts};
 
 use crate::files::Files;
+use crate::job_trees::job_tree;
 use crate::loading::{configured, configured_by};
 use crate::output::{exit_status, write_answer};
 use crate::run_error::RunError;
-use crate::tree_files::{TreeReading, gather};
-use crate::trees::settled_tree;
 use crate::verb_texts::{AnswerText, compared, text_of};
 use kc_rules::Settled;
 use kc_value::Sink;
@@ -31,6 +30,9 @@ use std::alloc::Global;
 ///
 /// The output is made whole before the first write. Standard error gets a line `FILE:LINE: KIND` for each notice and for
 /// the fault that ended the job, as soon as it is known; that it fails changes nothing.
+///
+/// Where the settings say so, the tree is expanded before it is read, with the answers of the job: 3 is also a fault of the
+/// expansion, 4 a file of answers refused, and the notices of the expansion come first, as `FILE:LINE: KIND TEXT`.
 pub fn serve<F: Files, O: Sink, E: Sink>(
     alloc: Global,
     job: &Job<'_>,
@@ -41,15 +43,15 @@ pub fn serve<F: Files, O: Sink, E: Sink>(
     ensures status { result ≤ 6 }
     ensures accepted_words { result ≢ 2 }
 
-    // The tree and the files are accepted, just the answer is written, no write failed, and the notices of the files are reported.
-    ensures done { (result ≡ 0) ⊎ (result ≡ 1) → (texts : trees.Files) × (text : List ℕ) × (notices : List (List ℕ)) × AreTextsBelow (F.content_of files.old) (settings_view job.now.settings).root texts × Answer (F.content_of files.old) (settings_view job.now.settings) texts (task_view job.now.task) text result notices × Appends (O.taken out.old) (O.taken out.new) text × TakesLines (E.taken err.old) (E.failures err.old) notices (E.taken err.new) (E.failures err.new) }
+    // The tree and the files are accepted, just the answer is written, no write failed, and the notices of the tree's expansion and of the files are reported.
+    ensures done { (result ≡ 0) ⊎ (result ≡ 1) → (t : TreeTexts) × (text : List ℕ) × (notices : List (List ℕ)) × AreTextsOfJob (known_by (F.content_of files.old) (F.regular_content_of files.old) (F.names_of files.old) (F.variable_of files.old)) (settings_view job.now.settings) t × Answer (F.content_of files.old) (settings_view job.now.settings) t.texts (task_view job.now.task) text result notices × Appends (O.taken out.old) (O.taken out.new) text × TakesLines (E.taken err.old) (E.failures err.old) (t.lines ++ notices) (E.taken err.new) (E.failures err.new) }
     ensures unfailed { (result ≡ 0) ⊎ (result ≡ 1) → O.failures out.new ≡ O.failures out.old }
 
-    // On every other status the lines of what ended the job are reported, after the notices of the files accepted before.
-    ensures stopped { (result ≢ 0) × (result ≢ 1) → (lines : List (List ℕ)) × Stops (F.content_of files.old) (settings_view job.now.settings) (task_view job.now.task) result lines × TakesLines (E.taken err.old) (E.failures err.old) (lines ++ last_lines result) (E.taken err.new) (E.failures err.new) }
+    // On every other status the lines of what ended the job are reported, after the notices of the tree's expansion and of the files accepted before.
+    ensures stopped { (result ≢ 0) × (result ≢ 1) → (lines : List (List ℕ)) × Stops (known_by (F.content_of files.old) (F.regular_content_of files.old) (F.names_of files.old) (F.variable_of files.old)) (settings_view job.now.settings) (task_view job.now.task) result lines × TakesLines (E.taken err.old) (E.failures err.old) (lines ++ last_lines result) (E.taken err.new) (E.failures err.new) }
 
     // On status 5 the writer took the first bytes of the answer, or nothing.
-    ensures part { result ≡ 5 → (O.taken out.new ≡ O.taken out.old) ⊎ AnswersInPart (F.content_of files.old) (settings_view job.now.settings) (task_view job.now.task) (O.taken out.old) (O.taken out.new) }
+    ensures part { result ≡ 5 → (O.taken out.new ≡ O.taken out.old) ⊎ AnswersInPart (known_by (F.content_of files.old) (F.regular_content_of files.old) (F.names_of files.old) (F.variable_of files.old)) (settings_view job.now.settings) (task_view job.now.task) (O.taken out.old) (O.taken out.new) }
 
     ensures unwritten { result ≢ 0 → result ≢ 1 → result ≢ 5 → O.taken out.new ≡ O.taken out.old }
 {
@@ -70,30 +72,13 @@ fn answer_job<F: Files, E: Sink>(
     err: &mut E,
 ) -> Result<AnswerText, RunError>
     ensures status { IfOk result (λ answer. answer.status ≤ 1) }
-    ensures answer { IfOk result (λ answer. (texts : trees.Files) × (notices : List (List ℕ)) × AreTextsBelow (F.content_of files.old) (settings_view job.now.settings).root texts × Answer (F.content_of files.old) (settings_view job.now.settings) texts (task_view job.now.task) answer.text.items answer.status notices × TakesLines (E.taken err.old) (E.failures err.old) notices (E.taken err.new) (E.failures err.new)) }
-    ensures stopped { IfErr result (λ stop. (lines : List (List ℕ)) × Stops (F.content_of files.old) (settings_view job.now.settings) (task_view job.now.task) (status_of stop) lines × TakesLines (E.taken err.old) (E.failures err.old) lines (E.taken err.new) (E.failures err.new)) }
+    ensures answer { IfOk result (λ answer. (t : TreeTexts) × (notices : List (List ℕ)) × AreTextsOfJob (known_by (F.content_of files.old) (F.regular_content_of files.old) (F.names_of files.old) (F.variable_of files.old)) (settings_view job.now.settings) t × Answer (F.content_of files.old) (settings_view job.now.settings) t.texts (task_view job.now.task) answer.text.items answer.status notices × TakesLines (E.taken err.old) (E.failures err.old) (t.lines ++ notices) (E.taken err.new) (E.failures err.new)) }
+    ensures stopped { IfErr result (λ stop. (lines : List (List ℕ)) × Stops (known_by (F.content_of files.old) (F.regular_content_of files.old) (F.names_of files.old) (F.variable_of files.old)) (settings_view job.now.settings) (task_view job.now.task) (status_of stop) lines × TakesLines (E.taken err.old) (E.failures err.old) lines (E.taken err.new) (E.failures err.new)) }
 {
     let settled = job_tree(alloc, &job.settings, files, err)?;
     let answer = answer_over(alloc, &job.settings, &job.task, &settled, files, err);
     drop(settled);
     answer
-}
-
-/// The settled tree of a job; reports why it is refused.
-fn job_tree<F: Files, E: Sink>(
-    alloc: Global,
-    settings: &Settings<'_>,
-    files: &mut F,
-    err: &mut E,
-) -> Result<Settled, RunError>
-    ensures same { (path : List ℕ) → F.content_of files.new path ≡ F.content_of files.old path }
-    ensures accepted { IfOk result (λ settled. (texts : trees.Files) × AreTextsBelow (F.content_of files.old) settings.now.root.now texts × AreAccepted texts settings.now.tree.now (tree_of_settled settled)) }
-    ensures profile { IfOk result (λ settled. profile_of settled ≡ settings.now.profile) }
-    ensures unreported { IfOk result (λ settled. TakesLines (E.taken err.old) (E.failures err.old) [] (E.taken err.new) (E.failures err.new)) }
-    ensures stopped { IfErr result (λ stop. (texts : trees.Files) × (lines : List (List ℕ)) × AreTextsBelow (F.content_of files.old) settings.now.root.now texts × StopsAtTexts texts settings.now.tree.now (status_of stop) lines × TakesLines (E.taken err.old) (E.failures err.old) lines (E.taken err.new) (E.failures err.new)) }
-{
-    let TreeReading { texts, read } = gather(alloc, settings.root, settings.tree, files)?;
-    settled_tree(alloc, &texts, settings.tree, read, settings.profile, err)
 }
 
 /// The answer of a command over its tree.

@@ -7,6 +7,7 @@ ghost use Rattle.kmin_jobs.specs.between.Readings.{IsRead};
 use crate::files::Files;
 use crate::prefetch::absent_paths_of_file;
 use crate::trees::read_texts;
+use kc_expr::Language;
 use kc_tree::{Texts, Tree, TreeFault, TreeKind, wanted};
 use kc_value::{MAX_FILES, MAX_TREE_BYTES, ReadBytes, ReadEnd, Source, read_up_to};
 use std::alloc::{AllocError, Global};
@@ -59,13 +60,14 @@ pub(crate) fn gather<F: Files>(
     alloc: Global,
     root: &str,
     first: &str,
+    language: Language,
     files: &mut F,
 ) -> Result<TreeReading, AllocError>
     ensures same { (path : List ℕ) → F.content_of files.new path ≡ F.content_of files.old path }
-    ensures below { IfOk result (λ g. AreTextsBelow (F.content_of files.old) root.now g.texts) }
+    ensures below { IfOk result (λ g. AreTextsBelow (F.content_of files.old) root.now language g.texts) }
     ensures read { IfOk result (λ g. IsRead g.texts first.now g.read) }
 {
-    let mut texts = Texts::with_seed(alloc, files.seed());
+    let mut texts = Texts::with_language(alloc, files.seed(), language);
     open_first(alloc, root, first, files, &mut texts)?;
     let read = read_texts(alloc, &texts, first);
     if lacks_file(&read) {
@@ -83,9 +85,9 @@ fn open_first<F: Files>(
     files: &mut F,
     texts: &mut Texts,
 ) -> Result<(), AllocError>
-    requires below { AreTextsBelow (F.content_of files.old) root.now texts.old }
+    requires below { AreTextsBelow (F.content_of files.old) root.now texts.old.language texts.old }
     ensures same { (path : List ℕ) → F.content_of files.new path ≡ F.content_of files.old path }
-    ensures below { AreTextsBelow (F.content_of files.old) root.now texts.new }
+    ensures below { AreTextsBelow (F.content_of files.old) root.now texts.old.language texts.new }
 {
     let mut room = Room::whole();
     insert_one(alloc, root, first, &mut room, files, texts)?;
@@ -100,9 +102,9 @@ fn gather_wanted<F: Files>(
     files: &mut F,
     mut texts: Texts,
 ) -> Result<TreeReading, AllocError>
-    requires below { AreTextsBelow (F.content_of files.old) root.now texts }
+    requires below { AreTextsBelow (F.content_of files.old) root.now texts.language texts }
     ensures same { (path : List ℕ) → F.content_of files.new path ≡ F.content_of files.old path }
-    ensures below { IfOk result (λ g. AreTextsBelow (F.content_of files.old) root.now g.texts) }
+    ensures below { IfOk result (λ g. AreTextsBelow (F.content_of files.old) root.now texts.language g.texts) }
     ensures read { IfOk result (λ g. IsRead g.texts first.now g.read) }
 {
     open_wanted(alloc, root, first, files, &mut texts)?;
@@ -127,9 +129,9 @@ fn open_ahead<F: Files>(
     files: &mut F,
     texts: &mut Texts,
 ) -> Result<(), AllocError>
-    requires below { AreTextsBelow (F.content_of files.old) root.now texts.old }
+    requires below { AreTextsBelow (F.content_of files.old) root.now texts.old.language texts.old }
     ensures same { (path : List ℕ) → F.content_of files.new path ≡ F.content_of files.old path }
-    ensures below { AreTextsBelow (F.content_of files.old) root.now texts.new }
+    ensures below { AreTextsBelow (F.content_of files.old) root.now texts.old.language texts.new }
 {
     for number in 0..MAX_FILES as u32 {
         if room.is_used() {
@@ -151,9 +153,9 @@ fn open_wanted<F: Files>(
     files: &mut F,
     texts: &mut Texts,
 ) -> Result<(), AllocError>
-    requires below { AreTextsBelow (F.content_of files.old) root.now texts.old }
+    requires below { AreTextsBelow (F.content_of files.old) root.now texts.old.language texts.old }
     ensures same { (path : List ℕ) → F.content_of files.new path ≡ F.content_of files.old path }
-    ensures below { AreTextsBelow (F.content_of files.old) root.now texts.new }
+    ensures below { AreTextsBelow (F.content_of files.old) root.now texts.old.language texts.new }
 {
     for _ in 0..MAX_ROUNDS {
         let paths = match wanted(alloc, texts, first) {
@@ -177,9 +179,9 @@ fn insert_all<F: Files>(
     files: &mut F,
     texts: &mut Texts,
 ) -> Result<bool, AllocError>
-    requires below { AreTextsBelow (F.content_of files.old) root.now texts.old }
+    requires below { AreTextsBelow (F.content_of files.old) root.now texts.old.language texts.old }
     ensures same { (path : List ℕ) → F.content_of files.new path ≡ F.content_of files.old path }
-    ensures below { AreTextsBelow (F.content_of files.old) root.now texts.new }
+    ensures below { AreTextsBelow (F.content_of files.old) root.now texts.old.language texts.new }
 {
     let mut any = false;
     for path in paths {
@@ -200,9 +202,9 @@ fn insert_one<F: Files>(
     files: &mut F,
     texts: &mut Texts,
 ) -> Result<bool, AllocError>
-    requires below { AreTextsBelow (F.content_of files.old) root.now texts.old }
+    requires below { AreTextsBelow (F.content_of files.old) root.now texts.old.language texts.old }
     ensures same { (other : List ℕ) → F.content_of files.new other ≡ F.content_of files.old other }
-    ensures below { AreTextsBelow (F.content_of files.old) root.now texts.new }
+    ensures below { AreTextsBelow (F.content_of files.old) root.now texts.old.language texts.new }
 {
     if texts.get(path).is_some() {
         return Ok(false);

@@ -5,10 +5,12 @@ ghost use Rattle.kc_rules.specs.between.SettledViews.{tree_of_settled, profile_o
 ghost use Rattle.kmin_jobs.specs.Answers.{AreAccepted};
 ghost use Rattle.kmin_jobs.specs.Reports.{path_or_first, tree_fault_line, cycle_line, cycle_place, unit_place};
 ghost use Rattle.kmin_jobs.specs.StandardError.{TakesLine, TakesLines};
+ghost use Rattle.kmin_jobs.specs.between.FileNames.{names_of};
 ghost use Rattle.kmin_jobs.specs.between.Readings.{IsRead};
 ghost use Rattle.kmin_jobs.specs.between.RunErrors.{status_of};
 ghost use Rattle.kmin_jobs.specs.between.TreeStops.{StopsAtTexts, settle_status, settle_lines};
 
+use crate::file_names::FileNames;
 use crate::report::{Report, write_report};
 use crate::run_error::RunError;
 use kc_rules::{Profile, SettleFault, Settled, settle};
@@ -23,10 +25,11 @@ pub(crate) fn read_texts(alloc: Global, texts: &Texts, first: &str) -> Result<Tr
     read_tree(alloc, texts, first)
 }
 
-/// The settled tree of some texts, given the result of reading them. Reports why they are refused.
+/// The settled tree of some texts, given the result of reading them. Reports why they are refused, with these names of files.
 pub(crate) fn settled_tree<E: Sink>(
     alloc: Global,
     texts: &Texts,
+    names: &FileNames<'_>,
     first: &str,
     read: Result<Tree, TreeFault>,
     profile: Profile,
@@ -36,20 +39,20 @@ pub(crate) fn settled_tree<E: Sink>(
     ensures accepted { IfOk result (λ settled. AreAccepted texts.now first.now (tree_of_settled settled)) }
     ensures profile { IfOk result (λ settled. profile_of settled ≡ profile) }
     ensures unreported { OnOk result (TakesLines (E.taken err.old) (E.failures err.old) [] (E.taken err.new) (E.failures err.new)) }
-    ensures stopped { IfErr result (λ stop. (lines : List (List ℕ)) × StopsAtTexts texts.now first.now (status_of stop) lines × TakesLines (E.taken err.old) (E.failures err.old) lines (E.taken err.new) (E.failures err.new)) }
+    ensures stopped { IfErr result (λ stop. (lines : List (List ℕ)) × StopsAtTexts texts.now (names_of names.now) first.now (status_of stop) lines × TakesLines (E.taken err.old) (E.failures err.old) lines (E.taken err.new) (E.failures err.new)) }
 {
     let tree = match read {
         Ok(tree) => tree,
         Err(fault) if fault.kind == TreeKind::OutOfMemory => return Err(RunError::Memory),
         Err(fault) => {
-            report_tree_fault(texts, first, fault, err);
+            report_tree_fault(names, first, fault, err);
             return Err(RunError::Tree);
         }
     };
     match settle(alloc, tree, profile) {
         Ok(settled) => Ok(settled),
         Err((tree, fault)) => {
-            let stop = report_settle_fault(texts, first, &tree, &fault, err);
+            let stop = report_settle_fault(names, first, &tree, &fault, err);
             drop(tree);
             Err(stop)
         }
@@ -57,50 +60,61 @@ pub(crate) fn settled_tree<E: Sink>(
 }
 
 /// Reports a fault of a tree.
-fn report_tree_fault<E: Sink>(texts: &Texts, first: &str, fault: TreeFault, err: &mut E)
-    ensures { TakesLine (E.taken err.old) (E.failures err.old) (tree_fault_line texts.now first.now fault) (E.taken err.new) (E.failures err.new) }
+fn report_tree_fault<'a, E: Sink>(
+    names: &FileNames<'a>,
+    first: &'a str,
+    fault: TreeFault,
+    err: &mut E,
+)
+    ensures { TakesLine (E.taken err.old) (E.failures err.old) (tree_fault_line (names_of names.now) first.now fault) (E.taken err.new) (E.failures err.new) }
 {
     let path = match fault.file {
-        Some(number) => path_of_file(texts, first, number),
-        None => first,
+        Some(number) => path_of_file(names, first, number),
+        None => first.as_bytes(),
     };
     let TreeFault { line, kind, .. } = fault;
     write_report(Report::TreeFault { path, line, kind }, err);
 }
 
 /// The path of a file by its number; the first file's where there is no such number.
-fn path_of_file<'a>(texts: &'a Texts, first: &'a str, number: u32) -> &'a str
-    ensures { result.now ≡ unwrap_or (path_at texts.now number) first.now }
+fn path_of_file<'a>(names: &FileNames<'a>, first: &'a str, number: u32) -> &'a [u8]
+    ensures { result.now ≡ unwrap_or (path_at (names_of names.now) number) first.now }
 {
-    texts.path_at(number).unwrap_or(first)
+    names.name_at(number).unwrap_or(first.as_bytes())
 }
 
 /// Reports why a tree isn't settled, and returns the error of the run; memory that was refused is reported later.
 fn report_settle_fault<E: Sink>(
-    texts: &Texts,
+    names: &FileNames<'_>,
     first: &str,
     tree: &Tree,
     fault: &SettleFault,
     err: &mut E,
 ) -> RunError
     ensures status { status_of result ≡ settle_status fault.now }
-    ensures reported { TakesLines (E.taken err.old) (E.failures err.old) (settle_lines texts.now first.now tree.now.tree fault.now) (E.taken err.new) (E.failures err.new) }
+    ensures reported { TakesLines (E.taken err.old) (E.failures err.old) (settle_lines (names_of names.now) first.now tree.now.tree fault.now) (E.taken err.new) (E.failures err.new) }
 {
     match fault {
         SettleFault::OutOfMemory => RunError::Memory,
         SettleFault::Cycle(units) => {
-            report_cycle(texts, first, tree, units, err);
+            report_cycle(names, first, tree, units, err);
             RunError::Tree
         }
     }
 }
 
 /// Reports a cycle, at the place of its first unit.
-fn report_cycle<E: Sink>(texts: &Texts, first: &str, tree: &Tree, units: &[u32], err: &mut E)
-    ensures { TakesLine (E.taken err.old) (E.failures err.old) (cycle_line texts.now first.now tree.now.tree units.now) (E.taken err.new) (E.failures err.new) }
+fn report_cycle<'a, E: Sink>(
+    names: &FileNames<'a>,
+    first: &'a str,
+    tree: &'a Tree,
+    units: &'a [u32],
+    err: &mut E,
+)
+    ensures { TakesLine (E.taken err.old) (E.failures err.old) (cycle_line (names_of names.now) first.now tree.now.tree units.now) (E.taken err.new) (E.failures err.new) }
 {
     let (file, line) = place_of_cycle(tree, units);
-    let path = path_of_file(texts, first, file);
+    let path = path_of_file(names, first, file);
     write_report(
         Report::Cycle {
             path,

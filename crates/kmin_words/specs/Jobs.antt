@@ -1,28 +1,74 @@
 -- Jobs, as contracts see them.
-use Rattle.std.specs.Prelude.{ℕ, List, [], ◌∷◌, map}
+use Rattle.std.specs.Prelude.{ℕ, List, [], ◌∷◌, Option, map, option_map}
 use Rattle.std.specs.Borrow.{Bor}
+use Rattle.kc_expr.specs.declared.language.Language.{Language}
 use Rattle.kc_rules_model.specs.declared.profile.Profile.{Profile}
 use Rattle.kc_dotconfig_model.specs.between.Prefixes.{prefix_bytes}
 use Rattle.kmin_words.specs.declared.job.Verb.{Verb}
+use Rattle.kmin_words.specs.declared.job.Definition.{Definition as DeclaredDefinition}
+use Rattle.kmin_words.specs.declared.job.Expansion.{Expansion as DeclaredExpansion}
 use Rattle.kmin_words.specs.declared.job.Settings.{Settings as DeclaredSettings}
+use Rattle.kmin_words.specs.declared.job.Questions.{Questions as DeclaredQuestions}
 use Rattle.kmin_words.specs.declared.job.Task.{Task as DeclaredTask}
 use Rattle.kmin_words.specs.declared.job.Task.TheVariants.{Over, Compare}
 
--- the options: the folder of the tree, the path of its first file there, the prefix of names and the profile
+-- a name with the value that words give it
+pub record Definition : Type 0 where
+  pub name : List ℕ
+  pub value : List ℕ
+
+-- what the expansion of a tree takes its answers from: files of answers, names with values, and names of the environment, each in order
+pub record Expansion : Type 0 where
+  pub answers : List (List ℕ)
+  pub definitions : List Definition
+  pub environment : List (List ℕ)
+
+-- the options: the folder of the tree, the path of its first file there, the language of its files, the prefix of names, the profile, and the answers where the tree is expanded
 pub record Settings : Type 0 where
   pub root : List ℕ
   pub tree : List ℕ
+  pub language : Language
   pub prefix : List ℕ
   pub profile : Profile
+  pub expansion : Option Expansion
+
+-- the questions of a tree: the folder of the tree, the path of its first file there, and the answers that are known
+pub record Questions : Type 0 where
+  pub root : List ℕ
+  pub tree : List ℕ
+  pub expansion : Expansion
 
 -- a command: a text of the configuration of some files, each over those before it, or the differences of two files
 pub data Task : Type 0 where
   over : Verb → (paths : List (List ℕ)) → Task
   compare : (left right : List ℕ) → Task
 
+-- a name with its value
+abbrev pub definition_view : DeclaredDefinition → Definition
+definition_view d = record { name = d.name.now; value = d.value.now }
+
+-- what the expansion of a tree takes its answers from
+abbrev pub expansion_view : DeclaredExpansion → Expansion
+expansion_view e = record {
+  answers = map (λ (path : Bor (List ℕ)). path.now) e.answers.items;
+  definitions = map definition_view e.definitions.items;
+  environment = map (λ (name : Bor (List ℕ)). name.now) e.environment.items;
+}
+
 -- the options of a job
 abbrev pub settings_view : DeclaredSettings → Settings
-settings_view s = record { root = s.root.now; tree = s.tree.now; prefix = prefix_bytes s.prefix; profile = s.profile }
+settings_view s = record {
+  root = s.root.now;
+  tree = s.tree.now;
+  language = s.language;
+  prefix = prefix_bytes s.prefix;
+  profile = s.profile;
+  expansion = option_map expansion_view s.expansion;
+}
+
+-- the questions of a tree
+abbrev pub questions_view : DeclaredQuestions → Questions
+questions_view q = record { root = q.root.now; tree = q.tree.now; expansion = expansion_view q.expansion }
 
 -- the command of a job
 abbrev pub task_view : DeclaredTask → Task

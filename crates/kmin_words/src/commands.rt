@@ -47,6 +47,14 @@ static COMPARE: CommandHelp = CommandHelp {
     after: help_texts::COMPARE_AFTER,
 };
 
+/// The command over a tree alone.
+static WANTS: CommandHelp = CommandHelp {
+    name: "wants",
+    about: help_texts::WANTS,
+    long: help_texts::WANTS_LONG,
+    after: help_texts::WANTS_AFTER,
+};
+
 /// An option's name and the name of its value, what the value is without it, and its help.
 struct OptionHelp {
     name: &'static str,
@@ -55,8 +63,8 @@ struct OptionHelp {
     help: &'static str,
 }
 
-/// The options that take any value.
-static FREE: [OptionHelp; 3] = [
+/// The options for the place of the tree.
+static PLACE: [OptionHelp; 2] = [
     OptionHelp {
         name: "root",
         value: "DIR",
@@ -69,15 +77,17 @@ static FREE: [OptionHelp; 3] = [
         default: "Kconfig",
         help: help_texts::TREE,
     },
-    OptionHelp {
-        name: "prefix",
-        value: "TEXT",
-        default: "CONFIG_",
-        help: help_texts::PREFIX,
-    },
 ];
 
-/// The option with few values.
+/// The option for the text before names.
+static PREFIX: OptionHelp = OptionHelp {
+    name: "prefix",
+    value: "TEXT",
+    default: "CONFIG_",
+    help: help_texts::PREFIX,
+};
+
+/// The option for the profile, which takes one of few values.
 static IMPLY: OptionHelp = OptionHelp {
     name: "imply",
     value: "PROFILE",
@@ -88,13 +98,43 @@ static IMPLY: OptionHelp = OptionHelp {
 /// The values of `--imply`.
 static PROFILES: [&str; 2] = ["present", "classic"];
 
+/// The values of `--language`, which has none by default.
+static LANGUAGES: [&str; 2] = ["strict", "linux"];
+
+/// An option that may be given any number of times: its name, the name of its value, and its help.
+struct ListHelp {
+    name: &'static str,
+    value: &'static str,
+    help: &'static str,
+}
+
+/// The options for the answers to the macros of a tree.
+static ANSWERS: [ListHelp; 3] = [
+    ListHelp {
+        name: "answers",
+        value: "FILE",
+        help: help_texts::ANSWERS,
+    },
+    ListHelp {
+        name: "define",
+        value: "NAME=VALUE",
+        help: help_texts::DEFINE,
+    },
+    ListHelp {
+        name: "env",
+        value: "NAME",
+        help: help_texts::ENV,
+    },
+];
+
 /// The program with all its commands.
 pub(crate) fn program<'a>(alloc: Global) -> Result<Command<'a>, AllocError> {
     let mut program = named(alloc)?;
     for help in &OVER_FILES {
         program = with_command(program, over_files(alloc, help))?;
     }
-    with_command(program, over_two_files(alloc, &COMPARE))
+    program = with_command(program, over_two_files(alloc, &COMPARE))?;
+    with_command(program, over_a_tree(alloc, &WANTS))
 }
 
 /// A program with a command more, once that is made.
@@ -149,16 +189,66 @@ fn required<'a>(alloc: Global, name: &'a str, help: &'a str) -> Arg<'a> {
     Arg::new(alloc, name).required(true).help(help)
 }
 
-/// A command with the options that all have.
-fn with_options<'a>(alloc: Global, help: &CommandHelp) -> Result<Command<'a>, AllocError> {
-    let mut command = described(alloc, help);
-    for valued in &FREE {
-        command = command.arg(option(alloc, valued))?;
-    }
-    command.arg(imply(alloc))
+/// A command over a tree alone.
+fn over_a_tree<'a>(alloc: Global, help: &CommandHelp) -> Result<Command<'a>, AllocError> {
+    let command = with_place(alloc, described(alloc, help))?;
+    with_answers(alloc, command)
 }
 
-/// The option that takes one of few values.
+/// A command with the options that all commands over configuration files have.
+fn with_options<'a>(alloc: Global, help: &CommandHelp) -> Result<Command<'a>, AllocError> {
+    let command = with_place(alloc, described(alloc, help))?;
+    let command = command.arg(language(alloc))?;
+    let command = command.arg(option(alloc, &PREFIX))?;
+    let command = command.arg(imply(alloc))?;
+    with_answers(alloc, command)
+}
+
+/// A command with the options for the place of the tree.
+fn with_place<'a>(alloc: Global, mut command: Command<'a>) -> Result<Command<'a>, AllocError> {
+    for valued in &PLACE {
+        command = command.arg(option(alloc, valued))?;
+    }
+    Ok(command)
+}
+
+/// A command with the options that turn the expansion of the tree on.
+fn with_answers<'a>(alloc: Global, command: Command<'a>) -> Result<Command<'a>, AllocError> {
+    let mut command = command.arg(expand(alloc))?;
+    for list in &ANSWERS {
+        command = command.arg(repeated(alloc, list))?;
+    }
+    Ok(command)
+}
+
+/// The flag that turns the expansion of the tree on.
+fn expand<'a>(alloc: Global) -> Arg<'a> {
+    Arg::new(alloc, "expand")
+        .long("expand")
+        .action(ArgAction::SetTrue)
+        .help(help_texts::EXPAND)
+}
+
+/// An option that may be given any number of times.
+fn repeated<'a>(alloc: Global, list: &ListHelp) -> Arg<'a> {
+    Arg::new(alloc, list.name)
+        .long(list.name)
+        .value_name(list.value)
+        .action(ArgAction::Append)
+        .help(list.help)
+}
+
+/// The option for the language of the tree.
+fn language<'a>(alloc: Global) -> Arg<'a> {
+    Arg::new(alloc, "language")
+        .long("language")
+        .value_name("LANGUAGE")
+        .help(help_texts::LANGUAGE)
+        .long_help(help_texts::LANGUAGE_LONG)
+        .value_parser(LANGUAGES.as_slice())
+}
+
+/// The option for the profile.
 fn imply<'a>(alloc: Global) -> Arg<'a> {
     option(alloc, &IMPLY)
         .long_help(help_texts::IMPLY_LONG)

@@ -19,13 +19,15 @@ Examples:
   kmin missed board.config debug.config        what was asked for and not given
   kmin compare old.config new.config           what changes for the symbols
   kmin check --root firmware --tree board/Kconfig board.config
+  kmin wants --root linux --answers answers    what the tree's macros ask, and has no answer
+  kmin full --root linux --answers answers .config
 
 Exit status:
-  0  done; of compare: no difference
-  1  compare found differences
+  0  done; of compare: no difference; of wants: no question
+  1  compare found differences, wants found questions
   2  the command line is refused
   3  the tree is refused
-  4  a configuration file is refused, or a bundle is too large
+  4  a configuration file or a file of answers is refused, or a bundle is too large
   5  a read or a write failed
   6  out of memory
 
@@ -44,9 +46,10 @@ pub(crate) const AFTER: &str = with_examples!(
 
 pub(crate) const AFTER_LONG: &str = with_examples!(
     "\
-Messages are `FILE:LINE: KIND`, on standard error. Of a bundle FILE is `Kconfig` in the tree and
-`config` in the configuration. Line 0 is that of a configuration file that can't be opened, and of
-a tree's first file where it can't be opened or read or has too many bytes.
+Messages are `FILE:LINE: KIND`, on standard error, of an expansion also `FILE:LINE: KIND TEXT`.
+Of a bundle FILE is `Kconfig` in the tree and `config` in the configuration. Line 0 is that of a
+configuration file or a file of answers that can't be opened, and of a tree's first file where it
+can't be opened or read or has too many bytes.
 
 Kinds of a tree:
   NotUtf8           the line isn't UTF-8: save the file as UTF-8
@@ -73,7 +76,34 @@ Kinds of a tree:
   TooMany           too many symbols, choices, files or bytes: split it; a name of more than
                     256 bytes: shorten it
   Cycle             the named symbols depend on one another: take out a dependency
-  LeftOut           a form that kmin leaves out: expand a macro first, write another form anew
+  LeftOut           a form that kmin leaves out: for a macro give --expand, write another form anew
+
+Kinds of an expansion, with --expand, --answers, --define or --env:
+  Unterminated      a `$(` has no `)`: close it
+  Undefined         TEXT is called and nobody defines it, or is no name: define it, correct it
+  Recursion         the value of the variable TEXT needs that value: take out the circle
+  Arguments         too many or too few arguments of the function TEXT, or more than 16 pieces
+                    of a reference: give as many as it takes
+  Error             the tree refuses with TEXT, by `error-if`: do what it says
+  Unanswered        the question TEXT has no answer: see `kmin help wants`
+  JoinedAssignment  the line of an assignment ends in a `\\`: write it in one line
+  MissingFile       a sourced file, or the first, can't be read: see --root, --tree, the path
+  SourceLoop        a file is sourced while it is open: take out one of the lines
+  TooDeep           more than 32 files or 64 expansions open: nest less
+  TooMany           too many files, bytes or names of folders, or too much work: split the tree
+  LineTooLong       a value or a line gets more than 65,536 bytes: shorten it
+  Info              a notice, the tree says TEXT: read it
+  Warning           a notice, the tree warns with TEXT: read it
+
+Kinds of a file of answers:
+  Malformed         neither NAME=VALUE, !NAME, `$ COMMAND` with `> TEXT` on the next line, a
+                    comment nor empty: correct it
+  TwoAnswers        the question has another answer before: take one out
+  NotUtf8           the line isn't UTF-8: save the file as UTF-8
+  LineTooLong       more than 65,536 bytes in a line: shorten it
+  TooManyLines      more than 1,048,576 lines: split the file
+  TooLarge          more than 67,108,864 bytes: split the file
+  Read              the file can't be opened or read: check the path and the permissions
 
 Kinds of a configuration file:
   Malformed         neither CONFIG_NAME=value, an unset line, a comment nor empty: correct it, or
@@ -91,6 +121,11 @@ Without a file:
   bundle:0: TooLarge        more than 67,108,864 bytes of a bundle: give its parts as files
   output: Write             standard output can't be written: make room, keep the pipe open
   prefix: Malformed         --prefix isn't 1 to 32 letters, digits and `_`: correct it
+  define: Malformed         --define isn't NAME=VALUE, or VALUE has a newline or more than 65,536
+                            bytes: correct it
+  env: Malformed            --env isn't a letter or `_`, then letters, digits, `_`: correct it
+  tree: Malformed           --tree of a tree that is expanded has a newline: rename the file
+  stdin: NamedTwice         /dev/stdin is named twice beside --expand and its like: store one
   kmin: a word isn't UTF-8  a word of the command line isn't: give the file another name
   error: ..                 the command line is refused: correct the named word
   out of memory             memory was refused: free some, or raise a limit that was set"
@@ -172,6 +207,23 @@ Example, of a check that fails where there is any such line, and where kmin fail
   found=$(kmin check board.config) && test -z \"$found\""
 );
 
+pub(crate) const WANTS: &str = "Lists the questions of a tree's macros that have no answer";
+
+pub(crate) const WANTS_LONG: &str = "\
+Expands the tree as far as the answers go, and lists the questions that it met and that have no
+answer, each once, a line each: a NAME of the environment, or `$ ` and a command. A command that is
+made of another's answer is listed once that is known, so answer the list and ask again, until
+nothing is listed. kmin itself runs nothing: the script kmin-answer runs the commands of a tree,
+and adds what they print to a file of answers, to be read before it is used.";
+
+pub(crate) const WANTS_AFTER: &str = "\
+Example:
+  kmin wants --root linux --answers answers
+  cd linux && kmin-answer ../answers kmin wants
+
+Exit status: 0 nothing is asked, 1 questions are listed, 2 command line refused, 3 tree refused,
+4 file of answers refused, 5 a read or a write failed, 6 out of memory.";
+
 pub(crate) const COMPARE: &str = "Lists the symbols whose values differ between two files";
 
 pub(crate) const COMPARE_LONG: &str = "\
@@ -193,13 +245,29 @@ pub(crate) const TREE: &str = "First file of the tree, below DIR";
 
 pub(crate) const PREFIX: &str = "Text before each name in a file";
 
-pub(crate) const IMPLY: &str = "How `imply` counts";
+pub(crate) const IMPLY: &str = "Rule of imply";
 
 pub(crate) const IMPLY_LONG: &str = "\
 How `imply` counts:
 present  where no assignment counts, as a default, up to the symbol's dependency
 classic  there in full, unless that dependency is n; and under an implied y
          an m, an assigned one too, becomes y";
+
+pub(crate) const LANGUAGE: &str = "Forms that the tree may have";
+
+pub(crate) const LANGUAGE_LONG: &str = "\
+Forms that the tree may have; strict by default, linux where the tree is expanded:
+strict  those of docs/RULES.md
+linux   besides, a `\\$` in quotes, optional choices, def_int, def_hex and def_string,
+        and further definitions of a choice's members";
+
+pub(crate) const EXPAND: &str = "Expands the tree's macros, as each of the next three does";
+
+pub(crate) const ANSWERS: &str = "File of answers to the questions of macros; repeatable";
+
+pub(crate) const DEFINE: &str = "Value of a name, in place of any in a file; repeatable";
+
+pub(crate) const ENV: &str = "Name that the environment answers where no file does; repeatable";
 
 pub(crate) const FILES: &str =
     "Configuration files, each overriding those before it; without one\nnothing is assigned; /dev/stdin is standard input";

@@ -1,16 +1,21 @@
 //! From words to a job.
-ghost use Rattle.std.specs.Prelude.{◌≡◌, ◌↔◌, IfOk, IfSome, IsSome, IsTrue, map, List, ℕ, codes};
+ghost use Rattle.std.specs.Prelude.{◌≡◌, IfOk, map, List, ℕ};
 ghost use Rattle.std.specs.Borrow.{Bor};
 ghost use Rattle.clap.specs.Words.{found_of};
-ghost use Rattle.kc_dotconfig_model.specs.PrefixGrammar.{is_prefix};
-ghost use Rattle.kmin_words.specs.Jobs.{settings_view, task_view};
+ghost use Rattle.kc_dotconfig_model.specs.between.Prefixes.{prefix_bytes};
+ghost use Rattle.kmin_words.specs.Jobs.{settings_view, questions_view, task_view, paths_of};
 ghost use Rattle.kmin_words.specs.between.WordValues as parsed;
+ghost use Rattle.kmin_words.specs.checker.Refusals.{Agrees};
 
 use crate::commands::program;
-use crate::job::{Job, Settings, Task, Verb};
+use crate::expansion_words::{expansion_if_given, expansion_of};
+use crate::job::{Job, Questions, Settings, Task, Verb};
+use crate::refusal::Refusal;
+use crate::values::{value_of, values_of};
 use clap::error::ErrorKind;
 use clap::{ArgMatches, Error};
 use kc_dotconfig_model::Prefix;
+use kc_expr::Language;
 use kc_rules_model::Profile;
 use std::alloc::{AllocError, Global};
 
@@ -19,6 +24,8 @@ use std::alloc::{AllocError, Global};
 pub enum ParsedWords<'a> {
     /// A job.
     Job(Job<'a>),
+    /// The command that lists the questions of a tree.
+    Questions(Questions<'a>),
     /// Help or the version, which was asked for.
     Help(String),
     /// The message for words that are no job.
@@ -49,40 +56,136 @@ fn clap_message<'a>(alloc: Global, error: &Error) -> Result<ParsedWords<'a>, All
     Ok(ParsedWords::Help(text))
 }
 
-/// The job that accepted words ask for, or a message where the prefix isn't valid.
+/// What accepted words ask for, or a message where a value isn't allowed.
 fn job_of<'a>(alloc: Global, matches: &ArgMatches<'a>) -> Result<ParsedWords<'a>, AllocError>
     ensures { IfOk result parsed.HasFoundValues }
 {
     let Some((name, matches)) = matches.subcommand() else {
         return Ok(ParsedWords::Refused(String::new(alloc)));
     };
-    let Some(settings) = settings_of(matches) else {
-        let text = String::from_str(alloc, "prefix: Malformed\n")?;
-        return Ok(ParsedWords::Refused(text));
-    };
-    let task = task_of(alloc, name, matches)?;
-    Ok(ParsedWords::Job(Job { settings, task }))
+    named_job(alloc, name, matches)
 }
 
-/// The options, unless the prefix isn't valid.
-fn settings_of<'a>(matches: &ArgMatches<'a>) -> Option<Settings<'a>>
-    ensures settings { IfSome result (λ settings. settings_view settings ≡ parsed.settings_of (found_of matches.now)) }
-    ensures prefix { IsSome result ↔ IsTrue (is_prefix (parsed.settings_of (found_of matches.now)).prefix) }
+/// What a command of some name asks for, or a message where a value isn't allowed.
+fn named_job<'a>(
+    alloc: Global,
+    name: &str,
+    matches: &ArgMatches<'a>,
+) -> Result<ParsedWords<'a>, AllocError>
+    ensures { IfOk result (parsed.HasValues name.now (found_of matches.now)) }
 {
-    let prefix = Prefix::of(value_of(matches, "prefix").as_bytes())?;
-    Some(Settings {
-        root: value_of(matches, "root"),
-        tree: value_of(matches, "tree"),
-        prefix,
-        profile: profile_of(value_of(matches, "imply")),
+    if name == "wants" {
+        return parsed_questions(alloc, matches);
+    }
+    parsed_job(alloc, name, matches)
+}
+
+/// The questions that `wants` asks for, or a message.
+fn parsed_questions<'a>(
+    alloc: Global,
+    matches: &ArgMatches<'a>,
+) -> Result<ParsedWords<'a>, AllocError>
+    ensures { IfOk result (parsed.AreQuestions (parsed.questions_of (found_of matches.now))) }
+{
+    match questions_of(alloc, matches) {
+        Ok(questions) => Ok(ParsedWords::Questions(questions)),
+        Err(Refusal::Words(line)) => Ok(ParsedWords::Refused(String::from_str(alloc, line)?)),
+        Err(Refusal::OutOfMemory) => Err(AllocError),
+    }
+}
+
+/// The job that a command over configuration files asks for, or a message.
+fn parsed_job<'a>(
+    alloc: Global,
+    name: &str,
+    matches: &ArgMatches<'a>,
+) -> Result<ParsedWords<'a>, AllocError>
+    ensures { IfOk result (parsed.AreJob (parsed.job_of name.now (found_of matches.now))) }
+{
+    match job_with(alloc, name, matches) {
+        Ok(job) => Ok(ParsedWords::Job(job)),
+        Err(Refusal::Words(line)) => Ok(ParsedWords::Refused(String::from_str(alloc, line)?)),
+        Err(Refusal::OutOfMemory) => Err(AllocError),
+    }
+}
+
+/// The questions that the words of `wants` ask for.
+fn questions_of<'a>(alloc: Global, matches: &ArgMatches<'a>) -> Result<Questions<'a>, Refusal>
+    ensures { Agrees questions_view (parsed.questions_of (found_of matches.now)) result }
+{
+    let expansion = expansion_of(alloc, matches, &[])?;
+    let root = value_of(matches, "root");
+    let tree = value_of(matches, "tree");
+    Ok(Questions {
+        root,
+        tree,
+        expansion,
     })
 }
 
-/// The value of an option, each of which has one by default, or of a word that has to be given.
-fn value_of<'a>(matches: &ArgMatches<'a>, id: &str) -> &'a str
-    ensures { result.now ≡ parsed.value_of (found_of matches.now) id.now }
+/// The job of a command over configuration files.
+fn job_with<'a>(alloc: Global, name: &str, matches: &ArgMatches<'a>) -> Result<Job<'a>, Refusal>
+    ensures { Agrees (λ job. (settings_view job.settings, task_view job.task)) (parsed.job_of name.now (found_of matches.now)) result }
 {
-    matches.get_str(id).unwrap_or("")
+    let task = task_of(alloc, name, matches)?;
+    let settings = settings_beside(alloc, matches, &task)?;
+    Ok(Job { settings, task })
+}
+
+/// The options of a command over configuration files.
+fn settings_beside<'a>(
+    alloc: Global,
+    matches: &ArgMatches<'a>,
+    task: &Task<'a>,
+) -> Result<Settings<'a>, Refusal>
+    ensures { Agrees settings_view (parsed.settings_of (found_of matches.now) (paths_of (task_view task.now))) result }
+{
+    match task {
+        Task::Over { files, .. } => settings_of(alloc, matches, files),
+        Task::Compare { left, right } => settings_of(alloc, matches, &[left, right]),
+    }
+}
+
+/// The prefix of names, unless it isn't valid.
+fn prefix_of(text: &str) -> Result<Prefix, Refusal>
+    ensures { Agrees prefix_bytes (parsed.prefix_of text.now) result }
+{
+    match Prefix::of(text.as_bytes()) {
+        Some(prefix) => Ok(prefix),
+        None => Err(Refusal::Words("prefix: Malformed\n")),
+    }
+}
+
+/// The options of a command over configuration files of these paths.
+fn settings_of<'a>(
+    alloc: Global,
+    matches: &ArgMatches<'a>,
+    paths: &[&str],
+) -> Result<Settings<'a>, Refusal>
+    ensures { Agrees settings_view (parsed.settings_of (found_of matches.now) (map (λ (path : Bor (List ℕ)). path.now) paths.now)) result }
+{
+    let prefix = prefix_of(value_of(matches, "prefix"))?;
+    let expansion = expansion_if_given(alloc, matches, paths)?;
+    Ok(Settings {
+        root: value_of(matches, "root"),
+        tree: value_of(matches, "tree"),
+        language: language_of(value_of(matches, "language"), expansion.is_some()),
+        prefix,
+        profile: profile_of(value_of(matches, "imply")),
+        expansion,
+    })
+}
+
+/// The language of a value; without one, that of Linux where the tree is expanded.
+fn language_of(value: &str, is_expanded: bool) -> Language
+    ensures { result ≡ parsed.language_of value.now is_expanded }
+{
+    match value {
+        "strict" => Language::Strict,
+        "linux" => Language::Linux,
+        _ if is_expanded => Language::Linux,
+        _ => Language::Strict,
+    }
 }
 
 fn profile_of(value: &str) -> Profile
@@ -101,7 +204,7 @@ fn task_of<'a>(alloc: Global, name: &str, matches: &ArgMatches<'a>) -> Result<Ta
     match verb_of(name) {
         Some(verb) => Ok(Task::Over {
             verb,
-            files: files_of(alloc, matches)?,
+            files: values_of(alloc, matches, "FILE")?,
         }),
         None => Ok(Task::Compare {
             left: value_of(matches, "LEFT"),
@@ -121,11 +224,4 @@ fn verb_of(name: &str) -> Option<Verb>
         "check" => Some(Verb::Check),
         _ => None,
     }
-}
-
-/// The files in their order.
-fn files_of<'a>(alloc: Global, matches: &ArgMatches<'a>) -> Result<Vec<&'a str>, AllocError>
-    ensures { IfOk result (λ files. map (λ (path : Bor (List ℕ)). path.now) files.items ≡ parsed.values_of (found_of matches.now) (codes "FILE")) }
-{
-    Vec::from_slice(alloc, matches.get_strs("FILE").unwrap_or(&[]))
 }

@@ -1,8 +1,9 @@
--- The sizes of files, as the code has them.
-use Rattle.std.specs.Prelude.{◌≡◌, ℕ, ◌<◌, ◌⊎◌, List, length, Option, Some, None}
-use Rattle.kc_macros_model.specs.Limits.{max_bytes}
+-- Faults by the sizes of files.
+use Rattle.std.specs.Prelude.{ℕ, ◌||◌, nat_le, nat_lt, Option, Some, None, if◌then◌else◌}
+use Rattle.kc_macros_model.specs.declared.fault.MacroKind.{MacroKind}
+use Rattle.kc_macros_model.specs.declared.fault.MacroKind.TheVariants.{TooDeep, TooMany}
+use Rattle.kc_macros_model.specs.Limits.{max_files, max_bytes, max_open_files}
 
--- a size of bytes that are there, which is exact unless both are past the limit
-abbrev pub IsSize : Option ℕ → Option (List ℕ) → Type 0
-IsSize None bytes = bytes ≡ None
-IsSize (Some n) bytes = (there : List ℕ) × (bytes ≡ Some there) × ((n ≡ length there) ⊎ ((max_bytes < n) × (max_bytes < length there)))
+-- the fault of a file more, by how many are open within each other, and how many files and bytes are read with it
+abbrev pub size_fault : (open_count files bytes : ℕ) → Option MacroKind
+size_fault open_count files bytes = if nat_le max_open_files open_count then Some TooDeep else if nat_le max_files files || nat_lt max_bytes bytes then Some TooMany else None

@@ -1,5 +1,6 @@
 -- Bytes between quotes so far, as the code has them.
-use Rattle.std.specs.Prelude.{ℕ, true, List}
+use Rattle.std.specs.Prelude.{ℕ, Bool, true, ◌==◌, ◌||◌, List}
+use Rattle.std.specs.List.{list_any}
 use Rattle.kc_macros_model.specs.Programs.{Place, Program, returns, ◌>>=◌}
 use Rattle.kc_macros_model.specs.References.{Item, items}
 use Rattle.kc_macros_model.specs.Variables.{Bindings}
@@ -9,6 +10,10 @@ use Rattle.kc_macros.specs.checker.Gathering.{gathered_value}
 
 abbrev pub body_of_code : Body → WrittenBody
 body_of_code b = record { bytes = b.bytes.items; meaning = gathered_value b.known b.meaning.items }
+
+-- whether a text has a `$` or a `\`
+abbrev pub has_dollar_or_backslash : List ℕ → Bool
+has_dollar_or_backslash text = list_any (λ c. c == 36 || (c == 92)) text
 
 -- the items that are left, after what was written
 abbrev pub bodies_left : Place → Bindings → (quote : ℕ) → WrittenBody → List Item → Program WrittenBody

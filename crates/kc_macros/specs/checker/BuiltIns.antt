@@ -1,5 +1,5 @@
 -- Built-in functions, as the code has them, and what they say.
-use Rattle.std.specs.Prelude.{ℕ, List, [], ◌∷◌, Option, Some, None, bytes_eq, codes, if◌then◌else◌}
+use Rattle.std.specs.Prelude.{ℕ, List, [], Option, Some, None, bytes_eq, codes, if◌then◌else◌}
 use Rattle.kc_macros_model.specs.Programs.{Program, returns}
 use Rattle.kc_macros_model.specs.Variables.{Value, BuiltIn, filename, lineno, shell, info, warning_if, error_if}
 use Rattle.kc_macros.specs.declared.built_in.BuiltIn.{BuiltIn as CodeBuiltIn}

@@ -1,5 +1,5 @@
 -- Faults that the code answers with, and programs of one event.
-use Rattle.std.specs.Prelude.{◌≡◌, ℕ, List}
+use Rattle.std.specs.Prelude.{◌≡◌, ℕ}
 use Rattle.kc_macros_model.specs.Programs.{Place, Fault, spend, Program, returns, does}
 use Rattle.kc_macros.specs.declared.stop.Stop.{Stop}
 use Rattle.kc_macros.specs.declared.stop.Stop.TheVariants as kinds

@@ -1,5 +1,5 @@
 -- Values of items, put together one by one.
-use Rattle.std.specs.Prelude.{ℕ, Bool, true, false, List, [], length, Option, Some, None}
+use Rattle.std.specs.Prelude.{ℕ, Bool, true, false, List, [], length, Some, None}
 use Rattle.kc_macros_model.specs.declared.fault.MacroKind.TheVariants.{LineTooLong}
 use Rattle.kc_macros_model.specs.Programs.{Place, Fault, Program, returns, ◌>>=◌}
 use Rattle.kc_macros_model.specs.References.{Item}

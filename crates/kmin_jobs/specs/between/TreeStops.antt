@@ -8,9 +8,9 @@ use Rattle.kmin_jobs.specs.Reports.{cycle_line}
 use Rattle.kmin_jobs.specs.Stops.{RefusesTexts}
 
 -- the texts are refused, or memory ran out
-pub data StopsAtTexts (texts : Files) (first : List ℕ) (status : ℕ) (lines : List (List ℕ)) : Type 0 where
-  at_texts : (line : List ℕ) → RefusesTexts texts first line → status ≡ 3 → lines ≡ line ∷ [] → StopsAtTexts texts first status lines
-  for_memory : status ≡ 6 → lines ≡ [] → StopsAtTexts texts first status lines
+pub data StopsAtTexts (texts names : Files) (first : List ℕ) (status : ℕ) (lines : List (List ℕ)) : Type 0 where
+  at_texts : (line : List ℕ) → RefusesTexts texts names first line → status ≡ 3 → lines ≡ line ∷ [] → StopsAtTexts texts names first status lines
+  for_memory : status ≡ 6 → lines ≡ [] → StopsAtTexts texts names first status lines
 
 -- the exit status of a tree that isn't settled
 abbrev pub settle_status : SettleFault → ℕ
@@ -18,6 +18,6 @@ settle_status (Cycle units) = 3
 settle_status OutOfMemory = 6
 
 -- the lines of a tree that isn't settled
-abbrev pub settle_lines : Files → (first : List ℕ) → Tree → SettleFault → List (List ℕ)
-settle_lines texts first tree (Cycle units) = cycle_line texts first tree units.items ∷ []
-settle_lines texts first tree OutOfMemory = []
+abbrev pub settle_lines : (names : Files) → (first : List ℕ) → Tree → SettleFault → List (List ℕ)
+settle_lines names first tree (Cycle units) = cycle_line names first tree units.items ∷ []
+settle_lines names first tree OutOfMemory = []

@@ -1,15 +1,21 @@
 -- The job of accepted words, by the values that their parser found.
-use Rattle.std.specs.Prelude.{◌≡◌, ℕ, List, [], Option, Some, None, codes, unwrap_or, option_map, bytes_eq, if◌then◌else◌}
+use Rattle.std.specs.Prelude.{◌≡◌, ℕ, ◌+◌, Bool, true, false, not, ◌&&◌, ◌||◌, ◌==◌, nat_lt, nat_le, List, [], length, take, drop, position, count_by, Option, Some, None, Result, Ok, Err, is_some, codes, unwrap_or, option_map, bytes_eq, if◌then◌else◌}
+use Rattle.std.specs.List.{list_all, list_any, filter_map}
 use Rattle.clap.specs.Words.{matched_of, first_value}
 use Rattle.clap.specs.Matches.{raw_values}
 use Rattle.clap.specs.declared.parser.matches.Found.{Found}
+use Rattle.kc_expr.specs.declared.language.Language.{Language}
+use Rattle.kc_expr.specs.declared.language.Language.TheVariants.{Strict, Linux}
 use Rattle.kc_rules_model.specs.declared.profile.Profile.{Profile}
 use Rattle.kc_rules_model.specs.declared.profile.Profile.TheVariants.{Present, Classic}
+use Rattle.kc_dotconfig_model.specs.PrefixGrammar.{is_prefix}
+use Rattle.kc_macros_model.specs.Limits.{max_text_bytes}
+use Rattle.kc_macros_model.specs.Variables.{is_environment_name, without_white_end}
 use Rattle.kmin_words.specs.declared.job.Verb.{Verb}
 use Rattle.kmin_words.specs.declared.job.Verb.TheVariants.{Min, Full, Missed, Check}
 use Rattle.kmin_words.specs.declared.parsing.ParsedWords.{ParsedWords}
-use Rattle.kmin_words.specs.declared.parsing.ParsedWords.TheVariants.{Job, Help, Refused}
-use Rattle.kmin_words.specs.Jobs.{Settings, Task, over, compare, settings_view, task_view}
+use Rattle.kmin_words.specs.declared.parsing.ParsedWords.TheVariants.{Job, Questions as TheQuestions, Help, Refused}
+use Rattle.kmin_words.specs.Jobs.{Definition, Expansion, Settings, Questions, Task, over, compare, paths_of, settings_view, questions_view, task_view}
 
 -- the one value of an option or a word, empty without one
 abbrev pub value_of : Found → List ℕ → List ℕ
@@ -30,14 +36,12 @@ verb_of name = if bytes_eq name (codes "min") then Some Min
 abbrev pub profile_of : List ℕ → Profile
 profile_of value = if bytes_eq value (codes "classic") then Classic else Present
 
--- the options, each by its value
-abbrev pub settings_of : Found → Settings
-settings_of found = record {
-  root = value_of found (codes "root");
-  tree = value_of found (codes "tree");
-  prefix = value_of found (codes "prefix");
-  profile = profile_of (value_of found (codes "imply"));
-}
+-- the language of a value of `--language`; without one that of Linux where the tree is expanded, and else the strict one
+abbrev pub language_of : List ℕ → (is_expanded : Bool) → Language
+language_of value is_expanded =
+    if bytes_eq value (codes "strict") then Strict
+    else (if bytes_eq value (codes "linux") then Linux
+    else (if is_expanded then Linux else Strict))
 
 -- the command of a name, with all its files in order
 abbrev pub task_of : List ℕ → Found → Task
@@ -46,8 +50,122 @@ task_of name found = elim (verb_of name) [
   | None ↦ compare (value_of found (codes "LEFT")) (value_of found (codes "RIGHT"))
 ]
 
--- a job has the values that were found for a command of some name
+-- a value, or the line that says why words are refused
+abbrev pub OrRefused : Type 0 → Type 0
+OrRefused A = Result A (List ℕ)
+
+abbrev pub has_newline : List ℕ → Bool
+has_newline text = list_any (λ b. b == 10) text
+
+-- a name that an environment may have, and a value of at most 65,536 bytes and no newline, whose white bytes at the end are dropped
+abbrev pub named_value : List ℕ → List ℕ → Option Definition
+named_value name value =
+    if is_environment_name name && (nat_le (length value) max_text_bytes && not (has_newline value))
+    then Some (record { name = name; value = without_white_end value })
+    else None
+
+-- the definition that a text is, a name and a value round its first `=`
+abbrev pub definition_of : List ℕ → Option Definition
+definition_of text = elim (position (λ b. b == 61) text) [ Some n ↦ named_value (take n text) (drop (n + 1) text) | None ↦ None ]
+
+abbrev pub is_definition : List ℕ → Bool
+is_definition text = is_some (definition_of text)
+
+-- the definitions that texts are, each of which has to be one
+abbrev pub definitions_of : List (List ℕ) → OrRefused (List Definition)
+definitions_of texts = if list_all is_definition texts then Ok (filter_map definition_of texts) else Err (codes "define: Malformed\n")
+
+-- names of the environment, each of which has to be one that an environment may have
+abbrev pub environment_of : List (List ℕ) → OrRefused (List (List ℕ))
+environment_of names = if list_all is_environment_name names then Ok names else Err (codes "env: Malformed\n")
+
+-- the path of a tree that is expanded, which has no newline
+abbrev pub expanded_tree_of : List ℕ → OrRefused (List ℕ)
+expanded_tree_of path = if has_newline path then Err (codes "tree: Malformed\n") else Ok path
+
+-- how many of some paths are that of standard input
+abbrev pub inputs_among : List (List ℕ) → ℕ
+inputs_among paths = count_by (λ path. bytes_eq path (codes "/dev/stdin")) paths
+
+-- files of answers beside configuration files, among which standard input is named at most once
+abbrev pub answers_beside : (answers paths : List (List ℕ)) → OrRefused (List (List ℕ))
+answers_beside answers paths = if nat_lt 1 (inputs_among answers + inputs_among paths) then Err (codes "stdin: NamedTwice\n") else Ok answers
+
+-- the first refusal of two values, or both
+abbrev pub and_then : {A B : Type 0} → OrRefused A → (A → OrRefused B) → OrRefused B
+and_then (Ok x) f = f x
+and_then (Err line) f = Err line
+
+-- what the expansion of a tree takes its answers from, beside configuration files of these paths
+abbrev pub expansion_of : Found → (paths : List (List ℕ)) → OrRefused Expansion
+expansion_of found paths =
+    and_then (definitions_of (values_of found (codes "define"))) (λ definitions.
+    and_then (environment_of (values_of found (codes "env"))) (λ environment.
+    and_then (expanded_tree_of (value_of found (codes "tree"))) (λ tree.
+    and_then (answers_beside (values_of found (codes "answers")) paths) (λ answers.
+    Ok (record { answers = answers; definitions = definitions; environment = environment })))))
+
+-- whether one of the four words that turn the expansion on is given; a flag that is given has the value `true`
+abbrev pub is_expanded : Found → Bool
+is_expanded found =
+    bytes_eq (value_of found (codes "expand")) (codes "true")
+    || (nat_lt 0 (length (values_of found (codes "answers")))
+    || (nat_lt 0 (length (values_of found (codes "define")))
+    || nat_lt 0 (length (values_of found (codes "env")))))
+
+-- the expansion of a command, where one of those words is given
+abbrev pub expansion_if_given : Found → (paths : List (List ℕ)) → OrRefused (Option Expansion)
+expansion_if_given found paths = if is_expanded found then and_then (expansion_of found paths) (λ e. Ok (Some e)) else Ok None
+
+-- the prefix of names, which has to be one
+abbrev pub prefix_of : List ℕ → OrRefused (List ℕ)
+prefix_of text = if is_prefix text then Ok text else Err (codes "prefix: Malformed\n")
+
+-- the options, each by its value, of a command over configuration files of these paths
+abbrev pub settings_of : Found → (paths : List (List ℕ)) → OrRefused Settings
+settings_of found paths =
+    and_then (prefix_of (value_of found (codes "prefix"))) (λ prefix.
+    and_then (expansion_if_given found paths) (λ expansion.
+    Ok (record {
+      root = value_of found (codes "root");
+      tree = value_of found (codes "tree");
+      language = language_of (value_of found (codes "language")) (is_some expansion);
+      prefix = prefix;
+      profile = profile_of (value_of found (codes "imply"));
+      expansion = expansion;
+    })))
+
+-- the options and the command of a name
+abbrev pub job_of : List ℕ → Found → OrRefused (Settings × Task)
+job_of name found = and_then (settings_of found (paths_of (task_of name found))) (λ settings. Ok (settings, task_of name found))
+
+-- the questions of a tree, which is always expanded
+abbrev pub questions_of : Found → OrRefused Questions
+questions_of found =
+    and_then (expansion_of found []) (λ expansion.
+    Ok (record { root = value_of found (codes "root"); tree = value_of found (codes "tree"); expansion = expansion }))
+
+-- parsed words are the questions that were found, or are refused with the line that refuses these
+abbrev pub AreQuestions : OrRefused Questions → ParsedWords → Type 0
+AreQuestions found (TheQuestions questions) = found ≡ Ok (questions_view questions)
+AreQuestions found (Refused text) = found ≡ Err text.bytes.items
+AreQuestions found (Job job) = ⊥
+AreQuestions found (Help text) = ⊥
+
+-- parsed words are the job that was found, or are refused with the line that refuses it
+abbrev pub AreJob : OrRefused (Settings × Task) → ParsedWords → Type 0
+AreJob found (Job job) = found ≡ Ok (settings_view job.settings, task_view job.task)
+AreJob found (Refused text) = found ≡ Err text.bytes.items
+AreJob found (TheQuestions questions) = ⊥
+AreJob found (Help text) = ⊥
+
+-- parsed words are what was found for a command of this name
+abbrev pub HasValues : (name : List ℕ) → Found → ParsedWords → Type 0
+HasValues name found words = elim (bytes_eq name (codes "wants")) [ true ↦ AreQuestions (questions_of found) words | false ↦ AreJob (job_of name found) words ]
+
+-- a job and questions are what was found for a command of some name, of which nothing is refused
 abbrev pub HasFoundValues : ParsedWords → Type 0
-HasFoundValues (Job job) = (found : Found) × (name : List ℕ) × (settings_view job.settings ≡ settings_of found) × (task_view job.task ≡ task_of name found)
+HasFoundValues (Job job) = (found : Found) × (name : List ℕ) × AreJob (job_of name found) (Job job)
+HasFoundValues (TheQuestions questions) = (found : Found) × AreQuestions (questions_of found) (TheQuestions questions)
 HasFoundValues (Help text) = Unit {0}
 HasFoundValues (Refused text) = Unit {0}

@@ -5,5 +5,5 @@ use Rattle.kc_macros.proofs.answers.within_size.Goals as goal
 pub slice_bounds-result-end : goal.slice_bounds-result-end
 slice_bounds-result-end c = sym (length-take-le 67108864 c.args.bytes.now (omega arith))
 
-pub returns-else-bytes-gt-MAX_BYTES : goal.returns-else-bytes-gt-MAX_BYTES
-returns-else-bytes-gt-MAX_BYTES c = sym (take_all 67108864 c.args.bytes.now (omega arith))
+pub returns-else-bytes-gt-MAX_ANSWER_BYTES : goal.returns-else-bytes-gt-MAX_ANSWER_BYTES
+returns-else-bytes-gt-MAX_ANSWER_BYTES c = sym (take_all 67108864 c.args.bytes.now (omega arith))

@@ -1,4 +1,4 @@
-use Rattle.std.proofs.Common.{◌≡◌, ℕ, List, Bor, Some, refl, sym}
+use Rattle.std.proofs.Common.{ℕ, List, Bor, Some, refl, sym}
 use Rattle.std.specs.Prelude.{option_map}
 use Rattle.kc_macros_model.specs.Variables.{value_of_answer}
 use Rattle.kc_macros_model.specs.Expansion.{asked_value}

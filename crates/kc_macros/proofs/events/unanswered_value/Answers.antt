@@ -1,4 +1,4 @@
-use Rattle.std.proofs.Common.{◌≡◌, ◌∙◌, None, sym, subst}
+use Rattle.std.proofs.Common.{◌∙◌, None, sym, subst}
 use Rattle.kc_macros_model.specs.Worlds.{returned}
 use Rattle.kc_macros_model.specs.Expansion.{asked_value}
 use Rattle.kc_macros.specs.RunStates.{RunState}

@@ -1,16 +1,16 @@
-use Rattle.std.proofs.Common.{◌≡◌, ◌∙◌, ◌<◌, ◌≤◌, ◌-◌, false, ℕ, List, [], ◌∷◌, Some, None, length, take, drop, refl, sym, ap, arith, rules, get_or}
+use Rattle.std.proofs.Common.{◌∙◌, ◌-◌, false, [], ◌∷◌, Some, length, take, drop, refl, sym, ap, arith, rules}
 use Rattle.std.proofs.lemmas.List.{at_drop_all}
 use Rattle.kc_macros_model.specs.Programs.{returns as returns_value, ◌>>=◌}
 use Rattle.kc_macros_model.specs.Worlds.{returned}
 use Rattle.kc_macros.specs.Variables.{variable_of}
 use Rattle.kc_macros.specs.checker.Pieces.{pieces_left}
-use Rattle.kc_macros_model.specs.References.{reference, unterminated, items, pieces}
+use Rattle.kc_macros_model.specs.References.{reference, items, pieces}
 use Rattle.kc_macros_model.specs.Expansion.{call_value, named_value, piece_values}
 use Rattle.kc_macros.specs.Runs.{ends, end_of_stop}
 use Rattle.kc_macros.specs.checker.Texts.{texts_of}
-use Rattle.kc_macros.specs.checker.Frames.{frame_place, frame_bindings, frame_names, frame_expander, frame_item, frame_value, frame_items}
+use Rattle.kc_macros.specs.checker.Frames.{frame_place, frame_bindings, frame_names, frame_expander, frame_item, frame_value}
 use Rattle.kc_macros.proofs.RunLemmas.{runs_out, passes_on, then_runs, stops_early}
-use Rattle.kc_macros.proofs.ProgramLemmas.{runs_same, leads_same, leads_then, steps_stopped}
+use Rattle.kc_macros.proofs.ProgramLemmas.{runs_same, leads_same, steps_stopped}
 use Rattle.kc_macros.proofs.CutLemmas.{rest_is}
 use Rattle.kc_macros.proofs.NameLemmas.{no_element}
 use Rattle.kc_macros.proofs.CallLemmas.{pieces_at_first, argument_meant, too_many_pieces, few_pieces, first_and_rest, is_recursive, texts_length, piece_front, piece_stopped, piece_found, pieces_found}

@@ -1,10 +1,8 @@
-use Rattle.std.proofs.Common.{◌≡◌, ◌∙◌, ◌<◌, ◌≤◌, ◌+◌, ◌-◌, true, false, take, drop, length, sym, ap, arith, rules}
+use Rattle.std.proofs.Common.{◌≡◌, ◌∙◌, ◌<◌, length, sym, rules}
 use Rattle.std.specs.Prelude.{is_some}
 use Rattle.kc_macros_model.specs.References.{item_bytes}
-use Rattle.kc_macros_model.specs.LineTokens.{run_token, quoted_token}
 use Rattle.kc_macros.specs.checker.LineTexts.{first_item_of, ends_extent}
-use Rattle.kc_macros.proofs.CutLemmas.{rest_is}
-use Rattle.kc_macros.proofs.TokenLemmas.{items_first, extent_first, extent_ends, reference_length, unterminated_length, unterminated_by, plain_item, plain_ends, unterminated_later, unterminated_here, turned, two_bytes, two_of_pair, run_by, quoted_by, whole_text, later_within, later_counted, later_unterminated}
+use Rattle.kc_macros.proofs.TokenLemmas.{later_within, later_counted}
 use Rattle.kc_macros.proofs.line_tokens.extent.Goals as goal
 
 pub items-preserved : goal.items-preserved

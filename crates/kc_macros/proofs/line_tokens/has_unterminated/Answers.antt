@@ -1,9 +1,10 @@
-use Rattle.std.proofs.Common.{◌≡◌, ◌∙◌, ◌<◌, ◌≤◌, ◌+◌, ◌-◌, true, false, take, drop, length, sym, ap, arith, rules}
-use Rattle.kc_macros_model.specs.LineTokens.{run_token, quoted_token}
-use Rattle.kc_macros.specs.checker.LineTexts.{first_item_of, ends_extent}
-use Rattle.kc_macros.proofs.CutLemmas.{rest_is}
-use Rattle.kc_macros.proofs.TokenLemmas.{items_first, extent_first, extent_ends, reference_length, unterminated_length, unterminated_by, plain_item, plain_ends, unterminated_later, unterminated_here, turned, two_bytes, two_of_pair, run_by, quoted_by, whole_text, later_within, later_counted, later_unterminated}
+use Rattle.std.proofs.Common.{◌∙◌, sym, rules}
+use Rattle.kc_macros.proofs.TokenLemmas.{unterminated_here, later_unterminated}
+use Rattle.kc_macros.proofs.CopiedLemmas.{all_terminated}
 use Rattle.kc_macros.proofs.line_tokens.has_unterminated.Goals as goal
+
+pub returns-then-not-has_dollar : goal.returns-then-not-has_dollar
+returns-then-not-has_dollar c = sym (all_terminated c.args.in_quotes c.args.text.now (sym c.has_dollar.ensures ∙ c.if-not-has_dollar.true))
 
 pub returns-then-is_unterminated_front : goal.returns-then-is_unterminated_front
 returns-then-is_unterminated_front c = sym (c.items.invariant ∙ unterminated_here c.args.in_quotes c.items.rest.now (search rules) (sym c.if-is_unterminated_front.ensures))

@@ -1,14 +1,11 @@
-use Rattle.std.proofs.Common.{◌≡◌, ◌∙◌, ◌≢◌, ℕ, List, [], Some, None, Bor, refl, sym, ap, arith, rules}
+use Rattle.std.proofs.Common.{◌∙◌, ℕ, List, Some, Bor, sym, ap}
 use Rattle.std.specs.Prelude.{option_map}
 use Rattle.kc_macros_model.specs.declared.fault.MacroKind.TheVariants.{Error}
 use Rattle.kc_macros_model.specs.Programs.{returns as returns_value}
-use Rattle.kc_macros_model.specs.Expansion.{fault as fault_program, reported, shell_value, built_in_value}
+use Rattle.kc_macros_model.specs.Expansion.{fault as fault_program}
 use Rattle.kc_macros.specs.Runs.{place_of}
-use Rattle.kc_macros.specs.checker.BuiltIns.{built_in_of, said}
-use Rattle.kc_macros.proofs.RunLemmas.{runs_out}
-use Rattle.kc_macros.proofs.ProgramLemmas.{runs_same}
+use Rattle.kc_macros.specs.checker.BuiltIns.{said}
 use Rattle.kc_macros.proofs.ExpandLemmas.{fails_so, returns_so}
-use Rattle.kc_macros.proofs.NameLemmas.{file_named, line_named, shell_called, info_called, warning_called, error_called, other_with_args, number_ungiven, name_undefined, wrong_count}
 use Rattle.kc_macros.proofs.names.error_value.Goals as goal
 
 pub returns-in-Some : goal.returns-in-Some

@@ -1,4 +1,4 @@
-use Rattle.std.proofs.Common.{◌≡◌, true, length}
+use Rattle.std.proofs.Common.{true, length}
 use Rattle.kc_macros_model.specs.References.{items}
 use Rattle.kc_macros_model.specs.Rewriting.{written_items}
 use Rattle.kc_macros.specs.Runs.{place_of}

@@ -18,9 +18,10 @@ returns-clause-accepted g c =
 pub returns-clause-stopped : goal.returns-clause-stopped
 returns-clause-stopped g c =
     let texts = c.in_ok-insert.ensures.ok ∙ ap (λ (fs : Files). with_file fs (codes "Kconfig") c.args.tree.now) c.with_seed-texts.ensures in
-    subst (λ (fs : Files). IfErr c.settled_tree.result (λ stop. (lines : List (List ℕ)) × StopsAtTexts fs (codes "Kconfig") (status_of stop) lines × TakesLines
+    let stops = λ (fs : Files) (names : Files). IfErr c.settled_tree.result (λ stop. (lines : List (List ℕ)) × StopsAtTexts fs names (codes "Kconfig") (status_of stop) lines × TakesLines
     (g.E.Sink.taken c.args.err.now) (g.E.Sink.failures c.args.err.now) lines (g.E.Sink.taken c.settled_tree.new.err)
-    (g.E.Sink.failures c.settled_tree.new.err))) texts c.settled_tree.ensures.stopped
+    (g.E.Sink.failures c.settled_tree.new.err)) in
+    subst (λ (fs : Files). stops fs fs) texts (subst (λ (names : Files). stops c.insert.new.self names) c.of_texts-names.ensures c.settled_tree.ensures.stopped)
 
 pub returns-in_err-insert-clause-stopped : goal.returns-in_err-insert-clause-stopped
 returns-in_err-insert-clause-stopped g c = memory_err _ _ c.from_residual.ensures (λ stop status. ([], for_memory status refl, none))

@@ -1,5 +1,6 @@
 use Rattle.std.proofs.Common.{arith}
 use Rattle.std.proofs.lemmas.Grind.{common_steps}
+use Rattle.std.proofs.Common.{refl}
 use Rattle.kmin_jobs.proofs.Answering.{below_none}
 use Rattle.kmin_jobs.proofs.tree_files.gather.Goals as goal
 
@@ -31,7 +32,8 @@ pub returns-clause-below : goal.returns-clause-below
 returns-clause-below c = grind (arith, common_steps)
 
 pub open_first-requires : goal.open_first-requires
-open_first-requires g c = record { below = rw c.with_seed-texts.ensures (below_none (g.F.Files.content_of c.args.files.now) c.args.root.now) }
+open_first-requires g c =
+    record { below = below_none (g.F.Files.content_of c.args.files.now) c.args.root.now _ c.with_language-texts.result refl c.with_language-texts.ensures.empty }
 
 pub returns-clause-read : goal.returns-clause-read
 returns-clause-read c = grind (arith, common_steps)

@@ -9,9 +9,9 @@ loop-path-preserved g c =
     let put = c.insert_one.ensures in
     record {
       same = λ other. put.same other ∙ i.same other;
-      below = below_back (g.F.Files.content_of c.args.files.now) (g.F.Files.content_of c.loop-path.files) c.args.root.now c.insert_one.new.texts i.same
+      below = below_back (g.F.Files.content_of c.args.files.now) (g.F.Files.content_of c.loop-path.files) c.args.root.now _ _ c.insert_one.new.texts i.below.in_language i.same
           put.below;
-      again = below_again (g.F.Files.content_of c.loop-path.files) (g.F.Files.content_of c.insert_one.new.files) c.args.root.now c.insert_one.new.texts put.same
+      again = below_again (g.F.Files.content_of c.loop-path.files) (g.F.Files.content_of c.insert_one.new.files) c.args.root.now _ _ c.insert_one.new.texts i.below.in_language put.same
           put.below;
     }
 

@@ -9,10 +9,10 @@ loop-number-preserved g c =
     let put = c.insert_all.ensures in
     record {
       same = λ other. put.same other ∙ i.same other;
-      below = below_back (g.F.Files.content_of c.args.files.now) (g.F.Files.content_of c.loop-number.files) c.args.root.now c.insert_all.new.texts i.same
+      below = below_back (g.F.Files.content_of c.args.files.now) (g.F.Files.content_of c.loop-number.files) c.args.root.now _ _ c.insert_all.new.texts i.below.in_language i.same
           put.below;
-      again = below_again (g.F.Files.content_of c.loop-number.files) (g.F.Files.content_of c.insert_all.new.files) c.args.root.now c.insert_all.new.texts
-          put.same put.below;
+      again = below_again (g.F.Files.content_of c.loop-number.files) (g.F.Files.content_of c.insert_all.new.files) c.args.root.now _ _ c.insert_all.new.texts i.below.in_language put.same
+          put.below;
     }
 
 pub returns-in_err-insert_all-clause-below : goal.returns-in_err-insert_all-clause-below

@@ -9,8 +9,9 @@ loop-preserved g c =
     let put = c.insert_all.ensures in
     record {
       same = λ other. put.same other ∙ i.same other;
-      below = below_back (g.F.Files.content_of c.args.files.now) (g.F.Files.content_of c.loop.files) c.args.root.now c.insert_all.new.texts i.same put.below;
-      again = below_again (g.F.Files.content_of c.loop.files) (g.F.Files.content_of c.insert_all.new.files) c.args.root.now c.insert_all.new.texts put.same
+      below = below_back (g.F.Files.content_of c.args.files.now) (g.F.Files.content_of c.loop.files) c.args.root.now _ _ c.insert_all.new.texts i.below.in_language i.same
+          put.below;
+      again = below_again (g.F.Files.content_of c.loop.files) (g.F.Files.content_of c.insert_all.new.files) c.args.root.now _ _ c.insert_all.new.texts i.below.in_language put.same
           put.below;
     }
 

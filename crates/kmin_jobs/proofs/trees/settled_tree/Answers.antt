@@ -1,6 +1,7 @@
 use Rattle.std.proofs.Common.{[], refl, rules}
 use Rattle.kmin_jobs.specs.StandardError.{none}
 use Rattle.kmin_jobs.specs.Stops.{faulty}
+use Rattle.kmin_jobs.specs.between.FileNames.{names_of}
 use Rattle.kmin_jobs.specs.between.TreeStops.{at_texts, for_memory}
 use Rattle.kmin_jobs.proofs.Taking.{lines_one}
 use Rattle.kmin_jobs.proofs.Accepting.{settle_stops}
@@ -21,7 +22,7 @@ pub returns-in-Err-settle-clause-stopped : goal.returns-in-Err-settle-clause-sto
 returns-in-Err-settle-clause-stopped g c =
     let read = rw c.in-Ok.is at c.requires.read in (
       _,
-      settle_stops c.args.texts.now c.args.first.now c.in-Ok.tree.tree c.in-Err-settle.fault c.report_settle_fault-stop.result read.0 read.1
+      settle_stops c.args.texts.now (names_of c.args.names.now) c.args.first.now c.in-Ok.tree.tree c.in-Err-settle.fault c.report_settle_fault-stop.result read.0 read.1
           c.in-Err-settle.ensures.cycle c.report_settle_fault-stop.ensures.status,
       rw c.in-Err-settle.ensures.back at c.report_settle_fault-stop.ensures.reported,
     )

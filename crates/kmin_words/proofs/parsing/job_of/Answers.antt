@@ -1,6 +1,6 @@
 use Rattle.std.proofs.Common.{rules}
-use Rattle.clap.specs.Words.{found_of}
+use Rattle.kmin_words.proofs.FoundWords.{if_found}
 use Rattle.kmin_words.proofs.parsing.job_of.Goals as goal
 
 pub returns : goal.returns
-returns c = (found_of c.in-Some.matches.now, c.in-Some.name.now, search rules, search rules)
+returns c = search (rules, if_found)

@@ -1,4 +1,4 @@
-use Rattle.std.proofs.Common.{◌≡◌, true, false, ◌∷◌, [], None, sym, ap, ◌∙◌}
+use Rattle.std.proofs.Common.{true, false, ◌∷◌, [], None, sym, ap, ◌∙◌}
 use Rattle.kc_macros.specs.RunStates.{questions_of}
 use Rattle.kc_macros.proofs.TableLemmas.{noted, questions_of_append}
 use Rattle.kc_macros.proofs.answer_table.AnswerTable.note.Goals as goal

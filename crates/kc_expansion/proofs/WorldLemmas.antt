@@ -1,0 +1,128 @@
+-- A world that has what was read of a tree, and the rest as it is known.
+use Rattle.std.proofs.Common.{◌≡◌, ℕ, suc, ◌<◌, List, [], ◌∷◌, ◌++◌, length, reverse, Bool, true, false, cond, ◌||◌, Option, Some, None, refl, sym, ap, ◌∙◌, subst, inl, inr, append_assoc, arith}
+use Rattle.std.specs.Prelude.{bytes_eq, replicate}
+use Rattle.std.proofs.lemmas.List.{append-nil, reverse-append, length-replicate}
+use Rattle.std.proofs.lemmas.Slice.Eq.{bytes_eq-Decides}
+use Rattle.kc_tree_model.specs.Keywords.{keyword_in_table}
+use Rattle.kc_tree_model.specs.Limits.{is_in_list, without_repeats}
+use Rattle.kc_macros_model.specs.AnswerFiles.{Recorded}
+use Rattle.kc_macros_model.specs.Limits.{max_bytes, max_listed_names}
+use Rattle.kc_macros_model.specs.Worlds.{World}
+use Rattle.kc_macros.specs.RunStates.{with_questions}
+use Rattle.kc_macros.specs.Runs.{HasAnswers}
+use Rattle.kc_expansion.specs.TreeContents.{FileContent, FolderContent, TreeContents, IsContentRead, IsFolderRead, IsWorldOf}
+use Rattle.kc_expansion.specs.between.KnownFiles.{FileRead, missing, whole, too_long, FolderRead, names, too_many, KnownFiles, AreBytes, AreNames, Agrees, MatchFile, MatchFolder, AreAsKnown}
+
+-- a list that is longer than this
+longer : {A : Type 0} (x : A) (n : ℕ) → (xs : List A) × (n < length xs)
+longer x n = (replicate (suc n) x, let e = length-replicate (suc n) x in omega (arith, e))
+
+-- bytes that a file may have which is known so, and of which this was read
+pub bytes_of : FileContent → Option FileRead → Option (List ℕ)
+bytes_of content (Some missing) = None
+bytes_of content (Some (whole bytes)) = Some bytes
+bytes_of (Some (Some known)) (Some too_long) = Some known
+bytes_of (Some None) (Some too_long) = None
+bytes_of None (Some too_long) = Some (longer 0 max_bytes).0
+bytes_of (Some known) None = known
+bytes_of None None = None
+
+pub names_of : FolderContent → Option FolderRead → List (List ℕ)
+names_of content (Some (names read)) = read
+names_of (Some known) (Some too_many) = known
+names_of None (Some too_many) = (longer {A = List ℕ} [] max_listed_names).0
+names_of (Some known) None = known
+names_of None None = []
+
+bytes_agree : (content : FileContent) (read : FileRead) → MatchFile content read → AreBytes read (bytes_of content (Some read))
+unfolding bytes_of
+bytes_agree content missing m = refl
+bytes_agree content (whole bytes) m = refl
+bytes_agree (Some (Some known)) too_long m = (known, refl, m)
+bytes_agree (Some None) too_long m = absurd (let z : ⊥ = cc in z)
+bytes_agree None too_long m = ((longer 0 max_bytes).0, refl, (longer 0 max_bytes).1)
+
+bytes_allowed : (content : FileContent) (read : Option FileRead) → ((r : FileRead) → read ≡ Some r → MatchFile content r) → IsContentRead content (bytes_of content read)
+unfolding bytes_of
+bytes_allowed None read m = tt
+bytes_allowed (Some None) None m = refl
+bytes_allowed (Some None) (Some missing) m = refl
+bytes_allowed (Some None) (Some (whole bytes)) m = absurd (let e : whole bytes ≡ missing = m (whole bytes) refl in let z : ⊥ = cc in z)
+bytes_allowed (Some None) (Some too_long) m = refl
+bytes_allowed (Some (Some known)) None m = inl refl
+bytes_allowed (Some (Some known)) (Some missing) m = inr refl
+bytes_allowed (Some (Some known)) (Some (whole bytes)) m = inl (ap Some (m (whole bytes) refl))
+bytes_allowed (Some (Some known)) (Some too_long) m = inl refl
+
+names_agree : (content : FolderContent) (read : FolderRead) → MatchFolder content read → AreNames read (names_of content (Some read))
+unfolding names_of
+names_agree content (names ns) m = refl
+names_agree (Some known) too_many m = m
+names_agree None too_many m = (longer {A = List ℕ} [] max_listed_names).1
+
+names_allowed : (content : FolderContent) (read : Option FolderRead) → ((r : FolderRead) → read ≡ Some r → MatchFolder content r) → IsFolderRead content (names_of content read)
+unfolding names_of
+names_allowed None read m = tt
+names_allowed (Some known) None m = refl
+names_allowed (Some known) (Some (names ns)) m = m (names ns) refl
+names_allowed (Some known) (Some too_many) m = refl
+
+module _ (contents : TreeContents) (known : KnownFiles) (answers : Recorded) (m : AreAsKnown contents known) where
+  abbrev pub world_of : World
+  world_of = record {
+    answer = keyword_in_table answers;
+    bytes = λ path. bytes_of (contents.file path) (keyword_in_table known.files path);
+    names = λ folder. names_of (contents.folder folder) (keyword_in_table known.folders folder);
+  }
+
+  pub world_agrees : Agrees world_of known
+  world_agrees = record {
+    files = λ path read e. let f : AreBytes read (bytes_of (contents.file path) (Some read)) = bytes_agree (contents.file path) read (m.files path read e) in subst (λ (o : Option FileRead). AreBytes read (bytes_of (contents.file path) o)) (sym e) f;
+    folders = λ folder read e. let f : AreNames read (names_of (contents.folder folder) (Some read)) = names_agree (contents.folder folder) read (m.folders folder read e) in subst (λ (o : Option FolderRead). AreNames read (names_of (contents.folder folder) o)) (sym e) f;
+  }
+
+  pub world_allowed : IsWorldOf contents world_of
+  world_allowed = record {
+    files = λ path. bytes_allowed (contents.file path) (keyword_in_table known.files path) (m.files path);
+    folders = λ folder. names_allowed (contents.folder folder) (keyword_in_table known.folders folder) (m.folders folder);
+  }
+
+  pub world_answers : HasAnswers world_of answers
+  world_answers = λ question. refl
+
+-- questions in order of first sight are those without repeats
+any_in : (x : List ℕ) (xs ys : List (List ℕ)) → is_in_list x (xs ++ ys) ≡ (is_in_list x xs || is_in_list x ys)
+any_in x [] ys = refl
+any_in x (y ∷ xs) ys = by_test (bytes_eq y x) (any_in x xs ys)
+  where
+    by_test : (b : Bool) → is_in_list x (xs ++ ys) ≡ (is_in_list x xs || is_in_list x ys) → (b || is_in_list x (xs ++ ys)) ≡ ((b || is_in_list x xs) || is_in_list x ys)
+    by_test true ih = refl
+    by_test false ih = ih
+
+or_turned : (a b : Bool) → (a || (b || false)) ≡ (b || a)
+or_turned true true = refl
+or_turned true false = refl
+or_turned false true = refl
+or_turned false false = refl
+
+in_without : (x : List ℕ) (xs : List (List ℕ)) → is_in_list x (without_repeats xs) ≡ is_in_list x xs
+in_without x [] = refl
+in_without x (y ∷ ys) = by_test (is_in_list y ys) refl (in_without x ys)
+  where
+    repeated : (b : Bool) → bytes_eq y x ≡ b → is_in_list y ys ≡ true → is_in_list x ys ≡ (b || is_in_list x ys)
+    repeated true e h = ap (λ z. is_in_list z ys) (sym ((bytes_eq-Decides y x).0 e)) ∙ h
+    repeated false e h = refl
+
+    by_test : (b : Bool) → is_in_list y ys ≡ b → is_in_list x (without_repeats ys) ≡ is_in_list x ys → is_in_list x (cond b (without_repeats ys) (without_repeats ys ++ y ∷ [])) ≡ (bytes_eq y x || is_in_list x ys)
+    by_test true h ih = ih ∙ repeated (bytes_eq y x) refl h
+    by_test false h ih = any_in x (without_repeats ys) (y ∷ []) ∙ or_turned (is_in_list x (without_repeats ys)) (bytes_eq y x) ∙ ap (λ b. bytes_eq y x || b) ih
+
+questions_more : (qs r : List (List ℕ)) → with_questions (without_repeats r) qs ≡ without_repeats (reverse qs ++ r)
+questions_more [] r = refl
+questions_more (q ∷ qs) r =
+    ap (λ seen. with_questions seen qs) (ap (λ b. cond b (without_repeats r) (without_repeats r ++ q ∷ [])) (in_without q r))
+    ∙ questions_more qs (q ∷ r)
+    ∙ ap without_repeats (sym (ap (λ t. t ++ r) (reverse-append (q ∷ []) qs) ∙ append_assoc (reverse qs) (q ∷ []) r))
+
+pub first_sight : (qs : List (List ℕ)) → with_questions [] qs ≡ without_repeats (reverse qs)
+first_sight qs = questions_more qs [] ∙ ap without_repeats (append-nil (reverse qs))

@@ -1,0 +1,11 @@
+use Rattle.std.proofs.Common.{ap, ◌∙◌}
+use Rattle.std.specs.Prelude.{is_some}
+use Rattle.kc_tree_model.specs.Limits.{is_in_list}
+use Rattle.kc_expansion.proofs.TableLemmas.{some_copied}
+use Rattle.kc_expansion.proofs.ChoiceLemmas.{name_is_there}
+use Rattle.kc_expansion.proofs.choice_names.ChoiceNames.has.Goals as goal
+
+pub returns : goal.returns
+returns c =
+    c.is_some.ensures ∙ some_copied c.get.result ∙ ap (λ o. is_some o) c.get.ensures.value
+    ∙ name_is_there c.args.name.now c.self.inside.names.entries ∙ ap (is_in_list c.args.name.now) c.self.view_is

@@ -1,0 +1,30 @@
+use Rattle.std.proofs.Common.{map, true, subst}
+use Rattle.kc_macros_model.specs.TreeExpansion.{tree_read}
+use Rattle.kc_macros.specs.RunStates.{run_at_start}
+use Rattle.kc_macros.specs.Runs.{notice_of, end_of}
+use Rattle.kc_expansion.specs.Expansions.{tree_of}
+use Rattle.kc_expansion.specs.between.Reads.{Reaches}
+use Rattle.kc_expansion.specs.checker.ExpansionViews.{with_root}
+use Rattle.kc_expansion.specs.checker.ReadingViews.{file_run_of}
+use Rattle.kc_expansion.proofs.ExpansionLemmas.{from_start, goes_on, expansion_read}
+use Rattle.kc_expansion.proofs.expansion.expand.Goals as goal
+
+pub read_tree-requires : goal.read_tree-requires
+read_tree-requires g c =
+    let a = file_run_of (g.F.TreeFiles.contents c.args.files.now) c.new_reading-reading.result in
+    let b = file_run_of (g.F.TreeFiles.contents c.read_root-read.new.files) c.read_root-read.new.reading in
+    let root = c.args.root.now in
+    let e = end_of (λ text. with_root root text.value.items c.read_root-read.new.reading.expanded) c.read_root-read.result in
+    let s = from_start a b c.args.answers.now true (tree_read root) e c.new_reading-reading.ensures.known c.new_reading-reading.ensures.run c.read_root-read.ensures in
+    goes_on a.contents b c.args.answers.now root s.0 _ c.read_root-read.result s.1
+
+pub returns-clause-expanded : goal.returns-clause-expanded
+returns-clause-expanded g c =
+    let a = file_run_of (g.F.TreeFiles.contents c.args.files.now) c.new_reading-reading.result in
+    let b = file_run_of (g.F.TreeFiles.contents c.read_root-read.new.files) c.read_root-read.new.reading in
+    let root = c.args.root.now in
+    let answers = c.args.answers.now in
+    let e = end_of (λ text. with_root root text.value.items c.read_root-read.new.reading.expanded) c.read_root-read.result in
+    let s = from_start a b answers true (tree_read root) e c.new_reading-reading.ensures.known c.new_reading-reading.ensures.run c.read_root-read.ensures in
+    expansion_read a.contents b answers root s.0 (map notice_of c.into_notices.result.items) (tree_of c.in_ok-tree.tree) c.into_notices.ensures
+    (subst (Reaches b.known (run_at_start answers true) b.run (tree_read root)) c.in_ok-tree.ensures s.1)

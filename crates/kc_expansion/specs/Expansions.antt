@@ -1,0 +1,40 @@
+-- The results of the public calls: the expansion of a tree, and the questions that its reading meets.
+use Rattle.std.specs.Prelude.{◌≡◌, ℕ, List, Vec, Result, Ok, Err}
+use Rattle.std.specs.declared.alloc.Global.{Global}
+use Rattle.kc_macros_model.specs.AnswerFiles.{Recorded}
+use Rattle.kc_macros_model.specs.Programs.{Fault, Notice}
+use Rattle.kc_macros_model.specs.ReadingStates.{ExpandedFile}
+use Rattle.kc_macros_model.specs.Worlds.{World, Ending, returned, failed, expansion, wanted}
+use Rattle.kc_macros.specs.declared.stop.MacroFault.{MacroFault}
+use Rattle.kc_macros.specs.Runs.{HasAnswers, fault_of}
+use Rattle.kc_expansion.specs.TextViews.{texts_of}
+use Rattle.kc_expansion.specs.TreeContents.{TreeContents, IsWorldOf}
+
+-- expanded files, or a fault
+abbrev pub tree_of : Result (List ExpandedFile) MacroFault → Result (List ExpandedFile) Fault
+tree_of (Ok files) = Ok files
+tree_of (Err fault) = Err (fault_of fault)
+
+-- questions, or a fault
+abbrev pub questions_of : Result (Vec (Vec ℕ Global) Global) MacroFault → Result (List (List ℕ)) Fault
+questions_of (Ok questions) = Ok (texts_of questions)
+questions_of (Err fault) = Err (fault_of fault)
+
+abbrev pub ending_of : Result (List ExpandedFile) Fault → Ending (List ExpandedFile)
+ending_of (Ok files) = returned files
+ending_of (Err fault) = failed fault
+
+-- in a world of these files and folders and of these answers the expansion of a tree has these notices, and these files or this fault
+pub record IsExpansion (contents : TreeContents) (answers : Recorded) (root : List ℕ) (notices : List Notice) (tree : Result (List ExpandedFile) Fault) : Type 0 where
+  pub world : World
+  pub of_contents : IsWorldOf contents world
+  pub answered : HasAnswers world answers
+  pub has_notices : (expansion world root).notices ≡ notices
+  pub ends_so : (expansion world root).ending ≡ ending_of tree
+
+-- in a world of these files and folders and of these answers these questions are wanted, or a reading without questions has this fault
+pub record AreWanted (contents : TreeContents) (answers : Recorded) (root : List ℕ) (questions : Result (List (List ℕ)) Fault) : Type 0 where
+  pub world : World
+  pub of_contents : IsWorldOf contents world
+  pub answered : HasAnswers world answers
+  pub are_wanted : wanted world root ≡ questions

@@ -1,0 +1,119 @@
+-- A reading of a tree, as the code has it.
+use Rattle.std.specs.Prelude.{◌≡◌, ℕ, Bool, true, false, ◌+◌, ◌-◌, ◌<◌, ◌≤◌, List, [], ◌++◌, length, Vec, Option, Some, None}
+use Rattle.std.specs.declared.alloc.Global.{Global}
+use Rattle.kc_tree_model.specs.LogicalLines.{PhysicalLine}
+use Rattle.kc_macros_model.specs.declared.fault.MacroKind.{MacroKind}
+use Rattle.kc_macros_model.specs.declared.fault.MacroKind.TheVariants.{JoinedAssignment}
+use Rattle.kc_macros_model.specs.Expansion.{fault}
+use Rattle.kc_macros_model.specs.Variables.{Bindings}
+use Rattle.kc_macros_model.specs.LineForms.{SourceSort, LineForm, sources}
+use Rattle.kc_macros_model.specs.PathPatterns.{files_of_pattern}
+use Rattle.kc_macros_model.specs.Programs.{Place, Fault, Program, returns, ◌>>=◌}
+use Rattle.kc_macros_model.specs.ReadingStates.{ReadingState, Progress, progress, WrittenLine, written_line}
+use Rattle.kc_macros_model.specs.TreeExpansion.{SourceReader, one_file, file_list, list_name, source_fault, source_followed, pattern_read, short_line, list_read, lines_read, source_read}
+use Rattle.kc_macros.specs.declared.stop.Stop.{Stop}
+use Rattle.kc_macros.specs.declared.stop.Stop.TheVariants as kinds
+use Rattle.kc_macros.specs.declared.assignments.Assignment.{Assignment}
+use Rattle.kc_macros.specs.Assigning.{operator_of, bindings_assigned}
+use Rattle.kc_macros.specs.Variables.{bindings_of}
+use Rattle.kc_macros.specs.LineContents.{tokens_of}
+use Rattle.kc_macros.specs.LineFormViews.{source_sort_of}
+use Rattle.kc_expansion.specs.TextViews.{texts_of}
+use Rattle.kc_expansion.specs.TreeContents.{TreeContents}
+use Rattle.kc_expansion.specs.between.KnownFiles.{FileRead, whole, AreBytes}
+use Rattle.kc_expansion.specs.between.Reads.{FileRun, file_run}
+use Rattle.kc_expansion.specs.checker.FileViews.{known_of}
+use Rattle.kc_expansion.specs.checker.Slices.{slices_of}
+use Rattle.kc_expansion.specs.declared.source_faults.ReadCounts.{ReadCounts}
+use Rattle.kc_expansion.specs.declared.line_steps.LineState.{LineState}
+use Rattle.kc_expansion.specs.declared.line_steps.LineStep.{LineStep}
+use Rattle.kc_expansion.specs.declared.line_steps.LineStep.TheVariants as steps
+use Rattle.kc_expansion.specs.declared.open_files.OpenFiles.{OpenFiles}
+use Rattle.kc_expansion.specs.declared.reading.Reading.{Reading}
+use Rattle.kc_expansion.specs.declared.written_file.WrittenFile.{WrittenFile}
+use Rattle.kc_expansion.specs.declared.line_places.LineStart.{LineStart}
+
+-- a fault without a text
+abbrev pub fault_at : Place → MacroKind → Fault
+fault_at at kind = record { at = at; kind = kind; text = [] }
+
+-- the variables and the names of choices of a state are those that the code has
+abbrev pub with_lines : LineState → ReadingState → ReadingState
+with_lines l s = record s { bindings = bindings_of l.bindings; choices = l.choices }
+
+abbrev pub state_of : Reading → ReadingState
+state_of r = record { bindings = bindings_of r.lines.bindings; choices = r.lines.choices; expanded = r.expanded; files = r.counts.files; bytes = r.counts.bytes; listed = r.listed }
+
+abbrev pub file_run_of : TreeContents → Reading → FileRun
+file_run_of contents r = file_run contents (known_of r.store) r.lines.run
+
+-- how files are read where these are open
+abbrev pub reader_for : (root : List ℕ) → List (List ℕ) → SourceReader
+reader_for root open_files = source_read (33 - length open_files) root open_files
+
+abbrev pub reader_of : OpenFiles → SourceReader
+reader_of o = reader_for o.root.now (slices_of o.paths.now)
+
+-- a copy of a path isn't made: the path isn't known, or memory ran out
+abbrev pub IsNoPath : Option (List ℕ) → Stop → Type 0
+IsNoPath path (kinds.Fault f) = ⊥
+IsNoPath path kinds.Unanswered = path ≡ None
+IsNoPath path kinds.OutOfMemory = Unit {0}
+
+-- a line that sources no files
+abbrev pub IsNoSource : LineForm → Type 0
+IsNoSource (sources sort path) = ⊥
+IsNoSource form = Unit {0}
+
+-- the variables after an assignment on a line, which may not be continued
+abbrev pub assigned_or_fault : Place → (continued : Bool) → Bindings → Assignment → Program Bindings
+assigned_or_fault at true b a = fault at JoinedAssignment []
+assigned_or_fault at false b a = bindings_assigned at b a.name (operator_of a.operator) a.text
+
+-- what is left of a line after its first step
+abbrev pub step_left : SourceReader → Place → LineStep → ReadingState → Program WrittenLine
+step_left sub at (steps.Written l) s = returns (written_line l.text.items l.begins_help s)
+step_left sub at (steps.Sources l) s = source_followed sub at (tokens_of l.tokens.items) (source_sort_of l.sort) (Some l.given.items) s >>= short_line at false
+
+-- the paths of a pattern, and what is read of them
+abbrev pub pattern_followed : SourceReader → Place → SourceSort → (path : List ℕ) → ReadingState → Program Progress
+pattern_followed sub at sort path s = files_of_pattern at path s.listed >>= pattern_read sub at sort s
+
+-- what is left of a `source` line once its paths are known
+abbrev pub paths_left : SourceReader → Place → (path : List ℕ) → Option (Vec (Vec ℕ Global) Global) → ReadingState → Program Progress
+paths_left sub at path None s = sub at (one_file path) s
+paths_left sub at path (Some paths) s = sub at (file_list (list_name at) (texts_of paths)) s
+
+-- a text before what is still read
+abbrev pub after_text : List ℕ → Program Progress → Program Progress
+after_text done p = p >>= λ rest. returns (progress (done ++ rest.text) rest.state)
+
+abbrev pub lines_left : SourceReader → (file : List ℕ) → LineStart → (done : List ℕ) → List PhysicalLine → ReadingState → Program Progress
+lines_left sub file start done ls s = after_text done (lines_read sub file 0 start.number ls s)
+
+abbrev pub lists_left : SourceReader → Place → (done : List ℕ) → List (List ℕ) → ReadingState → Program Progress
+lists_left sub at done paths s = after_text done (list_read sub at paths s)
+
+-- counts that are those of a state
+pub record AreCounts (counts : ReadCounts) (s : ReadingState) : Type 0 where
+  pub files : s.files ≡ counts.files
+  pub bytes : s.bytes ≡ counts.bytes
+
+-- what was read of a path is these bytes, which may be read
+pub record MayBeRead (open_files : List (List ℕ)) (counts : ReadCounts) (path : List ℕ) (read : FileRead) (bytes : List ℕ) : Type 0 where
+  pub is_whole : read ≡ whole bytes
+  pub no_fault : (s : ReadingState) → AreCounts counts s → source_fault open_files s path (Some bytes) ≡ None
+  pub few_files : counts.files < 4096
+  pub few_bytes : counts.bytes + length bytes ≤ 67108864
+  pub few_open : length open_files < 32
+
+-- what was read of a path may not be read
+pub record MayNotBeRead (open_files : List (List ℕ)) (counts : ReadCounts) (path : List ℕ) (read : FileRead) (kind : MacroKind) : Type 0 where
+  pub is_fault : (s : ReadingState) → AreCounts counts s → (bytes : Option (List ℕ)) → AreBytes read bytes → source_fault open_files s path bytes ≡ Some kind
+
+-- a file is written up to the beginning of a line
+pub record IsWrittenTo (bytes : List ℕ) (start : LineStart) (out : WrittenFile) : Type 0 where
+  pub original : out.original.value.items ≡ bytes
+  pub copied : out.copied ≤ start.at
+  pub within : start.at ≤ length bytes
+  pub few : start.number ≤ start.at + 1

@@ -1,0 +1,78 @@
+//! The expanded files of a tree.
+ghost use Rattle.std.specs.Prelude.{◌≡◌, ◌∷◌, [], ◌++◌, length, slice_get, option_map};
+ghost use Rattle.kc_expansion.specs.ExpandedTexts.{file_of_slices};
+ghost use Rattle.kc_expansion.specs.PathsOfKeys.{path_of_key};
+
+use super::expanded_files::ExpandedFiles;
+use std::marker::Model;
+use std::rc::Rc;
+
+/// An expanded file: its key, the path that was read for it, and its text.
+#[derive(Clone, Copy)]
+pub struct ExpandedText<'a> {
+    pub key: &'a [u8],
+    pub path: &'a [u8],
+    pub text: &'a [u8],
+}
+
+/// The expanded files of a tree, in the order in which they were read to their ends. The first file of the tree is the last.
+#[derive(Drop)]
+pub struct ExpandedTree {
+    sourced: ExpandedFiles,
+    root: Vec<u8>,
+    text: Rc<Vec<u8>>,
+}
+
+impl Model for ExpandedTree {
+    ghost use Rattle.std.specs.Prelude.{List, [], ◌∷◌, ◌++◌};
+    ghost use Rattle.kc_macros_model.specs.ReadingStates.{ExpandedFile};
+
+    ghost Value = { List ExpandedFile };
+
+    ghost view = { λ t. t.sourced ++ record { key = t.root.items; path = t.root.items; text = t.text.value.items } ∷ [] };
+}
+
+impl ExpandedTree {
+    /// The expanded files that were sourced, and the first file with its text.
+    pub(crate) fn new(sourced: ExpandedFiles, root: Vec<u8>, text: Rc<Vec<u8>>) -> ExpandedTree
+        ensures { result ≡ sourced ++ record { key = root.items; path = root.items; text = text.value.items } ∷ [] }
+    {
+        ExpandedTree {
+            sourced,
+            root,
+            text,
+        }
+    }
+
+    /// The number of expanded files, which is at least one.
+    pub fn len(&self) -> usize
+        ensures { result ≡ length self.now }
+    {
+        self.sourced.len() + 1
+    }
+
+    /// The expanded file at a place, if there are so many.
+    pub fn get(&self, at: usize) -> Option<ExpandedText<'_>>
+        ensures { option_map file_of_slices result ≡ slice_get self.now at }
+    {
+        if at == self.sourced.len() {
+            return Some(ExpandedText {
+                key: &self.root,
+                path: &self.root,
+                text: &self.text,
+            });
+        }
+        self.sourced.get(at)
+    }
+
+    /// The path that was read for a key, if a file has it.
+    pub fn path_of(&self, key: &[u8]) -> Option<&[u8]>
+        ensures { option_map (λ p. p.now) result ≡ path_of_key self.now key.now }
+    {
+        match self.sourced.path_of(key) {
+            Some(path) => Some(path),
+            None if key == self.root.as_slice() => Some(&self.root),
+            None => None,
+        }
+    }
+}

@@ -1,0 +1,179 @@
+//! The public calls: the expansion of a tree, and the questions that its reading meets.
+ghost use Rattle.std.specs.Prelude.{◌≡◌, ℕ, List, Vec, IfOk, OnOk, map};
+ghost use Rattle.std.specs.declared.alloc.Global.{Global};
+ghost use Rattle.kc_macros_model.specs.ReadingStates.{ExpandedFile, initial_state};
+ghost use Rattle.kc_macros_model.specs.TreeExpansion.{tree_read};
+ghost use Rattle.kc_macros_model.specs.Worlds.{Ending, questions_or_fault};
+ghost use Rattle.kc_macros.specs.RunStates.{run_at_start};
+ghost use Rattle.kc_macros.specs.Runs.{end_of, ends, notice_of};
+ghost use Rattle.kc_expansion.specs.Expansions.{ending_of, tree_of, questions_of, IsExpansion, AreWanted};
+ghost use Rattle.kc_expansion.specs.TextViews.{texts_of};
+ghost use Rattle.kc_expansion.specs.between.Reads.{Reads};
+ghost use Rattle.kc_expansion.specs.checker.FileViews.{known_of};
+ghost use Rattle.kc_expansion.specs.checker.ExpansionViews.{nothing_known, with_root, GoesOn, HasEnded};
+ghost use Rattle.kc_expansion.specs.checker.ReadingViews.{state_of, file_run_of};
+
+use super::choice_names::ChoiceNames;
+use super::expanded_files::ExpandedFiles;
+use super::expanded_tree::ExpandedTree;
+use super::faults::fault;
+use super::file_read::FileRead;
+use super::files::TreeFiles;
+use super::line_steps::LineState;
+use super::open_files::{OpenFiles, with_path};
+use super::reading::Reading;
+use super::source_faults::{MAX_BYTES, ReadCounts};
+use super::store::Store;
+use super::tree_reading::read_lines;
+use kc_macros::{Answers, Bindings, MacroFault, MacroKind, MacroNotice, Place, Run, Stop};
+use kc_value::Seed;
+use std::alloc::{AllocError, Global};
+use std::rc::Rc;
+
+/// The expansion of a tree: its notices, and its expanded files or its fault.
+#[derive(Drop)]
+pub struct Expansion {
+    pub notices: Vec<MacroNotice>,
+    pub tree: Result<ExpandedTree, MacroFault>,
+}
+
+/// A reading that has read nothing.
+fn new_reading(alloc: Global, seed: Seed, answers: &Answers, all_answered: bool) -> Reading<'_>
+    ensures run { result.lines.run ≡ run_at_start answers.now all_answered }
+    ensures state { state_of result ≡ initial_state }
+    ensures known { known_of result.store ≡ nothing_known }
+{
+    Reading {
+        alloc,
+        lines: LineState {
+            run: Run::new(alloc, seed, answers, all_answered),
+            bindings: Bindings::new(alloc, seed),
+            choices: ChoiceNames::new(alloc, seed),
+        },
+        store: Store::new(alloc, seed),
+        expanded: ExpandedFiles::new(alloc, seed),
+        counts: ReadCounts { files: 0, bytes: 0 },
+        listed: 0,
+    }
+}
+
+/// Reads the first file of a tree, and what its lines source; returns its expanded text.
+fn read_root<F: TreeFiles>(
+    reading: &mut Reading<'_>,
+    files: &mut F,
+    root: &[u8],
+) -> Result<Rc<Vec<u8>>, Stop>
+    requires { state_of reading.old ≡ initial_state }
+    ensures { Reads (file_run_of (F.contents files.old) reading.old) (file_run_of (F.contents files.new) reading.new) (tree_read root.now) (end_of (λ text. with_root root.now text.value.items reading.new.expanded) result) }
+{
+    let at = Place {
+        file: root,
+        line: 0,
+    };
+    let read = reading.store.file(reading.alloc, files, root)?;
+    let bytes = match read {
+        FileRead::Whole(bytes) => bytes,
+        FileRead::Missing => return Err(fault(reading.alloc, at, MacroKind::MissingFile)),
+        FileRead::TooLong => return Err(fault(reading.alloc, at, MacroKind::TooMany)),
+    };
+    if bytes.len() > MAX_BYTES {
+        return Err(fault(reading.alloc, at, MacroKind::TooMany));
+    }
+    let paths = with_path(reading.alloc, root, &[])?;
+    let opened = OpenFiles {
+        root,
+        paths: &paths,
+    };
+    reading.counts = ReadCounts {
+        files: 1,
+        bytes: bytes.len(),
+    };
+    read_lines(reading, files, &opened, root, bytes)
+}
+
+/// The expanded files of a reading that isn't stopped, or its fault; the text of the first file goes last.
+fn read_tree(
+    alloc: Global,
+    read: Result<Rc<Vec<u8>>, Stop>,
+    sourced: ExpandedFiles,
+    root: &[u8],
+) -> Result<Result<ExpandedTree, MacroFault>, AllocError>
+    requires { GoesOn read }
+    ensures { IfOk result (λ tree. end_of (λ text. with_root root.now text.value.items sourced) read ≡ ends (ending_of (tree_of tree))) }
+{
+    match read {
+        Ok(text) => {
+            let root = Vec::from_slice(alloc, root)?;
+            Ok(Ok(ExpandedTree::new(sourced, root, text)))
+        }
+        Err(Stop::Fault(fault)) => Ok(Err(fault)),
+        Err(Stop::Unanswered) => unreachable!(),
+        Err(Stop::OutOfMemory) => Err(AllocError),
+    }
+}
+
+/// The expansion of a tree by its first file: each line is written with the values of its macros, and a `source` line is
+/// followed where it is read. Each file is opened once at most. `answers` has the answers to the questions that macros ask.
+///
+/// # Errors
+///
+/// Memory ran out. A fault of the tree, such as a missing file or a question without an answer, is part of the expansion.
+pub fn expand<F: TreeFiles>(
+    alloc: Global,
+    files: &mut F,
+    root: &[u8],
+    answers: &Answers,
+) -> Result<Expansion, AllocError>
+    ensures same { F.contents files.new ≡ F.contents files.old }
+    ensures expanded { IfOk result (λ e. IsExpansion (F.contents files.old) answers.now root.now (map notice_of e.notices.items) (tree_of e.tree)) }
+{
+    let mut reading = new_reading(alloc, files.seed(), answers, true);
+    let read = read_root(&mut reading, files, root);
+    let Reading {
+        lines,
+        expanded,
+        ..
+    } = reading;
+    let tree = read_tree(alloc, read, expanded, root)?;
+    Ok(Expansion {
+        notices: lines.run.into_notices(),
+        tree,
+    })
+}
+
+/// The questions that were met, or the fault of a reading that met none.
+fn wanted_by(
+    read: Result<Rc<Vec<u8>>, Stop>,
+    questions: Vec<Vec<u8>>,
+) -> Result<Result<Vec<Vec<u8>>, MacroFault>, AllocError>
+    ensures ended { OnOk result (HasEnded read) }
+    ensures wanted { IfOk result (λ w. (view : Rc (Vec ℕ Global) Global → List ExpandedFile) (e : Ending (List ExpandedFile)) → end_of view read ≡ ends e → questions_of w ≡ questions_or_fault (texts_of questions) e) }
+{
+    match read {
+        Err(Stop::OutOfMemory) => Err(AllocError),
+        Err(Stop::Fault(fault)) if questions.is_empty() => Ok(Err(fault)),
+        _ => Ok(Ok(questions)),
+    }
+}
+
+/// The questions without an answer that a reading of a tree meets, each once in order of first sight; where it meets none, its
+/// fault, if it has one. The reading goes on behind a question as far as nothing depends on its answer.
+///
+/// # Errors
+///
+/// Memory ran out.
+pub fn wants<F: TreeFiles>(
+    alloc: Global,
+    files: &mut F,
+    root: &[u8],
+    answers: &Answers,
+) -> Result<Result<Vec<Vec<u8>>, MacroFault>, AllocError>
+    ensures same { F.contents files.new ≡ F.contents files.old }
+    ensures wanted { IfOk result (λ w. AreWanted (F.contents files.old) answers.now root.now (questions_of w)) }
+{
+    let mut reading = new_reading(alloc, files.seed(), answers, false);
+    let read = read_root(&mut reading, files, root);
+    let Reading { lines, .. } = reading;
+    let questions = lines.run.into_questions()?;
+    wanted_by(read, questions)
+}

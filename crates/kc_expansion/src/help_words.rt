@@ -1,0 +1,59 @@
+//! Lines that begin help texts.
+ghost use Rattle.std.specs.Prelude.{◌≡◌, ◌||◌, bytes_eq, codes, length, take_while};
+ghost use Rattle.kc_expr.specs.Token.{is_white_byte, is_word_byte};
+ghost use Rattle.kc_tree_model.specs.LogicalLines.{begins_help};
+ghost use Rattle.kc_expansion.specs.checker.HelpWords.{is_end};
+
+/// White space within a line.
+fn is_white(byte: u8) -> bool
+    ensures { result ≡ is_white_byte byte }
+{
+    matches!(byte, 0x09 | 0x0B | 0x0C | 0x0D | 0x20)
+}
+
+/// A letter, a digit, `_`, `-`, `.` or `/`.
+fn is_word(byte: u8) -> bool
+    ensures { result ≡ is_word_byte byte }
+{
+    byte.is_ascii_alphanumeric() || matches!(byte, b'_' | b'-' | b'.' | b'/')
+}
+
+/// How many white bytes come first.
+fn white_length(text: &[u8]) -> usize
+    ensures { result ≡ length (take_while is_white_byte text.now) }
+{
+    text.iter().take_while(|byte| is_white(**byte)).count()
+}
+
+/// How many bytes of a word come first.
+fn word_length(text: &[u8]) -> usize
+    ensures { result ≡ length (take_while is_word_byte text.now) }
+{
+    text.iter().take_while(|byte| is_word(**byte)).count()
+}
+
+/// Whether a word begins a help text.
+fn is_help_word(word: &[u8]) -> bool
+    ensures { result ≡ (bytes_eq word.now (codes "help") || bytes_eq word.now (codes "---help---")) }
+{
+    word == b"help".as_slice() || word == b"---help---".as_slice()
+}
+
+/// Whether nothing but white bytes and a comment is left of a line.
+fn is_end(text: &[u8]) -> bool
+    ensures { result ≡ is_end text.now }
+{
+    match text[white_length(text)..].first() {
+        Some(byte) => *byte == b'#',
+        None => true,
+    }
+}
+
+/// Whether a help text follows a line: its one token is a word that begins one.
+pub(crate) fn begins_help(text: &[u8]) -> bool
+    ensures { result ≡ begins_help text.now }
+{
+    let line = &text[white_length(text)..];
+    let word = word_length(line);
+    is_help_word(&line[..word]) && is_end(&line[word..])
+}

@@ -1,0 +1,89 @@
+//! The places of the lines of a file, and its lines written anew.
+ghost use Rattle.std.specs.Prelude.{true, ◌≡◌, ◌<◌, ◌≤◌, ◌+◌, ◌-◌, ◌++◌, ℕ, suc, ◌==◌, length, count_by, drop, take, slice_range, OnOk};
+ghost use Rattle.kc_tree_model.specs.LogicalLines.{is_continued, physical_lines, split_at_newlines};
+ghost use Rattle.kc_macros_model.specs.TreeExpansion.{lines_written};
+ghost use Rattle.kc_expansion.specs.checker.LineViews.{is_first_continued, IsHelpPassed};
+ghost use Rattle.kc_expansion.specs.checker.WrittenViews.{text_up_to};
+
+use super::written_file::WrittenFile;
+use kc_lines::{help_at, physical_at};
+use std::alloc::AllocError;
+
+/// Where a line begins, and its number.
+#[derive(Clone, Copy)]
+pub(crate) struct LineStart {
+    pub at: usize,
+    pub number: u32,
+}
+
+/// Whether the line at a place goes on in the next one.
+pub(crate) fn is_continued_at(bytes: &[u8], at: usize) -> bool
+    requires { at < length bytes.now }
+    ensures { result ≡ is_first_continued (physical_lines (drop at bytes.now)) }
+{
+    let line = physical_at(bytes, at);
+    line.ended && line.end > at && bytes[line.end - 1] == b'\\'
+}
+
+/// The place behind the help text that begins at a place.
+fn behind_text(bytes: &[u8], after: LineStart) -> LineStart
+    requires within { after.at ≤ length bytes.now }
+    requires small { length bytes.now ≤ 67108864 }
+    requires few { after.number ≤ after.at + 1 }
+    ensures { IsHelpPassed bytes.now after true result }
+{
+    let help = help_at(bytes, after.at);
+    LineStart {
+        at: help.next,
+        number: after.number + help.lines as u32,
+    }
+}
+
+/// The place behind the help text that follows a line, if one does; `number` is that of the line after.
+pub(crate) fn behind_help(bytes: &[u8], after: LineStart, begins_help: bool) -> LineStart
+    requires within { after.at ≤ length bytes.now }
+    requires small { length bytes.now ≤ 67108864 }
+    requires few { after.number ≤ after.at + 1 }
+    ensures { IsHelpPassed bytes.now after begins_help result }
+{
+    if begins_help {
+        return behind_text(bytes, after);
+    }
+    after
+}
+
+/// How many newlines a text has.
+fn newline_count(text: &[u8]) -> usize
+    ensures { result ≡ count_by (λ c. c == 10) text.now }
+{
+    text.iter().filter(|byte| **byte == b'\n').count()
+}
+
+/// Writes the new text of a logical line of `lines` physical lines between two places, whose joined text is `text`; where
+/// both are the same, the lines stay.
+///
+/// # Errors
+///
+/// Memory runs out.
+pub(crate) fn write_over(
+    out: &mut WrittenFile,
+    bytes: &[u8],
+    at: usize,
+    next: usize,
+    text: &[u8],
+    new: &[u8],
+) -> Result<(), AllocError>
+    requires original { out.old.original.value.items ≡ bytes.now }
+    requires behind { out.old.copied ≤ at }
+    requires order { at < next }
+    requires within { next ≤ length bytes.now }
+    ensures original { OnOk result (out.new.original.value.items ≡ bytes.now) }
+    ensures copied { OnOk result (out.new.copied ≤ next) }
+    ensures text { OnOk result ((lines : ℕ) → split_at_newlines (drop next bytes.now) ≡ drop lines (split_at_newlines (drop at bytes.now))
+        → text_up_to out.new next ≡ text_up_to out.old at ++ lines_written (take lines (split_at_newlines (drop at bytes.now))) text.now new.now) }
+{
+    if new == text {
+        return Ok(());
+    }
+    out.replace(at, next, new, newline_count(&bytes[at..next]))
+}

@@ -1,0 +1,190 @@
+//! What a line becomes, up to the files that it sources.
+ghost use Rattle.std.specs.Prelude.{◌≡◌, Bool, List, true, false, ◌||◌, not, nat_lt, length, IfOk, IfErr, Some, option_map};
+ghost use Rattle.std.specs.Str.{is_utf8};
+ghost use Rattle.kc_macros_model.specs.Limits.{max_text_bytes};
+ghost use Rattle.kc_macros_model.specs.LineForms.{form_of, without_gaps};
+ghost use Rattle.kc_macros_model.specs.Programs.{Place as LinePlace, returns};
+ghost use Rattle.kc_macros_model.specs.ReadingStates.{ReadingState, progress, written_line};
+ghost use Rattle.kc_macros_model.specs.TreeExpansion.{SourceReader, choice_written, form_written, short_line, tokens_written, line_written};
+ghost use Rattle.kc_macros.specs.Variables.{bindings_of};
+ghost use Rattle.kc_macros.specs.Assigning.{operator_of};
+ghost use Rattle.kc_macros.specs.Runs.{place_of, Runs, end_of};
+ghost use Rattle.kc_macros.specs.LineContents.{tokens_of};
+ghost use Rattle.kc_macros.specs.LineFormViews.{source_sort_of, form_view};
+ghost use Rattle.kc_expansion.specs.TreeContents.{TreeContents};
+ghost use Rattle.kc_expansion.specs.between.KnownFiles.{KnownFiles};
+ghost use Rattle.kc_expansion.specs.between.Reads.{FileRun, file_run, Reads};
+ghost use Rattle.kc_expansion.specs.checker.Leads.{Steps};
+ghost use Rattle.kc_expansion.specs.checker.ReadingViews.{with_lines, step_left, IsNoPath, IsNoSource, assigned_or_fault};
+
+use super::choice_names::ChoiceNames;
+use super::faults::fault;
+use kc_macros::{
+    Assignment, Bindings, LineContent, LineForm, MacroKind, Place, Run, SourceSort, Stop,
+    WrittenToken, assign, is_help_line, is_undecided, line_bytes, line_form, read_line,
+    with_bare_prompt, with_replacement, without_choice_name,
+};
+use std::alloc::{AllocError, Global};
+
+/// The most bytes of a line, before and after it is written.
+pub(crate) const MAX_LINE_BYTES: usize = 65_536;
+
+/// The state that lines act on: the run, the variables, and the names of choices.
+#[derive(Drop)]
+pub(crate) struct LineState<'a> {
+    pub run: Run<'a>,
+    pub bindings: Bindings,
+    pub choices: ChoiceNames,
+}
+
+/// What a line becomes, and whether a help text follows it.
+#[derive(Drop)]
+pub(crate) struct NewLine {
+    pub text: Vec<u8>,
+    pub begins_help: bool,
+}
+
+/// The tokens of a `source` line, which `source` it has, and its path as written.
+#[derive(Drop)]
+pub(crate) struct SourceLine {
+    pub tokens: Vec<WrittenToken>,
+    pub sort: SourceSort,
+    pub given: Vec<u8>,
+}
+
+/// A line is written, or sources files first.
+#[derive(Drop)]
+pub(crate) enum LineStep {
+    Written(NewLine),
+    Sources(SourceLine),
+}
+
+/// A written line, unless it is too long.
+pub(crate) fn short_line(
+    alloc: Global,
+    at: Place<'_>,
+    text: Vec<u8>,
+    begins_help: bool,
+) -> Result<NewLine, Stop>
+    ensures { (a : FileRun) (s : ReadingState) → Reads a a (short_line (place_of at.entry) begins_help (progress text.items s)) (end_of (λ l. written_line l.text.items l.begins_help s) result) }
+{
+    if text.len() > MAX_LINE_BYTES {
+        return Err(fault(alloc, at, MacroKind::LineTooLong));
+    }
+    Ok(NewLine { text, begins_help })
+}
+
+/// Binds the name of an assignment, which no continued line may have.
+fn assign_line(
+    state: &mut LineState<'_>,
+    at: Place<'_>,
+    joined: bool,
+    assignment: Assignment,
+) -> Result<(), Stop>
+    ensures choices { state.new.choices ≡ state.old.choices }
+    ensures run { Runs state.old.run state.new.run (assigned_or_fault (place_of at.entry) joined (bindings_of state.old.bindings) assignment) (end_of (λ _. bindings_of state.new.bindings) result) }
+{
+    if joined {
+        return Err(fault(state.run.alloc(), at, MacroKind::JoinedAssignment));
+    }
+    assign(&mut state.run, at, &mut state.bindings, assignment)
+}
+
+/// What a line that names a choice becomes: the first choice of a name loses it.
+fn choice_line(
+    alloc: Global,
+    choices: &mut ChoiceNames,
+    tokens: &[WrittenToken],
+    name: &[u8],
+) -> Result<Vec<u8>, AllocError>
+    ensures { IfOk result (λ t. (s : ReadingState) → s.choices ≡ choices.old → choice_written (tokens_of tokens.now) name.now s ≡ progress t.items (record s { choices = choices.new })) }
+{
+    if choices.has(name) {
+        return line_bytes(alloc, tokens);
+    }
+    choices.insert(name)?;
+    without_choice_name(alloc, tokens)
+}
+
+/// What a line that sources no files becomes.
+fn form_text(
+    alloc: Global,
+    choices: &mut ChoiceNames,
+    tokens: &[WrittenToken],
+    form: LineForm<'_>,
+) -> Result<Vec<u8>, AllocError>
+    requires { IsNoSource (form_view form) }
+    ensures { IfOk result (λ t. (sub : SourceReader) (at : LinePlace) (s : ReadingState) → s.choices ≡ choices.old → form_written sub at (tokens_of tokens.now) (form_view form.entry) s ≡ returns (progress t.items (record s { choices = choices.new }))) }
+{
+    match form {
+        LineForm::BarePrompt(text) => with_bare_prompt(alloc, tokens, text),
+        LineForm::ReplacedBy(text) => with_replacement(alloc, tokens, text),
+        LineForm::NamedChoice(name) => choice_line(alloc, choices, tokens, name),
+        LineForm::Plain => line_bytes(alloc, tokens),
+        LineForm::Sources(..) => line_bytes(alloc, tokens),
+    }
+}
+
+/// A copy of the path of a `source` line; where it isn't known, the reading ends.
+fn given_path(alloc: Global, given: Option<&[u8]>) -> Result<Vec<u8>, Stop>
+    ensures ok { IfOk result (λ path. option_map (λ t. t.now) given.entry ≡ Some path.items) }
+    ensures err { IfErr result (λ stop. IsNoPath (option_map (λ t. t.now) given.entry) stop) }
+{
+    match given {
+        Some(path) => Ok(Vec::from_slice(alloc, path)?),
+        None => Err(Stop::Unanswered),
+    }
+}
+
+/// The first step of a line with these tokens.
+fn tokens_step(
+    state: &mut LineState<'_>,
+    at: Place<'_>,
+    tokens: Vec<WrittenToken>,
+) -> Result<LineStep, Stop>
+    ensures { (contents : TreeContents) (known : KnownFiles) (sub : SourceReader) (s : ReadingState)
+        → Steps (file_run contents known state.old.run) (file_run contents known state.new.run) (tokens_written sub (place_of at.entry) (with_lines state.old s) (tokens_of tokens.items) (without_gaps (tokens_of tokens.items))) (λ step. step_left sub (place_of at.entry) step (with_lines state.new s)) result }
+{
+    let alloc = state.run.alloc();
+    if is_undecided(&tokens) {
+        return Err(Stop::Unanswered);
+    }
+    match line_form(&tokens) {
+        LineForm::Sources(sort, given) => {
+            let given = given_path(alloc, given)?;
+            Ok(LineStep::Sources(SourceLine {
+                tokens,
+                sort,
+                given,
+            }))
+        }
+        form => {
+            let text = form_text(alloc, &mut state.choices, &tokens, form)?;
+            let line = short_line(alloc, at, text, is_help_line(&tokens))?;
+            Ok(LineStep::Written(line))
+        }
+    }
+}
+
+/// The first step of a line that may have macros.
+pub(crate) fn line_step(
+    state: &mut LineState<'_>,
+    at: Place<'_>,
+    joined: bool,
+    text: &[u8],
+) -> Result<LineStep, Stop>
+    requires { (nat_lt max_text_bytes (length text.now) || not (is_utf8 text.now)) ≡ false }
+    ensures { (contents : TreeContents) (known : KnownFiles) (sub : SourceReader) (s : ReadingState)
+        → Steps (file_run contents known state.old.run) (file_run contents known state.new.run) (line_written sub (place_of at.entry) joined text.now (with_lines state.old s)) (λ step. step_left sub (place_of at.entry) step (with_lines state.new s)) result }
+{
+    match read_line(&mut state.run, at, &state.bindings, text)? {
+        LineContent::Assigns(assignment) => {
+            assign_line(state, at, joined, assignment)?;
+            Ok(LineStep::Written(NewLine {
+                text: Vec::new(state.run.alloc()),
+                begins_help: false,
+            }))
+        }
+        LineContent::Tokens(tokens) => tokens_step(state, at, tokens),
+    }
+}

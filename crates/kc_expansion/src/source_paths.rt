@@ -1,0 +1,96 @@
+//! The paths that a `source` line reads.
+ghost use Rattle.std.specs.Prelude.{◌≡◌, ◌∷◌, [], ◌||◌, not, nat_lt, length, IfOk};
+ghost use Rattle.kc_macros_model.specs.Worlds.{returned};
+ghost use Rattle.kc_macros_model.specs.PathPatterns.{readable_paths};
+ghost use Rattle.kc_macros_model.specs.TreeExpansion.{SourceReader, path_read};
+ghost use Rattle.kc_macros.specs.Runs.{place_of};
+ghost use Rattle.kc_macros.specs.LineFormViews.{source_sort_of};
+ghost use Rattle.kc_expansion.specs.TextViews.{items_of, texts_of};
+ghost use Rattle.kc_expansion.specs.between.FileRuns.{Comes};
+ghost use Rattle.kc_expansion.specs.between.KnownFiles.{Grows};
+ghost use Rattle.kc_expansion.specs.checker.FileViews.{known_of};
+ghost use Rattle.kc_expansion.specs.checker.Leads.{Steps};
+ghost use Rattle.kc_expansion.specs.checker.ReadingViews.{state_of, file_run_of, paths_left, pattern_followed};
+
+use super::faults::fault;
+use super::files::TreeFiles;
+use super::paths::is_pattern;
+use super::patterns::{Found, PatternStop, files_of_pattern, readable_paths};
+use super::reading::Reading;
+use super::store::Store;
+use kc_macros::{MacroKind, Place, SourceSort, Stop};
+use std::alloc::{AllocError, Global};
+
+/// Whether a pattern must have files and has none.
+fn lacks_files(paths: &[Vec<u8>], optional: bool) -> bool
+    ensures { result ≡ not (nat_lt 0 (length (items_of paths.now)) || optional) }
+{
+    paths.is_empty() && !optional
+}
+
+/// The files that a pattern has, each of which can be read; none is a fault, unless they may be missing.
+fn pattern_paths<F: TreeFiles>(
+    reading: &mut Reading<'_>,
+    files: &mut F,
+    at: Place<'_>,
+    sort: SourceSort,
+    pattern: &[u8],
+) -> Result<Option<Vec<Vec<u8>>>, Stop>
+    ensures { (sub : SourceReader) → Steps (file_run_of (F.contents files.old) reading.old) (file_run_of (F.contents files.new) reading.new) (pattern_followed sub (place_of at.entry) (source_sort_of sort) pattern.now (state_of reading.old)) (λ found. paths_left sub (place_of at.entry) pattern.now found (state_of reading.new)) result }
+{
+    match files_of_pattern(
+        reading.alloc,
+        &mut reading.store,
+        files,
+        pattern,
+        reading.listed,
+    ) {
+        Ok(found) => {
+            if lacks_files(&found.paths, sort.optional) {
+                return Err(fault(reading.alloc, at, MacroKind::MissingFile));
+            }
+            reading.listed = found.listed;
+            Ok(Some(found.paths))
+        }
+        Err(PatternStop::TooMany) => Err(fault(reading.alloc, at, MacroKind::TooMany)),
+        Err(PatternStop::OutOfMemory) => Err(Stop::OutOfMemory),
+    }
+}
+
+/// A path alone, if it can be read.
+fn path_if_readable<F: TreeFiles>(
+    alloc: Global,
+    store: &mut Store,
+    files: &mut F,
+    path: &[u8],
+) -> Result<Vec<Vec<u8>>, AllocError>
+    ensures same { F.contents files.new ≡ F.contents files.old }
+    ensures grows { Grows (F.contents files.old) (known_of store.old) (known_of store.new) }
+    ensures reads { IfOk result (λ readable. Comes (known_of store.new) (readable_paths (path.now ∷ [])) (returned (texts_of readable))) }
+{
+    let mut paths = Vec::new(alloc);
+    let copy = Vec::from_slice(alloc, path)?;
+    paths.push(copy)?;
+    readable_paths(alloc, store, files, &paths)
+}
+
+/// The files that a `source` line reads as a list: those of a pattern, or one that may be missing; `None` where it reads the
+/// one file of its path.
+pub(crate) fn paths_to_read<F: TreeFiles>(
+    reading: &mut Reading<'_>,
+    files: &mut F,
+    at: Place<'_>,
+    sort: SourceSort,
+    path: &[u8],
+) -> Result<Option<Vec<Vec<u8>>>, Stop>
+    ensures { (sub : SourceReader) → Steps (file_run_of (F.contents files.old) reading.old) (file_run_of (F.contents files.new) reading.new) (path_read sub (place_of at.entry) (source_sort_of sort) path.now (state_of reading.old)) (λ found. paths_left sub (place_of at.entry) path.now found (state_of reading.new)) result }
+{
+    if is_pattern(path) {
+        return pattern_paths(reading, files, at, sort, path);
+    }
+    if sort.optional {
+        let paths = path_if_readable(reading.alloc, &mut reading.store, files, path)?;
+        return Ok(Some(paths));
+    }
+    Ok(None)
+}

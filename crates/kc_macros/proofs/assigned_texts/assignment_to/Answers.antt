@@ -1,0 +1,16 @@
+use Rattle.std.proofs.Common.{◌∙◌, Some, sym, ap}
+use Rattle.kc_macros_model.specs.Assignments.{assigned, operator_at}
+use Rattle.kc_macros.specs.Assigning.{operator_of}
+use Rattle.kc_macros.proofs.FrontLemmas.{assigns_by, assigns_nothing}
+use Rattle.kc_macros.proofs.assigned_texts.assignment_to.Goals as goal
+
+pub returns-in_err-operator-clause-found : goal.returns-in_err-operator-clause-found
+returns-in_err-operator-clause-found c =
+    rw c.from_residual.ensures
+    (assigns_nothing c.args.name.now c.args.after.now (c.in_err-operator.ensures ∙ ap operator_at c.without_white_front.ensures))
+
+pub returns-clause-found : goal.returns-clause-found
+returns-clause-found c =
+    let operator = operator_of c.in_ok-operator.operator in
+    ap (λ t. Some (assigned operator t)) c.without_blank_front.ensures
+    ∙ assigns_by c.args.name.now c.args.after.now (sym c.is_keyword.ensures ∙ c.if-is_keyword.false) (Some (assigned operator c.in_ok-operator.text.now)) (c.in_ok-operator.ensures ∙ ap operator_at c.without_white_front.ensures)

@@ -1,0 +1,76 @@
+//! Words that give a line its form.
+ghost use Rattle.std.specs.Prelude.{◌≡◌, ◌∷◌, [], codes};
+ghost use Rattle.kc_tree_model.specs.Limits.{is_in_list};
+ghost use Rattle.kc_macros_model.specs.LineForms.{prompt_words, source_words, help_words};
+
+use super::keywords::is_among;
+
+/// Words that a prompt or a title follows.
+static PROMPT_WORDS: [&[u8]; 9] = [
+    b"bool",
+    b"tristate",
+    b"string",
+    b"hex",
+    b"int",
+    b"prompt",
+    b"menu",
+    b"comment",
+    b"mainmenu",
+];
+
+/// Words that a path of files to be read follows.
+static SOURCE_WORDS: [&[u8]; 4] = [b"source", b"rsource", b"osource", b"orsource"];
+
+/// Those whose paths begin at the folder of the file.
+static RELATIVE_SOURCES: [&[u8]; 2] = [b"rsource", b"orsource"];
+
+/// Those whose files may be missing.
+static OPTIONAL_SOURCES: [&[u8]; 2] = [b"osource", b"orsource"];
+
+/// Words after which a help text begins.
+static HELP_WORDS: [&[u8]; 2] = [b"help", b"---help---"];
+
+/// Words that come after a type or a prompt and are no prompts.
+static CONDITION_WORDS: [&[u8]; 2] = [b"if", b"on"];
+
+/// Whether a prompt or a title follows a word.
+pub(crate) fn is_prompt_word(word: &[u8]) -> bool
+    ensures { result ≡ is_in_list word.now prompt_words }
+{
+    is_among(&PROMPT_WORDS, word)
+}
+
+/// Whether a path of files to be read follows a word.
+pub(crate) fn is_source_word(word: &[u8]) -> bool
+    ensures { result ≡ is_in_list word.now source_words }
+{
+    is_among(&SOURCE_WORDS, word)
+}
+
+/// Whether the paths of a `source` begin at the folder of the file.
+pub(crate) fn is_relative_source(word: &[u8]) -> bool
+    ensures { result ≡ is_in_list word.now (codes "rsource" ∷ codes "orsource" ∷ []) }
+{
+    is_among(&RELATIVE_SOURCES, word)
+}
+
+/// Whether the files of a `source` may be missing.
+pub(crate) fn is_optional_source(word: &[u8]) -> bool
+    ensures { result ≡ is_in_list word.now (codes "osource" ∷ codes "orsource" ∷ []) }
+{
+    is_among(&OPTIONAL_SOURCES, word)
+}
+
+/// Whether a help text begins after a word.
+pub(crate) fn is_help_word(word: &[u8]) -> bool
+    ensures { result ≡ is_in_list word.now help_words }
+{
+    is_among(&HELP_WORDS, word)
+}
+
+/// Whether a word after a type or a prompt is no prompt.
+pub(crate) fn is_condition_word(word: &[u8]) -> bool
+    ensures { result ≡ is_in_list word.now (codes "if" ∷ codes "on" ∷ []) }
+{
+    is_among(&CONDITION_WORDS, word)
+}

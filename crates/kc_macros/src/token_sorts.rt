@@ -1,0 +1,46 @@
+//! Sorts of written tokens.
+ghost use Rattle.std.specs.Prelude.{◌≡◌};
+ghost use Rattle.kc_macros_model.specs.Assignments.{is_gap, is_unknown};
+ghost use Rattle.kc_macros_model.specs.LineForms.{is_word, is_path, is_bare_prompt};
+ghost use Rattle.kc_macros.specs.WrittenTokens.{token_of};
+
+use super::form_words::is_condition_word;
+use super::written::{TokenSort, WrittenToken};
+
+/// Whether a token is white, a comment or gone.
+pub(crate) fn is_gap(token: &WrittenToken) -> bool
+    ensures { result ≡ is_gap (token_of token.now) }
+{
+    matches!(token.sort, TokenSort::Gap)
+}
+
+/// Whether a token depends on a question without an answer.
+pub(crate) fn is_unknown(token: &WrittenToken) -> bool
+    ensures { result ≡ is_unknown (token_of token.now) }
+{
+    matches!(token.sort, TokenSort::Unknown)
+}
+
+/// Whether a token is a word.
+pub(crate) fn is_word(token: &WrittenToken) -> bool
+    ensures { result ≡ is_word (token_of token.now) }
+{
+    matches!(token.sort, TokenSort::Word)
+}
+
+/// Whether a token is a word, a quoted token, or one that may become either.
+pub(crate) fn is_path(token: &WrittenToken) -> bool
+    ensures { result ≡ is_path (token_of token.now) }
+{
+    matches!(
+        token.sort,
+        TokenSort::Word | TokenSort::Quoted | TokenSort::Unknown
+    )
+}
+
+/// Whether a token is a word that may be a prompt.
+pub(crate) fn is_bare_prompt(token: &WrittenToken) -> bool
+    ensures { result ≡ is_bare_prompt (token_of token.now) }
+{
+    is_word(token) && !is_condition_word(token.bytes.as_slice())
+}

@@ -1,0 +1,149 @@
+-- Lines on which the expansion doesn't act, and trees of such lines.
+use Rattle.std.specs.Prelude.{◌≡◌, ℕ, zero, suc, ◌+◌, Bool, true, false, not, ◌&&◌, ◌||◌, ◌==◌, nat_lt, List, [], ◌∷◌, ◌++◌, length, drop, map, is_some, Option, Some, None, bytes_eq, codes, if◌then◌else◌}
+use Rattle.std.specs.List.{All, list_all, list_any}
+use Rattle.std.specs.Str.{is_utf8}
+use Rattle.kc_tree_model.specs.LogicalLines.{PhysicalLine, split_at_newlines, without_return, joined_bytes, continuation_count, begins_help}
+use Rattle.kc_macros_model.specs.declared.fault.MacroKind.{MacroKind}
+use Rattle.kc_macros_model.specs.declared.fault.MacroKind.TheVariants.{MissingFile, SourceLoop, TooDeep, TooMany}
+use Rattle.kc_macros_model.specs.Limits.{max_text_bytes}
+use Rattle.kc_macros_model.specs.Programs.{Fault, Answer}
+use Rattle.kc_macros_model.specs.References.{Item, byte, escaped, reference, unterminated, items, is_reference, is_plain_dollar}
+use Rattle.kc_macros_model.specs.LineTokens.{LineToken, gap, run, quoted, other, broken, line_tokens}
+use Rattle.kc_macros_model.specs.Rewriting.{WrittenToken, a_gap, a_word, a_quoted, an_other, written_as}
+use Rattle.kc_macros_model.specs.Assignments.{assignment_to}
+use Rattle.kc_macros_model.specs.LineForms.{LineForm, plain, bare_prompt, replaced_by, named_choice, sources, form_of, without_gaps, is_word, is_path, is_help_line}
+use Rattle.kc_macros_model.specs.PathPatterns.{is_pattern}
+use Rattle.kc_macros_model.specs.ReadingStates.{ExpandedFile, ReadingState, progress, written_line}
+use Rattle.kc_macros_model.specs.TreeExpansion.{SourceReader, line_written, lines_read, help_after}
+use Rattle.kc_macros_model.specs.Programs.{Place, returns}
+use Rattle.kc_macros_model.specs.Worlds.{World, returned, failed, Outcome, expansion}
+
+-- whether an item between quotes is a byte other than `$`, or a backslash with the byte after it
+abbrev pub is_kept_item : Item → Bool
+is_kept_item (byte c) = not (c == 36)
+is_kept_item (escaped c) = true
+is_kept_item (reference inside) = false
+is_kept_item (unterminated rest) = false
+
+-- whether a token has nothing to expand: no reference, and in quotes no `$` without a backslash; a run with a `$` that begins
+-- no reference is left to the reader
+abbrev pub is_kept_token : LineToken → Bool
+is_kept_token (gap s) = true
+is_kept_token (run s) = list_any is_plain_dollar (items false 0 s) || not (list_any is_reference (items false 0 s))
+is_kept_token (quoted quote s) = list_all is_kept_item (items true 0 s)
+is_kept_token (other s) = true
+is_kept_token (broken s) = false
+
+-- whether a text has a `$`
+abbrev pub has_dollar : List ℕ → Bool
+has_dollar s = list_any (λ c. c == 36) s
+
+-- the tokens of a line without `$` have nothing to expand
+abbrev pub LinesWithoutDollars : Type 0
+LinesWithoutDollars = (text : List ℕ) → has_dollar text ≡ false → list_all is_kept_token (line_tokens 0 text) ≡ true
+
+-- the text that bytes between quotes mean, references aside
+abbrev pub text_of_items : List Item → List ℕ
+text_of_items [] = []
+text_of_items (byte c ∷ is) = c ∷ text_of_items is
+text_of_items (escaped c ∷ is) = c ∷ text_of_items is
+text_of_items (reference inside ∷ is) = text_of_items is
+text_of_items (unterminated rest ∷ is) = text_of_items is
+
+-- a token that has nothing to expand, as it is written: by its own bytes
+abbrev pub token_as_it_is : LineToken → WrittenToken
+token_as_it_is (gap s) = written_as a_gap s []
+token_as_it_is (run s) = if list_any is_plain_dollar (items false 0 s) then written_as an_other s [] else written_as a_word s s
+token_as_it_is (quoted quote s) = written_as a_quoted (quote ∷ (s ++ quote ∷ [])) (text_of_items (items true 0 s))
+token_as_it_is (other s) = written_as an_other s []
+token_as_it_is (broken s) = written_as an_other s []
+
+-- whether the first token that is no gap is the name of an assignment
+abbrev pub is_assignment : List LineToken → Bool
+is_assignment [] = false
+is_assignment (gap s ∷ ts) = is_assignment ts
+is_assignment (t ∷ ts) = is_some (assignment_to t ts)
+
+-- the tokens of a line as they are, gaps aside
+abbrev pub tokens_as_they_are : List ℕ → List WrittenToken
+tokens_as_they_are text = without_gaps (map token_as_it_is (line_tokens 0 text))
+
+abbrev pub is_plain_form : LineForm → Bool
+is_plain_form f = elim f [ plain ↦ true | bare_prompt text ↦ false | replaced_by text ↦ false | named_choice name ↦ false | sources sort path ↦ false ]
+
+-- the path of a line `source PATH`
+abbrev pub plain_path : List WrittenToken → Option (List ℕ)
+plain_path [] = None
+plain_path (t ∷ []) = None
+plain_path (t ∷ u ∷ []) = if is_word t && (bytes_eq t.bytes (codes "source") && is_path u) then u.meaning else None
+plain_path (t ∷ u ∷ v ∷ rest) = None
+
+-- a path that names one file, among these
+abbrev pub is_one_of : (paths : List ℕ → Bool) → Option (List ℕ) → Bool
+is_one_of paths None = false
+is_one_of paths (Some path) = not (is_pattern path) && (not (list_any (λ c. c == 91) path) && paths path)
+
+-- a line that is copied, since the reader refuses it: one that is too long or isn't UTF-8
+abbrev pub is_copied : List ℕ → Bool
+is_copied text = nat_lt max_text_bytes (length text) || not (is_utf8 text)
+
+-- a line on which nothing acts: nothing to expand, no assignment, and of no form that is written anew but a `source` of one of these files
+abbrev pub is_plain_line : (paths : List ℕ → Bool) → List ℕ → Bool
+is_plain_line paths text =
+    is_copied text || (list_all is_kept_token (line_tokens 0 text) && (not (is_assignment (line_tokens 0 text))
+    && (is_plain_form (form_of (tokens_as_they_are text)) || is_one_of paths (plain_path (tokens_as_they_are text)))))
+
+-- whether a help text follows a plain line
+abbrev pub is_before_help : List ℕ → Bool
+is_before_help text = if is_copied text then begins_help text else is_help_line (tokens_as_they_are text)
+
+-- the logical lines of physical lines, help texts aside; `skip` counts the physical lines that belong to the line before
+abbrev pub logical_texts : (skip : ℕ) → List PhysicalLine → List (List ℕ)
+logical_texts skip [] = []
+logical_texts (suc skip) (l ∷ ls) = logical_texts skip ls
+logical_texts zero (l ∷ ls) =
+    let more = continuation_count (map without_return (l ∷ ls)) in
+    let text = joined_bytes (map without_return (l ∷ ls)) in
+    text ∷ logical_texts (more + help_after (is_before_help text) (drop more ls)) ls
+
+-- no path at all
+abbrev pub no_paths : List ℕ → Bool
+no_paths path = false
+
+-- a plain line that sources nothing is written as it is
+abbrev pub PlainLinesStay : Type 0
+PlainLinesStay = (sub : SourceReader) (at : Place) (continued : Bool) (text : List ℕ) (s : ReadingState)
+    → is_plain_line no_paths text ≡ true → line_written sub at continued text s ≡ returns (written_line text (is_before_help text) s)
+
+-- a file of plain lines that source nothing keeps its bytes: no question is asked, nothing is told, and nothing is defined for what follows
+abbrev pub PlainFilesStay : Type 0
+PlainFilesStay = (sub : SourceReader) (file bytes : List ℕ) (s : ReadingState)
+    → list_all (is_plain_line no_paths) (logical_texts 0 (split_at_newlines bytes)) ≡ true
+    → lines_read sub file 0 1 (split_at_newlines bytes) s ≡ returns (progress bytes s)
+
+-- paths with the first, of which those that can be read have plain lines and source one another alone
+pub record IsPlainTree (w : World) (paths : List ℕ → Bool) (root : List ℕ) : Type 0 where
+  pub first : paths root ≡ true
+  pub files : (path bytes : List ℕ) → paths path ≡ true → w.bytes path ≡ Some bytes
+      → list_all (is_plain_line paths) (logical_texts 0 (split_at_newlines bytes)) ≡ true
+
+-- faults of sourced files
+abbrev pub is_fault_of_sources : MacroKind → Bool
+is_fault_of_sources k = elim k [ MissingFile ↦ true | SourceLoop ↦ true | TooDeep ↦ true | TooMany ↦ true | _ ↦ false ]
+
+-- a file with its own bytes, under its path
+pub record IsOwnFile (w : World) (f : ExpandedFile) : Type 0 where
+  pub key : f.key ≡ f.path
+  pub text : w.bytes f.path ≡ Some f.text
+
+-- an outcome without notices and questions: files with their own bytes, or a fault of sourced files
+pub record IsOwnOutcome (w : World) (o : Outcome (List ExpandedFile)) : Type 0 where
+  pub notices : o.notices ≡ []
+  pub questions : o.questions ≡ []
+  pub files : (files : List ExpandedFile) → o.ending ≡ returned files → All (IsOwnFile w) files
+  pub faults : (f : Fault) → o.ending ≡ failed f → is_fault_of_sources f.kind ≡ true
+
+-- a plain tree keeps its bytes, whatever the answers
+abbrev pub PlainTreesStay : Type 0
+PlainTreesStay = (w : World) (paths : List ℕ → Bool) (root : List ℕ) (answer : List ℕ → Option Answer) → IsPlainTree w paths root
+    → IsOwnOutcome w (expansion w root) × (expansion (record w { answer = answer }) root ≡ expansion w root)

@@ -1,0 +1,64 @@
+-- Laws of the reading of a tree: its counts and its work are bounded, and so are the keys of its files.
+use Rattle.std.specs.Prelude.{◌≡◌, ℕ, suc, ◌+◌, ◌≤◌, true, List, [], ◌∷◌, ◌++◌, length, map, decimal, bytes_eq}
+use Rattle.std.specs.List.{All, IsDistinct}
+use Rattle.kc_tree_model.specs.LogicalLines.{split_at_newlines}
+use Rattle.kc_macros_model.specs.Limits.{max_files, max_bytes, max_listed_names, max_open_files, max_work}
+use Rattle.kc_macros_model.specs.Programs.{Place, spend, Program, returns, fails, stops, does}
+use Rattle.kc_macros_model.specs.ReadingStates.{ExpandedFile, ReadingState, initial_state, Progress, counted, has_key}
+use Rattle.kc_macros_model.specs.TreeExpansion.{Sourced, source_read, lines_read, tree_read}
+use Rattle.kc_macros_model.specs.Worlds.{World, reply, returned, expansion}
+use Rattle.kc_macros_model.specs.ExpansionRules.{ending_in}
+
+-- a state whose counts are within the limits
+pub record IsWithinLimits (s : ReadingState) : Type 0 where
+  pub files : s.files ≤ max_files
+  pub bytes : s.bytes ≤ max_bytes
+  pub listed : s.listed ≤ max_listed_names
+
+-- a file or a list that is read in a state within the limits leaves one within the limits
+abbrev pub CountsAreBounded : Type 0
+CountsAreBounded = (w : World) (more : ℕ) (root : List ℕ) (open_files : List (List ℕ)) (at : Place) (what : Sourced) (s : ReadingState) (p : Progress)
+    → IsWithinLimits s → ending_in w (source_read more root open_files at what s) ≡ returned p → IsWithinLimits p.state
+
+-- the first file leaves a state within the limits, with all that its lines source
+abbrev pub TreeCountsAreBounded : Type 0
+TreeCountsAreBounded = (w : World) (root bytes : List ℕ) (p : Progress) → length bytes ≤ max_bytes
+    → ending_in w (lines_read (source_read max_open_files root (root ∷ [])) root 0 1 (split_at_newlines bytes) (counted (length bytes) initial_state))
+    ≡ returned p → IsWithinLimits p.state
+
+-- a key of a path: the path, or the path with `#` and a number
+pub data IsKeyOf (path : List ℕ) : List ℕ → Type 0 where
+  the_path : IsKeyOf path path
+  numbered : {n : ℕ} → 2 ≤ n → n ≤ max_files → IsKeyOf path (path ++ 35 ∷ decimal n)
+
+-- each expanded file has a key of its path
+abbrev pub KeysAreBounded : Type 0
+KeysAreBounded = (w : World) (root : List ℕ) (files : List ExpandedFile) → (expansion w root).ending ≡ returned files
+    → All (λ (f : ExpandedFile). IsKeyOf f.path f.key) files
+
+-- no two expanded files have one key
+abbrev pub KeysDiffer : Type 0
+KeysDiffer = (w : World) (root : List ℕ) (files : List ExpandedFile) → (expansion w root).ending ≡ returned files
+    → IsDistinct bytes_eq (map (λ (f : ExpandedFile). f.key) files)
+
+-- the key that takes the place of a source is that of an expanded file
+abbrev pub KeysAreHeld : Type 0
+KeysAreHeld = (w : World) (more : ℕ) (root : List ℕ) (open_files : List (List ℕ)) (at : Place) (what : Sourced) (s : ReadingState) (p : Progress)
+    → ending_in w (source_read (suc more) root open_files at what s) ≡ returned p → has_key p.state.expanded p.text ≡ true
+
+-- no tree has more expanded files than files may be read
+abbrev pub FilesAreBounded : Type 0
+FilesAreBounded = (w : World) (root : List ℕ) (files : List ExpandedFile) → (expansion w root).ending ≡ returned files → length files ≤ max_files
+
+-- the work that a program does in a world
+abbrev pub work_in : {A : Type 0} → World → Program A → ℕ
+work_in w (returns x) = 0
+work_in w (fails f) = 0
+work_in w stops = 0
+work_in w (does (spend at work) k) = work + work_in w (k (tt {0}))
+work_in w (does e k) = work_in w (k (reply w e))
+
+-- an expansion that returns files does no more work than a tree may have, and what is left of it is left
+abbrev pub WorkIsBounded : Type 0
+WorkIsBounded = (w : World) (root : List ℕ) (files : List ExpandedFile) → (expansion w root).ending ≡ returned files
+    → work_in w (tree_read root) + (expansion w root).left ≡ max_work

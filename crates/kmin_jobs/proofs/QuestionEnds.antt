@@ -1,0 +1,53 @@
+-- The listing of questions: its end at a write, and its last lines.
+use Rattle.std.proofs.Common.{◌≡◌, ℕ, List, [], ◌∷◌, ◌++◌, Option, Result, Ok, Vec, refl, sym, ap, subst}
+use Rattle.std.specs.List.{flat_map}
+use Rattle.std.specs.declared.alloc.Global.{Global}
+use Rattle.kc_expansion.specs.TextViews.{items_of}
+use Rattle.kc_macros_model.specs.Programs.{Fault}
+use Rattle.kc_macros_model.specs.AnswerFiles.{Recorded}
+use Rattle.kc_expansion.specs.Expansions.{AreWanted}
+use Rattle.kmin_words.specs.Jobs.{Questions}
+use Rattle.kmin_jobs.specs.declared.run_error.RunError.{RunError}
+use Rattle.kmin_jobs.specs.FileContents.{Known}
+use Rattle.kmin_jobs.specs.JobAnswers.{AreJobAnswers}
+use Rattle.kmin_jobs.specs.TreesBelow.{contents_below}
+use Rattle.kmin_jobs.specs.Reports.{output_line, last_lines}
+use Rattle.kmin_jobs.specs.StandardError.{TakesLines}
+use Rattle.kmin_jobs.specs.WantedQuestions.{AreAsked, StopsWanting, at_write, question_line, questions_text}
+use Rattle.kmin_jobs.specs.between.RunErrors.{status_of}
+use Rattle.kmin_jobs.proofs.Taking.{lines_append}
+
+-- the questions by answers that were read before
+pub are_asked : (known others : Known) (questions : Questions) (answers : Recorded) (asked : Result (List (List ℕ)) Fault) → others ≡ known
+    → AreJobAnswers known.content known.variable questions.expansion answers → AreWanted (contents_below others questions.root) answers questions.tree asked
+    → AreAsked known questions asked
+are_asked known others questions answers asked same a w =
+    record { answers = answers; answered = a; wanted = subst (λ (k : Known). AreWanted (contents_below k questions.root) answers questions.tree asked) same w }
+
+-- a write of the questions failed
+pub write_stops : (known : Known) (questions : Questions) (asked : List (List ℕ)) (status : ℕ) (taken middle taken_after : Option (List ℕ)) (failed failed_middle failed_after : ℕ)
+    → status ≡ 5 → AreAsked known questions (Ok asked) → TakesLines taken failed [] middle failed_middle
+    → TakesLines middle failed_middle (output_line ∷ []) taken_after failed_after
+    → (lines : List (List ℕ)) × StopsWanting known questions status lines × TakesLines taken failed (lines ++ last_lines status) taken_after failed_after
+write_stops known questions asked status taken middle taken_after failed failed_middle failed_after e a before h = (
+  output_line ∷ [],
+  at_write asked a e refl,
+  rw e (lines_append taken middle failed failed_middle [] (output_line ∷ []) taken_after failed_after before h),
+)
+
+-- the listing ended, and its last line is reported
+pub questions_end : (known : Known) (questions : Questions) (stop : RunError) (status : ℕ) (taken middle taken_after : Option (List ℕ)) (failed failed_middle failed_after : ℕ)
+    → status ≡ status_of stop
+    → (lines : List (List ℕ)) × StopsWanting known questions (status_of stop) lines × TakesLines taken failed lines middle failed_middle
+    → TakesLines middle failed_middle (last_lines status) taken_after failed_after
+    → (lines : List (List ℕ)) × StopsWanting known questions status lines × TakesLines taken failed (lines ++ last_lines status) taken_after failed_after
+questions_end known questions stop status taken middle taken_after failed failed_middle failed_after e w h = (
+  w.0,
+  subst (λ n. StopsWanting known questions n w.0) (sym e) w.1,
+  lines_append taken middle failed failed_middle w.0 (last_lines status) taken_after failed_after w.2 h,
+)
+
+-- the lines of questions, by the vectors that hold them
+pub mapped_lines : (asked : List (Vec ℕ Global)) → flat_map (λ (q : Vec ℕ Global). question_line q.items) asked ≡ questions_text (items_of asked)
+mapped_lines [] = refl
+mapped_lines (q ∷ qs) = ap (λ text. question_line q.items ++ text) (mapped_lines qs)

@@ -1,0 +1,27 @@
+use Rattle.std.proofs.Common.{rules}
+use Rattle.kmin_words.specs.Jobs.{expansion_view}
+use Rattle.kmin_jobs.specs.FileContents.{known_by}
+use Rattle.kmin_jobs.specs.Stops.{among_answers}
+use Rattle.kmin_jobs.proofs.JobTrees.{stopped_expanding, both_expanded}
+use Rattle.kmin_jobs.proofs.Sequences.{if_err, if_err_map}
+use Rattle.kmin_jobs.proofs.job_trees.expanded_files.Goals as goal
+
+pub returns-in_err-answers-clause-stopped : goal.returns-in_err-answers-clause-stopped
+returns-in_err-answers-clause-stopped g c =
+    let stopped = c.in_err-answers.ensures.stopped in
+    if_err c.from_residual.result c.in_err-answers.field-0.0 _ (search rules) (stopped.0, among_answers stopped.1, stopped.2)
+
+pub returns-clause-expanded : goal.returns-clause-expanded
+returns-clause-expanded g c =
+    both_expanded (known_by (g.F.Files.content_of c.args.files.now) (g.F.Files.regular_content_of c.args.files.now) (g.F.Files.names_of c.args.files.now) (g.F.Files.variable_of c.args.files.now))
+    (known_by (g.F.Files.content_of c.job_answers.new.files) (g.F.Files.regular_content_of c.job_answers.new.files) (g.F.Files.names_of c.job_answers.new.files) (g.F.Files.variable_of c.job_answers.new.files))
+    _ _ c.args.settings.now.language (expansion_view c.args.expansion.now) _ c.job_answers.ensures.same c.in_ok-answers.ensures.answers _ _ _ _ _ _ c.in_ok-answers.ensures.unreported
+    c.expanded_tree-tree.result c.expanded_tree-tree.ensures.texts c.expanded_tree-tree.ensures.expanded
+
+pub returns-clause-stopped : goal.returns-clause-stopped
+returns-clause-stopped g c =
+    if_err_map c.expanded_tree-tree.result _ _ (λ stop stopped.
+    stopped_expanding (known_by (g.F.Files.content_of c.args.files.now) (g.F.Files.regular_content_of c.args.files.now) (g.F.Files.names_of c.args.files.now) (g.F.Files.variable_of c.args.files.now))
+    (known_by (g.F.Files.content_of c.job_answers.new.files) (g.F.Files.regular_content_of c.job_answers.new.files) (g.F.Files.names_of c.job_answers.new.files) (g.F.Files.variable_of c.job_answers.new.files))
+    _ _ c.args.settings.now.language (expansion_view c.args.expansion.now) _ c.job_answers.ensures.same c.in_ok-answers.ensures.answers _ _ _ _ _ _ c.in_ok-answers.ensures.unreported
+    _ stopped) c.expanded_tree-tree.ensures.stopped

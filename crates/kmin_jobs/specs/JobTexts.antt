@@ -1,0 +1,64 @@
+-- The texts of a job's tree: as they are, or expanded.
+use Rattle.std.specs.Prelude.{◌≡◌, ℕ, List, [], ◌∷◌, Some, None, Ok, map, unwrap_or, if◌then◌else◌}
+use Rattle.std.specs.Str.{is_utf8}
+use Rattle.kc_expr.specs.declared.language.Language.{Language}
+use Rattle.kc_tree_model.specs.TreeFiles.{Files, with_file}
+use Rattle.kc_macros_model.specs.Programs.{Notice}
+use Rattle.kc_macros_model.specs.AnswerFiles.{Recorded}
+use Rattle.kc_macros_model.specs.ReadingStates.{ExpandedFile}
+use Rattle.kc_expansion.specs.Expansions.{IsExpansion}
+use Rattle.kc_expansion.specs.PathsOfKeys.{path_of_key}
+use Rattle.kmin_words.specs.Jobs.{Expansion, Settings}
+use Rattle.kmin_jobs.specs.FileContents.{Known, AreTextsBelow}
+use Rattle.kmin_jobs.specs.TreesBelow.{contents_below}
+use Rattle.kmin_jobs.specs.JobAnswers.{AreJobAnswers}
+use Rattle.kmin_jobs.specs.MacroReports.{macro_notice_line}
+
+-- texts and an expanded file more under its key; a key that isn't UTF-8 can't be asked for, and is left out
+abbrev pub with_expanded_file : ExpandedFile → Files → Files
+with_expanded_file f texts = if is_utf8 f.key then with_file texts f.key f.text else texts
+
+-- texts and expanded files more, in order
+abbrev pub with_expanded_files : List ExpandedFile → Files → Files
+with_expanded_files [] texts = texts
+with_expanded_files (f ∷ fs) texts = with_expanded_files fs (with_expanded_file f texts)
+
+-- no texts in a language
+abbrev pub no_texts : Language → Files
+no_texts language = record { language = language; list = [] }
+
+-- expanded files, by their keys, in a language
+abbrev pub expanded_texts : Language → List ExpandedFile → Files
+expanded_texts language files = with_expanded_files files (no_texts language)
+
+-- the path that was read for a key
+abbrev pub name_of_key : List ExpandedFile → (key : List ℕ) → List ℕ
+name_of_key files key = unwrap_or (path_of_key files key) key
+
+-- texts by the paths that were read for their keys, by which messages name them
+abbrev pub named_texts : List ExpandedFile → Files → Files
+named_texts files texts = record { language = texts.language; list = map (λ (f : List ℕ × List ℕ). (name_of_key files f.0, f.1)) texts.list }
+
+-- texts that are read as a tree, the same texts as messages name them, and the lines of the notices before the reading
+pub record TreeTexts : Type 0 where
+  pub texts : Files
+  pub names : Files
+  pub lines : List (List ℕ)
+
+-- the texts are the expanded files of a tree in a language, by the answers of a job
+pub record AreExpandedTexts (known : Known) (root first : List ℕ) (language : Language) (expansion : Expansion) (t : TreeTexts) : Type 0 where
+  pub answers : Recorded
+  pub answered : AreJobAnswers known.content known.variable expansion answers
+  pub notices : List Notice
+  pub files : List ExpandedFile
+  pub expanded : IsExpansion (contents_below known root) answers first notices (Ok files)
+  pub texts : t.texts ≡ expanded_texts language files
+  pub names : t.names ≡ named_texts files t.texts
+  pub lines : t.lines ≡ map macro_notice_line notices
+
+-- the texts of a job's tree are those of the files as they are, or where its settings say so the expanded files
+pub data AreTextsOfJob (known : Known) (settings : Settings) (t : TreeTexts) : Type 0 where
+  as_they_are : settings.expansion ≡ None → AreTextsBelow known.content settings.root settings.language t.texts → t.names ≡ t.texts → t.lines ≡ []
+      → AreTextsOfJob known settings t
+  expanded : (expansion : Expansion) → settings.expansion ≡ Some expansion → AreExpandedTexts known settings.root settings.tree settings.language expansion t
+      → AreTextsOfJob known settings t

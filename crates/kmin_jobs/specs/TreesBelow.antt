@@ -1,0 +1,22 @@
+-- What is known of a tree below a root.
+use Rattle.std.specs.Prelude.{ℕ, List, [], Some, None, if◌then◌else◌}
+use Rattle.std.specs.Str.{is_utf8}
+use Rattle.kc_expansion.specs.TreeContents.{FolderContent, TreeContents}
+use Rattle.kmin_jobs.specs.FileContents.{FileContent, Known, path_below}
+
+-- a file of a tree is a regular file below its root; a path that isn't UTF-8 has none
+abbrev pub regular_below : (List ℕ → FileContent) → (root path : List ℕ) → FileContent
+regular_below regular root path = if is_utf8 path then regular (path_below root path) else Some None
+
+-- a folder of a tree lies below its root; one whose path isn't UTF-8 has no names
+abbrev pub names_below : (List ℕ → FolderContent) → (root folder : List ℕ) → FolderContent
+names_below names root folder = if is_utf8 folder then names (path_below root folder) else Some []
+
+-- what is known of a tree below a root, whose files are read through a reference of this name
+abbrev pub contents_through : (reference : ℕ) → Known → (root : List ℕ) → TreeContents
+contents_through reference known root =
+    record { file = regular_below known.regular root; folder = names_below known.names root; beside = known.content; reference = reference }
+
+-- the same, whatever the files are read through
+abbrev pub contents_below : Known → (root : List ℕ) → TreeContents
+contents_below known root = contents_through 0 known root

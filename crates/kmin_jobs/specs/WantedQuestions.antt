@@ -1,0 +1,51 @@
+-- The questions of a tree that have no answer.
+use Rattle.std.specs.Prelude.{◌≡◌, ℕ, ◌<◌, List, [], ◌∷◌, ◌++◌, Option, Result, Ok, Err, length, take}
+use Rattle.std.specs.List.{flat_map}
+use Rattle.std.specs.Io.KnownBytes.{Appends}
+use Rattle.kc_macros_model.specs.Programs.{Fault}
+use Rattle.kc_macros_model.specs.AnswerFiles.{Recorded}
+use Rattle.kc_expansion.specs.Expansions.{AreWanted}
+use Rattle.kmin_words.specs.Jobs.{Questions}
+use Rattle.kmin_jobs.specs.FileContents.{Known}
+use Rattle.kmin_jobs.specs.JobAnswers.{AreJobAnswers}
+use Rattle.kmin_jobs.specs.TreesBelow.{contents_below}
+use Rattle.kmin_jobs.specs.AnswerStops.{StopsAmongAnswers}
+use Rattle.kmin_jobs.specs.MacroReports.{macro_fault_line}
+use Rattle.kmin_jobs.specs.Reports.{output_line}
+
+-- the questions of the tree that the answers of a job leave open, or where there are none the fault of its reading
+pub record AreAsked (known : Known) (questions : Questions) (asked : Result (List (List ℕ)) Fault) : Type 0 where
+  pub answers : Recorded
+  pub answered : AreJobAnswers known.content known.variable questions.expansion answers
+  pub wanted : AreWanted (contents_below known questions.root) answers questions.tree asked
+
+-- the line of a question
+abbrev pub question_line : List ℕ → List ℕ
+question_line question = question ++ 10 ∷ []
+
+-- the lines of questions
+abbrev pub questions_text : List (List ℕ) → List ℕ
+questions_text asked = flat_map question_line asked
+
+-- 1 where there are questions
+abbrev pub status_of_questions : List (List ℕ) → ℕ
+status_of_questions [] = 0
+status_of_questions (q ∷ qs) = 1
+
+-- The listing of questions ends without its text: among the files of answers, at the fault of the reading where no question
+-- is open, at a write of the text, or for lack of memory.
+pub data StopsWanting (known : Known) (questions : Questions) (status : ℕ) (lines : List (List ℕ)) : Type 0 where
+  among_answers : StopsAmongAnswers known.content questions.expansion.answers status lines → StopsWanting known questions status lines
+  at_fault : (fault : Fault) → AreAsked known questions (Err fault) → status ≡ 3 → lines ≡ macro_fault_line fault ∷ []
+      → StopsWanting known questions status lines
+  at_write : (asked : List (List ℕ)) → AreAsked known questions (Ok asked) → status ≡ 5 → lines ≡ output_line ∷ []
+      → StopsWanting known questions status lines
+  for_memory : status ≡ 6 → lines ≡ [] → StopsWanting known questions status lines
+
+-- the writer took the first bytes of the questions, and not all of them
+pub record AsksInPart (known : Known) (questions : Questions) (taken taken_after : Option (List ℕ)) : Type 0 where
+  pub asked : List (List ℕ)
+  pub are : AreAsked known questions (Ok asked)
+  pub written : ℕ
+  pub part : written < length (questions_text asked)
+  pub took : Appends taken taken_after (take written (questions_text asked))

@@ -1,0 +1,13 @@
+-- How the expansion of a tree ends a run.
+use Rattle.std.specs.Prelude.{◌≡◌, ℕ, List, [], ◌∷◌, ◌++◌, Err, map}
+use Rattle.kc_macros_model.specs.Programs.{Fault, Notice}
+use Rattle.kc_macros_model.specs.AnswerFiles.{Recorded}
+use Rattle.kc_expansion.specs.TreeContents.{TreeContents}
+use Rattle.kc_expansion.specs.Expansions.{IsExpansion}
+use Rattle.kmin_jobs.specs.MacroReports.{macro_fault_line, macro_notice_line}
+
+-- the tree has a fault, or memory ran out
+pub data StopsExpanding (contents : TreeContents) (answers : Recorded) (first : List ℕ) (status : ℕ) (lines : List (List ℕ)) : Type 0 where
+  at_fault : (notices : List Notice) (fault : Fault) → IsExpansion contents answers first notices (Err fault) → status ≡ 3
+      → lines ≡ map macro_notice_line notices ++ macro_fault_line fault ∷ [] → StopsExpanding contents answers first status lines
+  for_memory : status ≡ 6 → lines ≡ [] → StopsExpanding contents answers first status lines

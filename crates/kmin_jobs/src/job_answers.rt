@@ -1,0 +1,186 @@
+//! The answers of a job: of its definitions, its files of answers and the environment.
+ghost use Rattle.std.specs.Prelude.{◌≡◌, ◌∷◌, [], ℕ, List, Some, None, IfOk, IfErr, OnOk, map, bytes_eq, option_map, string_bytes, if◌then◌else◌};
+ghost use Rattle.std.specs.Borrow.{Bor};
+ghost use Rattle.kc_tree_model.specs.Keywords.{keyword_in_table};
+ghost use Rattle.kc_tree_model.specs.TreeLookup.{has_newline};
+ghost use Rattle.kc_macros_model.specs.AnswerFiles.{Recorded};
+ghost use Rattle.kmin_words.specs.Jobs.{Expansion as ExpansionView, definition_view, expansion_view};
+ghost use Rattle.kmin_jobs.specs.FileContents.{known_by, FileContent, OpensAs};
+ghost use Rattle.kmin_jobs.specs.JobAnswers.{FilesRecord, AreJobAnswers, defined_answer, or_else, lent_answer, answer_of_variable};
+ghost use Rattle.kc_macros.specs.ReadAnswers.{AreRecorded};
+ghost use Rattle.kmin_jobs.specs.AnswerStops.{StopsAmongAnswers, answers_status};
+ghost use Rattle.kmin_jobs.specs.MacroReports.{answers_line};
+ghost use Rattle.kmin_jobs.specs.StandardError.{TakesLine, TakesLines};
+ghost use Rattle.kmin_jobs.specs.between.AnswerSteps.{StopsReading, StopsAtAnswersPath, AreLent, answers_lines};
+ghost use Rattle.kmin_jobs.specs.between.RunErrors.{status_of};
+
+use crate::files::Files;
+use crate::report::{Report, write_report};
+use crate::run_error::RunError;
+use kc_macros::{Answers, AnswersFault, AnswersKind};
+use kc_value::{Sink, Source};
+use kmin_words::{Definition, Expansion};
+use std::alloc::{AllocError, Global};
+
+/// The most bytes of a variable of the environment; a longer one counts as not set.
+const MAX_VARIABLE_BYTES: usize = 65_536;
+
+/// The answers of a job: of its definitions, else of its files of answers, else of the environment. Reports why a file of
+/// answers is refused.
+pub(crate) fn job_answers<F: Files, E: Sink>(
+    alloc: Global,
+    expansion: &Expansion<'_>,
+    files: &mut F,
+    err: &mut E,
+) -> Result<Answers, RunError>
+    ensures same { known_by (F.content_of files.new) (F.regular_content_of files.new) (F.names_of files.new) (F.variable_of files.new) ≡ known_by (F.content_of files.old) (F.regular_content_of files.old) (F.names_of files.old) (F.variable_of files.old) }
+    ensures answers { IfOk result (AreJobAnswers (F.content_of files.old) (F.variable_of files.old) (expansion_view expansion.now)) }
+    ensures unreported { OnOk result (TakesLines (E.taken err.old) (E.failures err.old) [] (E.taken err.new) (E.failures err.new)) }
+    ensures stopped { IfErr result (λ stop. (lines : List (List ℕ)) × StopsAmongAnswers (F.content_of files.old) (expansion_view expansion.now).answers (status_of stop) lines × TakesLines (E.taken err.old) (E.failures err.old) lines (E.taken err.new) (E.failures err.new)) }
+{
+    let mut answers = file_answers(alloc, &expansion.answers, files, err)?;
+    define(&expansion.definitions, &mut answers)?;
+    lend(alloc, &expansion.environment, files, &mut answers)?;
+    Ok(answers)
+}
+
+/// The answers of files, each after those before it. Reports why one is refused.
+fn file_answers<F: Files, E: Sink>(
+    alloc: Global,
+    paths: &[&str],
+    files: &mut F,
+    err: &mut E,
+) -> Result<Answers, RunError>
+    ensures same { known_by (F.content_of files.new) (F.regular_content_of files.new) (F.names_of files.new) (F.variable_of files.new) ≡ known_by (F.content_of files.old) (F.regular_content_of files.old) (F.names_of files.old) (F.variable_of files.old) }
+    ensures recorded { IfOk result (λ answers. FilesRecord (F.content_of files.old) (map (λ (path : Bor (List ℕ)). path.now) paths.now) [] answers) }
+    ensures unreported { OnOk result (TakesLines (E.taken err.old) (E.failures err.old) [] (E.taken err.new) (E.failures err.new)) }
+    ensures stopped { IfErr result (λ stop. (lines : List (List ℕ)) × StopsAmongAnswers (F.content_of files.old) (map (λ (path : Bor (List ℕ)). path.now) paths.now) (status_of stop) lines × TakesLines (E.taken err.old) (E.failures err.old) lines (E.taken err.new) (E.failures err.new)) }
+{
+    let mut answers = Answers::new(alloc, files.seed());
+    for path in paths {
+        record_path(path, files, &mut answers, err)?;
+    }
+    Ok(answers)
+}
+
+/// Records the answers of the file of a path after others. Reports why it is refused.
+fn record_path<F: Files, E: Sink>(
+    path: &str,
+    files: &mut F,
+    answers: &mut Answers,
+    err: &mut E,
+) -> Result<(), RunError>
+    ensures same { known_by (F.content_of files.new) (F.regular_content_of files.new) (F.names_of files.new) (F.variable_of files.new) ≡ known_by (F.content_of files.old) (F.regular_content_of files.old) (F.names_of files.old) (F.variable_of files.old) }
+    ensures recorded { OnOk result (FilesRecord (F.content_of files.old) (path.now ∷ []) answers.old answers.new) }
+    ensures unreported { OnOk result (TakesLines (E.taken err.old) (E.failures err.old) [] (E.taken err.new) (E.failures err.new)) }
+    ensures stopped { IfErr result (λ stop. (lines : List (List ℕ)) × StopsAtAnswersPath (F.content_of files.old path.now) answers.old path.now (status_of stop) lines × TakesLines (E.taken err.old) (E.failures err.old) lines (E.taken err.new) (E.failures err.new)) }
+{
+    match files.reader_for(path) {
+        Some(mut reader) => record(path, &mut reader, answers, err),
+        None => {
+            let kind = AnswersKind::Read;
+            let fault = AnswersFault { line: 0, kind };
+            Err(report_answers_fault(path, fault, err))
+        }
+    }
+}
+
+/// Records the answers that a reader has after others. Reports why they are refused.
+fn record<S: Source, E: Sink>(
+    path: &str,
+    source: &mut S,
+    answers: &mut Answers,
+    err: &mut E,
+) -> Result<(), RunError>
+    ensures recorded { OnOk result (AreRecorded (S.left source.old) (S.left source.new) answers.old answers.new) }
+    ensures unreported { OnOk result (TakesLines (E.taken err.old) (E.failures err.old) [] (E.taken err.new) (E.failures err.new)) }
+    ensures stopped { IfErr result (λ stop. StopsReading path.now (S.left source.old) (S.left source.new) (S.failures source.old) (S.failures source.new) answers.old (status_of stop) (E.taken err.old) (E.failures err.old) (E.taken err.new) (E.failures err.new)) }
+{
+    match answers.read(source) {
+        Ok(()) => Ok(()),
+        Err(fault) => Err(report_answers_fault(path, fault, err)),
+    }
+}
+
+/// Reports a fault of a file of answers, and returns the error of the run; memory that was refused is reported later.
+fn report_answers_fault<E: Sink>(path: &str, fault: AnswersFault, err: &mut E) -> RunError
+    ensures status { status_of result ≡ answers_status fault.kind }
+    ensures reported { TakesLines (E.taken err.old) (E.failures err.old) (answers_lines path.now fault.line fault.kind) (E.taken err.new) (E.failures err.new) }
+{
+    let AnswersFault { line, kind } = fault;
+    match kind {
+        AnswersKind::OutOfMemory => RunError::Memory,
+        AnswersKind::Read => {
+            write_report(Report::AnswersFault { path, line, kind }, err);
+            RunError::Failed
+        }
+        _ => {
+            write_report(Report::AnswersFault { path, line, kind }, err);
+            RunError::Configuration
+        }
+    }
+}
+
+/// Gives names the values of definitions, in place of answers that they have; the last definition of a name counts.
+fn define(definitions: &[Definition<'_>], answers: &mut Answers) -> Result<(), AllocError>
+    ensures { OnOk result ((question : List ℕ) → keyword_in_table answers.new question ≡ or_else (defined_answer (map definition_view definitions.now) question) (keyword_in_table answers.old question)) }
+{
+    for definition in definitions {
+        let value = definition.value.as_bytes();
+        answers.set(definition.name.as_bytes(), Some(value))?;
+    }
+    Ok(())
+}
+
+/// Gives names without an answer the values of the environment.
+fn lend<F: Files>(
+    alloc: Global,
+    names: &[&str],
+    files: &mut F,
+    answers: &mut Answers,
+) -> Result<(), AllocError>
+    ensures same { known_by (F.content_of files.new) (F.regular_content_of files.new) (F.names_of files.new) (F.variable_of files.new) ≡ known_by (F.content_of files.old) (F.regular_content_of files.old) (F.names_of files.old) (F.variable_of files.old) }
+    ensures lent { OnOk result (AreLent (F.variable_of files.old) (map (λ (name : Bor (List ℕ)). name.now) names.now) answers.old answers.new) }
+{
+    for name in names {
+        lend_one(alloc, name, files, answers)?;
+    }
+    Ok(())
+}
+
+/// Gives a name without an answer its value of the environment.
+fn lend_one<F: Files>(
+    alloc: Global,
+    name: &str,
+    files: &mut F,
+    answers: &mut Answers,
+) -> Result<(), AllocError>
+    ensures same { known_by (F.content_of files.new) (F.regular_content_of files.new) (F.names_of files.new) (F.variable_of files.new) ≡ known_by (F.content_of files.old) (F.regular_content_of files.old) (F.names_of files.old) (F.variable_of files.old) }
+    ensures lent { OnOk result (AreLent (F.variable_of files.old) (name.now ∷ []) answers.old answers.new) }
+{
+    let question = name.as_bytes();
+    if answers.has(question) {
+        return Ok(());
+    }
+    let value = files.variable(alloc, name)?;
+    answers.set(question, usable_value(&value))
+}
+
+/// The value of a variable as an answer; one with a newline, or that is too long, counts as not set.
+fn usable_value(value: &Option<String>) -> Option<&[u8]>
+    ensures { option_map (λ t. t.now) result ≡ answer_of_variable (option_map string_bytes value.now) }
+{
+    let bytes = value.as_ref()?.as_bytes();
+    if has_newline(bytes) || bytes.len() > MAX_VARIABLE_BYTES {
+        None
+    } else {
+        Some(bytes)
+    }
+}
+
+/// Whether a text has a newline.
+fn has_newline(text: &[u8]) -> bool
+    ensures { result ≡ has_newline text.now }
+{
+    text.iter().any(|byte| *byte == b'\n')
+}

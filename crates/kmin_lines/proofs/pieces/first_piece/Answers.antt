@@ -1,0 +1,20 @@
+use Rattle.std.proofs.Common.{◌≡◌, ◌+◌, ◌<◌, ◌∷◌, suc, length, take, drop, ap, ◌∙◌, sym, arith}
+use Rattle.kmin_lines.specs.Lines.{pieces}
+use Rattle.kmin_lines.proofs.PieceLemmas.{pieces_at, one_piece, rest_from, rest_from_end}
+use Rattle.kmin_lines.proofs.pieces.first_piece.Goals as goal
+
+pub returns-in-Some-clause-piece : goal.returns-in-Some-clause-piece
+returns-in-Some-clause-piece c =
+    let text = c.args.text.now in
+    let at = c.in-Some.at in
+    let found = c.in-Some.ensures in
+    let n : at + 1 ≡ suc at = omega arith in
+    pieces_at c.args.ender text at found.0.high (λ k h. found.0.before k (omega arith) h) found.1
+    ∙ ap (λ rest. take at text ∷ pieces c.args.ender rest) (ap (λ m. drop m text) (sym n) ∙ sym (rest_from (at + 1) text))
+
+pub returns-in-None-clause-piece : goal.returns-in-None-clause-piece
+returns-in-None-clause-piece c =
+    let text = c.args.text.now in
+    let some : 0 < length text = grind arith in
+    one_piece c.args.ender text some (λ k h. c.in-None.ensures k (omega arith) h)
+    ∙ ap (λ rest. text ∷ pieces c.args.ender rest) (sym (rest_from_end text))

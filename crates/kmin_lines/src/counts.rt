@@ -1,0 +1,51 @@
+//! How many lines differ between two texts.
+ghost use Rattle.std.specs.Prelude.{◌≡◌, IfOk};
+ghost use Rattle.kmin_lines.specs.Lines.{count_lines_not_in};
+
+use crate::line_bag::LineBag;
+use crate::pieces::{first_piece, trim_carriage_return};
+use kc_value::Seed;
+use std::alloc::{AllocError, Global};
+
+/// How many lines differ between an old and a new text.
+#[derive(Clone, Copy, Debug, PartialEq, Eq)]
+pub struct LineCounts {
+    /// The lines of the old text that aren't in the new one.
+    pub out: usize,
+    /// The lines of the new text that aren't in the old one.
+    pub in_: usize,
+}
+
+/// How many lines of each of two texts aren't in the other, where a line that is there more than once is as many lines.
+/// Carriage returns at the end of lines don't count, nor does the order of lines. They are hashed by `seed`. Takes time
+/// in proportion to the texts.
+///
+/// # Errors
+///
+/// `AllocError` if memory runs out.
+pub fn count_lines(
+    alloc: Global,
+    seed: Seed,
+    old: &[u8],
+    new: &[u8],
+) -> Result<LineCounts, AllocError>
+    ensures out { IfOk result (λ counts. counts.out ≡ count_lines_not_in old.now new.now) }
+    ensures in_ { IfOk result (λ counts. counts.in_ ≡ count_lines_not_in new.now old.now) }
+{
+    let out = lines_not_in(alloc, seed, old, new)?;
+    let in_ = lines_not_in(alloc, seed, new, old)?;
+    Ok(LineCounts { out, in_ })
+}
+
+/// How many lines of a text aren't in another one.
+fn lines_not_in(alloc: Global, seed: Seed, text: &[u8], other: &[u8]) -> Result<usize, AllocError>
+    ensures { IfOk result (λ count. count ≡ count_lines_not_in text.now other.now) }
+{
+    let mut bag = LineBag::of(alloc, seed, text)?;
+    let mut rest = other;
+    while let Some((line, after)) = first_piece(rest, b'\n') {
+        bag.take(trim_carriage_return(line))?;
+        rest = after;
+    }
+    Ok(bag.len())
+}

@@ -1,0 +1,80 @@
+//! Lines with how often each is there.
+ghost use Rattle.std.specs.Prelude.{◌≡◌, ◌∷◌, ◌++◌, [], ℕ, List, ◌+◌, ◌<◌, ◌^◌, length, IfOk, OnOk};
+ghost use Rattle.kmin_lines.specs.Lines.{without_one, lines_of};
+ghost use Rattle.kmin_lines.specs.checker.Bags.{HasLines, times_in};
+
+use crate::pieces::{first_piece, trim_carriage_return};
+use indexmap::IndexMap;
+use kc_value::Seed;
+use std::alloc::{AllocError, Global};
+
+/// Lines in no order, of which one may be there more than once.
+#[derive(Drop)]
+pub(crate) struct LineBag<'a> {
+    counts: IndexMap<&'a [u8], usize, Seed>,
+    len: usize,
+}
+
+impl<'a> LineBag<'a> {
+    /// A bag without lines; lines are hashed by this seed.
+    fn new(alloc: Global, seed: Seed) -> LineBag<'a>
+        ensures { HasLines result [] }
+    {
+        LineBag {
+            counts: IndexMap::with_hasher(alloc, seed),
+            len: 0,
+        }
+    }
+
+    /// The lines of a text.
+    pub(crate) fn of(alloc: Global, seed: Seed, text: &'a [u8]) -> Result<LineBag<'a>, AllocError>
+        ensures { IfOk result (λ bag. HasLines bag (lines_of text.now)) }
+    {
+        let mut bag = LineBag::new(alloc, seed);
+        let mut rest = text;
+        while let Some((line, after)) = first_piece(rest, b'\n') {
+            bag.add(trim_carriage_return(line))?;
+            rest = after;
+        }
+        Ok(bag)
+    }
+
+    /// How many lines there are.
+    pub(crate) fn len(&self) -> usize
+        ensures { (lines : List (List ℕ)) → HasLines self.now lines → result ≡ length lines }
+    {
+        self.len
+    }
+
+    /// How often a line is there.
+    fn times(&self, line: &[u8]) -> usize
+        ensures { result ≡ times_in self.now line.now }
+    {
+        match self.counts.get(&line) {
+            Some(count) => *count,
+            None => 0,
+        }
+    }
+
+    /// Adds a line.
+    fn add(&mut self, line: &'a [u8]) -> Result<(), AllocError>
+        ensures { OnOk result ((lines : List (List ℕ)) → HasLines self.old lines → length lines + 1 < 2 ^ 64 → HasLines self.new (lines ++ line.now ∷ [])) }
+    {
+        let count = self.times(line);
+        self.counts.insert(line, count.saturating_add(1))?;
+        self.len = self.len.saturating_add(1);
+        Ok(())
+    }
+
+    /// Takes one such line away, if there is one.
+    pub(crate) fn take(&mut self, line: &'a [u8]) -> Result<(), AllocError>
+        ensures { OnOk result ((lines : List (List ℕ)) → HasLines self.old lines → HasLines self.new (without_one line.now lines)) }
+    {
+        let count = self.times(line);
+        if count > 0 {
+            self.counts.insert(line, count - 1)?;
+            self.len = self.len.saturating_sub(1);
+        }
+        Ok(())
+    }
+}

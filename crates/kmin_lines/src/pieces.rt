@@ -1,0 +1,33 @@
+//! Texts cut into pieces, each of which a byte ends.
+ghost use Rattle.std.specs.Prelude.{◌≡◌, ◌∷◌, [], ◌<◌, length, IfSome, IfNone};
+ghost use Rattle.kmin_lines.specs.Lines.{pieces, without_carriage_return};
+
+use bstr::ByteSlice;
+
+/// The bytes before the first byte `ender`, and those after it; where there is none all bytes. An empty text has no
+/// piece.
+pub(crate) fn first_piece(text: &[u8], ender: u8) -> Option<(&[u8], &[u8])>
+    ensures piece { IfSome result (λ found. pieces ender text.now ≡ found.0.now ∷ pieces ender found.1.now) }
+    ensures shorter { IfSome result (λ found. length found.1.now < length text.now) }
+    ensures none { IfNone result (text.now ≡ []) }
+{
+    if text.is_empty() {
+        return None;
+    }
+    match text.find_byte(ender) {
+        Some(at) => Some((&text[..at], &text[at + 1..])),
+        None => Some((text, &text[text.len()..])),
+    }
+}
+
+/// A line without the carriage return at its end, if it has one.
+pub(crate) fn trim_carriage_return(line: &[u8]) -> &[u8]
+    ensures { result.now ≡ without_carriage_return line.now }
+{
+    let len = line.len();
+    if len > 0 && line[len - 1] == b'\r' {
+        &line[..len - 1]
+    } else {
+        line
+    }
+}

@@ -1,0 +1,161 @@
+-- What follows from how a run ends.
+use Rattle.std.proofs.Common.{◌≡◌, ◌≢◌, ℕ, true, false, List, [], ◌∷◌, ◌++◌, Option, Some, None, inl, inr, refl, sym, ap, ◌∙◌, subst, length, arith, append-nil, string_bytes}
+use Rattle.std.specs.Io.KnownBytes.{Appends}
+use Rattle.std.proofs.KnownBytes.{Appends-nil}
+use Rattle.kmin_disk.specs.Contents.{nothing, unfinished}
+use Rattle.kmin_disk.specs.Disks.{History, newest, with_newest, content_at}
+use Rattle.kmin_disk.proofs.Places.{same_place_or_other}
+use Rattle.kmin_tidy.specs.Options.{Settings}
+use Rattle.kmin_tidy.specs.Steps.{Disk}
+use Rattle.kmin_tidy.specs.Runs.{Tidies}
+use Rattle.kmin_tidy.specs.Ends.{Ends, whole, part, stopped, Stops, before_write, at_write, at_left, IsToBeReplaced, LeavesNewFile}
+use Rattle.kmin_tidy.specs.Promises.{Became, IsKept, IsTidy, AreTidy}
+use Rattle.kmin_tidy.specs.checker.Endings.{status_of_stop, IsWrittenOut}
+use Rattle.kmin_tidy.specs.checker.Endings as written
+use Rattle.kmin_tidy.specs.checker.FileResults.{StopsRun}
+use Rattle.kmin_tidy.specs.checker.FileResults as results
+use Rattle.kmin_tidy.specs.checker.ReportLines.{stop_line}
+use Rattle.kmin_tidy.specs.declared.stop.Stop.{Stop}
+use Rattle.kmin_tidy.specs.declared.stop.Stop.TheVariants.{Memory, Left}
+use Rattle.kmin_tidy.specs.declared.whole_run.Tidied.{Tidied}
+use Rattle.kmin_tidy.proofs.KeptPlaces.{stays_same, kept_after, newest_written}
+use Rattle.kmin_tidy.proofs.StepLemmas.{tidy_same}
+use Rattle.kmin_tidy.proofs.RunLemmas.{all_front, all_next, run_kept, run_unasked, run_tidy}
+
+module _ (s : Settings) (a : Disk) where
+  tidies_kept : (b : Disk) (paths : List (List ℕ)) (text : List ℕ) (reports : List (List ℕ)) (status : ℕ) → Tidies s a b paths text reports status
+      → (place : List ℕ) → IsKept s (a.state.history place) (b.state.history place)
+  tidies_kept b paths text reports status t place = run_kept s a b t.files text reports t.run place
+
+  tidies_unasked : (b : Disk) (paths : List (List ℕ)) (text : List ℕ) (reports : List (List ℕ)) (status : ℕ) → Tidies s a b paths text reports status
+      → s.options.write ≡ false → b ≡ a
+  tidies_unasked b paths text reports status t unasked = run_unasked s a b t.files text reports t.run unasked
+
+  tidies_tidy : (b : Disk) (paths : List (List ℕ)) (text : List ℕ) (reports : List (List ℕ)) (status : ℕ) → Tidies s a b paths text reports status
+      → AreTidy s a.state paths → (b ≡ a) × (text ≡ [])
+  tidies_tidy b paths text reports status t tidy =
+      run_tidy s a b t.files text reports t.run (subst (AreTidy s a.state) (sym t.paths_are) tidy)
+
+  -- the place of a new file that is left
+  new_place : (before between after : History) → IsKept s before between → after ≡ with_newest unfinished between → (newest between ≢ None → newest between ≡ Some nothing)
+      → Became s before after
+  new_place before [] after k left free = inl (subst (IsKept s before) (sym left) k)
+  new_place before (content ∷ rest) after (inl stays) left free =
+      let is : Some content ≡ Some nothing = free (λ e. let z : Some content ≡ None = e in (cc)) in
+      inr (sym stays.same_content ∙ is, ap newest left)
+  new_place before (content ∷ rest) after (inr m) left free =
+      let is : Some content ≡ Some nothing = free (λ e. let z : Some content ≡ None = e in (cc)) in
+      absurd (newest_written m.least before (ap newest (sym m.replaced) ∙ is))
+
+  left_became : (between b : Disk) (path new_path place : List ℕ) → LeavesNewFile between b path new_path
+      → IsKept s (a.state.history place) (between.state.history place) → Became s (a.state.history place) (b.state.history place)
+  left_became between b path new_path place l k =
+      elim (same_place_or_other place (between.state.place new_path)) [
+        | inl is ↦ (let kept : IsKept s (a.state.history (between.state.place new_path)) (between.state.history (between.state.place new_path)) =
+            subst (λ p. IsKept s (a.state.history p) (between.state.history p)) is k in
+            subst (λ p. Became s (a.state.history p) (b.state.history p)) (sym is)
+            (new_place (a.state.history (between.state.place new_path)) (between.state.history (between.state.place new_path)) (b.state.history (between.state.place new_path))
+            kept l.leaves.left l.leaves.free))
+        | inr other ↦ inl (kept_after s (a.state.history place) (between.state.history place) (b.state.history place) k
+            (inl (stays_same (between.state.history place) (b.state.history place) (l.leaves.others place other))))
+      ]
+
+  stops_became : (b : Disk) (paths reports : List (List ℕ)) (status : ℕ) → Stops s a b paths reports status
+      → (place : List ℕ) → Became s (a.state.history place) (b.state.history place)
+  stops_became b paths reports status (before_write between front back text earlier made e t same r n) place =
+      inl (subst (λ (d : Disk). IsKept s (a.state.history place) (d.state.history place)) (sym same) (tidies_kept between front text earlier made t place))
+  stops_became b paths reports status (at_write between front back path text earlier made e t asked u r n) place =
+      inl (kept_after s (a.state.history place) (between.state.history place) (b.state.history place) (tidies_kept between front text earlier made t place) (inl (u.histories place)))
+  stops_became b paths reports status (at_left between front back path new_path text earlier made e t asked l r n) place =
+      left_became between b path new_path place l (tidies_kept between front text earlier made t place)
+
+  -- each place is as before, has its minimal file more, or a new file
+  pub ends_became : (b : Disk) (paths reports : List (List ℕ)) (taken after : Option (List ℕ)) (failed failed_after status : ℕ)
+      → Ends s a b paths taken after failed failed_after reports status → (place : List ℕ) → Became s (a.state.history place) (b.state.history place)
+  ends_became b paths reports taken after failed failed_after status (whole text t w f) place = inl (tidies_kept b paths text reports status t place)
+  ends_became b paths reports taken after failed failed_after status (part text earlier made count t l w f r n) place =
+      inl (tidies_kept b paths text earlier made t place)
+  ends_became b paths reports taken after failed failed_after status (stopped h same f) place = stops_became b paths reports status h place
+
+  asked_not : (d : Disk) (path : List ℕ) → IsToBeReplaced s d path → s.options.write ≡ false → ⊥
+  asked_not d path asked unasked = let z : true ≡ false = sym asked.asked ∙ unasked in (cc)
+
+  stops_unasked : (b : Disk) (paths reports : List (List ℕ)) (status : ℕ) → Stops s a b paths reports status → s.options.write ≡ false → b ≡ a
+  stops_unasked b paths reports status (before_write between front back text earlier made e t same r n) unasked =
+      same ∙ tidies_unasked between front text earlier made t unasked
+  stops_unasked b paths reports status (at_write between front back path text earlier made e t asked u r n) unasked = absurd (asked_not between path asked unasked)
+  stops_unasked b paths reports status (at_left between front back path new_path text earlier made e t asked l r n) unasked =
+      absurd (asked_not between path asked unasked)
+
+  -- where files aren't replaced, nothing changes
+  pub ends_unasked : (b : Disk) (paths reports : List (List ℕ)) (taken after : Option (List ℕ)) (failed failed_after status : ℕ)
+      → Ends s a b paths taken after failed failed_after reports status → s.options.write ≡ false → b ≡ a
+  ends_unasked b paths reports taken after failed failed_after status (whole text t w f) unasked = tidies_unasked b paths text reports status t unasked
+  ends_unasked b paths reports taken after failed failed_after status (part text earlier made count t l w f r n) unasked =
+      tidies_unasked b paths text earlier made t unasked
+  ends_unasked b paths reports taken after failed failed_after status (stopped h same f) unasked = stops_unasked b paths reports status h unasked
+
+  tidy_parts : (paths front back : List (List ℕ)) → paths ≡ front ++ back → AreTidy s a.state paths → AreTidy s a.state (front ++ back)
+  tidy_parts paths front back e tidy = subst (AreTidy s a.state) e tidy
+
+  to_be_replaced_not : (between : Disk) (paths front back : List (List ℕ)) (path : List ℕ) → between ≡ a → paths ≡ front ++ path ∷ back → AreTidy s a.state paths
+      → IsToBeReplaced s between path → ⊥
+  to_be_replaced_not between paths front back path same e tidy asked =
+      let P : List ℕ → Type 0 = λ p. IsTidy s (newest (a.state.history (a.state.place p))) in
+      let here : IsTidy s (content_at between.state path) =
+      subst (λ (d : Disk). IsTidy s (content_at d.state path)) (sym same) (all_next P front path back (tidy_parts paths front (path ∷ back) e tidy)) in
+      tidy_same s between.state path asked.bytes asked.least asked.notices here asked.differs
+
+  tidies_front : (b : Disk) (paths front back : List (List ℕ)) (text : List ℕ) (reports : List (List ℕ)) (status : ℕ) → paths ≡ front ++ back
+      → Tidies s a b front text reports status → AreTidy s a.state paths → (b ≡ a) × (text ≡ [])
+  tidies_front b paths front back text reports status e t tidy =
+      let P : List ℕ → Type 0 = λ p. IsTidy s (newest (a.state.history (a.state.place p))) in
+      tidies_tidy b front text reports status t (all_front P front back (tidy_parts paths front back e tidy))
+
+  stops_again : (b : Disk) (paths reports : List (List ℕ)) (status : ℕ) → Stops s a b paths reports status → AreTidy s a.state paths → b ≡ a
+  stops_again b paths reports status (before_write between front back text earlier made e t same r n) tidy =
+      same ∙ (tidies_front between paths front back text earlier made e t tidy).0
+  stops_again b paths reports status (at_write between front back path text earlier made e t asked u r n) tidy =
+      absurd (to_be_replaced_not between paths front back path (tidies_front between paths front (path ∷ back) text earlier made e t tidy).0 e tidy asked)
+  stops_again b paths reports status (at_left between front back path new_path text earlier made e t asked l r n) tidy =
+      absurd (to_be_replaced_not between paths front back path (tidies_front between paths front (path ∷ back) text earlier made e t tidy).0 e tidy asked)
+
+  -- over tidy places nothing is replaced
+  pub ends_again : (b : Disk) (paths reports : List (List ℕ)) (taken after : Option (List ℕ)) (failed failed_after status : ℕ)
+      → Ends s a b paths taken after failed failed_after reports status → AreTidy s a.state paths → b ≡ a
+  ends_again b paths reports taken after failed failed_after status (whole text t w f) tidy = (tidies_tidy b paths text reports status t tidy).0
+  ends_again b paths reports taken after failed failed_after status (part text earlier made count t l w f r n) tidy =
+      (tidies_tidy b paths text earlier made t tidy).0
+  ends_again b paths reports taken after failed failed_after status (stopped h same f) tidy = stops_again b paths reports status h tidy
+
+  -- and nothing is written
+  pub ends_silent : (b : Disk) (paths reports : List (List ℕ)) (taken after : Option (List ℕ)) (failed failed_after status : ℕ)
+      → Ends s a b paths taken after failed failed_after reports status → AreTidy s a.state paths → Appends taken after []
+  ends_silent b paths reports taken after failed failed_after status (whole text t w f) tidy =
+      subst (Appends taken after) (tidies_tidy b paths text reports status t tidy).1 w
+  ends_silent b paths reports taken after failed failed_after status (part text earlier made count t l w f r n) tidy =
+      let none : length text ≡ 0 = ap length (tidies_tidy b paths text earlier made t tidy).1 in absurd (omega arith)
+  ends_silent b paths reports taken after failed failed_after status (stopped h same f) tidy =
+      subst (λ later. Appends taken later []) (sym same) (Appends-nil taken)
+
+-- how a run ends whose text is written
+pub ends_written : (s : Settings) (a b : Disk) (paths : List (List ℕ)) (tidied : Tidied) (earlier own : List (List ℕ)) (taken after : Option (List ℕ)) (failed failed_after status : ℕ)
+    → Tidies s a b paths tidied.text.items earlier tidied.status → IsWrittenOut tidied taken after failed failed_after own status
+    → Ends s a b paths taken after failed failed_after (earlier ++ own) status
+ends_written s a b paths tidied earlier own taken after failed failed_after status t (written.whole w f r n) =
+    whole tidied.text.items
+    (subst (λ m. Tidies s a b paths tidied.text.items (earlier ++ own) m) (sym n)
+    (subst (λ rs. Tidies s a b paths tidied.text.items rs tidied.status) (sym (ap (λ rs. earlier ++ rs) r ∙ append-nil earlier)) t)) w f
+ends_written s a b paths tidied earlier own taken after failed failed_after status t (written.part count l w f r n) =
+    part tidied.text.items earlier tidied.status count t l w f (ap (λ rs. earlier ++ rs) r) n
+
+-- how a run ends that ended early
+pub ends_early : (s : Settings) (a b : Disk) (paths : List (List ℕ)) (earlier : List (List ℕ)) (stop : Stop) (taken : Option (List ℕ)) (failed status : ℕ)
+    → StopsRun s a b paths earlier stop → status ≡ status_of_stop stop → Ends s a b paths taken taken failed failed (earlier ++ stop_line stop ∷ []) status
+ends_early s a b paths earlier Memory taken failed status (results.before_write between front back text made e t same is) n =
+    stopped (before_write between front back text earlier made e t same refl n) refl refl
+ends_early s a b paths earlier Memory taken failed status (results.at_write between front back path text made e t asked u) n =
+    stopped (at_write between front back path text earlier made e t asked u refl n) refl refl
+ends_early s a b paths earlier (Left new_path) taken failed status (results.before_write between front back text made e t same is) n = (cc (is))
+ends_early s a b paths earlier (Left new_path) taken failed status (results.at_write between front back path text made e t asked l) n =
+    stopped (at_left between front back path (string_bytes new_path) text earlier made e t asked l refl n) refl refl

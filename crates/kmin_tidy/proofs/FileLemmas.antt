@@ -1,0 +1,165 @@
+-- The step of one file, from what its parts return.
+use Rattle.std.proofs.Common.{◌≡◌, ◌≢◌, ℕ, Bool, true, false, List, [], ◌∷◌, ◌++◌, Option, Some, None, map, length, refl, sym, ap, ◌∙◌, subst, inl, inr}
+use Rattle.std.specs.Str.{bytes_eq}
+use Rattle.std.proofs.lemmas.Slice.Eq.{bytes_eq-Decides}
+use Rattle.kc_system.specs.Solutions.{UniquelySolves}
+use Rattle.kc_rules_model.specs.declared.values.UnitValue.{UnitValue}
+use Rattle.kc_rules_model.specs.declared.values.UserValue.{UserValue}
+use Rattle.kc_rules_model.specs.Rule.{rule}
+use Rattle.kc_rules.specs.declared.rules.Settled.{Settled}
+use Rattle.kc_rules.specs.between.SettledViews.{tree_of_settled, profile_of}
+use Rattle.kc_dotconfig_model.specs.declared.prefix.Prefix.{Prefix}
+use Rattle.kc_dotconfig_model.specs.declared.fault.LoadFault.{LoadFault}
+use Rattle.kc_dotconfig_model.specs.between.Prefixes.{prefix_bytes}
+use Rattle.kc_dotconfig_model.specs.PrefixGrammar.{is_prefix}
+use Rattle.kc_dotconfig_model.proofs.AcceptedLines.{accepted_utf8}
+use Rattle.kc_dotconfig.specs.declared.fragment.Fragment.{Fragment}
+use Rattle.kc_dotconfig.specs.Fragments.{notice_pair, users_of}
+use Rattle.kc_minimal_model.specs.CanonicalText.{IsCanonicalText}
+use Rattle.kmin_disk.specs.Contents.{Content, IsOfKind, special, readable}
+use Rattle.kmin_disk.specs.Disks.{content_at}
+use Rattle.kmin_disk.specs.Failures.{failures_of_fault}
+use Rattle.kmin_disk.specs.Replacements.{FaultLeaves, HasTakenName}
+use Rattle.kmin_disk.specs.declared.kind.FileKind.{FileKind}
+use Rattle.kmin_disk.specs.declared.kind.FileKind.TheVariants.{NotRegular as KindNotRegular}
+use Rattle.kmin_disk.specs.declared.fault.ReplaceFault.{ReplaceFault}
+use Rattle.kmin_disk.specs.declared.fault.ReplaceFault.TheVariants.{NotRegular, Unchanged, NamesTaken, Left, FolderNotSynced, OutOfMemory}
+use Rattle.kmin_tidy.specs.Options.{Settings, Notices, settings_of, refuses_notices}
+use Rattle.kmin_tidy.specs.MinimalFiles.{MayBeRead, IsReadAt, HasMinimalFile, Minimises}
+use Rattle.kmin_tidy.specs.Refusals as refusals
+use Rattle.kmin_tidy.specs.Reports.{fault_line, not_regular_line, notice_lines, difference_line}
+use Rattle.kmin_tidy.specs.Steps.{Disk, Step, refused, noticed, minimal, shown, replaced, unwritten, call_failed, names_taken, not_regular, unsynced}
+use Rattle.kmin_tidy.specs.checker.Readings.{IsFragmentOf, IsFaulty}
+use Rattle.kmin_tidy.specs.checker.FileReports.{IsRefusedAs, IsFailedBy, IsStoppedBy}
+use Rattle.kmin_tidy.specs.checker.FileResults as results
+use Rattle.kmin_tidy.specs.checker.FileResults.{IsRewritten, IsWritten, StopsWrite, StopsRewrite, StopsFile}
+use Rattle.kmin_tidy.specs.checker.ReportLines.{report_lines, problem_lines}
+use Rattle.kmin_tidy.specs.declared.outcome.FileOutcome.TheVariants.{Refused, Failed}
+use Rattle.kmin_tidy.specs.declared.options.TidyOptions.{TidyOptions}
+use Rattle.kmin_tidy.specs.declared.report.Problem.{Problem}
+use Rattle.kmin_tidy.specs.declared.report.Problem.TheVariants.{Fault, Write, NotRegular as ProblemNotRegular}
+use Rattle.kmin_tidy.specs.declared.report.FileReport.{FileReport}
+use Rattle.kmin_tidy.specs.declared.file_step.FileEnd.{FileEnd}
+use Rattle.kmin_tidy.specs.declared.stop.Stop.{Stop}
+use Rattle.kmin_tidy.proofs.RefusalLemmas.{refused_by, lines_of_problem, lines_of_notices}
+
+-- what `==` says of bytes
+pub differ : (least bytes : List ℕ) (test : Bool) → test ≡ bytes_eq least bytes → test ≡ false → least ≢ bytes
+differ least bytes test e f = λ same. let h : bytes_eq least bytes ≡ true = (bytes_eq-Decides least bytes).1 same in cc
+
+pub agree : (least bytes : List ℕ) (test : Bool) → test ≡ bytes_eq least bytes → test ≡ true → least ≡ bytes
+agree least bytes test e t = (bytes_eq-Decides least bytes).0 (sym e ∙ t)
+
+-- what is of no known kind isn't known to be special
+pub kind_not_special : (content : Option Content) (kind : FileKind) → IsOfKind content kind → kind ≢ KindNotRegular → content ≢ Some special
+kind_not_special content kind k other = λ e. other (subst (λ c. IsOfKind c kind) e k)
+
+module _ (s : Settings) (a : Disk) (path : List ℕ) (report : FileReport) where
+  -- a link, a folder, a pipe or a device
+  pub not_regular_step : s.options.write ≡ true → IsOfKind (content_at a.state path) KindNotRegular → report.notices.items ≡ []
+      → report.problem ≡ Some ProblemNotRegular → report.outcome ≡ Failed → Step s a a path [] (report_lines path report) report.outcome
+  not_regular_step w k n p o =
+      refused (not_regular_line path) (refusals.not_regular w k o refl) refl refl (lines_of_problem path report ProblemNotRegular n p)
+
+  -- a file with a fault
+  pub fault_step : (fault : LoadFault) → MayBeRead s a.state path → IsFaulty s.prefix s.tree (readable (content_at a.state path)) fault.kind fault.line
+      → IsRefusedAs fault report → Step s a a path [] (report_lines path report) report.outcome
+  fault_step fault may faulty r =
+      refused (fault_line path fault.line fault.kind) (refused_by s a.state path fault.kind fault.line report.outcome may faulty r.outcome) refl refl
+      (lines_of_problem path report (Fault fault) r.notices r.problem)
+
+  -- the lines of a report by the notices of a fragment
+  lines_by : (fragment : Fragment) → report.notices.items ≡ fragment.notices.items → report.problem ≡ None
+      → report_lines path report ≡ notice_lines path (map notice_pair fragment.notices.items)
+  lines_by fragment n p = lines_of_notices path report p ∙ ap (λ ns. notice_lines path (map notice_pair ns)) n
+
+  lines_with : (fragment : Fragment) (problem : Problem) → report.notices.items ≡ fragment.notices.items → report.problem ≡ Some problem
+      → report_lines path report ≡ notice_lines path (map notice_pair fragment.notices.items) ++ problem_lines path (Some problem)
+  lines_with fragment problem n p =
+      ap (λ q. notice_lines path (map notice_pair report.notices.items) ++ problem_lines path q) p
+      ∙ ap (λ ns. notice_lines path (map notice_pair ns) ++ problem_lines path (Some problem)) n
+
+  -- a file that is refused for its notices
+  pub notices_step : (bytes : List ℕ) (fragment : Fragment) → IsReadAt s a.state path bytes → IsFragmentOf s.prefix s.tree bytes fragment
+      → refuses_notices s.options ≡ true → map notice_pair fragment.notices.items ≢ [] → report.notices.items ≡ fragment.notices.items → report.problem ≡ None
+      → report.outcome ≡ Refused → Step s a a path [] (report_lines path report) report.outcome
+  notices_step bytes fragment read f asked some n p o =
+      noticed bytes (map notice_pair fragment.notices.items) read (record { accepted = f.accepted; meanings = f.meanings; means = f.means; notices_are = f.noted })
+      some asked refl refl (lines_by fragment n p) o
+
+  -- a file whose minimal file is known
+  pub rewritten_step : (b : Disk) (bytes least line : List ℕ) (fragment : Fragment) (end : FileEnd)
+      → Minimises s a.state path bytes least (map notice_pair fragment.notices.items) → IsRewritten s.options.write a b path bytes least line end
+      → report.notices.items ≡ fragment.notices.items → report.problem ≡ end.problem → report.outcome ≡ end.outcome
+      → Step s a b path line (report_lines path report) report.outcome
+  rewritten_step b bytes least line fragment end m (results.same e k l q o) n p r =
+      minimal bytes (map notice_pair fragment.notices.items) (subst (λ x. Minimises s a.state path bytes x (map notice_pair fragment.notices.items)) e m) k l
+      (lines_by fragment n (p ∙ q)) (r ∙ o)
+  rewritten_step b bytes least line fragment end m (results.shown ne w k l q o) n p r =
+      shown bytes least (map notice_pair fragment.notices.items) (record { minimises = m; differs = ne }) w k l (lines_by fragment n (p ∙ q)) (r ∙ o)
+  rewritten_step b bytes least line fragment end m (results.replaced ne w t f l q o) n p r =
+      replaced bytes least (map notice_pair fragment.notices.items) (record { minimises = m; differs = ne }) w t f l (lines_by fragment n (p ∙ q)) (r ∙ o)
+  rewritten_step b bytes least line fragment end m (results.unwritten ne w u l q o) n p r =
+      unwritten bytes least (map notice_pair fragment.notices.items) (record { minimises = m; differs = ne }) w u l (lines_with fragment Write n (p ∙ q)) (r ∙ o)
+
+-- a run that ends at a file whose minimal file is known
+pub stops_rewrite : (s : Settings) (a b : Disk) (path bytes least : List ℕ) (notices : Notices) (stop : Stop) → Minimises s a.state path bytes least notices
+    → StopsRewrite s.options.write a b path bytes least stop → StopsFile s a b path stop
+stops_rewrite s a b path bytes least notices stop m (inl h) = inl h
+stops_rewrite s a b path bytes least notices stop m (inr h) =
+    inr (record { asked = h.0; bytes = bytes; least = least; notices = notices; differs = record { minimises = m; differs = h.1 } }, h.2)
+
+-- the minimal file of what a fragment gives
+pub has_minimal_file : (settled now : Settled) (prefix : Prefix) (options : TidyOptions) (bytes text : List ℕ) (fragment : Fragment) (users : List (Option UserValue)) (values : List UnitValue)
+    → is_prefix (prefix_bytes prefix) ≡ true → now ≡ settled → IsFragmentOf (prefix_bytes prefix) (tree_of_settled settled) bytes fragment
+    → users ≡ users_of (tree_of_settled settled) fragment.assigns.items
+    → UniquelySolves (length (tree_of_settled now).units) (rule (profile_of now) (tree_of_settled now)) users values
+    → IsCanonicalText (prefix_bytes prefix) (profile_of now) (tree_of_settled now) values text
+    → HasMinimalFile (settings_of settled prefix options) bytes text (map notice_pair fragment.notices.items)
+has_minimal_file settled now prefix options bytes text fragment users values valid same f held gives canonical = record {
+  values = values;
+  loads = record {
+    accepted = f.accepted;
+    reads = record {
+      utf8 = accepted_utf8 (prefix_bytes prefix) (tree_of_settled settled) bytes valid f.accepted;
+      meanings = f.meanings;
+      says = f.means;
+      gives = subst (λ us. UniquelySolves (length (tree_of_settled settled).units) (rule (profile_of settled) (tree_of_settled settled)) us values) (held ∙ f.users)
+          (subst (λ sys. UniquelySolves (length (tree_of_settled sys).units) (rule (profile_of sys) (tree_of_settled sys)) users values) same gives);
+    };
+  };
+  canonical = subst (λ sys. IsCanonicalText (prefix_bytes prefix) (profile_of sys) (tree_of_settled sys) values text) same canonical;
+  notices_are = f.noted;
+}
+
+-- what a fault of replacing leaves
+pub written_by : (a b : Disk) (path least : List ℕ) (fault : ReplaceFault) (end : FileEnd) → FaultLeaves a.state b.state path least fault
+    → b.failures ≡ failures_of_fault a.failures fault → (fault ≡ NotRegular → IsOfKind (content_at a.state path) KindNotRegular)
+    → (fault ≡ NamesTaken → HasTakenName a.state path) → IsFailedBy fault end → IsWritten a b path least end
+written_by a b path least NotRegular end l f k t h = results.not_in_place (not_regular l (k refl) f) h.0 h.1
+written_by a b path least Unchanged end l f k t h = results.not_in_place (call_failed l f) h.0 h.1
+written_by a b path least NamesTaken end l f k t h = results.not_in_place (names_taken l (t refl) f) h.0 h.1
+written_by a b path least (Left new_path) end l f k t h = absurd h
+written_by a b path least FolderNotSynced end l f k t h = results.not_in_place (unsynced l f) h.0 h.1
+written_by a b path least OutOfMemory end l f k t h = absurd h
+
+pub stopped_by : (a b : Disk) (path least : List ℕ) (fault : ReplaceFault) (stop : Stop) → FaultLeaves a.state b.state path least fault
+    → b.failures ≡ failures_of_fault a.failures fault → IsStoppedBy fault stop → StopsWrite a b path stop
+stopped_by a b path least NotRegular stop l f h = absurd h
+stopped_by a b path least Unchanged stop l f h = absurd h
+stopped_by a b path least NamesTaken stop l f h = absurd h
+stopped_by a b path least (Left new_path) stop l f h =
+    subst (StopsWrite a b path) (sym h) (record { leaves = l.0; named = l.1; failures = f })
+stopped_by a b path least FolderNotSynced stop l f h = absurd h
+stopped_by a b path least OutOfMemory stop l f h = subst (StopsWrite a b path) (sym h) l
+
+-- a file is replaced or not where its bytes aren't those of its minimal file
+pub rewritten_by : (a b : Disk) (path bytes least line : List ℕ) (end : FileEnd) → least ≢ bytes → line ≡ difference_line path bytes least
+    → IsWritten a b path least end → IsRewritten true a b path bytes least line end
+rewritten_by a b path bytes least line end ne l (results.in_place r f p o) = results.replaced ne refl r f l p o
+rewritten_by a b path bytes least line end ne l (results.not_in_place u p o) = results.unwritten ne refl u l p o
+
+-- a map of some elements has some
+pub map_some : {A B : Type 0} (f : A → B) (xs : List A) → xs ≢ [] → map f xs ≢ []
+map_some f [] h = λ e. h refl
+map_some f (x ∷ xs) h = λ e. let z : f x ∷ map f xs ≡ [] = e in (cc)

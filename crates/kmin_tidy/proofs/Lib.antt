@@ -1,0 +1,11 @@
+pub mod ReadingLemmas
+pub mod RefusalLemmas
+pub mod Taking
+pub mod StatusLemmas
+pub mod KeptPlaces
+pub mod StepLemmas
+pub mod RunLemmas
+pub mod WholeRuns
+pub mod EndLemmas
+pub mod LawLemmas
+pub mod FileLemmas

@@ -1,0 +1,156 @@
+-- Files that are read whole or in part.
+use Rattle.std.proofs.Common.{◌≡◌, ◌≢◌, ℕ, List, [], ◌∷◌, ◌++◌, Option, Some, None, Result, Ok, Err, IfOk, IfErr, length, refl, sym, ap, ◌∙◌, subst, append-nil, append_assoc, ◌⊎◌, inl, inr, arith, length-append, lit<}
+use Rattle.std.specs.Io.KnownBytes.{Consumes, IsAtEnd}
+use Rattle.std.proofs.lemmas.List.{append_cancel_right}
+use Rattle.kc_tree_model.specs.Trees.{Tree}
+use Rattle.kc_dotconfig_model.specs.declared.fault.LoadKind.{LoadKind}
+use Rattle.kc_dotconfig_model.specs.declared.fault.LoadKind.TheVariants.{Malformed, NotUtf8, LineTooLong, TooManyLines, Read, OutOfMemory, TooLarge}
+use Rattle.kc_dotconfig_model.specs.ConfigFiles.{FileMeans}
+use Rattle.kc_dotconfig_model.specs.LoadFaults.{IsAccepted, IsFirstFault, complete}
+use Rattle.kc_dotconfig.specs.declared.fragment.Fragment.{Fragment}
+use Rattle.kc_dotconfig.specs.Fragments.{FitsTree}
+use Rattle.kc_dotconfig.specs.ReadResults.{IsReadAs, IsRefused, ReportsFault}
+use Rattle.kmin_disk.specs.Contents.{OpensAs}
+use Rattle.kmin_tidy.specs.MinimalFiles.{AreKnownBytes}
+use Rattle.kmin_tidy.specs.checker.Readings.{IsFragmentOf, IsFaultOf, IsFaultOfPart, in_front, at_failure, no_memory, IsFaulty, refused, unread, for_memory}
+
+-- the bytes that were read of an opened file begin what is known of it
+pub rest_of : (known : Option (Option (List ℕ))) (before after : Option (List ℕ)) (bytes : List ℕ) → OpensAs known (Some before) → Consumes before after bytes
+    → (rest : List ℕ) × AreKnownBytes known (bytes ++ rest)
+rest_of None before after bytes o h = ([], tt)
+rest_of (Some None) before after bytes o h = let f : Some before ≡ None = o in cc
+rest_of (Some (Some known)) before None bytes o h =
+    let s : before ≡ Some known = cc in let k : Consumes (Some known) None bytes = rw s at h in absurd k
+rest_of (Some (Some known)) before (Some rest) bytes o h =
+    let s : before ≡ Some known = cc in let k : Consumes (Some known) (Some rest) bytes = rw s at h in (rest, sym k)
+
+whole_memory : (text : List ℕ) (after : Option (List ℕ)) (bytes : List ℕ) → Consumes (Some text) after bytes → IsAtEnd after → text ≡ bytes
+whole_memory text None bytes h e = absurd h
+whole_memory text (Some rest) bytes h e = h ∙ ap (λ z. bytes ++ z) e ∙ append-nil bytes
+
+-- and at its end they are all of it
+pub whole_content : (known : Option (Option (List ℕ))) (before after : Option (List ℕ)) (bytes : List ℕ) → OpensAs known (Some before)
+    → Consumes before after bytes → IsAtEnd after → AreKnownBytes known bytes
+whole_content None before after bytes o h e = tt
+whole_content (Some None) before after bytes o h e = let f : Some before ≡ None = o in cc
+whole_content (Some (Some known)) before after bytes o h e =
+    let s : before ≡ Some known = cc in
+    sym (whole_memory known after bytes (rw s at h) e)
+
+-- a whole file that was read
+pub fragment_of_read : (prefix : List ℕ) (tree : Tree) (bytes : List ℕ) (before after : Option (List ℕ)) (f : Fragment) → before ≡ Some bytes
+    → IsReadAs prefix tree before after f → FitsTree tree f.assigns.items → IsFragmentOf prefix tree bytes f
+fragment_of_read prefix tree bytes before after f is r fits =
+    let e : bytes ≡ r.known = whole_memory bytes after r.known (subst (λ b. Consumes b after r.known) is r.consumed) r.ended in
+    record {
+      accepted = subst (IsAccepted prefix tree) (sym e) r.accepted;
+      meanings = r.meanings;
+      means = subst (λ b. FileMeans prefix tree b r.meanings) (sym e) r.says;
+      users = r.users;
+      noted = r.noted;
+      fits = fits;
+    }
+
+module _ (prefix : List ℕ) (tree : Tree) (bytes : List ℕ) where
+  whole_first : (after : Option (List ℕ)) (kind : LoadKind) (number : ℕ) (known : List ℕ) → Consumes (Some bytes) after known
+      → (IsAtEnd after × IsFirstFault prefix tree complete known kind number) ⊎ ((rest : List ℕ) → IsFirstFault prefix tree complete (known ++ rest) kind number)
+      → IsFirstFault prefix tree complete bytes kind number
+  whole_first after kind number known h (inl k) =
+      subst (λ b. IsFirstFault prefix tree complete b kind number) (sym (whole_memory bytes after known h k.0)) k.1
+  whole_first None kind number known h (inr k) = absurd h
+  whole_first (Some rest) kind number known h (inr k) = subst (λ b. IsFirstFault prefix tree complete b kind number) (sym h) (k rest)
+
+  refused_whole : (after : Option (List ℕ)) (kind : LoadKind) (number : ℕ) → kind ≢ Read → IsRefused prefix tree (Some bytes) after kind number
+      → IsFaultOf prefix tree bytes kind number
+  refused_whole after kind number other r = inr (other, whole_first after kind number r.known r.consumed r.first)
+
+  -- a fault of a whole file, of which no read failed
+  whole_kind : (after : Option (List ℕ)) (kind : LoadKind) (number : ℕ) → ReportsFault prefix tree (Some bytes) after 0 0 kind number
+      → IsFaultOf prefix tree bytes kind number
+  whole_kind after OutOfMemory number t = inl refl
+  whole_kind after Read number t = absurd (omega (arith, t.1 (lit< tt)))
+  whole_kind after Malformed number t = refused_whole after Malformed number (λ e. (cc)) t
+  whole_kind after NotUtf8 number t = refused_whole after NotUtf8 number (λ e. (cc)) t
+  whole_kind after LineTooLong number t = refused_whole after LineTooLong number (λ e. (cc)) t
+  whole_kind after TooManyLines number t = refused_whole after TooManyLines number (λ e. (cc)) t
+  whole_kind after TooLarge number t = refused_whole after TooLarge number (λ e. (cc)) t
+
+  pub fault_of_whole : (before after : Option (List ℕ)) (kind : LoadKind) (number : ℕ) → before ≡ Some bytes
+      → ReportsFault prefix tree before after 0 0 kind number → IsFaultOf prefix tree bytes kind number
+  fault_of_whole before after kind number is t = whole_kind after kind number (subst (λ b. ReportsFault prefix tree b after 0 0 kind number) is t)
+
+  -- the byte behind a part was not read
+  part_front : (rest known : List ℕ) → Consumes (Some (bytes ++ 0 ∷ [])) (Some (rest ++ 0 ∷ [])) known → bytes ≡ known ++ rest
+  part_front rest known h = append_cancel_right bytes (known ++ rest) (0 ∷ []) (h ∙ sym (append_assoc known rest (0 ∷ [])))
+
+  never_at_end : (rest : List ℕ) → IsAtEnd (Some (rest ++ 0 ∷ [])) → ⊥
+  never_at_end rest e = let l = ap length e in let k = length-append rest (0 ∷ []) in omega arith
+
+  part_first : (rest : List ℕ) (kind : LoadKind) (number : ℕ) (known : List ℕ) → bytes ≡ known ++ rest
+      → (IsAtEnd (Some (rest ++ 0 ∷ [])) × IsFirstFault prefix tree complete known kind number) ⊎ ((more : List ℕ) → IsFirstFault prefix tree complete (known ++ more) kind number)
+      → (more : List ℕ) → IsFirstFault prefix tree complete (bytes ++ more) kind number
+  part_first rest kind number known e (inl k) more = absurd (never_at_end rest k.0)
+  part_first rest kind number known e (inr k) more =
+      subst (λ b. IsFirstFault prefix tree complete b kind number) (sym (append_assoc known rest more) ∙ ap (λ b. b ++ more) (sym e)) (k (rest ++ more))
+
+  refused_part : (rest : List ℕ) (kind : LoadKind) (number : ℕ) → kind ≢ Read
+      → IsRefused prefix tree (Some (bytes ++ 0 ∷ [])) (Some (rest ++ 0 ∷ [])) kind number → IsFaultOfPart prefix tree bytes kind number
+  refused_part rest kind number other r =
+      in_front other (part_first rest kind number r.known (part_front rest r.known r.consumed) r.first)
+
+  part_kind : (rest : List ℕ) (failed failed_after : ℕ) (kind : LoadKind) (number : ℕ)
+      → ReportsFault prefix tree (Some (bytes ++ 0 ∷ [])) (Some (rest ++ 0 ∷ [])) failed failed_after kind number → IsFaultOfPart prefix tree bytes kind number
+  part_kind rest f g OutOfMemory number t = no_memory refl
+  part_kind rest f g Read number t = at_failure t.0.known rest (part_front rest t.0.known t.0.consumed) t.0.first refl
+  part_kind rest f g Malformed number t = refused_part rest Malformed number (λ e. (cc)) t
+  part_kind rest f g NotUtf8 number t = refused_part rest NotUtf8 number (λ e. (cc)) t
+  part_kind rest f g LineTooLong number t = refused_part rest LineTooLong number (λ e. (cc)) t
+  part_kind rest f g TooManyLines number t = refused_part rest TooManyLines number (λ e. (cc)) t
+  part_kind rest f g TooLarge number t = refused_part rest TooLarge number (λ e. (cc)) t
+
+  pub fault_of_part : (first : List ℕ) (before : Option (List ℕ)) (rest : List ℕ) (failed failed_after : ℕ) (kind : LoadKind) (number : ℕ) → before ≡ Some (first ++ 0 ∷ [])
+      → first ≡ bytes → ReportsFault prefix tree before (Some (rest ++ 0 ∷ [])) failed failed_after kind number → IsFaultOfPart prefix tree bytes kind number
+  fault_of_part first before rest f g kind number is same t =
+      part_kind rest f g kind number
+      (subst (λ b. ReportsFault prefix tree b (Some (rest ++ 0 ∷ [])) f g kind number) (is ∙ ap (λ b. Some (b ++ 0 ∷ [])) same) t)
+
+  -- a part is never read to its end
+  pub part_not_read : (before : Option (List ℕ)) (rest : List ℕ) (f : Fragment) → IsReadAs prefix tree before (Some (rest ++ 0 ∷ [])) f → ⊥
+  part_not_read before rest f r = never_at_end rest r.ended
+
+-- the fault of a file by the fault of its bytes
+pub faulty_whole : (prefix : List ℕ) (tree : Tree) (known : Option (Option (List ℕ))) (bytes : List ℕ) (kind : LoadKind) (number : ℕ)
+    → AreKnownBytes known bytes → IsFaultOf prefix tree bytes kind number → IsFaulty prefix tree known kind number
+faulty_whole prefix tree known bytes kind number k (inl is) = for_memory is
+faulty_whole prefix tree known bytes kind number k (inr t) = refused bytes k t.0 t.1
+
+-- and by the fault of its first bytes
+pub faulty_part : (prefix : List ℕ) (tree : Tree) (known : Option (Option (List ℕ))) (bytes rest : List ℕ) (kind : LoadKind) (number : ℕ)
+    → AreKnownBytes known (bytes ++ rest) → IsFaultOfPart prefix tree bytes kind number → IsFaulty prefix tree known kind number
+faulty_part prefix tree known bytes rest kind number k (in_front other first) = refused (bytes ++ rest) k other (first rest)
+faulty_part prefix tree known bytes rest kind number k (at_failure front back e first is) =
+    unread front (back ++ rest) (subst (AreKnownBytes known) (ap (λ b. b ++ rest) e ∙ append_assoc front back rest) k) first is
+faulty_part prefix tree known bytes rest kind number k (no_memory is) = for_memory is
+
+-- the fault of a file that was opened, by the fault of its bytes
+pub faulty_read : (prefix : List ℕ) (tree : Tree) (known : Option (Option (List ℕ))) (before after : Option (List ℕ)) (bytes : List ℕ) (kind : LoadKind) (number : ℕ) (Ended : Type 0)
+    → OpensAs known (Some before) → Consumes before after bytes → (Ended → IsAtEnd after)
+    → (Ended × IsFaultOf prefix tree bytes kind number) ⊎ IsFaultOfPart prefix tree bytes kind number → IsFaulty prefix tree known kind number
+faulty_read prefix tree known before after bytes kind number Ended opens consumed ends (inl h) =
+    faulty_whole prefix tree known bytes kind number (whole_content known before after bytes opens consumed (ends h.0)) h.1
+faulty_read prefix tree known before after bytes kind number Ended opens consumed ends (inr h) =
+    let w = rest_of known before after bytes opens consumed in
+    faulty_part prefix tree known bytes w.0 kind number w.1 h
+
+-- what a result has, by what it had
+pub if_ok_map : {T E : Type 0} (r : Result T E) (P Q : T → Type 0) → ((x : T) → P x → Q x) → IfOk r P → IfOk r Q
+if_ok_map (Ok x) P Q f h = f x h
+if_ok_map (Err e) P Q f h = tt
+
+pub if_err_map : {T E : Type 0} (r : Result T E) (P Q : E → Type 0) → ((e : E) → P e → Q e) → IfErr r P → IfErr r Q
+if_err_map (Ok x) P Q f h = tt
+if_err_map (Err e) P Q f h = f e h
+
+pub both_ok : {T E : Type 0} (r : Result T E) (P Q R : T → Type 0) → ((x : T) → P x → Q x → R x) → IfOk r P → IfOk r Q → IfOk r R
+both_ok (Ok x) P Q R f h k = f x h k
+both_ok (Err e) P Q R f h k = tt

@@ -1,0 +1,53 @@
+-- Files that are refused, and what is reported of them.
+use Rattle.std.proofs.Common.{◌≡◌, ◌≢◌, ℕ, List, [], ◌∷◌, ◌++◌, Some, None, map, refl, sym, ap, ◌∙◌, append-nil, ◌⊎◌, inl, inr}
+use Rattle.kc_dotconfig.specs.Fragments.{notice_pair}
+use Rattle.kc_dotconfig_model.specs.declared.fault.LoadKind.{LoadKind}
+use Rattle.kc_dotconfig_model.specs.declared.fault.LoadKind.TheVariants.{Read, OutOfMemory}
+use Rattle.kmin_disk.specs.Contents.{readable}
+use Rattle.kmin_disk.specs.Disks.{DiskState, content_at}
+use Rattle.kmin_tidy.specs.Options.{Settings}
+use Rattle.kmin_tidy.specs.MinimalFiles.{MayBeRead}
+use Rattle.kmin_tidy.specs.Reports.{fault_line, notice_lines}
+use Rattle.kmin_tidy.specs.Refusals as refusals
+use Rattle.kmin_tidy.specs.Refusals.{IsRefused}
+use Rattle.kmin_tidy.specs.checker.Readings.{IsFaulty, refused, unread, unopened, for_memory}
+use Rattle.kmin_tidy.specs.checker.ReportLines.{problem_line, problem_lines, report_lines}
+use Rattle.kmin_tidy.specs.declared.outcome.FileOutcome.{FileOutcome}
+use Rattle.kmin_tidy.specs.declared.outcome.FileOutcome.TheVariants.{Refused, Failed}
+use Rattle.kmin_tidy.specs.declared.report.Problem.{Problem}
+use Rattle.kmin_tidy.specs.declared.report.FileReport.{FileReport}
+
+-- the outcome of a file by the kind of its fault
+abbrev pub IsOutcomeOf : LoadKind → FileOutcome → Type 0
+IsOutcomeOf kind outcome = ((kind ≡ Read) × (outcome ≡ Failed)) ⊎ ((kind ≢ Read) × (kind ≢ OutOfMemory) × (outcome ≡ Refused))
+
+module _ (s : Settings) (disk : DiskState) (path : List ℕ) (kind : LoadKind) (number : ℕ) (outcome : FileOutcome) where
+  -- a file with a fault is refused with its line
+  pub refused_by : MayBeRead s disk path → IsFaulty s.prefix s.tree (readable (content_at disk path)) kind number → IsOutcomeOf kind outcome
+      → IsRefused s disk path outcome (fault_line path number kind)
+  refused_by may (refused bytes known other first) (inl is) = absurd (other is.0)
+  refused_by may (refused bytes known other first) (inr is) = refusals.faulty bytes kind number (record { may = may; bytes_are = known }) first is.2 refl
+  refused_by may (unread front rest known first read) (inl is) = refusals.unread front rest number (record { may = may; bytes_are = known }) first is.1 (ap (fault_line path number) read)
+  refused_by may (unread front rest known first read) (inr is) = absurd (is.0 read)
+  refused_by may (unopened opens read zero_is) (inl is) =
+      refusals.unopened may opens is.1 (ap (fault_line path number) read ∙ ap (λ n. fault_line path n Read) zero_is)
+  refused_by may (unopened opens read zero_is) (inr is) = absurd (is.0 read)
+  refused_by may (for_memory memory) (inl is) = let z : Read ≡ OutOfMemory = sym is.0 ∙ memory in (cc)
+  refused_by may (for_memory memory) (inr is) = absurd (is.1 memory)
+
+-- the lines of a report with one problem
+pub lines_of_problem : (path : List ℕ) (report : FileReport) (problem : Problem) → report.notices.items ≡ [] → report.problem ≡ Some problem
+    → report_lines path report ≡ problem_line path problem ∷ []
+lines_of_problem path report problem no_notices is =
+    ap (λ ns. notice_lines path (map notice_pair ns) ++ problem_lines path report.problem) no_notices ∙ ap (problem_lines path) is
+
+-- and with none
+pub lines_of_notices : (path : List ℕ) (report : FileReport) → report.problem ≡ None
+    → report_lines path report ≡ notice_lines path (map notice_pair report.notices.items)
+lines_of_notices path report is =
+    ap (λ p. notice_lines path (map notice_pair report.notices.items) ++ problem_lines path p) is ∙ append-nil (notice_lines path (map notice_pair report.notices.items))
+
+-- one map after another
+pub map_twice : {A B C : Type 0} (f : B → C) (g : A → B) (xs : List A) → map (λ x. f (g x)) xs ≡ map f (map g xs)
+map_twice f g [] = refl
+map_twice f g (x ∷ xs) = ap (λ ys. f (g x) ∷ ys) (map_twice f g xs)

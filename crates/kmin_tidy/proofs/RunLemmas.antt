@@ -1,0 +1,73 @@
+-- Runs, one file after another.
+use Rattle.std.proofs.Common.{◌≡◌, ℕ, false, List, [], ◌∷◌, ◌++◌, inl, refl, sym, ap, ◌∙◌, subst, map}
+use Rattle.std.specs.List.{AllByRecursion}
+use Rattle.kmin_disk.specs.Disks.{DiskState, newest, content_at}
+use Rattle.kmin_tidy.specs.Options.{Settings}
+use Rattle.kmin_tidy.specs.Steps.{Disk}
+use Rattle.kmin_tidy.specs.Promises.{IsKept, IsTidy, AreTidy}
+use Rattle.kmin_tidy.specs.Runs.{DoneFile, path_of, Run, none, one_more, AreMinimal, HoldsMinimalFile}
+use Rattle.kmin_tidy.specs.declared.outcome.FileOutcome.TheVariants.{Minimal}
+use Rattle.kmin_tidy.proofs.KeptPlaces.{stays_same, kept_after, minimal_kept}
+use Rattle.kmin_tidy.proofs.StepLemmas.{step_kept, step_places, step_unasked, step_minimal, step_tidy}
+
+-- the first of a list, and the last
+pub all_front : {A : Type 0} (P : A → Type 0) (xs ys : List A) → AllByRecursion P (xs ++ ys) → AllByRecursion P xs
+all_front P [] ys h = tt
+all_front P (x ∷ xs) ys h = (h.0, all_front P xs ys h.1)
+
+pub all_next : {A : Type 0} (P : A → Type 0) (xs : List A) (y : A) (ys : List A) → AllByRecursion P (xs ++ y ∷ ys) → P y
+all_next P [] y ys h = h.0
+all_next P (x ∷ xs) y ys h = all_next P xs y ys h.1
+
+all_more : {A : Type 0} (P : A → Type 0) (xs : List A) (y : A) → AllByRecursion P xs → P y → AllByRecursion P (xs ++ y ∷ [])
+all_more P [] y h k = (k, tt)
+all_more P (x ∷ xs) y h k = (h.0, all_more P xs y h.1 k)
+
+all_weaker : {A : Type 0} (P Q : A → Type 0) (xs : List A) → ((x : A) → P x → Q x) → AllByRecursion P xs → AllByRecursion Q xs
+all_weaker P Q [] f h = tt
+all_weaker P Q (x ∷ xs) f h = (f x h.0, all_weaker P Q xs f h.1)
+
+pub map_last : (front : List DoneFile) (last : DoneFile) → map path_of (front ++ last ∷ []) ≡ map path_of front ++ last.0 ∷ []
+map_last [] last = refl
+map_last (x ∷ front) last = ap (λ z. x.0 ∷ z) (map_last front last)
+
+-- what a run makes of each place
+pub run_kept : (s : Settings) (a b : Disk) (files : List DoneFile) (text : List ℕ) (reports : List (List ℕ)) → Run s a b files text reports
+    → (place : List ℕ) → IsKept s (a.state.history place) (b.state.history place)
+run_kept s a b files text reports none place = inl (stays_same (a.state.history place) (a.state.history place) refl)
+run_kept s a b files text reports (one_more between new front all path before line whole earlier own every outcome run step e w r) place =
+    kept_after s (a.state.history place) (between.state.history place) (new.state.history place) (run_kept s a between front before earlier run place)
+    (step_kept s between new path line own outcome step place)
+
+-- where files aren't replaced, nothing changes
+pub run_unasked : (s : Settings) (a b : Disk) (files : List DoneFile) (text : List ℕ) (reports : List (List ℕ)) → Run s a b files text reports
+    → s.options.write ≡ false → b ≡ a
+run_unasked s a b files text reports none unasked = refl
+run_unasked s a b files text reports (one_more between new front all path before line whole earlier own every outcome run step e w r) unasked =
+    step_unasked s between new path line own outcome step unasked ∙ run_unasked s a between front before earlier run unasked
+
+-- over tidy places nothing is replaced, and no file has a line
+pub run_tidy : (s : Settings) (a b : Disk) (files : List DoneFile) (text : List ℕ) (reports : List (List ℕ)) → Run s a b files text reports
+    → AreTidy s a.state (map path_of files) → (b ≡ a) × (text ≡ [])
+run_tidy s a b files text reports none t = (refl, refl)
+run_tidy s a b files text reports (one_more between new front all path before line whole earlier own every outcome run step e w r) t =
+    let P : List ℕ → Type 0 = λ p. IsTidy s (newest (a.state.history (a.state.place p))) in
+    let here : AllByRecursion P (map path_of front ++ path ∷ []) = subst (AllByRecursion P) (ap (map path_of) e ∙ map_last front (path, outcome)) t in
+    let before_it : (between ≡ a) × (before ≡ []) = run_tidy s a between front before earlier run (all_front P (map path_of front) (path ∷ []) here) in
+    let last : IsTidy s (content_at between.state path) =
+    subst (λ (d : Disk). IsTidy s (content_at d.state path)) (sym before_it.0) (all_next P (map path_of front) path [] here) in
+    let it : (new ≡ between) × (line ≡ []) = step_tidy s between new path line own outcome step last in
+    (it.0 ∙ before_it.0, w ∙ (ap (λ z. z ++ line) before_it.1 ∙ it.1))
+
+-- each file with the outcome `Minimal` is a minimal file at the end
+pub run_minimal : (s : Settings) (a b : Disk) (files : List DoneFile) (text : List ℕ) (reports : List (List ℕ)) → Run s a b files text reports
+    → AreMinimal s b.state files
+run_minimal s a b files text reports none = tt
+run_minimal s a b files text reports (one_more between new front all path before line whole earlier own every outcome run step e w r) =
+    let P : DiskState → DoneFile → Type 0 = λ d done. done.1 ≡ Minimal → HoldsMinimalFile s (d.history (d.place done.0)) in
+    let before_it : AllByRecursion (P between.state) front = run_minimal s a between front before earlier run in
+    let kept : AllByRecursion (P new.state) front = all_weaker (P between.state) (P new.state) front (λ done h z.
+    subst (λ (p : List ℕ). HoldsMinimalFile s (new.state.history p)) (sym (step_places s between new path line own outcome step done.0))
+    (minimal_kept s (between.state.history (between.state.place done.0)) (new.state.history (between.state.place done.0))
+    (step_kept s between new path line own outcome step (between.state.place done.0)) (h z))) before_it in
+    subst (AllByRecursion (P new.state)) (sym e) (all_more (P new.state) front (path, outcome) kept (step_minimal s between new path line own outcome step))

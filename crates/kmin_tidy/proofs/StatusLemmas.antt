@@ -1,0 +1,50 @@
+-- The status of a run, one file after another.
+use Rattle.std.proofs.Common.{◌≡◌, ℕ, ◌<◌, ◌≤◌, List, [], ◌∷◌, ◌++◌, refl, ap, ◌∙◌, max, arith}
+use Rattle.kmin_tidy.specs.Runs.{DoneFile, status_of, status_with}
+use Rattle.kmin_tidy.specs.checker.Statuses.{status_after, status_by}
+use Rattle.kmin_tidy.specs.declared.outcome.FileOutcome.{FileOutcome}
+use Rattle.kmin_tidy.specs.declared.outcome.FileOutcome.TheVariants.{Minimal, NotMinimal, Refused, Failed}
+use Rattle.std.proofs.lemmas.Bool.Decides.{nat_tests}
+
+first_status : (outcome : FileOutcome) → status_with outcome 0 ≡ status_after 0 outcome
+first_status Minimal = refl
+first_status NotMinimal = refl
+first_status Refused = refl
+first_status Failed = refl
+
+minimal_max : (n : ℕ) → max 1 (status_after n Minimal) ≡ status_after (max 1 n) Minimal
+minimal_max n = grind (arith, nat_tests)
+
+not_minimal_max : (n : ℕ) → max 1 (status_after n NotMinimal) ≡ status_after (max 1 n) NotMinimal
+not_minimal_max n = grind (arith, nat_tests)
+
+refused_max : (n : ℕ) → max 1 (status_after n Refused) ≡ status_after (max 1 n) Refused
+refused_max n = grind (arith, nat_tests)
+
+failed_max : (n : ℕ) → max 1 (status_after n Failed) ≡ status_after (max 1 n) Failed
+failed_max n = grind (arith, nat_tests)
+
+max_one : (n : ℕ) (outcome : FileOutcome) → max 1 (status_after n outcome) ≡ status_after (max 1 n) outcome
+max_one n Minimal = minimal_max n
+max_one n NotMinimal = not_minimal_max n
+max_one n Refused = refused_max n
+max_one n Failed = failed_max n
+
+with_last : (first : FileOutcome) (rest after : ℕ) (last : FileOutcome) → after ≡ status_after rest last → status_with first after ≡ status_after (status_with first rest) last
+with_last Minimal rest after last e = e
+with_last NotMinimal rest after last e = ap (max 1) e ∙ max_one rest last
+with_last Refused rest after last e = refl
+with_last Failed rest after last e = refl
+
+-- one file more
+pub status_last : (files : List DoneFile) (last : DoneFile) → status_of (files ++ last ∷ []) ≡ status_after (status_of files) last.1
+status_last [] last = first_status last.1
+status_last (first ∷ files) last = with_last first.1 (status_of files) (status_of (files ++ last ∷ [])) last.1 (status_last files last)
+
+-- the status of a file that was refused or failed stays
+pub high_status : (status : ℕ) (outcome : FileOutcome) → 4 ≤ status → status ≡ status_after status outcome
+high_status status outcome h = grind (arith, nat_tests)
+
+-- and any lower one gives way
+pub low_status : (status : ℕ) (outcome : FileOutcome) → status < 4 → status_by status outcome ≡ status_after status outcome
+low_status status outcome h = grind (arith, nat_tests)

@@ -1,0 +1,133 @@
+-- What the step of one file leaves.
+use Rattle.std.proofs.Common.{◌≡◌, ◌≢◌, ℕ, true, false, List, [], Option, Some, None, inl, inr, sym, ap, ◌∙◌, subst}
+use Rattle.kmin_disk.specs.Contents.{Content, nothing, file, unfinished, special}
+use Rattle.kmin_disk.specs.Disks.{DiskState, IsUnchanged, Replaces, content_at}
+use Rattle.kmin_disk.proofs.Places.{same_place_or_other}
+use Rattle.kmin_tidy.specs.Options.{Settings, Notices, refuses_notices}
+use Rattle.kmin_tidy.specs.MinimalFiles.{IsReadAs, HasMinimalFile, Differs}
+use Rattle.kmin_tidy.specs.Steps.{Disk, Step, refused, noticed, minimal, shown, replaced, unwritten, IsUnwritten, call_failed, names_taken, not_regular, unsynced}
+use Rattle.kmin_tidy.specs.Promises.{IsMinimised, IsKept, IsTidy}
+use Rattle.kmin_tidy.specs.Runs.{HoldsMinimalFile}
+use Rattle.kmin_tidy.specs.declared.outcome.FileOutcome.{FileOutcome}
+use Rattle.kmin_tidy.specs.declared.outcome.FileOutcome.TheVariants.{Minimal, NotMinimal, Refused, Failed}
+use Rattle.kmin_tidy.specs.Refusals as refusals
+use Rattle.kmin_tidy.specs.Refusals.{IsRefused}
+use Rattle.kmin_tidy.proofs.KeptPlaces.{stays_same, minimal_not, written_minimal, holds_read, holds_written}
+
+module _ (s : Settings) (a b : Disk) (path : List ℕ) where
+  -- nothing changed
+  pub same_kept : b ≡ a → (place : List ℕ) → IsKept s (a.state.history place) (b.state.history place)
+  same_kept e place = inl (stays_same (a.state.history place) (b.state.history place) (ap (λ (d : Disk). d.state.history place) e))
+
+  pub unchanged_kept : IsUnchanged a.state b.state → (place : List ℕ) → IsKept s (a.state.history place) (b.state.history place)
+  unchanged_kept u place = inl (u.histories place)
+
+  -- the file of a path was replaced by its minimal file
+  pub replaced_kept : (bytes least : List ℕ) (notices : Notices) → Differs s a.state path bytes least notices → Replaces a.state b.state path least
+      → (place : List ℕ) → IsKept s (a.state.history place) (b.state.history place)
+  replaced_kept bytes least notices d r place =
+      elim (same_place_or_other place (a.state.place path)) [
+        | inl is ↦ inr (subst (λ p. IsMinimised s (a.state.history p) (b.state.history p)) (sym is) (record {
+          bytes = bytes;
+          least = least;
+          notices = notices;
+          read = d.minimises.read.bytes_are;
+          minimal = d.minimises.minimal;
+          differs = d.differs;
+          replaced = r.target;
+        }))
+        | inr other ↦ inl (r.others place other)
+      ]
+
+  unwritten_kept : (bytes least : List ℕ) (notices : Notices) → Differs s a.state path bytes least notices → IsUnwritten a b path least
+      → (place : List ℕ) → IsKept s (a.state.history place) (b.state.history place)
+  unwritten_kept bytes least notices d (call_failed u f) place = unchanged_kept u place
+  unwritten_kept bytes least notices d (names_taken u t f) place = unchanged_kept u place
+  unwritten_kept bytes least notices d (not_regular u k f) place = unchanged_kept u place
+  unwritten_kept bytes least notices d (unsynced r f) place = replaced_kept bytes least notices d r place
+
+  -- what a step makes of each place
+  pub step_kept : (line : List ℕ) (reports : List (List ℕ)) (outcome : FileOutcome) → Step s a b path line reports outcome
+      → (place : List ℕ) → IsKept s (a.state.history place) (b.state.history place)
+  step_kept line reports outcome (refused report r e l k) place = same_kept e place
+  step_kept line reports outcome (noticed bytes notices r h some asked e l k o) place = same_kept e place
+  step_kept line reports outcome (minimal bytes notices m e l k o) place = same_kept e place
+  step_kept line reports outcome (shown bytes least notices d w e l k o) place = same_kept e place
+  step_kept line reports outcome (replaced bytes least notices d w r f l k o) place = replaced_kept bytes least notices d r place
+  step_kept line reports outcome (unwritten bytes least notices d w u l k o) place = unwritten_kept bytes least notices d u place
+
+  same_places : b ≡ a → (any : List ℕ) → b.state.place any ≡ a.state.place any
+  same_places e any = ap (λ (d : Disk). d.state.place any) e
+
+  unwritten_places : (least : List ℕ) → IsUnwritten a b path least → (any : List ℕ) → b.state.place any ≡ a.state.place any
+  unwritten_places least (call_failed u f) any = u.places any
+  unwritten_places least (names_taken u t f) any = u.places any
+  unwritten_places least (not_regular u k f) any = u.places any
+  unwritten_places least (unsynced r f) any = r.places any
+
+  -- paths lead where they led
+  pub step_places : (line : List ℕ) (reports : List (List ℕ)) (outcome : FileOutcome) → Step s a b path line reports outcome
+      → (any : List ℕ) → b.state.place any ≡ a.state.place any
+  step_places line reports outcome (refused report r e l k) any = same_places e any
+  step_places line reports outcome (noticed bytes notices r h some asked e l k o) any = same_places e any
+  step_places line reports outcome (minimal bytes notices m e l k o) any = same_places e any
+  step_places line reports outcome (shown bytes least notices d w e l k o) any = same_places e any
+  step_places line reports outcome (replaced bytes least notices d w r f l k o) any = r.places any
+  step_places line reports outcome (unwritten bytes least notices d w u l k o) any = unwritten_places least u any
+
+  -- where files aren't replaced, nothing changes
+  pub step_unasked : (line : List ℕ) (reports : List (List ℕ)) (outcome : FileOutcome) → Step s a b path line reports outcome
+      → s.options.write ≡ false → b ≡ a
+  step_unasked line reports outcome (refused report r e l k) unasked = e
+  step_unasked line reports outcome (noticed bytes notices r h some asked e l k o) unasked = e
+  step_unasked line reports outcome (minimal bytes notices m e l k o) unasked = e
+  step_unasked line reports outcome (shown bytes least notices d w e l k o) unasked = e
+  step_unasked line reports outcome (replaced bytes least notices d w r f l k o) unasked = let z : true ≡ false = sym w ∙ unasked in (cc)
+  step_unasked line reports outcome (unwritten bytes least notices d w u l k o) unasked = let z : true ≡ false = sym w ∙ unasked in (cc)
+
+  refused_not_minimal : (line : List ℕ) (outcome : FileOutcome) → IsRefused s a.state path outcome line → outcome ≡ Minimal → ⊥
+  refused_not_minimal line outcome (refusals.faulty bytes kind number r first o l) m = let z : Refused ≡ Minimal = sym o ∙ m in (cc)
+  refused_not_minimal line outcome (refusals.unread front rest number r first o l) m = let z : Failed ≡ Minimal = sym o ∙ m in (cc)
+  refused_not_minimal line outcome (refusals.unopened may opens o l) m = let z : Failed ≡ Minimal = sym o ∙ m in (cc)
+  refused_not_minimal line outcome (refusals.not_regular w k o l) m = let z : Failed ≡ Minimal = sym o ∙ m in (cc)
+
+  -- a file with the outcome `Minimal` is a minimal file
+  pub step_minimal : (line : List ℕ) (reports : List (List ℕ)) (outcome : FileOutcome) → Step s a b path line reports outcome
+      → outcome ≡ Minimal → HoldsMinimalFile s (b.state.history (b.state.place path))
+  step_minimal line reports outcome (refused report r e l k) m = absurd (refused_not_minimal report outcome r m)
+  step_minimal line reports outcome (noticed bytes notices r h some asked e l k o) m = let z : Refused ≡ Minimal = sym o ∙ m in (cc)
+  step_minimal line reports outcome (minimal bytes notices h e l k o) m =
+      subst (λ (d : Disk). HoldsMinimalFile s (d.state.history (d.state.place path))) (sym e)
+      (holds_read s (a.state.history (a.state.place path)) bytes h.read.bytes_are (written_minimal s bytes bytes notices h.minimal))
+  step_minimal line reports outcome (shown bytes least notices d w e l k o) m = let z : NotMinimal ≡ Minimal = sym o ∙ m in (cc)
+  step_minimal line reports outcome (replaced bytes least notices d w r f l k o) m =
+      subst (λ p. HoldsMinimalFile s (b.state.history p)) (sym (r.places path))
+      (subst (HoldsMinimalFile s) (sym r.target) (holds_written s (a.state.history (a.state.place path)) least (written_minimal s bytes least notices d.minimises.minimal)))
+  step_minimal line reports outcome (unwritten bytes least notices d w u l k o) m = let z : Failed ≡ Minimal = sym o ∙ m in (cc)
+
+-- a file of a tidy content has no minimal file of other bytes, and isn't accepted unless it is minimal
+tidy_content : (s : Settings) (content : Option Content) (bytes least : List ℕ) (notices : Notices) → IsTidy s content → IsReadAs content bytes
+    → HasMinimalFile s bytes least notices → (refuses_notices s.options ≡ true → notices ≡ []) → least ≢ bytes → ⊥
+tidy_content s None bytes least notices t r m allowed other = t
+tidy_content s (Some nothing) bytes least notices t r m allowed other = r
+tidy_content s (Some (file known)) bytes least notices (inl own) r m allowed other = minimal_not s known bytes least notices r own m other
+tidy_content s (Some (file known)) bytes least notices (inr refuses) r m allowed other =
+    let f = refuses least notices (subst (λ x. HasMinimalFile s x least notices) r m) in f.1 (allowed f.0)
+tidy_content s (Some unfinished) bytes least notices t r m allowed other = t
+tidy_content s (Some special) bytes least notices t r m allowed other = t
+
+-- where a path leads to a tidy content, its file doesn't differ
+pub tidy_same : (s : Settings) (disk : DiskState) (path bytes least : List ℕ) (notices : Notices) → IsTidy s (content_at disk path)
+    → Differs s disk path bytes least notices → ⊥
+tidy_same s disk path bytes least notices t d =
+    tidy_content s (content_at disk path) bytes least notices t d.minimises.read.bytes_are d.minimises.minimal d.minimises.allowed d.differs
+
+-- and the file has no line and is left as it is
+pub step_tidy : (s : Settings) (a b : Disk) (path line : List ℕ) (reports : List (List ℕ)) (outcome : FileOutcome) → Step s a b path line reports outcome
+    → IsTidy s (content_at a.state path) → (b ≡ a) × (line ≡ [])
+step_tidy s a b path line reports outcome (refused report r e l k) t = (e, l)
+step_tidy s a b path line reports outcome (noticed bytes notices r h some asked e l k o) t = (e, l)
+step_tidy s a b path line reports outcome (minimal bytes notices m e l k o) t = (e, l)
+step_tidy s a b path line reports outcome (shown bytes least notices d w e l k o) t = absurd (tidy_same s a.state path bytes least notices t d)
+step_tidy s a b path line reports outcome (replaced bytes least notices d w r f l k o) t = absurd (tidy_same s a.state path bytes least notices t d)
+step_tidy s a b path line reports outcome (unwritten bytes least notices d w u l k o) t = absurd (tidy_same s a.state path bytes least notices t d)

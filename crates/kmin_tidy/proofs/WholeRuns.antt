@@ -1,0 +1,66 @@
+-- Whole runs, by their paths.
+use Rattle.std.proofs.Common.{◌≡◌, ℕ, ◌+◌, ◌<◌, List, [], ◌∷◌, ◌++◌, refl, sym, ap, ◌∙◌, subst, take, drop, length, get_or, drop-cons, take-append-drop, suc, inl, inr, Result, Ok, Err, IfErr}
+use Rattle.std.specs.Borrow.{Bor}
+use Rattle.std.proofs.lemmas.List.{take_more, map-append}
+use Rattle.std.specs.Result.{IsErr, IsErrAnd}
+use Rattle.kmin_tidy.specs.Options.{Settings}
+use Rattle.kmin_tidy.specs.Steps.{Disk, Step}
+use Rattle.kmin_tidy.specs.Runs.{Run, none, one_more, Tidies, paths_of}
+use Rattle.kmin_tidy.specs.checker.Statuses.{status_after}
+use Rattle.kmin_tidy.specs.checker.FileResults.{StopsFile, StopsRun, before_write, at_write}
+use Rattle.kmin_tidy.specs.declared.outcome.FileOutcome.{FileOutcome}
+use Rattle.kmin_tidy.specs.declared.stop.Stop.{Stop}
+use Rattle.kmin_tidy.specs.declared.stop.Stop.TheVariants.{Memory}
+use Rattle.kmin_tidy.proofs.StatusLemmas.{status_last}
+use Rattle.kmin_tidy.proofs.RunLemmas.{map_last, run_minimal}
+
+-- no file yet
+pub tidies_none : (s : Settings) (a : Disk) → Tidies s a a [] [] [] 0
+tidies_none s a = record { files = []; paths_are = refl; run = none; status_is = refl; minimal = tt }
+
+-- one file more
+pub tidies_more : (s : Settings) (a b c : Disk) (paths all : List (List ℕ)) (path text line whole : List ℕ) (reports own every : List (List ℕ)) (status after : ℕ) (outcome : FileOutcome)
+    → Tidies s a b paths text reports status → Step s b c path line own outcome → all ≡ paths ++ path ∷ [] → whole ≡ text ++ line → every ≡ reports ++ own
+    → after ≡ status_after status outcome → Tidies s a c all whole every after
+tidies_more s a b c paths all path text line whole reports own every status after outcome t step e w r n =
+    let files = t.files ++ (path, outcome) ∷ [] in
+    let run : Run s a c files whole every = one_more b c t.files files path text line whole reports own every outcome t.run step refl w r in
+    record {
+      files = files;
+      paths_are = map_last t.files (path, outcome) ∙ (ap (λ (ps : List (List ℕ)). ps ++ path ∷ []) t.paths_are ∙ sym e);
+      run = run;
+      status_is = n ∙ (ap (λ (m : ℕ). status_after m outcome) t.status_is ∙ sym (status_last t.files (path, outcome)));
+      minimal = run_minimal s a c files whole every run;
+    }
+
+-- the first paths, and one more
+pub paths_next : (paths : List (Bor (List ℕ))) (i : ℕ) (d : Bor (List ℕ)) → i < length paths
+    → paths_of (take (i + 1) paths) ≡ paths_of (take i paths) ++ (get_or paths i d).now ∷ []
+paths_next paths i d h =
+    ap paths_of (take_more paths i d h) ∙ map-append (λ (p : Bor (List ℕ)). p.now) (take i paths) (get_or paths i d ∷ [])
+
+-- a path between those before it and those after it
+pub paths_at : (paths : List (Bor (List ℕ))) (i : ℕ) (d : Bor (List ℕ)) → i < length paths
+    → paths_of paths ≡ paths_of (take i paths) ++ (get_or paths i d).now ∷ paths_of (drop (suc i) paths)
+paths_at paths i d h =
+    ap paths_of (sym (take-append-drop i paths)) ∙ map-append (λ (p : Bor (List ℕ)). p.now) (take i paths) (drop i paths)
+    ∙ ap (λ ps. paths_of (take i paths) ++ paths_of ps) (drop-cons paths i d h)
+
+-- a run that ends at a file
+pub stops_run : (s : Settings) (a b c : Disk) (paths front back : List (List ℕ)) (path text : List ℕ) (earlier : List (List ℕ)) (made : ℕ) (stop : Stop)
+    → paths ≡ front ++ path ∷ back → Tidies s a b front text earlier made → StopsFile s b c path stop → StopsRun s a c paths earlier stop
+stops_run s a b c paths front back path text earlier made stop e t (inl h) = before_write b front (path ∷ back) text made e t h.1 h.0
+stops_run s a b c paths front back path text earlier made stop e t (inr h) = at_write b front back path text made e t h.0 h.1
+
+-- a run that ends before its first file
+pub stops_first : (s : Settings) (a : Disk) (paths : List (List ℕ)) → StopsRun s a a paths [] Memory
+stops_first s a paths = before_write a [] paths [] 0 refl (tidies_none s a) refl refl
+
+-- what memory that ran out leaves
+pub memory_stop : {T : Type 0} (r : Result T Stop) (P : Stop → Type 0) → IsErr r × IsErrAnd r (λ stop. stop ≡ Memory) → P Memory → IfErr r P
+memory_stop (Ok x) P h k = tt
+memory_stop (Err stop) P h k = subst P (sym h.1) k
+
+-- an error that is known
+pub if_err : {T E : Type 0} (r : Result T E) (e : E) (P : E → Type 0) → r ≡ Err e → P e → IfErr r P
+if_err r e P same h = rw same h

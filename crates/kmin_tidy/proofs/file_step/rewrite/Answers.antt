@@ -1,0 +1,41 @@
+use Rattle.std.proofs.Common.{◌≢◌, Bool, [], refl, sym, subst, append-nil, inl, inr}
+use Rattle.kmin_tidy.specs.Steps.{disk_of}
+use Rattle.kmin_tidy.specs.Reports.{difference_line}
+use Rattle.kmin_tidy.specs.checker.FileResults.{IsRewritten, same, shown}
+use Rattle.kmin_tidy.proofs.FileLemmas.{agree, differ, rewritten_by}
+use Rattle.kmin_tidy.proofs.ReadingLemmas.{if_ok_map, if_err_map}
+use Rattle.kmin_tidy.proofs.WholeRuns.{memory_stop}
+use Rattle.kmin_tidy.proofs.file_step.rewrite.Goals as goal
+
+pub returns-then-eq-clause-rewritten : goal.returns-then-eq-clause-rewritten
+returns-then-eq-clause-rewritten g c =
+    ([], sym (append-nil c.args.text.now.items), same (agree c.args.least.now c.args.bytes.now c.eq.result c.eq.ensures c.if-eq.true) refl refl refl refl)
+
+pub returns-then-options-clause-rewritten : goal.returns-then-options-clause-rewritten
+returns-then-options-clause-rewritten g c =
+    let a = disk_of (g.D.ReadDisk.state c.args.disk.now) (g.D.WriteDisk.failures c.args.disk.now) in
+    let b = disk_of (g.D.ReadDisk.state c.write_file.new.disk) (g.D.WriteDisk.failures c.write_file.new.disk) in
+    let path = c.args.path.now in
+    let bytes = c.args.bytes.now in
+    let least = c.args.least.now in
+    let line = difference_line path bytes least in
+    let other : least ≢ bytes = differ least bytes c.eq.result c.eq.ensures c.if-eq.false in
+    if_ok_map c.write_file.result _ _ (λ end w. (
+      line,
+      c.in_ok-push_difference_line.ensures,
+      subst (λ (write : Bool). IsRewritten write a b path bytes least line end) (sym c.if-options.true) (rewritten_by a b path bytes least line end other refl w),
+    ))
+    c.write_file.ensures.written
+
+pub returns-then-options-clause-stopped : goal.returns-then-options-clause-stopped
+returns-then-options-clause-stopped g c =
+    let other : c.args.least.now ≢ c.args.bytes.now = differ c.args.least.now c.args.bytes.now c.eq.result c.eq.ensures c.if-eq.false in
+    if_err_map c.write_file.result _ _ (λ stop h. inr (c.if-options.true, other, h)) c.write_file.ensures.stopped
+
+pub returns-else-options-clause-rewritten : goal.returns-else-options-clause-rewritten
+returns-else-options-clause-rewritten g c =
+    let other : c.args.least.now ≢ c.args.bytes.now = differ c.args.least.now c.args.bytes.now c.eq.result c.eq.ensures c.if-eq.false in
+    (difference_line c.args.path.now c.args.bytes.now c.args.least.now, c.in_ok-push_difference_line.ensures, shown other c.if-options.false refl refl refl refl)
+
+pub returns-in_err-push_difference_line-clause-stopped : goal.returns-in_err-push_difference_line-clause-stopped
+returns-in_err-push_difference_line-clause-stopped g c = memory_stop c.from_residual.result _ c.from_residual.ensures (inl (refl, refl))

@@ -1,0 +1,9 @@
+use Rattle.kmin_tidy.specs.StandardError.{none}
+use Rattle.kmin_tidy.proofs.Taking.{lines_one}
+use Rattle.kmin_tidy.proofs.report.report_problem.Goals as goal
+
+pub returns-in-Some : goal.returns-in-Some
+returns-in-Some g c = rw c.in-Some.is (lines_one _ _ _ _ _ c.write_problem.ensures)
+
+pub returns-in-None : goal.returns-in-None
+returns-in-None g c = rw c.in-None.is none

@@ -1,0 +1,53 @@
+-- How a run ends.
+use Rattle.std.specs.Prelude.{◌≡◌, ◌<◌, ℕ, true, List, [], ◌∷◌, ◌++◌, Option, length, take}
+use Rattle.std.specs.Io.KnownBytes.{Appends}
+use Rattle.kc_value.specs.Streams.{one_failure_more}
+use Rattle.kmin_disk.specs.Disks.{IsUnchanged, Leaves}
+use Rattle.kmin_disk.specs.NewFiles.{IsNewPath}
+use Rattle.kmin_tidy.specs.Options.{Settings, Notices}
+use Rattle.kmin_tidy.specs.MinimalFiles.{Differs}
+use Rattle.kmin_tidy.specs.Reports.{left_line, output_line, memory_line}
+use Rattle.kmin_tidy.specs.StandardError.{Rises}
+use Rattle.kmin_tidy.specs.Steps.{Disk}
+use Rattle.kmin_tidy.specs.Runs.{Tidies}
+
+-- Files are replaced, and this one isn't its own minimal file.
+pub record IsToBeReplaced (s : Settings) (disk : Disk) (path : List ℕ) : Type 0 where
+  pub asked : s.options.write ≡ true
+  pub bytes : List ℕ
+  pub least : List ℕ
+  pub notices : Notices
+  pub differs : Differs s disk.state path bytes least notices
+
+-- A new file is left in the folder of a path, after two failed calls.
+pub record LeavesNewFile (old new : Disk) (path new_path : List ℕ) : Type 0 where
+  pub leaves : Leaves old.state new.state new_path
+  pub named : IsNewPath path new_path
+  pub failures : new.failures ≡ one_failure_more (one_failure_more old.failures)
+
+-- A run went over the first of its paths. Then memory ran out, before a file was replaced or while it was, or a new file
+-- couldn't be removed.
+pub data Stops (s : Settings) (old new : Disk) (paths : List (List ℕ)) (reports : List (List ℕ)) (status : ℕ) : Type 0 where
+  before_write : (between : Disk) (front back : List (List ℕ)) (text : List ℕ) (earlier : List (List ℕ)) (made : ℕ)
+      → paths ≡ front ++ back → Tidies s old between front text earlier made → new ≡ between
+      → reports ≡ earlier ++ memory_line ∷ [] → status ≡ 6 → Stops s old new paths reports status
+  at_write : (between : Disk) (front back : List (List ℕ)) (path text : List ℕ) (earlier : List (List ℕ)) (made : ℕ)
+      → paths ≡ front ++ path ∷ back → Tidies s old between front text earlier made → IsToBeReplaced s between path
+      → IsUnchanged between.state new.state
+      → reports ≡ earlier ++ memory_line ∷ [] → status ≡ 6 → Stops s old new paths reports status
+  at_left : (between : Disk) (front back : List (List ℕ)) (path new_path text : List ℕ) (earlier : List (List ℕ)) (made : ℕ)
+      → paths ≡ front ++ path ∷ back → Tidies s old between front text earlier made → IsToBeReplaced s between path
+      → LeavesNewFile between new path new_path
+      → reports ≡ earlier ++ left_line new_path ∷ [] → status ≡ 5 → Stops s old new paths reports status
+
+-- A run ends: its text is written whole, or in part since a write failed; or it stopped early, and nothing is written.
+pub data Ends (s : Settings) (old new : Disk) (paths : List (List ℕ)) (taken taken_after : Option (List ℕ)) (failed failed_after : ℕ)
+    (reports : List (List ℕ)) (status : ℕ) : Type 0 where
+  whole : (text : List ℕ) → Tidies s old new paths text reports status → Appends taken taken_after text
+      → failed_after ≡ failed → Ends s old new paths taken taken_after failed failed_after reports status
+  part : (text : List ℕ) (earlier : List (List ℕ)) (made count : ℕ) → Tidies s old new paths text earlier made
+      → count < length text → Appends taken taken_after (take count text) → Rises failed failed_after
+      → reports ≡ earlier ++ output_line ∷ [] → status ≡ 5
+      → Ends s old new paths taken taken_after failed failed_after reports status
+  stopped : Stops s old new paths reports status → taken_after ≡ taken → failed_after ≡ failed
+      → Ends s old new paths taken taken_after failed failed_after reports status

@@ -1,0 +1,10 @@
+pub mod Options
+pub mod MinimalFiles
+pub mod Reports
+pub mod StandardError
+pub mod Refusals
+pub mod Steps
+pub mod Runs
+pub mod Ends
+pub mod Promises
+pub mod checker

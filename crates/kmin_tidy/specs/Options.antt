@@ -1,0 +1,38 @@
+-- What a run goes by.
+use Rattle.std.specs.Prelude.{◌≡◌, ℕ, Bool, true, not, ◌&&◌, ◌||◌, List, []}
+use Rattle.kc_tree_model.specs.Trees.{Tree}
+use Rattle.kc_rules_model.specs.declared.profile.Profile.{Profile}
+use Rattle.kc_dotconfig_model.specs.declared.notice.NoticeKind.{NoticeKind}
+use Rattle.kc_rules.specs.declared.rules.Settled.{Settled}
+use Rattle.kc_rules.specs.between.SettledViews.{tree_of_settled, profile_of}
+use Rattle.kc_dotconfig_model.specs.declared.prefix.Prefix.{Prefix}
+use Rattle.kc_dotconfig_model.specs.between.Prefixes.{prefix_bytes}
+use Rattle.kmin_tidy.specs.declared.options.TidyOptions.{TidyOptions}
+
+-- the tree with the profile of its rules, the prefix of names, and the options
+pub record Settings : Type 0 where
+  pub prefix : List ℕ
+  pub profile : Profile
+  pub tree : Tree
+  pub options : TidyOptions
+
+-- those of a settled tree
+abbrev pub settings_of : Settled → Prefix → TidyOptions → Settings
+settings_of settled prefix options = record {
+  prefix = prefix_bytes prefix;
+  profile = profile_of settled;
+  tree = tree_of_settled settled;
+  options = options;
+}
+
+-- notices of lines, each with the number of its line and its kind
+abbrev pub Notices : Type 0
+Notices = List (ℕ × NoticeKind)
+
+-- a file with a notice is refused: under `strict`, and where it would be written without its line unless `drop` is given
+abbrev pub refuses_notices : TidyOptions → Bool
+refuses_notices options = options.strict || (options.write && not options.drop)
+
+-- a file with these notices isn't refused for them
+abbrev pub Allows : TidyOptions → Notices → Type 0
+Allows options notices = refuses_notices options ≡ true → notices ≡ []

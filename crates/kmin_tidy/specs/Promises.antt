@@ -1,0 +1,50 @@
+-- What holds however a run ends.
+use Rattle.std.specs.Prelude.{◌≡◌, ◌≢◌, ◌↔◌, ◌⊎◌, ℕ, true, List, [], Option, Some}
+use Rattle.std.specs.List.{AllByRecursion}
+use Rattle.kc_minimal_model.specs.Loading.{HaveSameValues}
+use Rattle.kmin_disk.specs.Contents.{Content, nothing, file, unfinished}
+use Rattle.kmin_disk.specs.Disks.{DiskState, History, Stays, newest, with_newest}
+use Rattle.kmin_tidy.specs.Options.{Settings, Notices, refuses_notices}
+use Rattle.kmin_tidy.specs.MinimalFiles.{IsReadAs, HasMinimalFile, IsMinimalFile}
+
+-- The file of a place was replaced by its minimal file.
+pub record IsMinimised (s : Settings) (old new : History) : Type 0 where
+  pub bytes : List ℕ
+  pub least : List ℕ
+  pub notices : Notices
+  pub read : IsReadAs (newest old) bytes
+  pub minimal : HasMinimalFile s bytes least notices
+  pub differs : least ≢ bytes
+  pub replaced : new ≡ with_newest (file least) old
+
+-- A place is as it was, or has just its minimal file more.
+abbrev pub IsKept : Settings → (old new : History) → Type 0
+IsKept s old new = Stays old new ⊎ IsMinimised s old new
+
+-- a new file is left where nothing was
+abbrev pub IsLeft : (old new : History) → Type 0
+IsLeft old new = (newest old ≡ Some nothing) × (newest new ≡ Some unfinished)
+
+-- What became of a place when a run has ended, early or not.
+abbrev pub Became : Settings → (old new : History) → Type 0
+Became s old new = IsKept s old new ⊎ IsLeft old new
+
+-- bytes aren't accepted, or are refused for their notices
+abbrev pub IsRefusedFile : Settings → (bytes : List ℕ) → Type 0
+IsRefusedFile s bytes = (least : List ℕ) (notices : Notices) → HasMinimalFile s bytes least notices
+    → (refuses_notices s.options ≡ true) × (notices ≢ [])
+
+-- a content is known: no file, or one that is a minimal file or refused
+abbrev pub IsTidy : Settings → Option Content → Type 0
+IsTidy s (Some nothing) = Unit {0}
+IsTidy s (Some (file bytes)) = IsMinimalFile s bytes ⊎ IsRefusedFile s bytes
+IsTidy s _ = ⊥
+
+-- each path leads to such a content
+abbrev pub AreTidy : Settings → DiskState → List (List ℕ) → Type 0
+AreTidy s disk paths = AllByRecursion (λ path. IsTidy s (newest (disk.history (disk.place path)))) paths
+
+-- Two files give every symbol the same value exactly if their minimal files have the same bytes.
+abbrev pub MinimalFilesAreEqual : Type 0
+MinimalFilesAreEqual = (s : Settings) (a b least_a least_b : List ℕ) (m n : Notices) → (left : HasMinimalFile s a least_a m)
+    → (right : HasMinimalFile s b least_b n) → HaveSameValues s.tree left.values right.values ↔ (least_a ≡ least_b)

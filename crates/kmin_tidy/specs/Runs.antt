@@ -1,0 +1,60 @@
+-- Runs over files.
+use Rattle.std.specs.Prelude.{◌≡◌, ℕ, List, [], ◌∷◌, ◌++◌, map, max, Some}
+use Rattle.std.specs.Borrow.{Bor}
+use Rattle.std.specs.List.{AllByRecursion}
+use Rattle.kmin_disk.specs.Disks.{DiskState, History}
+use Rattle.kmin_tidy.specs.Options.{Settings}
+use Rattle.kmin_tidy.specs.MinimalFiles.{IsMinimalFile, IsReadAs}
+use Rattle.kmin_tidy.specs.Steps.{Disk, Step}
+use Rattle.kmin_tidy.specs.declared.outcome.FileOutcome.{FileOutcome}
+use Rattle.kmin_tidy.specs.declared.outcome.FileOutcome.TheVariants.{Minimal, NotMinimal, Refused, Failed}
+
+-- the path of a file with its outcome
+abbrev pub DoneFile : Type 0
+DoneFile = List ℕ × FileOutcome
+
+-- the path of a file that was gone over
+abbrev pub path_of : DoneFile → List ℕ
+path_of done = done.0
+
+-- One file after another, each over the disk of its turn.
+pub data Run (s : Settings) (old : Disk) : Disk → List DoneFile → (text : List ℕ) → (reports : List (List ℕ)) → Type 0 where
+  none : Run s old old [] [] []
+  one_more : (between new : Disk) (files all : List DoneFile) (path text line whole : List ℕ) (reports own every : List (List ℕ)) (outcome : FileOutcome)
+      → Run s old between files text reports → Step s between new path line own outcome
+      → all ≡ files ++ (path, outcome) ∷ [] → whole ≡ text ++ line → every ≡ reports ++ own
+      → Run s old new all whole every
+
+-- the status by the outcome of a file and the status of those after it
+abbrev pub status_with : FileOutcome → (rest : ℕ) → ℕ
+status_with Minimal rest = rest
+status_with NotMinimal rest = max 1 rest
+status_with Refused rest = 4
+status_with Failed rest = 5
+
+-- the status of a run: of the first file that is refused or failed, else 1 where a file isn't minimal
+abbrev pub status_of : List DoneFile → ℕ
+status_of [] = 0
+status_of (done ∷ files) = status_with done.1 (status_of files)
+
+-- a place holds a minimal file, if anything is known of it
+abbrev pub HoldsMinimalFile : Settings → History → Type 0
+HoldsMinimalFile s [] = Unit {0}
+HoldsMinimalFile s (content ∷ before) = (bytes : List ℕ) × IsReadAs (Some content) bytes × IsMinimalFile s bytes
+
+-- each file with the outcome `Minimal` is a minimal file
+abbrev pub AreMinimal : Settings → DiskState → List DoneFile → Type 0
+AreMinimal s disk files = AllByRecursion (λ done. done.1 ≡ Minimal → HoldsMinimalFile s (disk.history (disk.place done.0))) files
+
+-- the paths of a list of texts
+abbrev pub paths_of : List (Bor (List ℕ)) → List (List ℕ)
+paths_of paths = map (λ (path : Bor (List ℕ)). path.now) paths
+
+-- A whole run over some paths: its text, its lines of standard error and its status. At its end each file with the
+-- outcome `Minimal` is a minimal file.
+pub record Tidies (s : Settings) (old new : Disk) (paths : List (List ℕ)) (text : List ℕ) (reports : List (List ℕ)) (status : ℕ) : Type 0 where
+  pub files : List DoneFile
+  pub paths_are : map path_of files ≡ paths
+  pub run : Run s old new files text reports
+  pub status_is : status ≡ status_of files
+  pub minimal : AreMinimal s new.state files

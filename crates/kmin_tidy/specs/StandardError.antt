@@ -1,0 +1,31 @@
+-- The lines that a writer takes, one after another.
+use Rattle.std.specs.Prelude.{◌≡◌, ℕ, ◌<◌, ◌-◌, ◌^◌, ◌⊎◌, List, [], ◌∷◌, ◌++◌, Option, length, take}
+use Rattle.std.specs.Io.KnownBytes.{Appends}
+
+-- a count of failures rose, where it could
+abbrev pub Rises : (before after : ℕ) → Type 0
+Rises before after = before < 2 ^ 64 - 1 → before < after
+
+-- a writer took a text to its end, and no write failed
+pub record TakesWhole (before : Option (List ℕ)) (failed : ℕ) (text : List ℕ) (after : Option (List ℕ)) (failed_after : ℕ) : Type 0 where
+  pub appends : Appends before after text
+  pub unfailed : failed_after ≡ failed
+
+-- a write failed, and the writer took the first bytes of the text, and not all of them
+pub record TakesPart (before : Option (List ℕ)) (failed : ℕ) (text : List ℕ) (after : Option (List ℕ)) (failed_after : ℕ) : Type 0 where
+  pub written : ℕ
+  pub within : written < length text
+  pub appends : Appends before after (take written text)
+  pub rose : Rises failed failed_after
+
+-- a writer took a line, or where a write failed its first bytes
+abbrev pub TakesLine : Option (List ℕ) → ℕ → List ℕ → Option (List ℕ) → ℕ → Type 0
+TakesLine before failed line after failed_after =
+    TakesWhole before failed line after failed_after ⊎ TakesPart before failed line after failed_after
+
+-- a writer took these lines in order, and nothing else
+pub data TakesLines (before : Option (List ℕ)) (failed : ℕ) : List (List ℕ) → Option (List ℕ) → ℕ → Type 0 where
+  none : TakesLines before failed [] before failed
+  one_more : (lines all : List (List ℕ)) (line : List ℕ) (middle after : Option (List ℕ)) (failed_middle failed_after : ℕ)
+      → TakesLines before failed lines middle failed_middle → TakesLine middle failed_middle line after failed_after
+      → all ≡ lines ++ line ∷ [] → TakesLines before failed all after failed_after

@@ -1,0 +1,40 @@
+-- Reports of files that are refused or not replaced.
+use Rattle.std.specs.Prelude.{◌≡◌, ◌≢◌, ◌⊎◌, [], Some}
+use Rattle.kc_dotconfig_model.specs.declared.fault.LoadKind.TheVariants.{Read, OutOfMemory as LoadMemory}
+use Rattle.kc_dotconfig_model.specs.declared.fault.LoadFault.{LoadFault}
+use Rattle.kmin_tidy.specs.declared.outcome.FileOutcome.TheVariants.{Refused, Failed}
+use Rattle.kmin_tidy.specs.declared.report.Problem.TheVariants.{Fault, Write}
+use Rattle.kmin_tidy.specs.declared.file_step.FileEnd.{FileEnd}
+use Rattle.kmin_tidy.specs.declared.stop.Stop.{Stop}
+use Rattle.kmin_tidy.specs.declared.stop.Stop.TheVariants.{Memory, Left as StopLeft}
+use Rattle.kmin_disk.specs.declared.fault.ReplaceFault.{ReplaceFault}
+use Rattle.kmin_disk.specs.declared.fault.ReplaceFault.TheVariants.{NotRegular, Unchanged, NamesTaken, Left, FolderNotSynced, OutOfMemory}
+use Rattle.kmin_tidy.specs.declared.report.FileReport.{FileReport}
+
+-- the report of a file with a fault
+pub record IsRefusedAs (fault : LoadFault) (report : FileReport) : Type 0 where
+  pub notices : report.notices.items ≡ []
+  pub problem : report.problem ≡ Some (Fault fault)
+  pub outcome : ((fault.kind ≡ Read) × (report.outcome ≡ Failed)) ⊎ ((fault.kind ≢ Read) × (fault.kind ≢ LoadMemory) × (report.outcome ≡ Refused))
+
+-- a file ends so that isn't replaced, or not for good
+abbrev pub IsNotWritten : FileEnd → Type 0
+IsNotWritten end = (end.problem ≡ Some Write) × (end.outcome ≡ Failed)
+
+-- a fault of replacing lets the run go on
+abbrev pub IsFailedBy : ReplaceFault → FileEnd → Type 0
+IsFailedBy OutOfMemory end = ⊥
+IsFailedBy (Left new_path) end = ⊥
+IsFailedBy NotRegular end = IsNotWritten end
+IsFailedBy Unchanged end = IsNotWritten end
+IsFailedBy NamesTaken end = IsNotWritten end
+IsFailedBy FolderNotSynced end = IsNotWritten end
+
+-- a fault of replacing ends the run
+abbrev pub IsStoppedBy : ReplaceFault → Stop → Type 0
+IsStoppedBy OutOfMemory stop = stop ≡ Memory
+IsStoppedBy (Left new_path) stop = stop ≡ StopLeft new_path
+IsStoppedBy NotRegular stop = ⊥
+IsStoppedBy Unchanged stop = ⊥
+IsStoppedBy NamesTaken stop = ⊥
+IsStoppedBy FolderNotSynced stop = ⊥

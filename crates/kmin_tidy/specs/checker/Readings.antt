@@ -1,0 +1,49 @@
+-- Files that are read.
+use Rattle.std.specs.Prelude.{◌≡◌, ◌≢◌, ◌⊎◌, ℕ, List, ◌++◌, Option, None, map}
+use Rattle.kc_dotconfig_model.specs.ConfigLines.{LineMeaning}
+use Rattle.kc_dotconfig_model.specs.ConfigFiles.{FileMeans, file_assignment, notices_from}
+use Rattle.kc_dotconfig_model.specs.LoadFaults.{IsAccepted, IsFirstFault, complete, cut_short}
+use Rattle.kc_dotconfig_model.specs.declared.fault.LoadKind.{LoadKind}
+use Rattle.kc_dotconfig_model.specs.declared.fault.LoadKind.TheVariants.{Read, OutOfMemory}
+use Rattle.kc_dotconfig.specs.declared.fragment.Fragment.{Fragment}
+use Rattle.kc_dotconfig.specs.Fragments.{FitsTree, users_of, notice_pair}
+use Rattle.kc_tree_model.specs.Trees.{Tree}
+use Rattle.kmin_disk.specs.Contents.{OpensAs}
+use Rattle.kmin_tidy.specs.MinimalFiles.{AreKnownBytes}
+use Rattle.kmin_tidy.specs.declared.reading.AcceptedFile.{AcceptedFile}
+
+-- what a fragment holds is what accepted bytes assign, with the notices of their lines
+pub record IsFragmentOf (prefix : List ℕ) (tree : Tree) (bytes : List ℕ) (f : Fragment) : Type 0 where
+  pub accepted : IsAccepted prefix tree bytes
+  pub meanings : List LineMeaning
+  pub means : FileMeans prefix tree bytes meanings
+  pub users : users_of tree f.assigns.items ≡ file_assignment tree meanings
+  pub noted : map notice_pair f.notices.items ≡ notices_from 1 meanings
+  pub fits : FitsTree tree f.assigns.items
+
+-- known bytes were read, and accepted
+pub record IsAcceptedAs (prefix : List ℕ) (tree : Tree) (known : Option (Option (List ℕ))) (file : AcceptedFile) : Type 0 where
+  pub read : AreKnownBytes known file.bytes.items
+  pub fragment : IsFragmentOf prefix tree file.bytes.items file.fragment
+
+-- a fault of a whole file, or memory ran out
+abbrev pub IsFaultOf : List ℕ → Tree → (bytes : List ℕ) → LoadKind → ℕ → Type 0
+IsFaultOf prefix tree bytes kind number = (kind ≡ OutOfMemory) ⊎ ((kind ≢ Read) × IsFirstFault prefix tree complete bytes kind number)
+
+-- a fault of a file of which these bytes were read before a read that failed, or memory ran out
+pub data IsFaultOfPart (prefix : List ℕ) (tree : Tree) (bytes : List ℕ) (kind : LoadKind) (number : ℕ) : Type 0 where
+  in_front : kind ≢ Read → ((rest : List ℕ) → IsFirstFault prefix tree complete (bytes ++ rest) kind number)
+      → IsFaultOfPart prefix tree bytes kind number
+  at_failure : (front back : List ℕ) → bytes ≡ front ++ back → IsFirstFault prefix tree cut_short front Read number → kind ≡ Read
+      → IsFaultOfPart prefix tree bytes kind number
+  no_memory : kind ≡ OutOfMemory → IsFaultOfPart prefix tree bytes kind number
+
+-- known bytes aren't accepted: by their first fault, by a read that fails before one, or since they can't be opened; or
+-- memory ran out
+pub data IsFaulty (prefix : List ℕ) (tree : Tree) (known : Option (Option (List ℕ))) (kind : LoadKind) (number : ℕ) : Type 0 where
+  refused : (bytes : List ℕ) → AreKnownBytes known bytes → kind ≢ Read → IsFirstFault prefix tree complete bytes kind number
+      → IsFaulty prefix tree known kind number
+  unread : (front rest : List ℕ) → AreKnownBytes known (front ++ rest) → IsFirstFault prefix tree cut_short front Read number
+      → kind ≡ Read → IsFaulty prefix tree known kind number
+  unopened : OpensAs known None → kind ≡ Read → number ≡ 0 → IsFaulty prefix tree known kind number
+  for_memory : kind ≡ OutOfMemory → IsFaulty prefix tree known kind number

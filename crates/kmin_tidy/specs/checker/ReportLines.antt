@@ -1,0 +1,29 @@
+-- The lines of each report.
+use Rattle.std.specs.Prelude.{ℕ, List, [], ◌∷◌, ◌++◌, Option, Some, None, map, string_bytes}
+use Rattle.kc_dotconfig.specs.Fragments.{notice_pair}
+use Rattle.kmin_tidy.specs.Reports.{fault_line, not_regular_line, write_line, left_line, memory_line, notice_lines}
+use Rattle.kmin_tidy.specs.declared.report.Problem.{Problem}
+use Rattle.kmin_tidy.specs.declared.report.Problem.TheVariants.{Fault, NotRegular, Write}
+use Rattle.kmin_tidy.specs.declared.report.FileReport.{FileReport}
+use Rattle.kmin_tidy.specs.declared.stop.Stop.{Stop}
+use Rattle.kmin_tidy.specs.declared.stop.Stop.TheVariants.{Memory, Left}
+
+-- the line of a problem
+abbrev pub problem_line : (path : List ℕ) → Problem → List ℕ
+problem_line path (Fault fault) = fault_line path fault.line fault.kind
+problem_line path NotRegular = not_regular_line path
+problem_line path Write = write_line path
+
+-- the line of a problem, if there is one
+abbrev pub problem_lines : (path : List ℕ) → Option Problem → List (List ℕ)
+problem_lines path None = []
+problem_lines path (Some problem) = problem_line path problem ∷ []
+
+-- the lines of what is reported of a file
+abbrev pub report_lines : (path : List ℕ) → FileReport → List (List ℕ)
+report_lines path report = notice_lines path (map notice_pair report.notices.items) ++ problem_lines path report.problem
+
+-- the last line of a run that ends early
+abbrev pub stop_line : Stop → List ℕ
+stop_line Memory = memory_line
+stop_line (Left new_path) = left_line (string_bytes new_path)

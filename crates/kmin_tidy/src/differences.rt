@@ -1,0 +1,59 @@
+//! The lines of standard output: how a file differs from its minimal file.
+ghost use Rattle.std.specs.Prelude.{◌≡◌, ◌++◌, codes, OnOk};
+ghost use Rattle.std.specs.Fmt.{decimal};
+ghost use Rattle.kmin_tidy.specs.Reports.{difference, difference_line};
+
+use itoa::Buffer;
+use kc_value::Seed;
+use kmin_lines::{LineCounts, count_lines};
+use std::alloc::{AllocError, Global};
+
+/// Appends the line of a file of these bytes, which aren't those of its minimal file.
+pub(crate) fn push_difference_line(
+    alloc: Global,
+    seed: Seed,
+    path: &str,
+    bytes: &[u8],
+    least: &[u8],
+    text: &mut Vec<u8>,
+) -> Result<(), AllocError>
+    ensures { OnOk result (text.new.items ≡ text.old.items ++ difference_line path.now bytes.now least.now) }
+{
+    let counts = count_lines(alloc, seed, bytes, least)?;
+    push_line(path, counts, text)
+}
+
+/// Appends the line of a file with these counts of lines.
+fn push_line(path: &str, counts: LineCounts, text: &mut Vec<u8>) -> Result<(), AllocError>
+    ensures { OnOk result (text.new.items ≡ text.old.items ++ (path.now ++ (codes ": " ++ (difference counts.out counts.in_ ++ codes "\n")))) }
+{
+    text.extend_from_slice(path.as_bytes())?;
+    text.extend_from_slice(b": ")?;
+    push_difference(counts, text)?;
+    text.extend_from_slice(b"\n")?;
+    Ok(())
+}
+
+/// Appends `K out, L in`, or `order` where no lines differ.
+fn push_difference(counts: LineCounts, text: &mut Vec<u8>) -> Result<(), AllocError>
+    ensures { OnOk result (text.new.items ≡ text.old.items ++ difference counts.out counts.in_) }
+{
+    if counts.out == 0 && counts.in_ == 0 {
+        text.extend_from_slice(b"order")?;
+        return Ok(());
+    }
+    push_number(counts.out, text)?;
+    text.extend_from_slice(b" out, ")?;
+    push_number(counts.in_, text)?;
+    text.extend_from_slice(b" in")?;
+    Ok(())
+}
+
+/// Appends the decimal digits of a number.
+fn push_number(number: usize, text: &mut Vec<u8>) -> Result<(), AllocError>
+    ensures { OnOk result (text.new.items ≡ text.old.items ++ decimal number) }
+{
+    let mut digits = Buffer::new();
+    text.extend_from_slice(digits.format(number).as_bytes())?;
+    Ok(())
+}

@@ -1,0 +1,71 @@
+//! Readers over the bytes of a file that were read before.
+ghost use Rattle.std.specs.Prelude.{◌≡◌, ◌∷◌, ◌++◌, [], Some};
+
+use kc_value::{Failed, Source};
+
+/// The bytes of a whole file. No read fails.
+#[derive(Drop)]
+pub(crate) struct WholeReader<'a> {
+    rest: &'a [u8],
+}
+
+impl<'a> WholeReader<'a> {
+    /// A reader that has these bytes left.
+    pub(crate) fn new(bytes: &'a [u8]) -> WholeReader<'a>
+        ensures { result.rest.now ≡ bytes.entry.now }
+    {
+        WholeReader { rest: bytes }
+    }
+}
+
+impl Source for WholeReader<'_> {
+    ghost left = { λ s. Some s.rest.now };
+
+    ghost failures = { λ _. 0 };
+
+    fn read_some(&mut self, buf: &mut [u8]) -> Result<usize, Failed> {
+        let count = self.rest.len().min(buf.len());
+        let (front, rest) = self.rest.split_at(count);
+        buf[..count].copy_from_slice(front);
+        self.rest = rest;
+        Ok(count)
+    }
+}
+
+/// The first bytes of a file. A read fails after them.
+#[derive(Drop)]
+pub(crate) struct PartReader<'a> {
+    rest: &'a [u8],
+    failed: u64,
+}
+
+impl<'a> PartReader<'a> {
+    /// A reader that has these bytes left.
+    pub(crate) fn new(bytes: &'a [u8]) -> PartReader<'a>
+        ensures { result.rest.now ≡ bytes.entry.now }
+    {
+        PartReader {
+            rest: bytes,
+            failed: 0,
+        }
+    }
+}
+
+// The byte that is left last stands for what can't be read.
+impl Source for PartReader<'_> {
+    ghost left = { λ s. Some (s.rest.now ++ 0 ∷ []) };
+
+    ghost failures = { λ s. s.failed };
+
+    fn read_some(&mut self, buf: &mut [u8]) -> Result<usize, Failed> {
+        if self.rest.is_empty() {
+            self.failed = self.failed.saturating_add(1);
+            return Err(Failed);
+        }
+        let count = self.rest.len().min(buf.len());
+        let (front, rest) = self.rest.split_at(count);
+        buf[..count].copy_from_slice(front);
+        self.rest = rest;
+        Ok(count)
+    }
+}

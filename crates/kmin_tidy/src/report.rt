@@ -1,0 +1,120 @@
+//! The lines of standard error.
+ghost use Rattle.std.specs.Prelude.{◌≡◌, ◌∷◌, [], ◌++◌, ℕ, List, map, OnOk, OnErr};
+ghost use Rattle.std.specs.Borrow.{Bor};
+ghost use Rattle.std.specs.List.{flat_map};
+ghost use Rattle.kc_dotconfig.specs.Fragments.{notice_pair};
+ghost use Rattle.kmin_tidy.specs.Reports.{place_line, notice_line, notice_lines, left_line, output_line, memory_line};
+ghost use Rattle.kmin_tidy.specs.StandardError.{TakesWhole, TakesPart, TakesLine, TakesLines};
+ghost use Rattle.kmin_tidy.specs.checker.ReportLines.{problem_line, problem_lines, report_lines, stop_line};
+
+use crate::outcome::FileOutcome;
+use crate::stop::Stop;
+use itoa::Buffer;
+use kc_dotconfig::{LoadFault, Notice};
+use kc_minimal::{WriteFault, write_out};
+use kc_value::Sink;
+
+/// Why a file isn't read or replaced.
+#[derive(Clone, Copy, Debug, PartialEq, Eq)]
+pub(crate) enum Problem {
+    /// It can't be read, or isn't a configuration file.
+    Fault(LoadFault),
+    /// It is no regular file.
+    NotRegular,
+    /// It isn't replaced, or not for good.
+    Write,
+}
+
+/// What became of a file, and what is reported of it.
+#[derive(Drop)]
+pub(crate) struct FileReport {
+    pub(crate) notices: Vec<Notice>,
+    pub(crate) problem: Option<Problem>,
+    pub(crate) outcome: FileOutcome,
+}
+
+/// Writes what is reported of a file: its notices, and then its problem.
+pub(crate) fn report_file<E: Sink>(path: &str, report: &FileReport, err: &mut E)
+    ensures { TakesLines (E.taken err.old) (E.failures err.old) (report_lines path.now report.now) (E.taken err.new) (E.failures err.new) }
+{
+    report_notices(path, &report.notices, err);
+    report_problem(path, report.problem, err);
+}
+
+/// Writes the notices of a file.
+fn report_notices<E: Sink>(path: &str, notices: &[Notice], err: &mut E)
+    ensures { TakesLines (E.taken err.old) (E.failures err.old) (map (λ notice. notice_line path.now (notice_pair notice)) notices.now)
+        (E.taken err.new) (E.failures err.new) }
+{
+    for notice in notices {
+        write_place(path, notice.line, notice.kind.name(), err);
+    }
+}
+
+/// Writes the problem of a file, if it has one.
+fn report_problem<E: Sink>(path: &str, problem: Option<Problem>, err: &mut E)
+    ensures { TakesLines (E.taken err.old) (E.failures err.old) (problem_lines path.now problem) (E.taken err.new) (E.failures err.new) }
+{
+    match problem {
+        Some(problem) => write_problem(path, problem, err),
+        None => {}
+    }
+}
+
+/// Writes the line of a problem.
+fn write_problem<E: Sink>(path: &str, problem: Problem, err: &mut E)
+    ensures { TakesLine (E.taken err.old) (E.failures err.old) (problem_line path.now problem) (E.taken err.new) (E.failures err.new) }
+{
+    match problem {
+        Problem::Fault(fault) => write_place(path, fault.line, fault.kind.name(), err),
+        Problem::NotRegular => write_place(path, 0, "NotRegular", err),
+        Problem::Write => write_line(&[path, ": Write\n"], err),
+    }
+}
+
+/// Writes the last line of a run that ends early.
+pub(crate) fn report_stop<E: Sink>(stop: &Stop, err: &mut E)
+    ensures { TakesLine (E.taken err.old) (E.failures err.old) (stop_line stop.now) (E.taken err.new) (E.failures err.new) }
+{
+    match stop {
+        Stop::Memory => write_line(&["out of memory\n"], err),
+        Stop::Left(new_path) => write_line(&[new_path.as_str(), ": Left\n"], err),
+    }
+}
+
+/// Writes that the output can't be written.
+pub(crate) fn report_output<E: Sink>(err: &mut E)
+    ensures { TakesLine (E.taken err.old) (E.failures err.old) output_line (E.taken err.new) (E.failures err.new) }
+{
+    write_line(&["output: Write\n"], err);
+}
+
+/// Writes `FILE:LINE: KIND`.
+fn write_place<E: Sink>(path: &str, line: u32, kind: &str, err: &mut E)
+    ensures { TakesLine (E.taken err.old) (E.failures err.old) (place_line path.now line kind.now) (E.taken err.new) (E.failures err.new) }
+{
+    let mut digits = Buffer::new();
+    let number = digits.format(line);
+    write_line(&[path, ":", number, ": ", kind, "\n"], err);
+}
+
+/// Writes a line of these pieces, up to the first write that fails.
+fn write_line<E: Sink>(pieces: &[&str], err: &mut E)
+    ensures { TakesLine (E.taken err.old) (E.failures err.old) (flat_map (λ (piece : Bor (List ℕ)). piece.now) pieces.now) (E.taken err.new)
+        (E.failures err.new) }
+{
+    let _ = write_pieces(pieces, err);
+}
+
+/// Writes texts, one after another, up to the first write that fails.
+fn write_pieces<W: Sink>(pieces: &[&str], sink: &mut W) -> Result<(), WriteFault>
+    ensures whole { OnOk result (TakesWhole (W.taken sink.old) (W.failures sink.old) (flat_map (λ (piece : Bor (List ℕ)). piece.now) pieces.now)
+        (W.taken sink.new) (W.failures sink.new)) }
+    ensures part { OnErr result (TakesPart (W.taken sink.old) (W.failures sink.old) (flat_map (λ (piece : Bor (List ℕ)). piece.now) pieces.now)
+        (W.taken sink.new) (W.failures sink.new)) }
+{
+    for piece in pieces {
+        write_out(sink, piece.as_bytes())?;
+    }
+    Ok(())
+}

@@ -1,0 +1,22 @@
+//! What ends a run before its last file.
+ghost use Rattle.std.specs.Prelude.{◌≡◌};
+ghost use Rattle.kmin_tidy.specs.declared.stop.Stop.TheVariants.{Memory};
+
+use std::alloc::AllocError;
+
+/// Why a run ends early.
+#[derive(Debug, Drop, PartialEq, Eq)]
+pub(crate) enum Stop {
+    /// Memory ran out.
+    Memory,
+    /// The new file at this path couldn't be removed.
+    Left(String),
+}
+
+impl From<AllocError> for Stop {
+    ghost from_gives = { λ _ stop. stop ≡ Memory };
+
+    fn from(_: AllocError) -> Stop {
+        Stop::Memory
+    }
+}

@@ -1,0 +1,74 @@
+//! A run over files, one after another.
+ghost use Rattle.std.specs.Prelude.{◌≡◌, ℕ, List, IfOk, IfErr};
+ghost use Rattle.kmin_tidy.specs.Options.{settings_of};
+ghost use Rattle.kmin_tidy.specs.Steps.{disk_of};
+ghost use Rattle.kmin_tidy.specs.Runs.{Tidies, paths_of};
+ghost use Rattle.kmin_tidy.specs.StandardError.{TakesLines};
+ghost use Rattle.kmin_tidy.specs.checker.FileResults.{StopsRun};
+
+use crate::file_step::tidy_file;
+use crate::options::TidyOptions;
+use crate::report::report_file;
+use crate::stop::Stop;
+use kc_dotconfig::{Config, Prefix};
+use kc_rules::Settled;
+use kc_value::Sink;
+use kmin_disk::WriteDisk;
+use std::alloc::Global;
+
+/// The text of a run, and its exit status.
+#[derive(Drop)]
+pub(crate) struct Tidied {
+    pub(crate) text: Vec<u8>,
+    pub(crate) status: u8,
+}
+
+/// Goes over files. What is reported of each is written as soon as it was gone over.
+pub(crate) fn tidy_all<D: WriteDisk, E: Sink>(
+    alloc: Global,
+    settled: &Settled,
+    prefix: &Prefix,
+    options: TidyOptions,
+    paths: &[&str],
+    disk: &mut D,
+    err: &mut E,
+) -> Result<Tidied, Stop>
+    ensures run { IfOk result (λ tidied. (reports : List (List ℕ)) × Tidies (settings_of settled.now prefix.now options)
+        (disk_of (D.state disk.old) (D.failures disk.old)) (disk_of (D.state disk.new) (D.failures disk.new))
+        (paths_of paths.now) tidied.text.items reports tidied.status × TakesLines (E.taken err.old) (E.failures err.old) reports (E.taken err.new)
+        (E.failures err.new)) }
+    ensures stopped { IfErr result (λ stop. (reports : List (List ℕ)) × StopsRun (settings_of settled.now prefix.now options)
+        (disk_of (D.state disk.old) (D.failures disk.old)) (disk_of (D.state disk.new) (D.failures disk.new)) (paths_of paths.now) reports stop
+        × TakesLines (E.taken err.old) (E.failures err.old) reports (E.taken err.new) (E.failures err.new)) }
+{
+    let mut config = Config::new(alloc, settled)?;
+    tidy_each(alloc, &mut config, prefix, options, paths, disk, err)
+}
+
+/// Goes over files by one configuration, which holds the values of one file after another.
+fn tidy_each<D: WriteDisk, E: Sink>(
+    alloc: Global,
+    config: &mut Config<'_>,
+    prefix: &Prefix,
+    options: TidyOptions,
+    paths: &[&str],
+    disk: &mut D,
+    err: &mut E,
+) -> Result<Tidied, Stop>
+    ensures run { IfOk result (λ tidied. (reports : List (List ℕ)) × Tidies (settings_of config.old.system prefix.now options)
+        (disk_of (D.state disk.old) (D.failures disk.old)) (disk_of (D.state disk.new) (D.failures disk.new))
+        (paths_of paths.now) tidied.text.items reports tidied.status × TakesLines (E.taken err.old) (E.failures err.old) reports (E.taken err.new)
+        (E.failures err.new)) }
+    ensures stopped { IfErr result (λ stop. (reports : List (List ℕ)) × StopsRun (settings_of config.old.system prefix.now options)
+        (disk_of (D.state disk.old) (D.failures disk.old)) (disk_of (D.state disk.new) (D.failures disk.new)) (paths_of paths.now) reports stop
+        × TakesLines (E.taken err.old) (E.failures err.old) reports (E.taken err.new) (E.failures err.new)) }
+{
+    let mut text = Vec::new(alloc);
+    let mut status = 0;
+    for path in paths {
+        let report = tidy_file(alloc, config, prefix, options, path, disk, &mut text)?;
+        report_file(path, &report, err);
+        status = report.outcome.status_after(status);
+    }
+    Ok(Tidied { text, status })
+}

@@ -1,0 +1,2 @@
+pub mod FoundWords
+pub mod Lists

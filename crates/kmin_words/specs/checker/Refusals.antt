@@ -1,0 +1,10 @@
+-- Results beside their definitions.
+use Rattle.std.specs.Prelude.{◌≡◌, ℕ, List, Result, Ok, Err}
+use Rattle.kmin_words.specs.declared.refusal.Refusal.{Refusal}
+use Rattle.kmin_words.specs.declared.refusal.Refusal.TheVariants.{Words, OutOfMemory}
+
+-- a result is the value or the line of its definition, or memory ran out
+abbrev pub Agrees : {A B : Type 0} → (view : A → B) → Result B (List ℕ) → Result A Refusal → Type 0
+Agrees view wanted (Ok x) = wanted ≡ Ok (view x)
+Agrees view wanted (Err (Words line)) = wanted ≡ Err line.now
+Agrees view wanted (Err OutOfMemory) = Unit {0}

@@ -1,0 +1,241 @@
+//! The words that turn on the expansion of a tree.
+ghost use Rattle.std.specs.Prelude.{◌≡◌, ◌+◌, ◌<◌, nat_lt, true, map, List, ℕ, IfOk, length, get_or, option_map};
+ghost use Rattle.std.specs.List.{list_all, filter_map, suffix_len};
+ghost use Rattle.std.specs.Borrow.{Bor};
+ghost use Rattle.clap.specs.Words.{found_of};
+ghost use Rattle.kc_expr.specs.Token.{is_white_byte};
+ghost use Rattle.kc_tree_model.specs.TreeLookup.{is_name_byte};
+ghost use Rattle.kc_macros_model.specs.Variables.{is_environment_name, without_white_end};
+ghost use Rattle.kmin_words.specs.Jobs.{definition_view, expansion_view};
+ghost use Rattle.kmin_words.specs.between.WordValues as parsed;
+ghost use Rattle.kmin_words.specs.checker.Refusals.{Agrees};
+
+use crate::job::{Definition, Expansion};
+use crate::refusal::Refusal;
+use crate::values::{has_values, value_of, values_of};
+use clap::ArgMatches;
+use std::alloc::{AllocError, Global};
+
+/// The most bytes of a value.
+const MAX_VALUE_BYTES: usize = 65_536;
+
+/// A white byte: a tab, a vertical tab, a form feed, a carriage return or a space.
+fn is_white(byte: u8) -> bool
+    ensures { result ≡ is_white_byte byte }
+{
+    matches!(byte, 9 | 11 | 12 | 13 | 32)
+}
+
+/// Where the white bytes at the end of a text begin.
+fn white_end(bytes: &[u8]) -> usize
+    ensures place { result + suffix_len is_white_byte bytes.now ≡ length bytes.now }
+    ensures white { result < length bytes.now → is_white_byte (get_or bytes.now result 0) ≡ true }
+{
+    let mut end = bytes.len();
+    while end > 0 && is_white(bytes[end - 1]) {
+        end -= 1;
+    }
+    end
+}
+
+/// A text without the white bytes at its end.
+fn without_white_end(text: &str) -> &str
+    ensures { result.now ≡ without_white_end text.now }
+{
+    let end = white_end(text.as_bytes());
+    &text[..end]
+}
+
+/// A letter, a digit or `_`.
+fn is_name_byte(byte: u8) -> bool
+    ensures { result ≡ is_name_byte byte }
+{
+    byte.is_ascii_alphanumeric() || byte == b'_'
+}
+
+/// Whether each byte is a letter, a digit or `_`.
+fn are_name_bytes(bytes: &[u8]) -> bool
+    ensures { result ≡ list_all is_name_byte bytes.now }
+{
+    bytes.iter().all(|&byte| is_name_byte(byte))
+}
+
+/// Whether an environment may have this name: a letter or `_`, then letters, digits and `_`.
+fn is_environment_name(name: &str) -> bool
+    ensures { result ≡ is_environment_name name.now }
+{
+    let bytes = name.as_bytes();
+    let Some(first) = bytes.first() else {
+        return false;
+    };
+    !first.is_ascii_digit() && are_name_bytes(bytes)
+}
+
+/// Whether a text has a newline.
+fn has_newline(text: &str) -> bool
+    ensures { result ≡ parsed.has_newline text.now }
+{
+    text.as_bytes().iter().any(|&byte| byte == b'\n')
+}
+
+/// A name with its value without white at the end; `None` for a name that no environment may have, and for a value of too
+/// many bytes or with a newline.
+fn named_value<'a>(name: &'a str, value: &'a str) -> Option<Definition<'a>>
+    ensures { option_map definition_view result ≡ parsed.named_value name.now value.now }
+{
+    if !is_environment_name(name) || value.len() > MAX_VALUE_BYTES || has_newline(value) {
+        return None;
+    }
+    Some(Definition {
+        name,
+        value: without_white_end(value),
+    })
+}
+
+/// The definition that a text is, by its first `=`.
+fn definition_of(text: &str) -> Option<Definition<'_>>
+    ensures { option_map definition_view result ≡ parsed.definition_of text.now }
+{
+    let (name, value) = text.split_once('=')?;
+    named_value(name, value)
+}
+
+/// Whether each text is a definition.
+fn are_definitions(texts: &[&str]) -> bool
+    ensures { result ≡ list_all (λ (text : Bor (List ℕ)). parsed.is_definition text.now) texts.now }
+{
+    texts.iter().all(|text| definition_of(text).is_some())
+}
+
+/// The definitions among texts, in their order.
+fn definitions_among<'a>(
+    alloc: Global,
+    texts: &[&'a str],
+) -> Result<Vec<Definition<'a>>, AllocError>
+    ensures { IfOk result (λ v. map definition_view v.items ≡ filter_map parsed.definition_of (map (λ (text : Bor (List ℕ)). text.now) texts.now)) }
+{
+    let mut found = Vec::new(alloc);
+    for text in texts {
+        if let Some(definition) = definition_of(text) {
+            found.push(definition)?;
+        }
+    }
+    Ok(found)
+}
+
+/// The definitions that texts are, each of which has to be one.
+#[tactic(auto, using(crate::proofs::Lists::all_map))]
+fn definitions_of<'a>(alloc: Global, texts: &[&'a str]) -> Result<Vec<Definition<'a>>, Refusal>
+    ensures { Agrees (λ v. map definition_view v.items) (parsed.definitions_of (map (λ (text : Bor (List ℕ)). text.now) texts.now)) result }
+{
+    if !are_definitions(texts) {
+        return Err(Refusal::Words("define: Malformed\n"));
+    }
+    Ok(definitions_among(alloc, texts)?)
+}
+
+/// Whether an environment may have each of these names.
+fn are_environment_names(names: &[&str]) -> bool
+    ensures { result ≡ list_all (λ (name : Bor (List ℕ)). is_environment_name name.now) names.now }
+{
+    names.iter().all(|name| is_environment_name(name))
+}
+
+/// The names, each of which has to be one that an environment may have.
+#[tactic(auto, using(crate::proofs::Lists::all_map))]
+fn environment_of(names: Vec<&str>) -> Result<Vec<&str>, Refusal>
+    ensures { Agrees (λ v. map (λ (name : Bor (List ℕ)). name.now) v.items) (parsed.environment_of (map (λ (name : Bor (List ℕ)). name.now) names.entry.items)) result }
+{
+    if !are_environment_names(names.as_slice()) {
+        return Err(Refusal::Words("env: Malformed\n"));
+    }
+    Ok(names)
+}
+
+/// Refuses the path of a tree with a newline.
+fn check_tree(path: &str) -> Result<(), Refusal>
+    ensures { Agrees (λ _. path.now) (parsed.expanded_tree_of path.now) result }
+{
+    if has_newline(path) {
+        return Err(Refusal::Words("tree: Malformed\n"));
+    }
+    Ok(())
+}
+
+/// How many of the paths are that of standard input.
+fn inputs_among(paths: &[&str]) -> usize
+    ensures { result ≡ parsed.inputs_among (map (λ (path : Bor (List ℕ)). path.now) paths.now) }
+{
+    let mut count = 0;
+    for path in paths {
+        if *path == "/dev/stdin" {
+            count += 1;
+        }
+    }
+    count
+}
+
+/// Whether standard input is named twice among files of answers and configuration files.
+fn is_input_named_twice(answers: &[&str], paths: &[&str]) -> bool
+    ensures { result ≡ nat_lt 1 (parsed.inputs_among (map (λ (path : Bor (List ℕ)). path.now) answers.now) + parsed.inputs_among (map (λ (path : Bor (List ℕ)). path.now) paths.now)) }
+{
+    match inputs_among(answers) {
+        0 => inputs_among(paths) > 1,
+        1 => inputs_among(paths) > 0,
+        _ => true,
+    }
+}
+
+/// The files of answers beside configuration files, among which standard input has to be named at most once.
+fn answers_beside<'a>(answers: Vec<&'a str>, paths: &[&str]) -> Result<Vec<&'a str>, Refusal>
+    ensures { Agrees (λ v. map (λ (path : Bor (List ℕ)). path.now) v.items) (parsed.answers_beside (map (λ (path : Bor (List ℕ)). path.now) answers.entry.items) (map (λ (path : Bor (List ℕ)). path.now) paths.now)) result }
+{
+    if is_input_named_twice(answers.as_slice(), paths) {
+        return Err(Refusal::Words("stdin: NamedTwice\n"));
+    }
+    Ok(answers)
+}
+
+/// What the expansion of a tree takes its answers from, beside the configuration files of a command.
+pub(crate) fn expansion_of<'a>(
+    alloc: Global,
+    matches: &ArgMatches<'a>,
+    paths: &[&str],
+) -> Result<Expansion<'a>, Refusal>
+    ensures { Agrees expansion_view (parsed.expansion_of (found_of matches.now) (map (λ (path : Bor (List ℕ)). path.now) paths.now)) result }
+{
+    let texts = values_of(alloc, matches, "define")?;
+    let definitions = definitions_of(alloc, texts.as_slice())?;
+    let environment = environment_of(values_of(alloc, matches, "env")?)?;
+    check_tree(value_of(matches, "tree"))?;
+    let answers = answers_beside(values_of(alloc, matches, "answers")?, paths)?;
+    Ok(Expansion {
+        answers,
+        definitions,
+        environment,
+    })
+}
+
+/// Whether a word is given that turns the expansion on.
+fn is_expanded(matches: &ArgMatches<'_>) -> bool
+    ensures { result ≡ parsed.is_expanded (found_of matches.now) }
+{
+    value_of(matches, "expand") == "true"
+        || has_values(matches, "answers")
+        || has_values(matches, "define")
+        || has_values(matches, "env")
+}
+
+/// The expansion of a command, where a word turns it on.
+pub(crate) fn expansion_if_given<'a>(
+    alloc: Global,
+    matches: &ArgMatches<'a>,
+    paths: &[&str],
+) -> Result<Option<Expansion<'a>>, Refusal>
+    ensures { Agrees (option_map expansion_view) (parsed.expansion_if_given (found_of matches.now) (map (λ (path : Bor (List ℕ)). path.now) paths.now)) result }
+{
+    if !is_expanded(matches) {
+        return Ok(None);
+    }
+    Ok(Some(expansion_of(alloc, matches, paths)?))
+}

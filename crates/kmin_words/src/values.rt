@@ -1,0 +1,36 @@
+//! The values that `clap` found.
+ghost use Rattle.std.specs.Prelude.{◌≡◌, nat_lt, length, map, List, ℕ, IfOk};
+ghost use Rattle.std.specs.Borrow.{Bor};
+ghost use Rattle.clap.specs.Words.{found_of};
+ghost use Rattle.kmin_words.specs.between.WordValues as parsed;
+
+use clap::ArgMatches;
+use std::alloc::{AllocError, Global};
+
+/// The value of an option that has one by default, of a word that has to be given, or of a flag, `true` or `false`.
+pub(crate) fn value_of<'a>(matches: &ArgMatches<'a>, id: &str) -> &'a str
+    ensures { result.now ≡ parsed.value_of (found_of matches.now) id.now }
+{
+    matches.get_str(id).unwrap_or("")
+}
+
+/// Whether a word that may be given any number of times has a value.
+pub(crate) fn has_values(matches: &ArgMatches<'_>, id: &str) -> bool
+    ensures { result ≡ nat_lt 0 (length (parsed.values_of (found_of matches.now) id.now)) }
+{
+    match matches.get_strs(id) {
+        Some(values) => !values.is_empty(),
+        None => false,
+    }
+}
+
+/// The values of a word that may be given any number of times, in their order.
+pub(crate) fn values_of<'a>(
+    alloc: Global,
+    matches: &ArgMatches<'a>,
+    id: &str,
+) -> Result<Vec<&'a str>, AllocError>
+    ensures { IfOk result (λ values. map (λ (value : Bor (List ℕ)). value.now) values.items ≡ parsed.values_of (found_of matches.now) id.now) }
+{
+    Vec::from_slice(alloc, matches.get_strs(id).unwrap_or(&[]))
+}
