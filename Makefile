@@ -36,7 +36,11 @@ test:            # the gate: proves all, tries the wrong bodies, runs every test
 	tests/random_trees
 	tests/read_in_pieces
 	tests/check_texts
+	tests/run_examples
+	tests/kill_runs
+	tests/check_outputs
 	tests/random_macros
+	tests/cut_expansions
 	tests/answer_questions
 	tests/refuse_allocations
 

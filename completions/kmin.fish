@@ -1,6 +1,6 @@
 # Completions of kmin for fish: put this file into ~/.config/fish/completions.
-set -l commands min full missed check compare wants
-set -l over_files min full missed check compare
+set -l commands min full missed check compare tidy wants
+set -l over_files min full missed check compare tidy
 
 # the last value of an option among the words so far, or a default
 function __kmin_value
@@ -36,6 +36,7 @@ complete -c kmin -f -n "__fish_is_first_arg" -a full -d "Write the full file"
 complete -c kmin -f -n "__fish_is_first_arg" -a missed -d "List the symbols that don't have their assigned value"
 complete -c kmin -f -n "__fish_is_first_arg" -a check -d "List the symbols that are selected against their dependencies"
 complete -c kmin -f -n "__fish_is_first_arg" -a compare -d "List the symbols whose values differ between two files"
+complete -c kmin -f -n "__fish_is_first_arg" -a tidy -d "List or rewrite the files that aren't minimal"
 complete -c kmin -f -n "__fish_is_first_arg" -a wants -d "List the questions of macros that have no answer"
 complete -c kmin -f -n "__fish_is_first_arg" -a help -d "Print help"
 complete -c kmin -f -n "not __fish_seen_subcommand_from $commands"
@@ -46,10 +47,18 @@ complete -c kmin -x -n "__fish_seen_subcommand_from $commands" -l root -d "Folde
 complete -c kmin -x -n "__fish_seen_subcommand_from $commands" -l tree -d "First file of the tree, below the folder" -a "(__kmin_tree_files)"
 complete -c kmin -x -n "__fish_seen_subcommand_from $over_files" -l language -d "Forms that the tree may have" -a "strict linux"
 complete -c kmin -x -n "__fish_seen_subcommand_from $over_files" -l prefix -d "Text before each name in a FILE"
+complete -c kmin -x -n "__fish_seen_subcommand_from $over_files" -l strings -d "Form of strings in a FILE" -a "escaped raw"
 complete -c kmin -x -n "__fish_seen_subcommand_from $over_files" -l imply -d "How an implied value counts" -a "present classic"
+complete -c kmin -n "__fish_seen_subcommand_from $over_files" -l strict -d "Refuse a file with a line that the tree can't read"
 complete -c kmin -n "__fish_seen_subcommand_from $commands" -l expand -d "Expand the macros of the tree"
 complete -c kmin -r -n "__fish_seen_subcommand_from $commands" -l answers -d "File of answers to the questions of macros"
 complete -c kmin -x -n "__fish_seen_subcommand_from $commands" -l define -d "Value of a name, as NAME=VALUE"
 complete -c kmin -x -n "__fish_seen_subcommand_from $commands" -l env -d "Name that the environment answers" -a "(set --names --export)"
+complete -c kmin -r -n "__fish_seen_subcommand_from min full" -s o -l output -d "File to write in place of standard output"
+complete -c kmin -n "__fish_seen_subcommand_from missed check" -l exit-code -d "End with status 1 where a symbol is listed"
+complete -c kmin -n "__fish_seen_subcommand_from tidy" -l write -d "Replace each file that isn't minimal"
+complete -c kmin -n "__fish_seen_subcommand_from tidy" -l drop -d "Write files without the lines that the tree can't read"
+complete -c kmin -r -n "__fish_seen_subcommand_from tidy" -l from -d "File of further paths"
+complete -c kmin -n "__fish_seen_subcommand_from tidy" -s z -d "Each path in that file ends with NUL"
 complete -c kmin -s h -l help -d "Print help"
-complete -c kmin -s V -l version -d "Print version"
+complete -c kmin -s V -l version -n "__fish_is_first_arg" -d "Print version"

@@ -17,7 +17,6 @@ _kmin_tree_options() {
         '*--define=[value of a name]:NAME=VALUE:' \
         '*--env=[name that the environment answers]:name:_parameters -g "*export*"' \
         '(- *)'{-h,--help}'[print help]' \
-        '(- *)'{-V,--version}'[print version]' \
         "$@"
 }
 
@@ -25,7 +24,30 @@ _kmin_options() {
     _kmin_tree_options \
         '--language=[forms that the tree may have]:language:(strict linux)' \
         '--prefix=[text before each name in a FILE]:text:' \
+        '--strings=[form of strings in a FILE]:form:(escaped raw)' \
         '--imply=[how an implied value counts]:profile:(present classic)' \
+        '(--drop)--strict[refuse a file with a line that the tree cannot read]' \
+        "$@"
+}
+
+_kmin_output_options() {
+    _kmin_options \
+        '(-o --output)'{-o+,--output=}'[file to write in place of standard output]:file:_files' \
+        "$@"
+}
+
+_kmin_list_options() {
+    _kmin_options \
+        '--exit-code[end with status 1 where a symbol is listed]' \
+        "$@"
+}
+
+_kmin_tidy_options() {
+    _kmin_options \
+        '--write[replace each file that is not minimal]' \
+        '(--strict)--drop[write files without the lines that the tree cannot read]' \
+        '--from=[file of further paths]:file:_files' \
+        '-z[each path in that file ends with NUL]' \
         "$@"
 }
 
@@ -34,15 +56,17 @@ _kmin() {
     _arguments -C \
         '(- *)'{-h,--help}'[print help]' \
         '(- *)'{-V,--version}'[print version]' \
-        '1:command:((min\:"write the minimal file" full\:"write the full file" missed\:"list the symbols that do not have their assigned value" check\:"list the symbols that are selected against their dependencies" compare\:"list the symbols whose values differ between two files" wants\:"list the questions of macros that have no answer" help\:"print help"))' \
+        '1:command:((min\:"write the minimal file" full\:"write the full file" missed\:"list the symbols that do not have their assigned value" check\:"list the symbols that are selected against their dependencies" compare\:"list the symbols whose values differ between two files" tidy\:"list or rewrite the files that are not minimal" wants\:"list the questions of macros that have no answer" help\:"print help"))' \
         '*::word:->words'
     case $state in
         words)
             case $line[1] in
-                min|full|missed|check) _kmin_options '*:file:_files' ;;
+                min|full) _kmin_output_options '*:file:_files' ;;
+                missed|check) _kmin_list_options '*:file:_files' ;;
                 compare) _kmin_options '1:left file:_files' '2:right file:_files' ;;
+                tidy) _kmin_tidy_options '*:file:_files' ;;
                 wants) _kmin_tree_options ;;
-                help) _values command min full missed check compare wants help ;;
+                help) _values command min full missed check compare tidy wants help ;;
             esac ;;
     esac
 }

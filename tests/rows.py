@@ -3,7 +3,8 @@
 A line '== NAME' begins a row; lines '# ..' after it describe it. A line '$ kmin WORD ..' has the words, quoted as in a
 shell; in a word, too, \\xNN is a byte. A line '-- NAME' begins a part: the lines up to the next such line are its bytes,
 unchanged. Parts are 'stdin', 'stdout', 'stderr', 'word', a last word for the program, 'environment', lines NAME=VALUE of
-variables that it has besides, and any other name is a file in the folder where the program runs.
+variables that it has besides, and any other name is a file in the folder where the program runs. '-- after NAME' has the bytes
+of a file after the run; each other file has to be as it was, and no further one may be there.
 After the name a part may have a word:
 
     escaped    the lines are joined, and \\n, \\r, \\t, \\\\, \\" and \\xNN are bytes
@@ -12,13 +13,15 @@ After the name a part may have a word:
     pipe       a named pipe that nobody writes
     full       of stdout and stderr: a device on which no byte finds room, /dev/full
     closed     of stdout and stderr: it isn't open
+    gone       after 'after NAME': there is no such file after the run
     endless    of stdin: zero bytes without an end, /dev/zero
     unended    of stdin, alone or after another word: the stream stays open after these bytes, so that a program that asks
                for more of it waits until its time is up
 
 '-- status N' has the status, 0 without it. '-- long': the row is too long to be cut at each byte, or to be read in small
 pieces each of which fails in turn; '-- large' that its allocations, reads and writes are too many to be refused in turn at all.
-'-- memory N' gives the program N kibibytes of memory and no more; such a row counts as large.
+'-- memory N' gives the program N kibibytes of memory and no more; such a row counts as large, and
+so does one with '-- room N', which lets no file that it writes have more than N blocks of 512 bytes.
 """
 import concurrent.futures
 import contextlib
@@ -34,7 +37,7 @@ TOP = os.path.dirname(os.path.dirname(os.path.realpath(__file__)))
 PROGRAM = f"{TOP}/crates/kmin/out/kmin"
 SECONDS = 120
 COMMANDS = ("full", "min", "missed", "check", "compare")
-OPTIONS = ("--root", "--tree", "--language", "--prefix", "--imply")
+OPTIONS = ("--root", "--tree", "--language", "--prefix", "--strings", "--imply")
 EXPANDING = ("--expand", "--answers", "--define", "--env")
 
 
@@ -84,6 +87,26 @@ def write_file(folder, name, data):
         it.write(data)
 
 
+def files_in(folder):
+    """What is in a folder: the bytes of each file by its path, and what a link or a pipe is."""
+    found = {}
+    for place, folders, names in os.walk(folder):
+        for path in (f"{place}/{name}" for name in [*folders, *names]):
+            if os.path.islink(path) or not os.path.isdir(path):
+                found[os.path.relpath(path, folder)] = look(path)
+    return found
+
+
+def look(path):
+    """The bytes of a file, or what else is there."""
+    if os.path.islink(path):
+        return f"a link to {os.readlink(path)}"
+    if not os.path.isfile(path):
+        return "a pipe"
+    with open(path, "rb") as it:
+        return it.read()
+
+
 def feed(stream, data):
     """Writes what is read of these bytes."""
     rest = memoryview(data)
@@ -112,10 +135,10 @@ def environment_of(settings):
 
 class Row:
     def __init__(self, text):
-        self.words, self.status, self.memory = [], 0, 0
+        self.words, self.status, self.memory, self.room = [], 0, 0, None
         self.is_long = self.is_large = False
         self.parts, self.special = {"stdin": b"", "stdout": b"", "stderr": b""}, {}
-        self.links, self.pipes, self.environment = {}, [], {}
+        self.links, self.pipes, self.environment, self.after = {}, [], {}, {}
         head, *parts = re.split(r"^-- ", text, flags=re.M)
         self.name, *lines = head.splitlines()
         for line in lines:
@@ -136,6 +159,11 @@ class Row:
             self.status = int(how)
         elif name == "memory":
             self.memory, self.is_long, self.is_large = int(how), True, True
+        elif name == "room":
+            self.room, self.is_long, self.is_large = int(how), True, True
+        elif name == "after":
+            how = "".join(title[2:])
+            self.after[title[1]] = None if how == "gone" else content(how, text)
         elif name == "long":
             self.is_long = True
         elif name == "large":
@@ -166,9 +194,39 @@ class Row:
         for name in self.pipes:
             os.mkfifo(f"{folder}/{name}")
 
+    def restore(self, folder):
+        """Writes those files again that a run changes, and removes those that it makes."""
+        for name in self.after:
+            if name in self.files():
+                write_file(folder, name, self.files()[name])
+            else:
+                with contextlib.suppress(FileNotFoundError):
+                    os.unlink(f"{folder}/{name}")
+
+    def wanted_files(self):
+        """What has to be in the folder after a run, links and pipes too."""
+        links = {name: f"a link to {target}" for name, target in self.links.items()}
+        there = {**self.files(), **links, **{name: "a pipe" for name in self.pipes}, **self.after}
+        return {name: it for name, it in there.items() if it is not None}
+
+    def run_whole(self):
+        """Runs the program in a new folder that has the row's files, and returns its status, what it wrote, and what is there
+        afterwards."""
+        with tempfile.TemporaryDirectory(prefix="kmin-row-") as folder:
+            self.place(folder)
+            return *self.run(folder), files_in(folder)
+
     def is_expanded(self):
         """Whether the words ask for an expansion of the tree."""
         return self.words[:1] == ["wants"] or any(os.fsdecode(word).partition("=")[0] in EXPANDING for word in self.words)
+
+    def is_tidying(self):
+        """Whether the words ask to go over files one after another: what is refused of one doesn't end the run."""
+        return self.words[:1] == ["tidy"]
+
+    def has_output(self):
+        """Whether the words name a file for the answer."""
+        return any(os.fsdecode(word).partition("=")[0] == "--output" or os.fsdecode(word)[:2] == "-o" for word in self.words)
 
     def is_bundle(self):
         """Whether the program reads a bundle that ends."""
@@ -199,9 +257,13 @@ class Row:
             with tempfile.TemporaryDirectory(prefix="kmin-row-") as made:
                 self.place(made)
                 return self.run(made, settings)
+        if self.after:
+            self.restore(folder)
         words, streams = [PROGRAM, *self.words], {"env": {**os.environb, **environment_of(settings), **self.environment}}
         if self.memory:
             words = ["sh", "-c", f'ulimit -v {self.memory} && exec "$@"', "", *words]
+        if self.room is not None:
+            words = ["sh", "-c", f'trap "" XFSZ && ulimit -f {self.room} && exec "$@"', "", *words]
         for name, number in (("stdout", 1), ("stderr", 2)):
             how = self.special.get(name)
             streams[name] = open("/dev/full", "wb") if how == "full" else subprocess.PIPE

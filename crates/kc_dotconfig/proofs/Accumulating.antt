@@ -6,6 +6,7 @@ use Rattle.std.specs.Ordering.{nat_cmp}
 use Rattle.kc_tree_model.specs.Trees.{Tree}
 use Rattle.kc_rules_model.specs.declared.values.UserValue.{UserValue}
 use Rattle.kc_dotconfig.specs.declared.accumulator.Accumulator.{Accumulator}
+use Rattle.kc_dotconfig_model.specs.Formats.{FileFormat}
 use Rattle.kc_dotconfig_model.specs.declared.notice.NoticeKind.{NoticeKind}
 use Rattle.kc_dotconfig.specs.declared.meanings.Meaning.{Meaning}
 use Rattle.kc_dotconfig.specs.declared.meanings.Meaning.TheVariants.{Assigns, Noted, Nothing}
@@ -43,19 +44,19 @@ pub takes_nothing : (g h : Accumulator) (meaning : Meaning) → meaning ≡ Noth
 takes_nothing g h meaning is entries notices lines tree meanings within before =
     subst (λ s. IsGathered tree (meanings ++ meaning_view s ∷ []) h) (sym is) (gathers_nothing tree meanings g h before entries notices lines)
 
-pub says_of : (prefix : List ℕ) (tree : Tree) (line text : List ℕ) (o : Option Meaning) (meaning : Meaning) → is_prefix prefix ≡ true → text ≡ line
-    → option_map meaning_view o ≡ line_meaning prefix tree (without_white_end text) → o ≡ Some meaning
-    → Means prefix tree (without_white_end line) (meaning_view meaning)
-says_of prefix tree line text o meaning valid same read is =
-    (line_read prefix tree (without_white_end line) (meaning_view meaning) valid).0
-    (ap (λ t. line_meaning prefix tree (without_white_end t)) (sym same) ∙ sym read ∙ ap (option_map meaning_view) is)
+pub says_of : (format : FileFormat) (tree : Tree) (line text : List ℕ) (o : Option Meaning) (meaning : Meaning) → is_prefix format.prefix ≡ true → text ≡ line
+    → option_map meaning_view o ≡ line_meaning format tree (without_white_end text) → o ≡ Some meaning
+    → Means format tree (without_white_end line) (meaning_view meaning)
+says_of format tree line text o meaning valid same read is =
+    (line_read format tree (without_white_end line) (meaning_view meaning) valid).0
+    (ap (λ t. line_meaning format tree (without_white_end t)) (sym same) ∙ sym read ∙ ap (option_map meaning_view) is)
 
-pub malformed_of : (prefix : List ℕ) (tree : Tree) (line text : List ℕ) (o : Option Meaning) → is_prefix prefix ≡ true → text ≡ line
-    → option_map meaning_view o ≡ line_meaning prefix tree (without_white_end text) → o ≡ None → IsMalformed prefix tree line
-malformed_of prefix tree line text o valid same read is meaning says =
-    let none : line_meaning prefix tree (without_white_end line) ≡ None = ap (λ t. line_meaning prefix tree (without_white_end t)) (sym same) ∙ sym read
+pub malformed_of : (format : FileFormat) (tree : Tree) (line text : List ℕ) (o : Option Meaning) → is_prefix format.prefix ≡ true → text ≡ line
+    → option_map meaning_view o ≡ line_meaning format tree (without_white_end text) → o ≡ None → IsMalformed format tree line
+malformed_of format tree line text o valid same read is meaning says =
+    let none : line_meaning format tree (without_white_end line) ≡ None = ap (λ t. line_meaning format tree (without_white_end t)) (sym same) ∙ sym read
     ∙ ap (option_map meaning_view) is in
-    let some = (line_read prefix tree (without_white_end line) meaning valid).1 says in
+    let some = (line_read format tree (without_white_end line) meaning valid).1 says in
     cc (none, some)
 
 pub within_of : (n : ℕ) (o : Option Meaning) (meaning : Meaning) → IfSome o (λ s. IsWithin n (meaning_view s)) → o ≡ Some meaning

@@ -9,6 +9,7 @@ use Rattle.kc_system.specs.Changes.{changed_users}
 use Rattle.kc_system.specs.Solutions.{user_of}
 use Rattle.kc_rules_model.specs.declared.values.UserValue.{UserValue}
 use Rattle.kc_rules_model.specs.Shapes.{user_fits}
+use Rattle.kc_dotconfig_model.specs.Formats.{FileFormat}
 use Rattle.kc_dotconfig_model.specs.PrefixGrammar.{is_prefix}
 use Rattle.kc_dotconfig_model.specs.ConfigLines.{LineMeaning}
 use Rattle.kc_dotconfig_model.specs.ConfigFiles.{FileMeans, file_assignment, empty_assignment}
@@ -63,12 +64,12 @@ no_length : (n : ℕ) → length {A = Option UserValue} (replicate n None) ≡ n
 no_length zero = refl
 no_length (suc n) = let rest = no_length n in omega (arith, rest)
 
-pub fragment_fits : (prefix : List ℕ) (tree : Tree) (known : List ℕ) (meanings : List LineMeaning) (es : List (ℕ × UserValue)) → is_prefix prefix ≡ true
+pub fragment_fits : (format : FileFormat) (tree : Tree) (known : List ℕ) (meanings : List LineMeaning) (es : List (ℕ × UserValue)) → is_prefix format.prefix ≡ true
     → IsConsistent tree
-    → IsAccepted prefix tree known → FileMeans prefix tree known meanings → users_of tree es ≡ file_assignment tree meanings → Rises es
+    → IsAccepted format tree known → FileMeans format tree known meanings → users_of tree es ≡ file_assignment tree meanings → Rises es
     → Below (length tree.units) es → FitsTree tree es
-fragment_fits prefix tree known meanings es valid sound accepted says users r b =
-    let fits = file_fits prefix tree known meanings sound (accepted_utf8 prefix tree known valid accepted) says in
+fragment_fits format tree known meanings es valid sound accepted says users r b =
+    let fits = file_fits format tree known meanings sound (accepted_utf8 format tree known valid accepted) says in
     record {
       ascending = rises_all es r;
       each = λ k u x at.

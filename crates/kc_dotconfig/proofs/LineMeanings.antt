@@ -14,12 +14,13 @@ use Rattle.kc_tree_model.proofs.Lookups.{found_by_name}
 use Rattle.kc_rules_model.specs.Kinds.{is_y}
 use Rattle.kc_dotconfig.specs.declared.meanings.Meaning.{Meaning}
 use Rattle.kc_dotconfig.specs.checker.MeaningViews.{meaning_view, IsWithin}
-use Rattle.kc_value.specs.Quoted.{IsQuoted}
 use Rattle.kc_rules_model.specs.declared.values.UserValue.TheVariants.{Text as TextUser, Member as MemberUser}
+use Rattle.kc_dotconfig_model.specs.declared.format.Strings.{Strings}
+use Rattle.kc_dotconfig_model.specs.Formats.{FileFormat, IsStringSpelling}
 use Rattle.kc_dotconfig_model.specs.declared.notice.NoticeKind.TheVariants.{NotOfType}
 use Rattle.kc_dotconfig_model.specs.ConfigLines.{LineMeaning, assigns, notice, silent, tri_of_text, unset_meaning}
-use Rattle.kc_dotconfig_model.specs.between.LineMeanings.{tri_meaning, string_meaning, number_meaning, without_number, meaning_of_kind, value_meaning, unquoted, value_parts, unset_name, of_symbol_at, of_named, is_hash, of_other, of_unset, of_value, line_meaning}
-use Rattle.kc_dotconfig_model.proofs.ValueLaws.{unquoted_means, means_unquoted}
+use Rattle.kc_dotconfig_model.specs.between.LineMeanings.{tri_meaning, string_meaning, number_meaning, without_number, meaning_of_kind, value_meaning, string_text, value_parts, unset_name, of_symbol_at, of_named, is_hash, of_other, of_unset, of_value, line_meaning}
+use Rattle.kc_dotconfig_model.proofs.ValueLaws.{string_is, string_read}
 
 -- a fact of what is there, and of what is not
 pub some_is : {X : Type 0} (o : Option X) (P : X → Type 0) (x : X) → IfSome o P → o ≡ Some x → P x
@@ -28,15 +29,17 @@ some_is o P x held is = subst (λ p. IfSome p P) is held
 pub none_is : {X : Type 0} (o : Option X) (P : Type 0) → IfNone o P → o ≡ None → P
 none_is o P held is = subst (λ p. IfNone p P) is held
 
-pub quoted_said : (unit : ℕ) (text means result : List ℕ) → result ≡ means → IsQuoted text means
-    → assigns unit (TextUser result) ≡ string_meaning unit (unquoted text)
-quoted_said unit text means result same quoted = ap (λ t. assigns unit (TextUser t)) same ∙ sym (ap (string_meaning unit) (means_unquoted text means quoted))
+pub string_said : (strings : Strings) (unit : ℕ) (text means result : List ℕ) → result ≡ means → IsStringSpelling strings text means
+    → assigns unit (TextUser result) ≡ string_meaning unit (string_text strings text)
+string_said strings unit text means result same is =
+    ap (λ t. assigns unit (TextUser t)) same ∙ sym (ap (string_meaning unit) (string_read strings text means is))
 
-pub unquoted_said : (unit : ℕ) (text : List ℕ) → ((means : List ℕ) → IsQuoted text means → ⊥) → notice NotOfType ≡ string_meaning unit (unquoted text)
-unquoted_said unit text none = go (unquoted text) refl where
-  go : (o : Option (List ℕ)) → unquoted text ≡ o → notice NotOfType ≡ string_meaning unit (unquoted text)
+pub no_string_said : (strings : Strings) (unit : ℕ) (text : List ℕ) → ((means : List ℕ) → IsStringSpelling strings text means → ⊥)
+    → notice NotOfType ≡ string_meaning unit (string_text strings text)
+no_string_said strings unit text none = go (string_text strings text) refl where
+  go : (o : Option (List ℕ)) → string_text strings text ≡ o → notice NotOfType ≡ string_meaning unit (string_text strings text)
   go None e = sym (ap (string_meaning unit) e)
-  go (Some means) e = absurd (none means (unquoted_means text means e))
+  go (Some means) e = absurd (none means (string_is strings text means e))
 
 -- what is assigned is assigned to the unit
 tri_within : (n u s : ℕ) (choice : Option ℕ) (o : Option Tri) → u < n → IsWithin n (tri_meaning u s choice o)
@@ -58,17 +61,18 @@ number_within n u kind text h = go (is_some (number_of_text kind text)) text whe
   go false [] = tt
   go false (c ∷ rest) = tt
 
-kind_within : (n : ℕ) (kind : Kind) (u s : ℕ) (choice : Option ℕ) (text : List ℕ) → u < n → IsWithin n (meaning_of_kind kind u s choice text)
-kind_within n Boolean u s choice text h = tri_within n u s choice (tri_of_text Boolean text) h
-kind_within n Tristate u s choice text h = tri_within n u s choice (tri_of_text Tristate text) h
-kind_within n Text u s choice text h = string_within n u (unquoted text) h
-kind_within n Int u s choice text h = number_within n u Int text h
-kind_within n Hex u s choice text h = number_within n u Hex text h
+kind_within : (strings : Strings) (n : ℕ) (kind : Kind) (u s : ℕ) (choice : Option ℕ) (text : List ℕ) → u < n
+    → IsWithin n (meaning_of_kind strings kind u s choice text)
+kind_within strings n Boolean u s choice text h = tri_within n u s choice (tri_of_text Boolean text) h
+kind_within strings n Tristate u s choice text h = tri_within n u s choice (tri_of_text Tristate text) h
+kind_within strings n Text u s choice text h = string_within n u (string_text strings text) h
+kind_within strings n Int u s choice text h = number_within n u Int text h
+kind_within strings n Hex u s choice text h = number_within n u Hex text h
 
-pub meaning_within : {E : Type 0} (r : Result Meaning E) (n : ℕ) (kind : Kind) (u s : ℕ) (choice : Option ℕ) (text : List ℕ) → u < n
-    → IfOk r (λ meaning. meaning_view meaning ≡ meaning_of_kind kind u s choice text) → IfOk r (λ meaning. IsWithin n (meaning_view meaning))
-meaning_within (Ok meaning) n kind u s choice text h is = subst (IsWithin n) (sym is) (kind_within n kind u s choice text h)
-meaning_within (Err e) n kind u s choice text h is = tt
+pub meaning_within : {E : Type 0} (r : Result Meaning E) (strings : Strings) (n : ℕ) (kind : Kind) (u s : ℕ) (choice : Option ℕ) (text : List ℕ) → u < n
+    → IfOk r (λ meaning. meaning_view meaning ≡ meaning_of_kind strings kind u s choice text) → IfOk r (λ meaning. IsWithin n (meaning_view meaning))
+meaning_within (Ok meaning) strings n kind u s choice text h is = subst (IsWithin n) (sym is) (kind_within strings n kind u s choice text h)
+meaning_within (Err e) strings n kind u s choice text h is = tt
 
 slice_there : {X : Type 0} (xs : List X) (k : ℕ) → k < length xs → (x : X) × (slice_get xs k ≡ Some x)
 slice_there [] k h = absurd (omega (arith, h))
@@ -90,28 +94,28 @@ found_at_name (Ok meaning) tree say s o e h is = named_at tree say s (meaning_vi
 found_at_name (Err x) tree say s o e h is = tt
 
 -- lines by their forms
-pub value_line_says : (prefix : List ℕ) (tree whole : Tree) (line text name rest : List ℕ) (x : LineMeaning) → whole ≡ tree → text ≡ line
-    → value_parts prefix text ≡ Some (name, rest)
-    → x ≡ of_named whole (λ s symbol. value_meaning whole s symbol rest) (symbol_named whole name) → Some x ≡ line_meaning prefix tree line
+pub value_line_says : (format : FileFormat) (tree whole : Tree) (line text name rest : List ℕ) (x : LineMeaning) → whole ≡ tree → text ≡ line
+    → value_parts format.prefix text ≡ Some (name, rest)
+    → x ≡ of_named whole (λ s symbol. value_meaning format.strings whole s symbol rest) (symbol_named whole name) → Some x ≡ line_meaning format tree line
 unfolding line_meaning
-value_line_says prefix tree whole line text name rest x same is parts says =
-    ap Some says ∙ sym (ap (of_value prefix whole text) parts) ∙ ap (λ l. line_meaning prefix whole l) is ∙ ap (λ t. line_meaning prefix t line) same
+value_line_says format tree whole line text name rest x same is parts says =
+    ap Some says ∙ sym (ap (of_value format whole text) parts) ∙ ap (λ l. line_meaning format whole l) is ∙ ap (λ t. line_meaning format t line) same
 
-pub unset_line_says : (prefix : List ℕ) (tree whole : Tree) (line text name : List ℕ) (x : LineMeaning) → whole ≡ tree → text ≡ line
-    → value_parts prefix text ≡ None → unset_name prefix text ≡ Some name
-    → x ≡ of_named whole (λ s symbol. unset_meaning whole s symbol symbol.choice) (symbol_named whole name) → Some x ≡ line_meaning prefix tree line
+pub unset_line_says : (format : FileFormat) (tree whole : Tree) (line text name : List ℕ) (x : LineMeaning) → whole ≡ tree → text ≡ line
+    → value_parts format.prefix text ≡ None → unset_name format.prefix text ≡ Some name
+    → x ≡ of_named whole (λ s symbol. unset_meaning whole s symbol symbol.choice) (symbol_named whole name) → Some x ≡ line_meaning format tree line
 unfolding line_meaning
-unset_line_says prefix tree whole line text name x same is parts unset says =
-    ap Some says ∙ sym (ap (of_value prefix whole text) parts ∙ ap (of_unset whole text) unset) ∙ ap (λ l. line_meaning prefix whole l) is
-    ∙ ap (λ t. line_meaning prefix t line) same
+unset_line_says format tree whole line text name x same is parts unset says =
+    ap Some says ∙ sym (ap (of_value format whole text) parts ∙ ap (of_unset whole text) unset) ∙ ap (λ l. line_meaning format whole l) is
+    ∙ ap (λ t. line_meaning format t line) same
 
-pub other_line_says : (prefix : List ℕ) (tree whole : Tree) (line text : List ℕ) (o : Option LineMeaning) → whole ≡ tree → text ≡ line
-    → value_parts prefix text ≡ None → unset_name prefix text ≡ None
-    → o ≡ of_other text → o ≡ line_meaning prefix tree line
+pub other_line_says : (format : FileFormat) (tree whole : Tree) (line text : List ℕ) (o : Option LineMeaning) → whole ≡ tree → text ≡ line
+    → value_parts format.prefix text ≡ None → unset_name format.prefix text ≡ None
+    → o ≡ of_other text → o ≡ line_meaning format tree line
 unfolding line_meaning
-other_line_says prefix tree whole line text o same is parts unset says =
-    says ∙ sym (ap (of_value prefix whole text) parts ∙ ap (of_unset whole text) unset) ∙ ap (λ l. line_meaning prefix whole l) is
-    ∙ ap (λ t. line_meaning prefix t line) same
+other_line_says format tree whole line text o same is parts unset says =
+    says ∙ sym (ap (of_value format whole text) parts ∙ ap (of_unset whole text) unset) ∙ ap (λ l. line_meaning format whole l) is
+    ∙ ap (λ t. line_meaning format t line) same
 
 pub hash_says : (line : List ℕ) → is_hash (find (λ b. not (is_white_byte b)) line) ≡ true → Some silent ≡ of_other line
 hash_says [] h = refl

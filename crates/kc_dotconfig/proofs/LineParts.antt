@@ -1,12 +1,14 @@
 -- The parts of a line.
-use Rattle.std.proofs.Common.{◌≡◌, ℕ, suc, ◌+◌, ◌<◌, Bool, true, false, not, ◌==◌, cond, List, [], ◌∷◌, ◌++◌, Option, Some, None, length, take, drop, get_or, length-append, ◌-◌, refl, sym, ◌∙◌, ap, subst, arith}
-use Rattle.std.specs.Prelude.{option_map, IfNone}
+use Rattle.std.proofs.Common.{◌≡◌, ◌≢◌, ℕ, suc, ◌+◌, ◌<◌, Bool, true, false, not, ◌==◌, cond, List, [], ◌∷◌, ◌++◌, Option, Some, None, length, take, drop, get_or, length-append, ◌-◌, refl, sym, ◌∙◌, ap, subst, arith}
+use Rattle.std.specs.Prelude.{option_map, IfSome, IfNone}
+use Rattle.std.specs.Borrow.{Bor}
 use Rattle.std.specs.Str.{IsAscii, IsUtf8, IsCharBoundary}
 use Rattle.std.proofs.lemmas.Str.{IsCharBoundary-after_ascii}
 use Rattle.std.proofs.lemmas.List.{get_or_append_left}
-use Rattle.std.specs.Option.{option_and_then}
+use Rattle.std.specs.Option.{option_and_then, MatchOption}
 use Rattle.std.specs.List.{position_or_len, before_first, after_first}
 use Rattle.std.proofs.lemmas.Bool.{eqb-true, eq-eqb, lt-ltb}
+use Rattle.kc_dotconfig_model.specs.Formats.{between_quotes}
 use Rattle.kc_dotconfig_model.specs.between.LineMeanings.{after_front, split_at_byte, if_named, named_before}
 
 behind_front : (front rest : List ℕ) → after_front front (front ++ rest) ≡ Some rest
@@ -106,3 +108,22 @@ named_is b text (c ∷ name) rest e some =
 pub not_named : (b : ℕ) (text name rest : List ℕ) → split_at_byte b text ≡ Some (name, rest) → (length name == 0) ≡ true → named_before b text ≡ None
 not_named b text [] rest e none = ap (option_and_then if_named) e
 not_named b text (c ∷ name) rest e none = let n = eqb-true (length (c ∷ name)) 0 none in absurd (omega arith)
+
+-- what is between two quotes, where the first of them is there
+pub inner_is : (text rest : List ℕ) (r : Option (Bor (List ℕ))) → text ≡ 34 ∷ rest
+    → MatchOption r ((front : List ℕ) → rest ≢ front ++ (34 ∷ [])) (λ (x : Bor (List ℕ)). rest ≡ x.now ++ (34 ∷ []))
+    → IfSome r (λ (inner : Bor (List ℕ)). text ≡ between_quotes inner.now)
+inner_is text rest None is m = tt
+inner_is text rest (Some x) is m = is ∙ ap (λ l. 34 ∷ l) m
+
+pub no_inner : (text rest : List ℕ) (r : Option (Bor (List ℕ))) → text ≡ 34 ∷ rest
+    → MatchOption r ((front : List ℕ) → rest ≢ front ++ (34 ∷ [])) (λ (x : Bor (List ℕ)). rest ≡ x.now ++ (34 ∷ []))
+    → IfNone r ((inner : List ℕ) → text ≢ between_quotes inner)
+no_inner text rest None is m = λ inner e. m inner (let same : 34 ∷ rest ≡ 34 ∷ (inner ++ 34 ∷ []) = sym is ∙ e in cc)
+no_inner text rest (Some x) is m = tt
+
+-- and where it isn't
+pub no_first_quote : (text : List ℕ) (r : Option (Bor (List ℕ))) → ((rest : List ℕ) → text ≢ 34 ∷ rest)
+    → IfNone r ((inner : List ℕ) → text ≢ between_quotes inner)
+no_first_quote text None other = λ inner e. other (inner ++ 34 ∷ []) e
+no_first_quote text (Some x) other = tt

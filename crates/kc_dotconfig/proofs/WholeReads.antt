@@ -1,6 +1,7 @@
 -- A reader's bytes, a block at a time.
 use Rattle.std.proofs.Common.{true, ◌≡◌, ◌⊎◌, inl, inr, ℕ, ◌+◌, ◌-◌, ◌^◌, ◌<◌, ◌≤◌, map, List, [], ◌∷◌, ◌++◌, length, take, refl, sym, ◌∙◌, ap, subst, append_assoc, length-append, arith}
 use Rattle.std.specs.Prelude.{Option, Some, None, Result, Ok, Err, IfOk, IfErr, OnOk}
+use Rattle.kc_dotconfig_model.specs.Formats.{FileFormat}
 use Rattle.kc_dotconfig_model.specs.declared.fault.LoadFault.{LoadFault}
 use Rattle.std.specs.Io.KnownBytes.{Consumes, Keeps, IsAtEnd}
 use Rattle.std.proofs.lemmas.List.{append-nil}
@@ -39,27 +40,27 @@ consumes_nothing None = tt
 consumes_nothing (Some xs) = refl
 
 -- what was read so far
-pub record HasRead (prefix : List ℕ) (tree : Tree) (before after : Option (List ℕ)) (line : List ℕ) (g : Accumulator) (size : ℕ) : Type 0 where
+pub record HasRead (format : FileFormat) (tree : Tree) (before after : Option (List ℕ)) (line : List ℕ) (g : Accumulator) (size : ℕ) : Type 0 where
   pub known : List ℕ
   pub consumed : Consumes before after known
   pub counted : length known ≡ size
-  pub holds : Holds prefix tree known line g
+  pub holds : Holds format tree known line g
 
-pub has_read_none : (prefix : List ℕ) (tree : Tree) (a : Option (List ℕ)) (line : List ℕ) (g : Accumulator) → line ≡ [] → IsGathered tree [] g
-    → HasRead prefix tree a a line g 0
-has_read_none prefix tree a line g empty gathered =
+pub has_read_none : (format : FileFormat) (tree : Tree) (a : Option (List ℕ)) (line : List ℕ) (g : Accumulator) → line ≡ [] → IsGathered tree [] g
+    → HasRead format tree a a line g 0
+has_read_none format tree a line g empty gathered =
     record {
       known = [];
       consumed = consumes_nothing a;
       counted = refl;
-      holds = subst (λ l. Holds prefix tree [] l g) (sym empty)
-          ([], nothing_told prefix tree, gathered);
+      holds = subst (λ l. Holds format tree [] l g) (sym empty)
+          ([], nothing_told format tree, gathered);
     }
 
-pub has_read_more : (prefix : List ℕ) (tree : Tree) (a b c : Option (List ℕ)) (line : List ℕ) (g : Accumulator) (size : ℕ) (block line_new : List ℕ) (h : Accumulator) (count : ℕ)
-    → HasRead prefix tree a b line g size → Consumes b c block → length block ≡ count → AcceptsBytes prefix tree line g block line_new h
-    → size + length block ≤ MAX_CONFIG_BYTES → HasRead prefix tree a c line_new h (size + count)
-has_read_more prefix tree a b c line g size block line_new h count r consumed n takes room =
+pub has_read_more : (format : FileFormat) (tree : Tree) (a b c : Option (List ℕ)) (line : List ℕ) (g : Accumulator) (size : ℕ) (block line_new : List ℕ) (h : Accumulator) (count : ℕ)
+    → HasRead format tree a b line g size → Consumes b c block → length block ≡ count → AcceptsBytes format tree line g block line_new h
+    → size + length block ≤ MAX_CONFIG_BYTES → HasRead format tree a c line_new h (size + count)
+has_read_more format tree a b c line g size block line_new h count r consumed n takes room =
     let known_size = r.counted in record {
       known = r.known ++ block;
       consumed = consumes_both a b c r.known block r.consumed consumed;
@@ -68,22 +69,22 @@ has_read_more prefix tree a b c line g size block line_new h count r consumed n 
     }
 
 -- lines are few, or the line is empty
-pub room_of : (prefix : List ℕ) (tree : Tree) (a b : Option (List ℕ)) (line : List ℕ) (g : Accumulator) (size : ℕ) → HasRead prefix tree a b line g size
+pub room_of : (format : FileFormat) (tree : Tree) (a b : Option (List ℕ)) (line : List ℕ) (g : Accumulator) (size : ℕ) → HasRead format tree a b line g size
     → (line ≡ []) ⊎ (g.lines < MAX_CONFIG_LINES)
-room_of prefix tree a b [] g size r = inl refl
-room_of prefix tree a b (x ∷ line) g size r = let room = r.holds.1.room (omega arith) in let counted = r.holds.2.counted in inr (omega arith)
+room_of format tree a b [] g size r = inl refl
+room_of format tree a b (x ∷ line) g size r = let room = r.holds.1.room (omega arith) in let counted = r.holds.2.counted in inr (omega arith)
 
-pub tells_read : (prefix : List ℕ) (tree : Tree) (a b c : Option (List ℕ)) (line : List ℕ) (g : Accumulator) (size lines : ℕ)
-    → HasRead prefix tree a b line g size → Keeps b c → lines ≡ g.lines + 1 → IsCutShort prefix tree a c lines
-tells_read prefix tree a b c line g size lines r kept is =
+pub tells_read : (format : FileFormat) (tree : Tree) (a b c : Option (List ℕ)) (line : List ℕ) (g : Accumulator) (size lines : ℕ)
+    → HasRead format tree a b line g size → Keeps b c → lines ≡ g.lines + 1 → IsCutShort format tree a c lines
+tells_read format tree a b c line g size lines r kept is =
     let cut = r.holds.1 in
     record {
       known = r.known;
       consumed = consumes_kept a b c r.known r.consumed kept;
-      first = (failed_reads prefix tree r.known lines).1 (
-        λ kind byte number comes. clean prefix tree r.known line r.holds.0 cut [] kind byte number
-            (subst (λ t. OccursAt prefix tree t kind byte number) (sym (append-nil r.known)) comes),
-        (let e = known_newlines prefix tree r.known line r.holds.0 cut in let f = r.holds.2.counted in omega arith),
+      first = (failed_reads format tree r.known lines).1 (
+        λ kind byte number comes. clean format tree r.known line r.holds.0 cut [] kind byte number
+            (subst (λ t. OccursAt format tree t kind byte number) (sym (append-nil r.known)) comes),
+        (let e = known_newlines format tree r.known line r.holds.0 cut in let f = r.holds.2.counted in omega arith),
       );
     }
 
@@ -104,57 +105,57 @@ if_any_err (Ok x) P p = tt
 if_any_err (Err e) P p = p e
 
 -- a fault of a block, or of the end, is that of the file
-pub tells_refused : (prefix : List ℕ) (tree : Tree) (a c : Option (List ℕ)) (f f_after : ℕ) (kind : LoadKind) (number : ℕ)
-    → ((kind ≡ OutOfMemory) × (number ≡ 0)) ⊎ IsRefused prefix tree a c kind number → ReportsFault prefix tree a c f f_after kind number
-tells_refused prefix tree a c f f_after Malformed number h = elim h [ inl e ↦ (let other = e.0 in cc) | inr r ↦ r ]
-tells_refused prefix tree a c f f_after NotUtf8 number h = elim h [ inl e ↦ (let other = e.0 in cc) | inr r ↦ r ]
-tells_refused prefix tree a c f f_after LineTooLong number h = elim h [ inl e ↦ (let other = e.0 in cc) | inr r ↦ r ]
-tells_refused prefix tree a c f f_after TooManyLines number h = elim h [ inl e ↦ (let other = e.0 in cc) | inr r ↦ r ]
-tells_refused prefix tree a c f f_after TooLarge number h = elim h [ inl e ↦ (let other = e.0 in cc) | inr r ↦ r ]
-tells_refused prefix tree a c f f_after Read number h =
+pub tells_refused : (format : FileFormat) (tree : Tree) (a c : Option (List ℕ)) (f f_after : ℕ) (kind : LoadKind) (number : ℕ)
+    → ((kind ≡ OutOfMemory) × (number ≡ 0)) ⊎ IsRefused format tree a c kind number → ReportsFault format tree a c f f_after kind number
+tells_refused format tree a c f f_after Malformed number h = elim h [ inl e ↦ (let other = e.0 in cc) | inr r ↦ r ]
+tells_refused format tree a c f f_after NotUtf8 number h = elim h [ inl e ↦ (let other = e.0 in cc) | inr r ↦ r ]
+tells_refused format tree a c f f_after LineTooLong number h = elim h [ inl e ↦ (let other = e.0 in cc) | inr r ↦ r ]
+tells_refused format tree a c f f_after TooManyLines number h = elim h [ inl e ↦ (let other = e.0 in cc) | inr r ↦ r ]
+tells_refused format tree a c f f_after TooLarge number h = elim h [ inl e ↦ (let other = e.0 in cc) | inr r ↦ r ]
+tells_refused format tree a c f f_after Read number h =
     elim h [ inl e ↦ (let other = e.0 in cc) | inr r ↦ elim r.first [ inl whole ↦ absurd whole.1.comes | inr any ↦ absurd (any []).comes ] ]
-tells_refused prefix tree a c f f_after OutOfMemory number h = elim h [
+tells_refused format tree a c f f_after OutOfMemory number h = elim h [
   | inl e ↦ e.1
   | inr r ↦ elim r.first [ inl whole ↦ absurd whole.1.comes | inr any ↦ absurd (any []).comes ]
 ]
 
-pub refused_in : (prefix : List ℕ) (tree : Tree) (a b c : Option (List ℕ)) (line : List ℕ) (g : Accumulator) (size : ℕ) (block : List ℕ) (kind : LoadKind) (number : ℕ)
-    → HasRead prefix tree a b line g size → Consumes b c block → length block ≤ MAX_READ
-    → ((kind ≡ OutOfMemory) × (number ≡ 0)) ⊎ ((known rest : List ℕ) → Holds prefix tree known line g → length known ≡ size
-    → IsFirstFault prefix tree complete (known ++ (block ++ rest)) kind number)
-    → ((kind ≡ OutOfMemory) × (number ≡ 0)) ⊎ IsRefused prefix tree a c kind number
-refused_in prefix tree a b c line g size block kind number r consumed short fault = elim fault [
+pub refused_in : (format : FileFormat) (tree : Tree) (a b c : Option (List ℕ)) (line : List ℕ) (g : Accumulator) (size : ℕ) (block : List ℕ) (kind : LoadKind) (number : ℕ)
+    → HasRead format tree a b line g size → Consumes b c block → length block ≤ MAX_READ
+    → ((kind ≡ OutOfMemory) × (number ≡ 0)) ⊎ ((known rest : List ℕ) → Holds format tree known line g → length known ≡ size
+    → IsFirstFault format tree complete (known ++ (block ++ rest)) kind number)
+    → ((kind ≡ OutOfMemory) × (number ≡ 0)) ⊎ IsRefused format tree a c kind number
+refused_in format tree a b c line g size block kind number r consumed short fault = elim fault [
   | inl e ↦ inl e
   | inr first ↦ inr (record {
     known = r.known ++ block;
     consumed = consumes_both a b c r.known block r.consumed consumed;
-    first = inr (λ rest. subst (λ x. IsFirstFault prefix tree complete x kind number) (sym (append_assoc r.known block rest))
+    first = inr (λ rest. subst (λ x. IsFirstFault format tree complete x kind number) (sym (append_assoc r.known block rest))
         (first r.known rest r.holds r.counted));
     soon = λ rest other byte n comes.
-        let late = clean prefix tree r.known line r.holds.0 r.holds.1 (block ++ rest) other byte n
-        (subst (λ x. OccursAt prefix tree x other byte n) (append_assoc r.known block rest) comes) in
+        let late = clean format tree r.known line r.holds.0 r.holds.1 (block ++ rest) other byte n
+        (subst (λ x. OccursAt format tree x other byte n) (append_assoc r.known block rest) comes) in
         let sum = length-append r.known block in
         omega (arith, late, sum, short);
   })
 ]
 
-pub refused_at_end : (prefix : List ℕ) (tree : Tree) (a b c : Option (List ℕ)) (line : List ℕ) (g : Accumulator) (size : ℕ) (kind : LoadKind) (number : ℕ)
-    → HasRead prefix tree a b line g size → Consumes b c [] → IsAtEnd c
-    → ((kind ≡ OutOfMemory) × (number ≡ 0)) ⊎ ((known : List ℕ) → Holds prefix tree known line g → IsFirstFault prefix tree complete known kind number)
-    → ((kind ≡ OutOfMemory) × (number ≡ 0)) ⊎ IsRefused prefix tree a c kind number
-refused_at_end prefix tree a b c line g size kind number r consumed end fault = elim fault [
+pub refused_at_end : (format : FileFormat) (tree : Tree) (a b c : Option (List ℕ)) (line : List ℕ) (g : Accumulator) (size : ℕ) (kind : LoadKind) (number : ℕ)
+    → HasRead format tree a b line g size → Consumes b c [] → IsAtEnd c
+    → ((kind ≡ OutOfMemory) × (number ≡ 0)) ⊎ ((known : List ℕ) → Holds format tree known line g → IsFirstFault format tree complete known kind number)
+    → ((kind ≡ OutOfMemory) × (number ≡ 0)) ⊎ IsRefused format tree a c kind number
+refused_at_end format tree a b c line g size kind number r consumed end fault = elim fault [
   | inl e ↦ inl e
   | inr first ↦ inr (record {
     known = r.known;
     consumed = subst (Consumes a c) (append-nil r.known) (consumes_both a b c r.known [] r.consumed consumed);
     first = inl (end, first r.known r.holds);
-    soon = λ rest other byte n comes. let late = clean prefix tree r.known line r.holds.0 r.holds.1 rest other byte n comes in omega (arith, late);
+    soon = λ rest other byte n comes. let late = clean format tree r.known line r.holds.0 r.holds.1 rest other byte n comes in omega (arith, late);
   })
 ]
 
-pub read_whole : (prefix : List ℕ) (tree : Tree) (a b c : Option (List ℕ)) (line : List ℕ) (g : Accumulator) (size : ℕ) (f : Fragment)
-    → HasRead prefix tree a b line g size → Consumes b c [] → IsAtEnd c → IsFragmentOf prefix tree line g f → IsReadAs prefix tree a c f
-read_whole prefix tree a b c line g size f r consumed end whole =
+pub read_whole : (format : FileFormat) (tree : Tree) (a b c : Option (List ℕ)) (line : List ℕ) (g : Accumulator) (size : ℕ) (f : Fragment)
+    → HasRead format tree a b line g size → Consumes b c [] → IsAtEnd c → IsFragmentOf format tree line g f → IsReadAs format tree a c f
+read_whole format tree a b c line g size f r consumed end whole =
     let all = whole r.known r.holds in
     record {
       known = r.known;
@@ -168,38 +169,38 @@ read_whole prefix tree a b c line g size f r consumed end whole =
     }
 
 -- a first fault of a complete file is of a line
-fault_has_line : (prefix : List ℕ) (tree : Tree) (bytes : List ℕ) (kind : LoadKind) (number lines : ℕ) → IsFirstFault prefix tree complete bytes kind number
+fault_has_line : (format : FileFormat) (tree : Tree) (bytes : List ℕ) (kind : LoadKind) (number lines : ℕ) → IsFirstFault format tree complete bytes kind number
     → fault_line kind lines ≡ lines + 1
-fault_has_line prefix tree bytes Malformed number lines first = refl
-fault_has_line prefix tree bytes NotUtf8 number lines first = refl
-fault_has_line prefix tree bytes LineTooLong number lines first = refl
-fault_has_line prefix tree bytes TooManyLines number lines first = refl
-fault_has_line prefix tree bytes Read number lines first = refl
-fault_has_line prefix tree bytes OutOfMemory number lines first = absurd first.comes
-fault_has_line prefix tree bytes TooLarge number lines first = refl
+fault_has_line format tree bytes Malformed number lines first = refl
+fault_has_line format tree bytes NotUtf8 number lines first = refl
+fault_has_line format tree bytes LineTooLong number lines first = refl
+fault_has_line format tree bytes TooManyLines number lines first = refl
+fault_has_line format tree bytes Read number lines first = refl
+fault_has_line format tree bytes OutOfMemory number lines first = absurd first.comes
+fault_has_line format tree bytes TooLarge number lines first = refl
 
 -- out of memory has the line 0
 memory_line : (kind : LoadKind) (n lines : ℕ) → n ≡ fault_line kind lines → kind ≡ OutOfMemory → n ≡ 0
 memory_line kind n lines is e = is ∙ ap (λ k. fault_line k lines) e
 
 -- the fault after some complete lines, with its line
-fault_with_line : (prefix : List ℕ) (tree : Tree) (bytes : List ℕ) (kind k : LoadKind) (lines n : ℕ) → k ≡ kind → n ≡ fault_line kind lines
-    → IsFirstFault prefix tree complete bytes kind (lines + 1) → IsFirstFault prefix tree complete bytes k n
-fault_with_line prefix tree bytes kind k lines n same is first =
-    subst (λ m. IsFirstFault prefix tree complete bytes k m) (sym (is ∙ fault_has_line prefix tree bytes kind (lines + 1) lines first))
-    (subst (λ x. IsFirstFault prefix tree complete bytes x (lines + 1)) (sym same) first)
+fault_with_line : (format : FileFormat) (tree : Tree) (bytes : List ℕ) (kind k : LoadKind) (lines n : ℕ) → k ≡ kind → n ≡ fault_line kind lines
+    → IsFirstFault format tree complete bytes kind (lines + 1) → IsFirstFault format tree complete bytes k n
+fault_with_line format tree bytes kind k lines n same is first =
+    subst (λ m. IsFirstFault format tree complete bytes k m) (sym (is ∙ fault_has_line format tree bytes kind (lines + 1) lines first))
+    (subst (λ x. IsFirstFault format tree complete bytes x (lines + 1)) (sym same) first)
 
-pub fault_of : (prefix : List ℕ) (tree : Tree) (line : List ℕ) (g : Accumulator) (kind k : LoadKind) (lines n : ℕ) → k ≡ kind → n ≡ fault_line kind lines
-    → (kind ≡ OutOfMemory) ⊎ EndsBadly prefix tree line g kind lines
-    → ((k ≡ OutOfMemory) × (n ≡ 0)) ⊎ ((known : List ℕ) → Holds prefix tree known line g → IsFirstFault prefix tree complete known k n)
-fault_of prefix tree line g kind k lines n same is fault = elim fault [
+pub fault_of : (format : FileFormat) (tree : Tree) (line : List ℕ) (g : Accumulator) (kind k : LoadKind) (lines n : ℕ) → k ≡ kind → n ≡ fault_line kind lines
+    → (kind ≡ OutOfMemory) ⊎ EndsBadly format tree line g kind lines
+    → ((k ≡ OutOfMemory) × (n ≡ 0)) ⊎ ((known : List ℕ) → Holds format tree known line g → IsFirstFault format tree complete known k n)
+fault_of format tree line g kind k lines n same is fault = elim fault [
   | inl e ↦ inl (same ∙ e, memory_line kind n lines is e)
-  | inr bad ↦ inr (λ known holds. fault_with_line prefix tree known kind k lines n same is (bad known holds))
+  | inr bad ↦ inr (λ known holds. fault_with_line format tree known kind k lines n same is (bad known holds))
 ]
 
-pub ends_whole : (prefix : List ℕ) (tree : Tree) (line : List ℕ) (g h : Accumulator) (f : Fragment) → EndsWell prefix tree line g h
-    → (f.assigns.items ≡ h.assigns) × (f.notices.items ≡ h.notices.items) → IsFragmentOf prefix tree line g f
-ends_whole prefix tree line g h f ends same known holds =
+pub ends_whole : (format : FileFormat) (tree : Tree) (line : List ℕ) (g h : Accumulator) (f : Fragment) → EndsWell format tree line g h
+    → (f.assigns.items ≡ h.assigns) × (f.notices.items ≡ h.notices.items) → IsFragmentOf format tree line g f
+ends_whole format tree line g h f ends same known holds =
     let e = ends known holds in (
       e.0,
       e.1,
@@ -211,47 +212,47 @@ ends_whole prefix tree line g h f ends same known holds =
       subst (Below (length tree.units)) (sym same.0) e.3.below,
     )
 
-pub block_fault : (prefix : List ℕ) (tree : Tree) (line : List ℕ) (g : Accumulator) (block : List ℕ) (size : ℕ) (kind k : LoadKind) (lines n : ℕ) → k ≡ kind
+pub block_fault : (format : FileFormat) (tree : Tree) (line : List ℕ) (g : Accumulator) (block : List ℕ) (size : ℕ) (kind k : LoadKind) (lines n : ℕ) → k ≡ kind
     → n ≡ fault_line kind lines
-    → (kind ≡ OutOfMemory) ⊎ ((known rest : List ℕ) → Holds prefix tree known line g → length known ≡ size
-    → IsFirstFault prefix tree complete (known ++ (block ++ rest)) kind (lines + 1))
-    → ((k ≡ OutOfMemory) × (n ≡ 0)) ⊎ ((known rest : List ℕ) → Holds prefix tree known line g → length known ≡ size
-    → IsFirstFault prefix tree complete (known ++ (block ++ rest)) k n)
-block_fault prefix tree line g block size kind k lines n same is fault = elim fault [
+    → (kind ≡ OutOfMemory) ⊎ ((known rest : List ℕ) → Holds format tree known line g → length known ≡ size
+    → IsFirstFault format tree complete (known ++ (block ++ rest)) kind (lines + 1))
+    → ((k ≡ OutOfMemory) × (n ≡ 0)) ⊎ ((known rest : List ℕ) → Holds format tree known line g → length known ≡ size
+    → IsFirstFault format tree complete (known ++ (block ++ rest)) k n)
+block_fault format tree line g block size kind k lines n same is fault = elim fault [
   | inl e ↦ inl (same ∙ e, memory_line kind n lines is e)
-  | inr bad ↦ inr (λ known rest holds count. fault_with_line prefix tree (known ++ (block ++ rest)) kind k lines n same is (bad known rest holds count))
+  | inr bad ↦ inr (λ known rest holds count. fault_with_line format tree (known ++ (block ++ rest)) kind k lines n same is (bad known rest holds count))
 ]
 
-pub tells_short : (prefix : List ℕ) (tree : Tree) (a c : Option (List ℕ)) (f f_after : ℕ) (k : LoadKind) (n : ℕ) → k ≡ Read → IsCutShort prefix tree a c n
-    → (f < 2 ^ 64 - 1 → f < f_after) → ReportsFault prefix tree a c f f_after k n
-tells_short prefix tree a c f f_after k n is cut rise = subst (λ x. ReportsFault prefix tree a c f f_after x n) (sym is) (cut, rise)
+pub tells_short : (format : FileFormat) (tree : Tree) (a c : Option (List ℕ)) (f f_after : ℕ) (k : LoadKind) (n : ℕ) → k ≡ Read → IsCutShort format tree a c n
+    → (f < 2 ^ 64 - 1 → f < f_after) → ReportsFault format tree a c f f_after k n
+tells_short format tree a c f f_after k n is cut rise = subst (λ x. ReportsFault format tree a c f f_after x n) (sym is) (cut, rise)
 
 none_taken : (count : ℕ) (block : List ℕ) → count ≡ 0 → take count block ≡ []
 none_taken count block e = ap (λ n. take n block) e
 
-pub whole_read : (r : Result Fragment LoadFault) (prefix : List ℕ) (tree : Tree) (a b c : Option (List ℕ)) (line : List ℕ) (g : Accumulator) (size count : ℕ) (block : List ℕ)
-    → HasRead prefix tree a b line g size → count ≡ 0 → 0 < length block
-    → Consumes b c (take count block) × (count ≡ 0 → 0 < length block → IsAtEnd c) → IfOk r (IsFragmentOf prefix tree line g)
-    → IfOk r (IsReadAs prefix tree a c)
-whole_read (Ok f) prefix tree a b c line g size count block r none some bytes whole =
-    read_whole prefix tree a b c line g size f r (subst (Consumes b c) (none_taken count block none) bytes.0) (bytes.1 none some) whole
-whole_read (Err e) prefix tree a b c line g size count block r none some bytes whole = tt
+pub whole_read : (r : Result Fragment LoadFault) (format : FileFormat) (tree : Tree) (a b c : Option (List ℕ)) (line : List ℕ) (g : Accumulator) (size count : ℕ) (block : List ℕ)
+    → HasRead format tree a b line g size → count ≡ 0 → 0 < length block
+    → Consumes b c (take count block) × (count ≡ 0 → 0 < length block → IsAtEnd c) → IfOk r (IsFragmentOf format tree line g)
+    → IfOk r (IsReadAs format tree a c)
+whole_read (Ok f) format tree a b c line g size count block r none some bytes whole =
+    read_whole format tree a b c line g size f r (subst (Consumes b c) (none_taken count block none) bytes.0) (bytes.1 none some) whole
+whole_read (Err e) format tree a b c line g size count block r none some bytes whole = tt
 
-pub end_fault : (r : Result Fragment LoadFault) (prefix : List ℕ) (tree : Tree) (a b c : Option (List ℕ)) (line : List ℕ) (g : Accumulator) (size count : ℕ) (block : List ℕ) (f f_after : ℕ)
-    → HasRead prefix tree a b line g size → count ≡ 0 → 0 < length block
+pub end_fault : (r : Result Fragment LoadFault) (format : FileFormat) (tree : Tree) (a b c : Option (List ℕ)) (line : List ℕ) (g : Accumulator) (size count : ℕ) (block : List ℕ) (f f_after : ℕ)
+    → HasRead format tree a b line g size → count ≡ 0 → 0 < length block
     → Consumes b c (take count block) × (count ≡ 0 → 0 < length block → IsAtEnd c)
     → IfErr r (λ fault. ((fault.kind ≡ OutOfMemory) × (fault.line ≡ 0))
-    ⊎ ((known : List ℕ) → Holds prefix tree known line g → IsFirstFault prefix tree complete known fault.kind fault.line))
-    → IfErr r (λ fault. ReportsFault prefix tree a c f f_after fault.kind fault.line)
-end_fault (Ok x) prefix tree a b c line g size count block f f_after r none some bytes fault = tt
-end_fault (Err e) prefix tree a b c line g size count block f f_after r none some bytes fault =
-    tells_refused prefix tree a c f f_after e.kind e.line (refused_at_end prefix tree a b c line g size e.kind e.line r
+    ⊎ ((known : List ℕ) → Holds format tree known line g → IsFirstFault format tree complete known fault.kind fault.line))
+    → IfErr r (λ fault. ReportsFault format tree a c f f_after fault.kind fault.line)
+end_fault (Ok x) format tree a b c line g size count block f f_after r none some bytes fault = tt
+end_fault (Err e) format tree a b c line g size count block f f_after r none some bytes fault =
+    tells_refused format tree a c f f_after e.kind e.line (refused_at_end format tree a b c line g size e.kind e.line r
     (subst (Consumes b c) (none_taken count block none) bytes.0) (bytes.1 none some) fault)
 
-pub whole_fits : (r : Result Fragment LoadFault) (prefix : List ℕ) (tree : Tree) (a b : Option (List ℕ)) (line : List ℕ) (g : Accumulator) (size : ℕ)
-    → is_prefix prefix ≡ true → IsConsistent tree → HasRead prefix tree a b line g size
-    → IfOk r (IsFragmentOf prefix tree line g) → IfOk r (λ f. FitsTree tree f.assigns.items)
-whole_fits (Ok f) prefix tree a b line g size valid sound read whole =
+pub whole_fits : (r : Result Fragment LoadFault) (format : FileFormat) (tree : Tree) (a b : Option (List ℕ)) (line : List ℕ) (g : Accumulator) (size : ℕ)
+    → is_prefix format.prefix ≡ true → IsConsistent tree → HasRead format tree a b line g size
+    → IfOk r (IsFragmentOf format tree line g) → IfOk r (λ f. FitsTree tree f.assigns.items)
+whole_fits (Ok f) format tree a b line g size valid sound read whole =
     let all = whole read.known read.holds in
-    fragment_fits prefix tree read.known all.0 f.assigns.items valid sound all.1 all.2 all.3 all.5 all.6
-whole_fits (Err e) prefix tree a b line g size valid sound read whole = tt
+    fragment_fits format tree read.known all.0 f.assigns.items valid sound all.1 all.2 all.3 all.5 all.6
+whole_fits (Err e) format tree a b line g size valid sound read whole = tt

@@ -2,6 +2,7 @@
 use Rattle.std.specs.Prelude.{◌≡◌, ◌⊎◌, ℕ, ◌+◌, ◌-◌, ◌^◌, ◌<◌, ◌≤◌, List, ◌++◌, Option, length, map}
 use Rattle.std.specs.Io.KnownBytes.{Consumes, IsAtEnd}
 use Rattle.kc_tree_model.specs.Trees.{Tree}
+use Rattle.kc_dotconfig_model.specs.Formats.{FileFormat}
 use Rattle.kc_dotconfig_model.specs.declared.fault.LoadKind.{LoadKind}
 use Rattle.kc_dotconfig_model.specs.declared.fault.LoadKind.TheVariants.{Malformed, NotUtf8, LineTooLong, TooManyLines, Read, OutOfMemory, TooLarge}
 use Rattle.kc_dotconfig_model.specs.ConfigLines.{LineMeaning}
@@ -11,13 +12,13 @@ use Rattle.kc_dotconfig.specs.declared.fragment.Fragment.{Fragment}
 use Rattle.kc_dotconfig.specs.Fragments.{users_of, notice_pair}
 
 -- the file was read to its end, it has no fault, and this is its assignment with its notices
-pub record IsReadAs (prefix : List ℕ) (tree : Tree) (before after : Option (List ℕ)) (f : Fragment) : Type 0 where
+pub record IsReadAs (format : FileFormat) (tree : Tree) (before after : Option (List ℕ)) (f : Fragment) : Type 0 where
   pub known : List ℕ
   pub consumed : Consumes before after known
   pub ended : IsAtEnd after
-  pub accepted : IsAccepted prefix tree known
+  pub accepted : IsAccepted format tree known
   pub meanings : List LineMeaning
-  pub says : FileMeans prefix tree known meanings
+  pub says : FileMeans format tree known meanings
   pub users : users_of tree f.assigns.items ≡ file_assignment tree meanings
   pub noted : map notice_pair f.notices.items ≡ notices_from 1 meanings
 
@@ -27,28 +28,28 @@ MAX_READ = 4096
 
 -- the first fault of the known bytes: they are the whole file, or it is the first whatever follows them; no fault comes
 -- before the bytes that were read last
-pub record IsRefused (prefix : List ℕ) (tree : Tree) (before after : Option (List ℕ)) (kind : LoadKind) (number : ℕ) : Type 0 where
+pub record IsRefused (format : FileFormat) (tree : Tree) (before after : Option (List ℕ)) (kind : LoadKind) (number : ℕ) : Type 0 where
   pub known : List ℕ
   pub consumed : Consumes before after known
-  pub first : (IsAtEnd after × IsFirstFault prefix tree complete known kind number)
-      ⊎ ((rest : List ℕ) → IsFirstFault prefix tree complete (known ++ rest) kind number)
-  pub soon : (rest : List ℕ) (other : LoadKind) (byte n : ℕ) → OccursAt prefix tree (known ++ rest) other byte n
+  pub first : (IsAtEnd after × IsFirstFault format tree complete known kind number)
+      ⊎ ((rest : List ℕ) → IsFirstFault format tree complete (known ++ rest) kind number)
+  pub soon : (rest : List ℕ) (other : LoadKind) (byte n : ℕ) → OccursAt format tree (known ++ rest) other byte n
       → length known ≤ byte + MAX_READ
 
 -- a read failed after the supplied bytes, which have no fault before it
-pub record IsCutShort (prefix : List ℕ) (tree : Tree) (before after : Option (List ℕ)) (number : ℕ) : Type 0 where
+pub record IsCutShort (format : FileFormat) (tree : Tree) (before after : Option (List ℕ)) (number : ℕ) : Type 0 where
   pub known : List ℕ
   pub consumed : Consumes before after known
-  pub first : IsFirstFault prefix tree cut_short known Read number
+  pub first : IsFirstFault format tree cut_short known Read number
 
 -- what a reported fault implies; for a failed read also that the reader's failures rose from `failed` to `failed_after`;
 -- out of memory has the line 0
-abbrev pub ReportsFault : List ℕ → Tree → (before after : Option (List ℕ)) → (failed failed_after : ℕ) → LoadKind → ℕ → Type 0
-ReportsFault prefix tree before after failed failed_after OutOfMemory number = number ≡ 0
-ReportsFault prefix tree before after failed failed_after Read number = IsCutShort prefix tree before after number
+abbrev pub ReportsFault : FileFormat → Tree → (before after : Option (List ℕ)) → (failed failed_after : ℕ) → LoadKind → ℕ → Type 0
+ReportsFault format tree before after failed failed_after OutOfMemory number = number ≡ 0
+ReportsFault format tree before after failed failed_after Read number = IsCutShort format tree before after number
     × (failed < 2 ^ 64 - 1 → failed < failed_after)
-ReportsFault prefix tree before after failed failed_after Malformed number = IsRefused prefix tree before after Malformed number
-ReportsFault prefix tree before after failed failed_after NotUtf8 number = IsRefused prefix tree before after NotUtf8 number
-ReportsFault prefix tree before after failed failed_after LineTooLong number = IsRefused prefix tree before after LineTooLong number
-ReportsFault prefix tree before after failed failed_after TooManyLines number = IsRefused prefix tree before after TooManyLines number
-ReportsFault prefix tree before after failed failed_after TooLarge number = IsRefused prefix tree before after TooLarge number
+ReportsFault format tree before after failed failed_after Malformed number = IsRefused format tree before after Malformed number
+ReportsFault format tree before after failed failed_after NotUtf8 number = IsRefused format tree before after NotUtf8 number
+ReportsFault format tree before after failed failed_after LineTooLong number = IsRefused format tree before after LineTooLong number
+ReportsFault format tree before after failed failed_after TooManyLines number = IsRefused format tree before after TooManyLines number
+ReportsFault format tree before after failed failed_after TooLarge number = IsRefused format tree before after TooLarge number

@@ -5,7 +5,7 @@ ghost use Rattle.kc_value.specs.declared.limits.TheConstants.{MAX_CONFIG_LINES};
 ghost use Rattle.kc_tree_model.specs.Trees.{Tree};
 ghost use Rattle.kc_rules.specs.between.SettledViews.{tree_of_settled};
 ghost use Rattle.kc_dotconfig_model.specs.ConfigLines.{LineMeaning, Means, IsMalformed, without_white_end};
-ghost use Rattle.kc_dotconfig_model.specs.between.Prefixes.{prefix_bytes};
+ghost use Rattle.kc_dotconfig_model.specs.between.Formats.{file_format};
 ghost use Rattle.std.specs.BTreeMap.{insert_entry};
 ghost use Rattle.std.specs.Ordering.{nat_cmp};
 ghost use Rattle.kc_dotconfig.specs.checker.MeaningViews.{meaning_view, IsWithin};
@@ -15,7 +15,7 @@ use super::accumulator::Accumulator;
 use super::assigned_values::AssignedValues;
 use super::fragment::Fragment;
 use super::meanings::{Meaning, read_line};
-use kc_dotconfig_model::{LoadKind, Notice, NoticeKind, Prefix};
+use kc_dotconfig_model::{Format, LoadKind, Notice, NoticeKind};
 use kc_rules::Settled;
 use kc_rules_model::UserValue;
 use std::alloc::{AllocError, Global};
@@ -81,14 +81,14 @@ fn take(gathered: &mut Accumulator, meaning: Meaning) -> Result<(), AllocError>
 pub(crate) fn take_line(
     alloc: Global,
     settled: &Settled,
-    prefix: &Prefix,
+    format: &Format,
     gathered: &mut Accumulator,
     line: &[u8],
 ) -> Result<(), LoadKind>
     requires few { gathered.old.lines < MAX_CONFIG_LINES }
-    ensures ok { OnOk result (IsUtf8 line.now × ((meaning : LineMeaning) × Means (prefix_bytes prefix.now) (tree_of_settled settled.now) (without_white_end line.now) meaning × ((meanings : List LineMeaning) → IsGathered (tree_of_settled settled.now) meanings gathered.old → IsGathered (tree_of_settled settled.now) (meanings ++ meaning ∷ []) gathered.new))) }
+    ensures ok { OnOk result (IsUtf8 line.now × ((meaning : LineMeaning) × Means (file_format format.now) (tree_of_settled settled.now) (without_white_end line.now) meaning × ((meanings : List LineMeaning) → IsGathered (tree_of_settled settled.now) meanings gathered.old → IsGathered (tree_of_settled settled.now) (meanings ++ meaning ∷ []) gathered.new))) }
     ensures not_utf8 { result ≡ Err LoadKind.NotUtf8 → IsUtf8 line.now → ⊥ }
-    ensures malformed { result ≡ Err LoadKind.Malformed → IsUtf8 line.now × IsMalformed (prefix_bytes prefix.now) (tree_of_settled settled.now) line.now }
+    ensures malformed { result ≡ Err LoadKind.Malformed → IsUtf8 line.now × IsMalformed (file_format format.now) (tree_of_settled settled.now) line.now }
     ensures kinds { IfErr result (λ kind. (kind ≡ LoadKind.NotUtf8) ⊎ (kind ≡ LoadKind.Malformed) ⊎ (kind ≡ LoadKind.OutOfMemory)) }
     ensures lines { OnOk result (gathered.new.lines ≡ gathered.old.lines + 1) }
     ensures err { OnErr result (gathered.new.lines ≡ gathered.old.lines) }
@@ -96,7 +96,7 @@ pub(crate) fn take_line(
     let Ok(text) = std::str::from_utf8(line) else {
         return Err(LoadKind::NotUtf8);
     };
-    match read_line(alloc, settled, prefix, gathered.next, text) {
+    match read_line(alloc, settled, format, gathered.next, text) {
         Ok(Some(meaning)) => match take(gathered, meaning) {
             Ok(()) => Ok(()),
             Err(_) => Err(LoadKind::OutOfMemory),

@@ -15,5 +15,5 @@ mod reading;
 
 pub use config::Config;
 pub use fragment::Fragment;
-pub use kc_dotconfig_model::{LoadFault, LoadKind, Notice, NoticeKind, Prefix};
+pub use kc_dotconfig_model::{Format, LoadFault, LoadKind, Notice, NoticeKind, Prefix, Strings};
 pub use reading::read_config;

@@ -1,8 +1,9 @@
 //! The parts of a line.
-ghost use Rattle.std.specs.Prelude.{◌≡◌, ◌<◌, not, Some, None, IfSome, IfNone, IsAscii};
+ghost use Rattle.std.specs.Prelude.{◌≡◌, ◌≢◌, ◌<◌, ℕ, List, not, Some, None, IfSome, IfNone, IsAscii};
 ghost use Rattle.std.specs.List.{find};
 ghost use Rattle.kc_expr.specs.Token.{is_white_byte};
 ghost use Rattle.kc_dotconfig_model.specs.ConfigLines.{without_white_end};
+ghost use Rattle.kc_dotconfig_model.specs.Formats.{between_quotes};
 ghost use Rattle.kc_dotconfig_model.specs.between.Prefixes.{prefix_bytes};
 ghost use Rattle.kc_dotconfig_model.specs.between.LineMeanings.{after_front, named_before, value_parts, unset_name, is_hash};
 
@@ -74,6 +75,14 @@ pub(crate) fn unset_name<'a>(prefix: &Prefix, line: &'a str) -> Option<&'a str>
     } else {
         None
     }
+}
+
+/// The text between two `"`, the first byte and the last one of a text.
+pub(crate) fn between_quotes(text: &str) -> Option<&str>
+    ensures some { IfSome result (λ inner. text.now ≡ between_quotes inner.now) }
+    ensures none { IfNone result ((inner : List ℕ) → text.now ≢ between_quotes inner) }
+{
+    text.strip_prefix('"')?.strip_suffix('"')
 }
 
 /// Whether a line's first byte that isn't white is `#`.

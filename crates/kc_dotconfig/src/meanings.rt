@@ -5,12 +5,13 @@ ghost use Rattle.kc_tree_model.specs.TreeLookup.{symbol_named};
 ghost use Rattle.kc_value.specs.Number.{number_of_text};
 ghost use Rattle.kc_rules.specs.between.SettledViews.{tree_of_settled};
 ghost use Rattle.kc_dotconfig_model.specs.ConfigLines.{tri_of_text, unset_meaning, without_white_end};
-ghost use Rattle.kc_dotconfig_model.specs.between.Prefixes.{prefix_bytes};
-ghost use Rattle.kc_dotconfig_model.specs.between.LineMeanings.{line_meaning, tri_meaning, string_meaning, number_meaning, meaning_of_kind, value_meaning, unquoted, of_named, of_other};
+ghost use Rattle.kc_dotconfig_model.specs.declared.format.Strings.TheVariants.{Escaped, Raw};
+ghost use Rattle.kc_dotconfig_model.specs.between.Formats.{file_format};
+ghost use Rattle.kc_dotconfig_model.specs.between.LineMeanings.{line_meaning, tri_meaning, string_meaning, number_meaning, meaning_of_kind, value_meaning, string_text, of_named, of_other};
 ghost use Rattle.kc_dotconfig.specs.checker.MeaningViews.{meaning_view, IsWithin};
 
-use super::line_parts::{is_comment, trimmed, unset_name, value_parts};
-use kc_dotconfig_model::{NoticeKind, Prefix};
+use super::line_parts::{between_quotes, is_comment, trimmed, unset_name, value_parts};
+use kc_dotconfig_model::{Format, NoticeKind, Strings};
 use kc_rules::Settled;
 use kc_rules_model::UserValue;
 use kc_tree::{Sym, Tree, Unit};
@@ -52,13 +53,41 @@ fn read_tri(unit: u32, s: Sym, choice: Option<u32>, tri: Option<Tri>) -> Meaning
     }
 }
 
-/// Interprets the value of a string.
-fn read_string(alloc: Global, unit: u32, text: &str) -> Result<Meaning, AllocError>
-    ensures { IfOk result (λ meaning. meaning_view meaning ≡ string_meaning unit (unquoted text.now)) }
+/// Interprets the value of a string that is written escaped.
+fn read_escaped(alloc: Global, unit: u32, text: &str) -> Result<Meaning, AllocError>
+    ensures { IfOk result (λ meaning. meaning_view meaning ≡ string_meaning unit (string_text Escaped text.now)) }
 {
     match read_quoted(alloc, text)? {
         Some(text) => Ok(Meaning::Assigns(unit, UserValue::Text(Text::from_string(text)))),
         None => Ok(Meaning::Noted(NoticeKind::NotOfType)),
+    }
+}
+
+/// Interprets the value of a string that is written raw.
+fn read_raw(alloc: Global, unit: u32, text: &str) -> Result<Meaning, AllocError>
+    ensures { IfOk result (λ meaning. meaning_view meaning ≡ string_meaning unit (string_text Raw text.now)) }
+{
+    match between_quotes(text) {
+        Some(text) => {
+            let text = Text::copied(alloc, text)?;
+            Ok(Meaning::Assigns(unit, UserValue::Text(text)))
+        }
+        None => Ok(Meaning::Noted(NoticeKind::NotOfType)),
+    }
+}
+
+/// Interprets the value of a string by the form of strings.
+fn read_string(
+    alloc: Global,
+    strings: Strings,
+    unit: u32,
+    text: &str,
+) -> Result<Meaning, AllocError>
+    ensures { IfOk result (λ meaning. meaning_view meaning ≡ string_meaning unit (string_text strings text.now)) }
+{
+    match strings {
+        Strings::Escaped => read_escaped(alloc, unit, text),
+        Strings::Raw => read_raw(alloc, unit, text),
     }
 }
 
@@ -92,16 +121,17 @@ fn read_number(alloc: Global, unit: u32, kind: Kind, text: &str) -> Result<Meani
 /// Interprets the text after `=` for a unit of a type.
 fn read_text(
     alloc: Global,
+    strings: Strings,
     kind: Kind,
     unit: u32,
     s: Sym,
     choice: Option<u32>,
     text: &str,
 ) -> Result<Meaning, AllocError>
-    ensures { IfOk result (λ meaning. meaning_view meaning ≡ meaning_of_kind kind unit s choice text.now) }
+    ensures { IfOk result (λ meaning. meaning_view meaning ≡ meaning_of_kind strings kind unit s choice text.now) }
 {
     match kind {
-        Kind::Text => read_string(alloc, unit, text),
+        Kind::Text => read_string(alloc, strings, unit, text),
         Kind::Int => read_number(alloc, unit, kind, text),
         Kind::Hex => read_number(alloc, unit, kind, text),
         Kind::Bool => Ok(read_tri(unit, s, choice, tri_of_text(kind, text))),
@@ -110,13 +140,27 @@ fn read_text(
 }
 
 /// Interprets the text after `=` for a symbol.
-fn read_value(alloc: Global, tree: &Tree, s: Sym, text: &str) -> Result<Meaning, AllocError>
+fn read_value(
+    alloc: Global,
+    strings: Strings,
+    tree: &Tree,
+    s: Sym,
+    text: &str,
+) -> Result<Meaning, AllocError>
     requires there { s < length tree.now.tree.symbols }
-    ensures meaning { IfOk result (λ meaning. (symbol : Symbol) → slice_get tree.now.tree.symbols s ≡ Some symbol → meaning_view meaning ≡ value_meaning tree.now.tree s symbol text.now) }
+    ensures meaning { IfOk result (λ meaning. (symbol : Symbol) → slice_get tree.now.tree.symbols s ≡ Some symbol → meaning_view meaning ≡ value_meaning strings tree.now.tree s symbol text.now) }
     ensures within { IfOk result (λ meaning. IsWithin (length tree.now.tree.units) (meaning_view meaning)) }
 {
     let symbol = tree.symbol(s);
-    read_text(alloc, symbol.kind, symbol.unit, s, symbol.choice, text)
+    read_text(
+        alloc,
+        strings,
+        symbol.kind,
+        symbol.unit,
+        s,
+        symbol.choice,
+        text,
+    )
 }
 
 /// Interprets an unset line for a symbol.
@@ -162,16 +206,17 @@ fn find_symbol(tree: &Tree, next: u32, name: &str) -> Option<Sym>
 /// Interprets a line `CONFIG_X=value`.
 fn read_value_line(
     alloc: Global,
+    strings: Strings,
     tree: &Tree,
     next: u32,
     name: &str,
     text: &str,
 ) -> Result<Meaning, AllocError>
-    ensures meaning { IfOk result (λ meaning. meaning_view meaning ≡ of_named tree.now.tree (λ s symbol. value_meaning tree.now.tree s symbol text.now) (symbol_named tree.now.tree name.now)) }
+    ensures meaning { IfOk result (λ meaning. meaning_view meaning ≡ of_named tree.now.tree (λ s symbol. value_meaning strings tree.now.tree s symbol text.now) (symbol_named tree.now.tree name.now)) }
     ensures within { IfOk result (λ meaning. IsWithin (length tree.now.tree.units) (meaning_view meaning)) }
 {
     match find_symbol(tree, next, name) {
-        Some(s) => read_value(alloc, tree, s, text),
+        Some(s) => read_value(alloc, strings, tree, s, text),
         None => Ok(Meaning::Noted(NoticeKind::UnknownSymbol)),
     }
 }
@@ -203,20 +248,20 @@ fn read_other_line(line: &str) -> Option<Meaning>
 pub(crate) fn read_line(
     alloc: Global,
     settled: &Settled,
-    prefix: &Prefix,
+    format: &Format,
     next: u32,
     line: &str,
 ) -> Result<Option<Meaning>, AllocError>
     ensures within { IfOk result (λ meaning. IfSome meaning (λ s. IsWithin (length (tree_of_settled settled.now).units) (meaning_view s))) }
-    ensures meaning { IfOk result (λ meaning. option_map meaning_view meaning ≡ line_meaning (prefix_bytes prefix.now) (tree_of_settled settled.now) (without_white_end line.now)) }
+    ensures meaning { IfOk result (λ meaning. option_map meaning_view meaning ≡ line_meaning (file_format format.now) (tree_of_settled settled.now) (without_white_end line.now)) }
 {
     let tree = settled.tree();
     let line = trimmed(line);
-    if let Some((name, text)) = value_parts(prefix, line) {
-        let meaning = read_value_line(alloc, tree, next, name, text)?;
+    if let Some((name, text)) = value_parts(&format.prefix, line) {
+        let meaning = read_value_line(alloc, format.strings, tree, next, name, text)?;
         return Ok(Some(meaning));
     }
-    if let Some(name) = unset_name(prefix, line) {
+    if let Some(name) = unset_name(&format.prefix, line) {
         return Ok(Some(read_unset_line(tree, next, name)));
     }
     Ok(read_other_line(line))

@@ -1,7 +1,7 @@
 //! Reading a configuration file, a block at a time.
 ghost use Rattle.std.specs.Prelude.{◌≡◌, ◌⊎◌, ◌<◌, ◌≤◌, ℕ, ◌+◌, ◌-◌, ◌^◌, List, [], ◌∷◌, ◌++◌, length, true, IfOk, IfErr, OnOk, OnErr};
 ghost use Rattle.kc_dotconfig_model.specs.PrefixGrammar.{lacks};
-ghost use Rattle.kc_dotconfig_model.specs.between.Prefixes.{prefix_bytes};
+ghost use Rattle.kc_dotconfig_model.specs.between.Formats.{file_format};
 ghost use Rattle.kc_dotconfig_model.specs.LoadFaults.{complete, IsFirstFault};
 ghost use Rattle.kc_dotconfig.specs.checker.Accumulation.{fault_line, Holds, GoesOn, StopsIn, AcceptsBytes, Refuses, EndsWell, EndsBadly, IsFragmentOf};
 ghost use Rattle.kc_dotconfig.specs.Fragments.{FitsTree};
@@ -13,7 +13,7 @@ use super::accumulator::Accumulator;
 use super::fragment::Fragment;
 use super::line_buffer::LineBuffer;
 use bstr::ByteSlice;
-use kc_dotconfig_model::{LoadFault, LoadKind, Prefix};
+use kc_dotconfig_model::{Format, LoadFault, LoadKind};
 use kc_rules::Settled;
 use kc_value::{MAX_CONFIG_BYTES, MAX_CONFIG_LINES, MAX_LINE_BYTES, Source};
 use std::alloc::{AllocError, Global};
@@ -41,15 +41,15 @@ fn take_piece(cutter: &mut LineBuffer, lines: u32, piece: &[u8]) -> Result<(), L
 fn take_ended(
     alloc: Global,
     settled: &Settled,
-    prefix: &Prefix,
+    format: &Format,
     cutter: &mut LineBuffer,
     gathered: &mut Accumulator,
     piece: &[u8],
 ) -> Result<(), LoadKind>
     requires few { gathered.old.lines ≤ MAX_CONFIG_LINES }
     requires one_line { lacks 10 piece.now ≡ true }
-    ensures ok { OnOk result (AcceptsBytes (prefix_bytes prefix.now) (tree_of_settled settled.now) cutter.old gathered.old (piece.now ++ 10 ∷ []) cutter.new gathered.new) }
-    ensures err { IfErr result (λ kind. (kind ≡ LoadKind.OutOfMemory) ⊎ Refuses (prefix_bytes prefix.now) (tree_of_settled settled.now) cutter.old gathered.old (piece.now ++ 10 ∷ []) kind gathered.new.lines) }
+    ensures ok { OnOk result (AcceptsBytes (file_format format.now) (tree_of_settled settled.now) cutter.old gathered.old (piece.now ++ 10 ∷ []) cutter.new gathered.new) }
+    ensures err { IfErr result (λ kind. (kind ≡ LoadKind.OutOfMemory) ⊎ Refuses (file_format format.now) (tree_of_settled settled.now) cutter.old gathered.old (piece.now ++ 10 ∷ []) kind gathered.new.lines) }
     ensures few { gathered.new.lines ≤ MAX_CONFIG_LINES }
 {
     if gathered.lines == MAX_CONFIG_LINES {
@@ -59,10 +59,10 @@ fn take_ended(
         if piece.len() > MAX_LINE_BYTES {
             return Err(LoadKind::LineTooLong);
         }
-        return take_line(alloc, settled, prefix, gathered, piece);
+        return take_line(alloc, settled, format, gathered, piece);
     }
     cutter.push(piece)?;
-    take_line(alloc, settled, prefix, gathered, cutter.line())?;
+    take_line(alloc, settled, format, gathered, cutter.line())?;
     cutter.clear();
     Ok(())
 }
@@ -71,19 +71,19 @@ fn take_ended(
 fn take_bytes(
     alloc: Global,
     settled: &Settled,
-    prefix: &Prefix,
+    format: &Format,
     cutter: &mut LineBuffer,
     gathered: &mut Accumulator,
     bytes: &[u8],
 ) -> Result<(), LoadKind>
     requires few { gathered.old.lines ≤ MAX_CONFIG_LINES }
-    ensures ok { OnOk result (AcceptsBytes (prefix_bytes prefix.now) (tree_of_settled settled.now) cutter.old gathered.old bytes.now cutter.new gathered.new) }
-    ensures err { IfErr result (λ kind. (kind ≡ LoadKind.OutOfMemory) ⊎ Refuses (prefix_bytes prefix.now) (tree_of_settled settled.now) cutter.old gathered.old bytes.now kind gathered.new.lines) }
+    ensures ok { OnOk result (AcceptsBytes (file_format format.now) (tree_of_settled settled.now) cutter.old gathered.old bytes.now cutter.new gathered.new) }
+    ensures err { IfErr result (λ kind. (kind ≡ LoadKind.OutOfMemory) ⊎ Refuses (file_format format.now) (tree_of_settled settled.now) cutter.old gathered.old bytes.now kind gathered.new.lines) }
     ensures few { gathered.new.lines ≤ MAX_CONFIG_LINES }
 {
     let mut rest = bytes;
     while let Some(at) = rest.find_byte(b'\n') {
-        take_ended(alloc, settled, prefix, cutter, gathered, &rest[..at])?;
+        take_ended(alloc, settled, format, cutter, gathered, &rest[..at])?;
         rest = &rest[at + 1..];
     }
     take_piece(cutter, gathered.lines, rest)
@@ -93,7 +93,7 @@ fn take_bytes(
 fn take_block(
     alloc: Global,
     settled: &Settled,
-    prefix: &Prefix,
+    format: &Format,
     cutter: &mut LineBuffer,
     gathered: &mut Accumulator,
     size: usize,
@@ -101,36 +101,36 @@ fn take_block(
 ) -> Result<(), LoadKind>
     requires few { gathered.old.lines ≤ MAX_CONFIG_LINES }
     requires size { size ≤ MAX_CONFIG_BYTES }
-    ensures ok { OnOk result (AcceptsBytes (prefix_bytes prefix.now) (tree_of_settled settled.now) cutter.old gathered.old block.now cutter.new gathered.new) }
+    ensures ok { OnOk result (AcceptsBytes (file_format format.now) (tree_of_settled settled.now) cutter.old gathered.old block.now cutter.new gathered.new) }
     ensures room { OnOk result (size + length block.now ≤ MAX_CONFIG_BYTES) }
-    ensures err { IfErr result (λ kind. (kind ≡ LoadKind.OutOfMemory) ⊎ ((known rest : List ℕ) → Holds (prefix_bytes prefix.now) (tree_of_settled settled.now) known cutter.old gathered.old → length known ≡ size → IsFirstFault (prefix_bytes prefix.now) (tree_of_settled settled.now) complete (known ++ (block.now ++ rest)) kind (gathered.new.lines + 1))) }
+    ensures err { IfErr result (λ kind. (kind ≡ LoadKind.OutOfMemory) ⊎ ((known rest : List ℕ) → Holds (file_format format.now) (tree_of_settled settled.now) known cutter.old gathered.old → length known ≡ size → IsFirstFault (file_format format.now) (tree_of_settled settled.now) complete (known ++ (block.now ++ rest)) kind (gathered.new.lines + 1))) }
     ensures few { gathered.new.lines ≤ MAX_CONFIG_LINES }
 {
     let room = MAX_CONFIG_BYTES - size;
     if block.len() > room {
-        take_bytes(alloc, settled, prefix, cutter, gathered, &block[..room])?;
+        take_bytes(alloc, settled, format, cutter, gathered, &block[..room])?;
         return Err(LoadKind::TooLarge);
     }
-    take_bytes(alloc, settled, prefix, cutter, gathered, block)
+    take_bytes(alloc, settled, format, cutter, gathered, block)
 }
 
 /// Takes the last line at the end of the file, if it has no newline.
 fn take_end(
     alloc: Global,
     settled: &Settled,
-    prefix: &Prefix,
+    format: &Format,
     cutter: &LineBuffer,
     gathered: &mut Accumulator,
 ) -> Result<(), LoadKind>
     requires room { (cutter.now ≡ []) ⊎ (gathered.old.lines < MAX_CONFIG_LINES) }
-    ensures ok { OnOk result (EndsWell (prefix_bytes prefix.now) (tree_of_settled settled.now) cutter.now gathered.old gathered.new) }
-    ensures err { IfErr result (λ kind. (kind ≡ LoadKind.OutOfMemory) ⊎ EndsBadly (prefix_bytes prefix.now) (tree_of_settled settled.now) cutter.now gathered.old kind gathered.new.lines) }
+    ensures ok { OnOk result (EndsWell (file_format format.now) (tree_of_settled settled.now) cutter.now gathered.old gathered.new) }
+    ensures err { IfErr result (λ kind. (kind ≡ LoadKind.OutOfMemory) ⊎ EndsBadly (file_format format.now) (tree_of_settled settled.now) cutter.now gathered.old kind gathered.new.lines) }
     ensures few { gathered.old.lines ≤ MAX_CONFIG_LINES → gathered.new.lines ≤ MAX_CONFIG_LINES }
 {
     if cutter.line().is_empty() {
         return Ok(());
     }
-    take_line(alloc, settled, prefix, gathered, cutter.line())
+    take_line(alloc, settled, format, gathered, cutter.line())
 }
 
 /// A fault on the line after the complete ones; out of memory is of no line, and has the line 0.
@@ -150,16 +150,16 @@ fn fault_on_next_line(lines: u32, kind: LoadKind) -> LoadFault
 fn finish(
     alloc: Global,
     settled: &Settled,
-    prefix: &Prefix,
+    format: &Format,
     cutter: &LineBuffer,
     mut gathered: Accumulator,
 ) -> Result<Fragment, LoadFault>
     requires few { gathered.lines ≤ MAX_CONFIG_LINES }
     requires room { (cutter.now ≡ []) ⊎ (gathered.lines < MAX_CONFIG_LINES) }
-    ensures ok { IfOk result (λ f. IsFragmentOf (prefix_bytes prefix.now) (tree_of_settled settled.now) cutter.now gathered f) }
-    ensures err { IfErr result (λ fault. ((fault.kind ≡ LoadKind.OutOfMemory) × (fault.line ≡ 0)) ⊎ ((known : List ℕ) → Holds (prefix_bytes prefix.now) (tree_of_settled settled.now) known cutter.now gathered → IsFirstFault (prefix_bytes prefix.now) (tree_of_settled settled.now) complete known fault.kind fault.line)) }
+    ensures ok { IfOk result (λ f. IsFragmentOf (file_format format.now) (tree_of_settled settled.now) cutter.now gathered f) }
+    ensures err { IfErr result (λ fault. ((fault.kind ≡ LoadKind.OutOfMemory) × (fault.line ≡ 0)) ⊎ ((known : List ℕ) → Holds (file_format format.now) (tree_of_settled settled.now) known cutter.now gathered → IsFirstFault (file_format format.now) (tree_of_settled settled.now) complete known fault.kind fault.line)) }
 {
-    if let Err(kind) = take_end(alloc, settled, prefix, cutter, &mut gathered) {
+    if let Err(kind) = take_end(alloc, settled, format, cutter, &mut gathered) {
         return Err(fault_on_next_line(gathered.lines, kind));
     }
     let lines = gathered.lines;
@@ -180,13 +180,13 @@ fn finish(
 pub fn read_config<R: Source>(
     alloc: Global,
     settled: &Settled,
-    prefix: &Prefix,
+    format: &Format,
     source: &mut R,
 ) -> Result<Fragment, LoadFault>
-    ensures ok { IfOk result (IsReadAs (prefix_bytes prefix.now) (tree_of_settled settled.now) (R.left source.old) (R.left source.new)) }
+    ensures ok { IfOk result (IsReadAs (file_format format.now) (tree_of_settled settled.now) (R.left source.old) (R.left source.new)) }
     ensures fits { IfOk result (λ f. FitsTree (tree_of_settled settled.now) f.assigns.items) }
     ensures unfailed { OnOk result (R.failures source.new ≡ R.failures source.old) }
-    ensures fault { IfErr result (λ fault. ReportsFault (prefix_bytes prefix.now) (tree_of_settled settled.now) (R.left source.old) (R.left source.new) (R.failures source.old) (R.failures source.new) fault.kind fault.line) }
+    ensures fault { IfErr result (λ fault. ReportsFault (file_format format.now) (tree_of_settled settled.now) (R.left source.old) (R.left source.new) (R.failures source.old) (R.failures source.new) fault.kind fault.line) }
     ensures failed { IfErr result (λ fault. (fault.kind ≡ LoadKind.Read) ⊎ (R.failures source.new ≡ R.failures source.old)) }
     ensures once { R.failures source.new ≤ R.failures source.old + 1 }
 {
@@ -200,12 +200,12 @@ pub fn read_config<R: Source>(
             return Err(fault_on_next_line(gathered.lines, LoadKind::Read));
         };
         if count == 0 {
-            return finish(alloc, settled, prefix, &cutter, gathered);
+            return finish(alloc, settled, format, &cutter, gathered);
         }
         if let Err(kind) = take_block(
             alloc,
             settled,
-            prefix,
+            format,
             &mut cutter,
             &mut gathered,
             size,

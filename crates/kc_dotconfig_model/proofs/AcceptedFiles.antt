@@ -5,6 +5,7 @@ use Rattle.std.specs.List.{onto_first}
 use Rattle.std.proofs.lemmas.Bool.{eqb-true, and_from}
 use Rattle.std.proofs.lemmas.List.Sums.{sum_by-cons, sum_by-append}
 use Rattle.kc_tree_model.specs.Trees.{Tree}
+use Rattle.kc_dotconfig_model.specs.Formats.{FileFormat}
 use Rattle.kc_dotconfig_model.specs.declared.fault.LoadKind.TheVariants.{Malformed}
 use Rattle.kc_dotconfig_model.specs.PrefixGrammar.{lacks}
 use Rattle.kc_dotconfig_model.specs.ConfigLines.{LineMeaning, IsMalformed, without_white_end}
@@ -142,27 +143,27 @@ placed (b ∷ bytes) k n line e at = go (b == 10) refl (file_lines bytes) refl k
       (below.0 + 1, behind_byte b bytes line n below.0 other (omega arith) below.1)
 
 -- a line without a meaning, where the lines together have none
-unread : (prefix : List ℕ) (tree : Tree) (lines : List (List ℕ)) → meanings_of_lines prefix tree lines ≡ None
-    → (k : ℕ) × (line : List ℕ) × (slice_get lines k ≡ Some line) × (line_meaning prefix tree (without_white_end line) ≡ None)
-unread prefix tree [] e = cc
-unread prefix tree (line ∷ lines) e =
-    go (line_meaning prefix tree (without_white_end line)) refl (meanings_of_lines prefix tree lines) refl e (unread prefix tree lines) where
-      go : (o : Option LineMeaning) → line_meaning prefix tree (without_white_end line) ≡ o → (os : Option (List LineMeaning))
-          → meanings_of_lines prefix tree lines ≡ os → with_rest o os ≡ None
-          → (meanings_of_lines prefix tree lines ≡ None → (k : ℕ) × (l : List ℕ) × (slice_get lines k ≡ Some l)
-          × (line_meaning prefix tree (without_white_end l) ≡ None))
-          → (k : ℕ) × (l : List ℕ) × (slice_get (line ∷ lines) k ≡ Some l) × (line_meaning prefix tree (without_white_end l) ≡ None)
+unread : (format : FileFormat) (tree : Tree) (lines : List (List ℕ)) → meanings_of_lines format tree lines ≡ None
+    → (k : ℕ) × (line : List ℕ) × (slice_get lines k ≡ Some line) × (line_meaning format tree (without_white_end line) ≡ None)
+unread format tree [] e = cc
+unread format tree (line ∷ lines) e =
+    go (line_meaning format tree (without_white_end line)) refl (meanings_of_lines format tree lines) refl e (unread format tree lines) where
+      go : (o : Option LineMeaning) → line_meaning format tree (without_white_end line) ≡ o → (os : Option (List LineMeaning))
+          → meanings_of_lines format tree lines ≡ os → with_rest o os ≡ None
+          → (meanings_of_lines format tree lines ≡ None → (k : ℕ) × (l : List ℕ) × (slice_get lines k ≡ Some l)
+          × (line_meaning format tree (without_white_end l) ≡ None))
+          → (k : ℕ) × (l : List ℕ) × (slice_get (line ∷ lines) k ≡ Some l) × (line_meaning format tree (without_white_end l) ≡ None)
       go None a os b e next = (0, line, refl, a)
       go (Some meaning) a None b e next = let later = next b in (suc later.0, later.1, later.2, later.3)
       go (Some meaning) a (Some meanings) b e next = cc
 
 pub accepted_read : AcceptedFilesAreRead
-accepted_read prefix tree bytes valid accepted = go (file_meanings prefix tree bytes) refl where
-  go : (o : Option (List LineMeaning)) → file_meanings prefix tree bytes ≡ o → (meanings : List LineMeaning) × FileMeans prefix tree bytes meanings
-  go (Some meanings) e = (meanings, (file_read prefix tree bytes meanings valid).0 e)
+accepted_read format tree bytes valid accepted = go (file_meanings format tree bytes) refl where
+  go : (o : Option (List LineMeaning)) → file_meanings format tree bytes ≡ o → (meanings : List LineMeaning) × FileMeans format tree bytes meanings
+  go (Some meanings) e = (meanings, (file_read format tree bytes meanings valid).0 e)
   go None e =
-      let lost = unread prefix tree (file_lines bytes) e in
+      let lost = unread format tree (file_lines bytes) e in
       let place = placed bytes lost.0 (lost.0 + 1) lost.1 refl lost.2 in
-      let malformed : IsMalformed prefix tree lost.1 = λ meaning says. let read = (line_read prefix tree (without_white_end lost.1) meaning valid).1 says in cc
+      let malformed : IsMalformed format tree lost.1 = λ meaning says. let read = (line_read format tree (without_white_end lost.1) meaning valid).1 says in cc
       (read, lost.3) in
       absurd (accepted Malformed (place.0 + length lost.1) (lost.0 + 1) (lost.1, place.0, place.1, malformed, refl))

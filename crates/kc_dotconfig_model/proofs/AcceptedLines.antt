@@ -8,6 +8,7 @@ use Rattle.std.proofs.lemmas.Bool.{and_parts, and_from, not-true, cases_Bool, ca
 use Rattle.std.proofs.lemmas.List.Sums.{sum_by-cons, sum_by-append}
 use Rattle.std.proofs.lemmas.Option.{slice_get_within}
 use Rattle.kc_tree_model.specs.Trees.{Tree}
+use Rattle.kc_dotconfig_model.specs.Formats.{FileFormat}
 use Rattle.kc_dotconfig_model.specs.declared.fault.LoadKind.TheVariants.{Malformed, NotUtf8, LineTooLong, TooManyLines, Read, OutOfMemory, TooLarge}
 use Rattle.kc_system.proofs.Lists.{get-some}
 use Rattle.kc_dotconfig_model.specs.PrefixGrammar.{lacks, is_prefix}
@@ -95,42 +96,42 @@ line_listed bytes line number start at = (
   at.number_is,
 )
 
-pub accepted_of_lines : (prefix : List ℕ) (tree : Tree) (bytes : List ℕ) → length bytes ≤ MAX_CONFIG_BYTES → length (file_lines bytes) ≤ MAX_CONFIG_LINES
-    → ((i : ℕ) (line : List ℕ) → slice_get (file_lines bytes) i ≡ Some line → IsGoodLine prefix tree line)
-    → IsAccepted prefix tree bytes
-accepted_of_lines prefix tree bytes small few good TooLarge byte number c = let long = c.0 in absurd (omega (arith, long, small))
-accepted_of_lines prefix tree bytes small few good TooManyLines byte number c =
+pub accepted_of_lines : (format : FileFormat) (tree : Tree) (bytes : List ℕ) → length bytes ≤ MAX_CONFIG_BYTES → length (file_lines bytes) ≤ MAX_CONFIG_LINES
+    → ((i : ℕ) (line : List ℕ) → slice_get (file_lines bytes) i ≡ Some line → IsGoodLine format tree line)
+    → IsAccepted format tree bytes
+accepted_of_lines format tree bytes small few good TooLarge byte number c = let long = c.0 in absurd (omega (arith, long, small))
+accepted_of_lines format tree bytes small few good TooManyLines byte number c =
     let l = line_listed bytes c.0 number byte c.1 in
     let within = slice_get_within (file_lines bytes) l.0 c.0 l.1 in
     let is = l.2 in
     let many = c.2 in
     absurd (omega (arith, within, is, many, few))
-accepted_of_lines prefix tree bytes small few good LineTooLong byte number c =
+accepted_of_lines format tree bytes small few good LineTooLong byte number c =
     let l = line_listed bytes c.0 number c.1 c.2 in
     let short = (good l.0 c.0 l.1).short in
     let long = c.3 in
     absurd (omega (arith, short, long))
-accepted_of_lines prefix tree bytes small few good NotUtf8 byte number c = let l = line_listed bytes c.0 number c.1 c.2 in absurd (c.3 (good l.0 c.0 l.1).utf8)
-accepted_of_lines prefix tree bytes small few good Malformed byte number c =
+accepted_of_lines format tree bytes small few good NotUtf8 byte number c = let l = line_listed bytes c.0 number c.1 c.2 in absurd (c.3 (good l.0 c.0 l.1).utf8)
+accepted_of_lines format tree bytes small few good Malformed byte number c =
     let l = line_listed bytes c.0 number c.1 c.2 in let g = good l.0 c.0 l.1 in absurd (c.3 g.meaning g.says)
-accepted_of_lines prefix tree bytes small few good Read byte number c = absurd c
-accepted_of_lines prefix tree bytes small few good OutOfMemory byte number c = absurd c
+accepted_of_lines format tree bytes small few good Read byte number c = absurd c
+accepted_of_lines format tree bytes small few good OutOfMemory byte number c = absurd c
 
 -- a line without a meaning is malformed
-says_something : (prefix : List ℕ) (tree : Tree) (line : List ℕ) → is_prefix prefix ≡ true → (IsMalformed prefix tree line → ⊥)
-    → (meaning : LineMeaning) × Means prefix tree (without_white_end line) meaning
-says_something prefix tree line valid good = go (line_meaning prefix tree (without_white_end line)) refl where
-  go : (o : Option LineMeaning) → line_meaning prefix tree (without_white_end line) ≡ o
-      → (meaning : LineMeaning) × Means prefix tree (without_white_end line) meaning
-  go (Some meaning) e = (meaning, (line_read prefix tree (without_white_end line) meaning valid).0 e)
-  go None e = absurd (good (λ meaning says. let read = (line_read prefix tree (without_white_end line) meaning valid).1 says in cc (read, e)))
+says_something : (format : FileFormat) (tree : Tree) (line : List ℕ) → is_prefix format.prefix ≡ true → (IsMalformed format tree line → ⊥)
+    → (meaning : LineMeaning) × Means format tree (without_white_end line) meaning
+says_something format tree line valid good = go (line_meaning format tree (without_white_end line)) refl where
+  go : (o : Option LineMeaning) → line_meaning format tree (without_white_end line) ≡ o
+      → (meaning : LineMeaning) × Means format tree (without_white_end line) meaning
+  go (Some meaning) e = (meaning, (line_read format tree (without_white_end line) meaning valid).0 e)
+  go None e = absurd (good (λ meaning says. let read = (line_read format tree (without_white_end line) meaning valid).1 says in cc (read, e)))
 
 -- each line of an accepted file is good
-pub accepted_line : (prefix : List ℕ) (tree : Tree) (bytes : List ℕ) → is_prefix prefix ≡ true → IsAccepted prefix tree bytes → (i : ℕ) (line : List ℕ)
-    → slice_get (file_lines bytes) i ≡ Some line → IsGoodLine prefix tree line
-accepted_line prefix tree bytes valid accepted i line at =
+pub accepted_line : (format : FileFormat) (tree : Tree) (bytes : List ℕ) → is_prefix format.prefix ≡ true → IsAccepted format tree bytes → (i : ℕ) (line : List ℕ)
+    → slice_get (file_lines bytes) i ≡ Some line → IsGoodLine format tree line
+accepted_line format tree bytes valid accepted i line at =
     let place = placed bytes i (i + 1) line refl at in
-    let some = says_something prefix tree line valid (λ bad. accepted Malformed (place.0 + length line) (i + 1) (line, place.0, place.1, bad, refl)) in
+    let some = says_something format tree line valid (λ bad. accepted Malformed (place.0 + length line) (i + 1) (line, place.0, place.1, bad, refl)) in
     record {
       short = elim (cases_lt MAX_LINE_BYTES (length line)) [
         | inl long ↦ absurd (accepted LineTooLong (place.0 + MAX_LINE_BYTES) (i + 1) (line, place.0, place.1, long, refl))
@@ -146,14 +147,14 @@ accepted_line prefix tree bytes valid accepted i line at =
     }
 
 -- an accepted file is within the limits
-pub accepted_size : (prefix : List ℕ) (tree : Tree) (bytes : List ℕ) → IsAccepted prefix tree bytes → length bytes ≤ MAX_CONFIG_BYTES
-accepted_size prefix tree bytes accepted = elim (cases_lt MAX_CONFIG_BYTES (length bytes)) [
+pub accepted_size : (format : FileFormat) (tree : Tree) (bytes : List ℕ) → IsAccepted format tree bytes → length bytes ≤ MAX_CONFIG_BYTES
+accepted_size format tree bytes accepted = elim (cases_lt MAX_CONFIG_BYTES (length bytes)) [
   | inl large ↦ absurd (accepted TooLarge MAX_CONFIG_BYTES (newlines (take MAX_CONFIG_BYTES bytes) + 1) (large, refl, refl))
   | inr small ↦ small
 ]
 
-pub accepted_count : (prefix : List ℕ) (tree : Tree) (bytes : List ℕ) → IsAccepted prefix tree bytes → length (file_lines bytes) ≤ MAX_CONFIG_LINES
-accepted_count prefix tree bytes accepted = elim (cases_lt MAX_CONFIG_LINES (length (file_lines bytes))) [
+pub accepted_count : (format : FileFormat) (tree : Tree) (bytes : List ℕ) → IsAccepted format tree bytes → length (file_lines bytes) ≤ MAX_CONFIG_LINES
+accepted_count format tree bytes accepted = elim (cases_lt MAX_CONFIG_LINES (length (file_lines bytes))) [
   | inl many ↦
       let line = get-some (file_lines bytes) MAX_CONFIG_LINES many in
       let place = placed bytes MAX_CONFIG_LINES (MAX_CONFIG_LINES + 1) line.0 refl line.1 in
@@ -162,14 +163,14 @@ accepted_count prefix tree bytes accepted = elim (cases_lt MAX_CONFIG_LINES (len
 ]
 
 pub accepted_exactly : AcceptedFilesHaveGoodLines
-accepted_exactly prefix tree bytes valid = (
+accepted_exactly format tree bytes valid = (
   λ accepted. record {
-    small = accepted_size prefix tree bytes accepted;
-    few = accepted_count prefix tree bytes accepted;
-    good = accepted_line prefix tree bytes
+    small = accepted_size format tree bytes accepted;
+    few = accepted_count format tree bytes accepted;
+    good = accepted_line format tree bytes
         valid accepted;
   },
-  λ lines. accepted_of_lines prefix tree bytes lines.small lines.few lines.good,
+  λ lines. accepted_of_lines format tree bytes lines.small lines.few lines.good,
 )
 
 -- the lines of a file, where each of them passes a test
@@ -178,6 +179,6 @@ each_passes p [] each = refl
 each_passes p (line ∷ lines) each = and_from (p line) (list_all p lines) (each 0 line refl) (each_passes p lines (λ i l at. each (suc i) l at))
 
 -- an accepted file is UTF-8
-pub accepted_utf8 : (prefix : List ℕ) (tree : Tree) (bytes : List ℕ) → is_prefix prefix ≡ true → IsAccepted prefix tree bytes → has_utf8_lines bytes ≡ true
-accepted_utf8 prefix tree bytes valid accepted =
-    each_passes is_utf8 (file_lines bytes) (λ i line at. is_utf8-from_IsUtf8 line (accepted_line prefix tree bytes valid accepted i line at).utf8)
+pub accepted_utf8 : (format : FileFormat) (tree : Tree) (bytes : List ℕ) → is_prefix format.prefix ≡ true → IsAccepted format tree bytes → has_utf8_lines bytes ≡ true
+accepted_utf8 format tree bytes valid accepted =
+    each_passes is_utf8 (file_lines bytes) (λ i line at. is_utf8-from_IsUtf8 line (accepted_line format tree bytes valid accepted i line at).utf8)

@@ -9,7 +9,6 @@ use Rattle.std.proofs.lemmas.Option.{get_or_from_slice_get}
 use Rattle.std.proofs.lemmas.Slice.Eq.{bytes_eq-Decides}
 use Rattle.kc_value.specs.declared.tri.Tri.TheVariants.{N}
 use Rattle.kc_value.specs.declared.value.Kind.TheVariants.{Text}
-use Rattle.kc_value.specs.Quoted.{IsQuoted}
 use Rattle.kc_value.specs.Number.{number_of_text}
 use Rattle.kc_tree_model.specs.Trees.{Tree, Symbol}
 use Rattle.kc_tree_model.specs.declared.ids.Unit.TheVariants.{Symbol as of_symbol}
@@ -19,43 +18,45 @@ use Rattle.kc_rules_model.specs.declared.values.UserValue.{UserValue}
 use Rattle.kc_rules_model.specs.declared.values.UserValue.TheVariants.{Tri as TriUser, Text as TextUser}
 use Rattle.kc_value.specs.Kinds.{is_tri_kind}
 use Rattle.kc_tree_model.proofs.Lookups.{unit_is, index_if_found}
+use Rattle.kc_dotconfig_model.specs.declared.format.Strings.{Strings}
+use Rattle.kc_dotconfig_model.specs.Formats.{FileFormat, IsStringSpelling}
 use Rattle.kc_dotconfig_model.specs.ConfigLines.{LineMeaning, assigns, notice, silent, unset_meaning, ValueMeans, tri, chosen, not_chosen, quoted, number, no_int, no_hex, no_tri, no_text, no_number, Means, value, unset, unknown_value, unknown_unset, empty, comment, without_white_end}
 use Rattle.kc_dotconfig_model.specs.ConfigFiles.{assigned_over}
 
-abbrev Reads : List ℕ → Tree → List (List ℕ) → List LineMeaning → Type 0
-Reads prefix tree lines meanings = AllZip (λ line meaning. Means prefix tree (without_white_end line) meaning) lines meanings
+abbrev Reads : FileFormat → Tree → List (List ℕ) → List LineMeaning → Type 0
+Reads format tree lines meanings = AllZip (λ line meaning. Means format tree (without_white_end line) meaning) lines meanings
 
 -- a line that assigns this to the unit
-pub record HasAssigningLine (prefix : List ℕ) (tree : Tree) (lines : List (List ℕ)) (u : ℕ) (x : UserValue) : Type 0 where
+pub record HasAssigningLine (format : FileFormat) (tree : Tree) (lines : List (List ℕ)) (u : ℕ) (x : UserValue) : Type 0 where
   pub number : ℕ
   pub line : List ℕ
   pub at : slice_get lines number ≡ Some line
-  pub says : Means prefix tree (without_white_end line) (assigns u x)
+  pub says : Means format tree (without_white_end line) (assigns u x)
 
-one_further : (prefix : List ℕ) (tree : Tree) (first : List ℕ) (lines : List (List ℕ)) (u : ℕ) (x : UserValue) → HasAssigningLine prefix tree lines u x
-    → HasAssigningLine prefix tree (first ∷ lines) u x
-one_further prefix tree first lines u x h = record { number = suc h.number; line = h.line; at = h.at; says = h.says }
+one_further : (format : FileFormat) (tree : Tree) (first : List ℕ) (lines : List (List ℕ)) (u : ℕ) (x : UserValue) → HasAssigningLine format tree lines u x
+    → HasAssigningLine format tree (first ∷ lines) u x
+one_further format tree first lines u x h = record { number = suc h.number; line = h.line; at = h.at; says = h.says }
 
 -- what is held after some lines was held before, or one of them assigns it
-pub assigning_line : (prefix : List ℕ) (tree : Tree) (lines : List (List ℕ)) (meanings : List LineMeaning) (held : List (Option UserValue)) (u : ℕ) (x : UserValue)
-    → Reads prefix tree lines meanings → u < length held
-    → user_of (assigned_over meanings held) u ≡ Some x → (user_of held u ≡ Some x) ⊎ HasAssigningLine prefix tree lines u x
-assigning_line prefix tree [] [] held u x reads inside has = inl has
-assigning_line prefix tree [] (meaning ∷ meanings) held u x reads inside has = absurd reads
-assigning_line prefix tree (line ∷ lines) [] held u x reads inside has = absurd reads
-assigning_line prefix tree (line ∷ lines) (notice kind ∷ meanings) held u x reads inside has =
-    elim (assigning_line prefix tree lines meanings held u x reads.1 inside has) [
+pub assigning_line : (format : FileFormat) (tree : Tree) (lines : List (List ℕ)) (meanings : List LineMeaning) (held : List (Option UserValue)) (u : ℕ) (x : UserValue)
+    → Reads format tree lines meanings → u < length held
+    → user_of (assigned_over meanings held) u ≡ Some x → (user_of held u ≡ Some x) ⊎ HasAssigningLine format tree lines u x
+assigning_line format tree [] [] held u x reads inside has = inl has
+assigning_line format tree [] (meaning ∷ meanings) held u x reads inside has = absurd reads
+assigning_line format tree (line ∷ lines) [] held u x reads inside has = absurd reads
+assigning_line format tree (line ∷ lines) (notice kind ∷ meanings) held u x reads inside has =
+    elim (assigning_line format tree lines meanings held u x reads.1 inside has) [
       | inl before ↦ inl before
-      | inr later ↦ inr (one_further prefix tree line lines u x later)
+      | inr later ↦ inr (one_further format tree line lines u x later)
     ]
-assigning_line prefix tree (line ∷ lines) (silent ∷ meanings) held u x reads inside has =
-    elim (assigning_line prefix tree lines meanings held u x reads.1 inside has) [
+assigning_line format tree (line ∷ lines) (silent ∷ meanings) held u x reads inside has =
+    elim (assigning_line format tree lines meanings held u x reads.1 inside has) [
       | inl before ↦ inl before
-      | inr later ↦ inr (one_further prefix tree line lines u x later)
+      | inr later ↦ inr (one_further format tree line lines u x later)
     ]
-assigning_line prefix tree (line ∷ lines) (assigns w y ∷ meanings) held u x reads inside has =
+assigning_line format tree (line ∷ lines) (assigns w y ∷ meanings) held u x reads inside has =
     let len = length-set held w (Some y) in
-    elim (assigning_line prefix tree lines meanings (slice_set held w (Some y)) u x reads.1 (omega arith) has) [
+    elim (assigning_line format tree lines meanings (slice_set held w (Some y)) u x reads.1 (omega arith) has) [
       | inl before ↦ elim (cases_eq u w) [
         | inl same ↦
             let here : user_of (slice_set held w (Some y)) u ≡ Some y = ap (λ k. user_of (slice_set held k (Some y)) u) (sym same)
@@ -65,48 +66,48 @@ assigning_line prefix tree (line ∷ lines) (assigns w y ∷ meanings) held u x 
               number = 0;
               line = line;
               at = refl;
-              says = subst (λ k. Means prefix tree (without_white_end line) (assigns k x)) (sym same)
-                  (subst (λ z. Means prefix tree (without_white_end line) (assigns w z)) value reads.0);
+              says = subst (λ k. Means format tree (without_white_end line) (assigns k x)) (sym same)
+                  (subst (λ z. Means format tree (without_white_end line) (assigns w z)) value reads.0);
             })
         | inr other ↦ inl (sym (get_or-set_other held w u (Some y) None other) ∙ before)
       ]
-      | inr later ↦ inr (one_further prefix tree line lines u x later)
+      | inr later ↦ inr (one_further format tree line lines u x later)
     ]
 
 -- a symbol and the text after `=` by which a line assigns a text
-pub record IsTextLine (prefix : List ℕ) (tree : Tree) (line : List ℕ) (u : ℕ) (means : List ℕ) : Type 0 where
+pub record IsTextLine (format : FileFormat) (tree : Tree) (line : List ℕ) (u : ℕ) (means : List ℕ) : Type 0 where
   pub name : List ℕ
   pub text : List ℕ
   pub s : ℕ
   pub symbol : Symbol
-  pub whole : line ≡ prefix ++ (name ++ (61 ∷ text))
+  pub whole : line ≡ format.prefix ++ (name ++ (61 ∷ text))
   pub named : symbol_named tree name ≡ Some s
   pub at : slice_get tree.symbols s ≡ Some symbol
   pub unit : unit_of tree s ≡ u
-  pub says : (IsQuoted text means × (symbol.kind ≡ Text)) ⊎ ((text ≡ means) × (is_some (number_of_text symbol.kind text) ≡ true))
+  pub says : (IsStringSpelling format.strings text means × (symbol.kind ≡ Text)) ⊎ ((text ≡ means) × (is_some (number_of_text symbol.kind text) ≡ true))
 
-abbrev TextSays : Tree → ℕ → Symbol → List ℕ → ℕ → List ℕ → Type 0
-TextSays tree s symbol text u means =
-    (unit_of tree s ≡ u) × ((IsQuoted text means × (symbol.kind ≡ Text)) ⊎ ((text ≡ means) × (is_some (number_of_text symbol.kind text) ≡ true)))
+abbrev TextSays : Strings → Tree → ℕ → Symbol → List ℕ → ℕ → List ℕ → Type 0
+TextSays strings tree s symbol text u means =
+    (unit_of tree s ≡ u) × ((IsStringSpelling strings text means × (symbol.kind ≡ Text)) ⊎ ((text ≡ means) × (is_some (number_of_text symbol.kind text) ≡ true)))
 
-text_says : (tree : Tree) (s : ℕ) (symbol : Symbol) (text : List ℕ) (meaning : LineMeaning) (u : ℕ) (means : List ℕ) → ValueMeans tree s symbol text meaning
-    → meaning ≡ assigns u (TextUser means) → TextSays tree s symbol text u means
-text_says tree s symbol text meaning u means (tri _ t out meant) e = cc
-text_says tree s symbol text meaning u means (chosen c _ within meant) e = cc
-text_says tree s symbol text meaning u means (not_chosen c _ t within meant other) e = cc
-text_says tree s symbol text meaning u means (quoted _ other is stands) e =
+text_says : (strings : Strings) (tree : Tree) (s : ℕ) (symbol : Symbol) (text : List ℕ) (meaning : LineMeaning) (u : ℕ) (means : List ℕ) → ValueMeans strings tree s symbol text meaning
+    → meaning ≡ assigns u (TextUser means) → TextSays strings tree s symbol text u means
+text_says strings tree s symbol text meaning u means (tri _ t out meant) e = cc
+text_says strings tree s symbol text meaning u means (chosen c _ within meant) e = cc
+text_says strings tree s symbol text meaning u means (not_chosen c _ t within meant other) e = cc
+text_says strings tree s symbol text meaning u means (quoted _ other is stands) e =
     let unit : unit_of tree s ≡ u = cc in
     let same : other ≡ means = cc in
-    (unit, inl (subst (IsQuoted text) same stands, is))
-text_says tree s symbol text meaning u means (number _ some) e =
+    (unit, inl (subst (IsStringSpelling strings text) same stands, is))
+text_says strings tree s symbol text meaning u means (number _ some) e =
     let unit : unit_of tree s ≡ u = cc in
     let same : text ≡ means = cc in
     (unit, inr (same, some))
-text_says tree s symbol text meaning u means (no_int is) e = cc
-text_says tree s symbol text meaning u means (no_hex is) e = cc
-text_says tree s symbol text meaning u means (no_tri _ small meant) e = cc
-text_says tree s symbol text meaning u means (no_text _ is without) e = cc
-text_says tree s symbol text meaning u means (no_number b rest large other without) e = cc
+text_says strings tree s symbol text meaning u means (no_int is) e = cc
+text_says strings tree s symbol text meaning u means (no_hex is) e = cc
+text_says strings tree s symbol text meaning u means (no_tri _ small meant) e = cc
+text_says strings tree s symbol text meaning u means (no_text _ is without) e = cc
+text_says strings tree s symbol text meaning u means (no_number b rest large other without) e = cc
 
 unset_no_text : (tree : Tree) (s : ℕ) (symbol : Symbol) (o : Option ℕ) (u : ℕ) (means : List ℕ) → unset_meaning tree s symbol o ≡ assigns u (TextUser means) → ⊥
 unset_no_text tree s symbol (Some c) u means e = cc
@@ -115,21 +116,21 @@ unset_no_text tree s symbol None u means e = go (is_tri_kind symbol.kind) e wher
   go true e = cc
   go false e = cc
 
-says_text : (prefix : List ℕ) (tree : Tree) (line : List ℕ) (meaning : LineMeaning) (u : ℕ) (means : List ℕ) → Means prefix tree line meaning
-    → meaning ≡ assigns u (TextUser means) → IsTextLine prefix tree line u means
-says_text prefix tree line meaning u means (value _ name text s symbol _ is named at says) e =
-    let t = text_says tree s symbol text meaning u means says e in
+says_text : (format : FileFormat) (tree : Tree) (line : List ℕ) (meaning : LineMeaning) (u : ℕ) (means : List ℕ) → Means format tree line meaning
+    → meaning ≡ assigns u (TextUser means) → IsTextLine format tree line u means
+says_text format tree line meaning u means (value _ name text s symbol _ is named at says) e =
+    let t = text_says format.strings tree s symbol text meaning u means says e in
     record { name = name; text = text; s = s; symbol = symbol; whole = is.2; named = named; at = at; unit = t.0; says = t.1 }
-says_text prefix tree line meaning u means (unset _ name s symbol is named at) e = absurd (unset_no_text tree s symbol symbol.choice u means e)
-says_text prefix tree line meaning u means (unknown_value _ name text is named) e = cc
-says_text prefix tree line meaning u means (unknown_unset _ name is named) e = cc
-says_text prefix tree line meaning u means empty e = cc
-says_text prefix tree line meaning u means (comment _ hash without) e = cc
+says_text format tree line meaning u means (unset _ name s symbol is named at) e = absurd (unset_no_text tree s symbol symbol.choice u means e)
+says_text format tree line meaning u means (unknown_value _ name text is named) e = cc
+says_text format tree line meaning u means (unknown_unset _ name is named) e = cc
+says_text format tree line meaning u means empty e = cc
+says_text format tree line meaning u means (comment _ hash without) e = cc
 
 -- a line that assigns a text is a value line
-pub text_line : (prefix : List ℕ) (tree : Tree) (line : List ℕ) (u : ℕ) (means : List ℕ) → Means prefix tree line (assigns u (TextUser means))
-    → IsTextLine prefix tree line u means
-text_line prefix tree line u means says = says_text prefix tree line (assigns u (TextUser means)) u means says refl
+pub text_line : (format : FileFormat) (tree : Tree) (line : List ℕ) (u : ℕ) (means : List ℕ) → Means format tree line (assigns u (TextUser means))
+    → IsTextLine format tree line u means
+text_line format tree line u means says = says_text format tree line (assigns u (TextUser means)) u means says refl
 
 -- the symbol of a name has that name
 pub named_so : (tree : Tree) (name : List ℕ) (s : ℕ) (symbol : Symbol) → symbol_named tree name ≡ Some s → slice_get tree.symbols s ≡ Some symbol

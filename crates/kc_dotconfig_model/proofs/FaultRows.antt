@@ -9,6 +9,8 @@ use Rattle.kc_rules_model.specs.declared.values.UserValue.TheVariants.{Tri as Tr
 use Rattle.kc_rules_model.proofs.RowTrees.{tree_a}
 use Rattle.kc_dotconfig_model.specs.declared.fault.LoadKind.TheVariants.{Malformed, NotUtf8, Read}
 use Rattle.kc_dotconfig_model.specs.PrefixGrammar.{lacks}
+use Rattle.kc_dotconfig_model.specs.declared.format.Strings.TheVariants.{Escaped}
+use Rattle.kc_dotconfig_model.specs.Formats.{FileFormat}
 use Rattle.kc_dotconfig_model.specs.ConfigLines.{LineMeaning, assigns}
 use Rattle.kc_dotconfig_model.specs.LoadFaults.{complete, cut_short, IsFirstFault, IsAccepted}
 use Rattle.kc_dotconfig_model.specs.between.LineMeanings.{line_meaning}
@@ -18,8 +20,8 @@ use Rattle.kc_dotconfig_model.proofs.TrimmedLines.{low_utf8}
 use Rattle.kc_dotconfig_model.proofs.FirstFaults.{failed_reads}
 use Rattle.kc_dotconfig_model.proofs.FaultsAtCuts.{clean, not_utf8, malformed, accepted, held}
 
-abbrev plain : List ℕ
-plain = codes "CONFIG_"
+abbrev plain : FileFormat
+plain = record { prefix = codes "CONFIG_"; strings = Escaped }
 
 -- a line that is whole
 abbrev front : List ℕ

@@ -8,6 +8,7 @@ use Rattle.std.proofs.Math.Seq.{take-append_seam}
 use Rattle.std.proofs.lemmas.Str.{IsUtf8-nil}
 use Rattle.std.proofs.lemmas.List.Folds.{list_all-append}
 use Rattle.kc_tree_model.specs.Trees.{Tree}
+use Rattle.kc_dotconfig_model.specs.Formats.{FileFormat}
 use Rattle.kc_dotconfig_model.specs.declared.fault.LoadKind.{LoadKind}
 use Rattle.kc_dotconfig_model.specs.declared.fault.LoadKind.TheVariants.{Malformed, NotUtf8, LineTooLong, TooManyLines, Read, OutOfMemory, TooLarge}
 use Rattle.kc_dotconfig_model.specs.PrefixGrammar.{lacks}
@@ -18,11 +19,11 @@ use Rattle.kc_dotconfig_model.specs.LoadFaults.{complete, newlines, IsLineAt, Oc
 use Rattle.kc_dotconfig_model.specs.between.Cutting.{IsSound, IsEnded, IsCut}
 use Rattle.kc_dotconfig_model.proofs.Cuts.{split, Stands, earlier, this, later, stands, Ends, no_shorter, no_longer, same_front, a_line, newlines_append, none_in_line, first_of_lines, last_of_lines, lines_behind, one_of, zip_length, zip_append, ended_count}
 
-abbrev Part : List ℕ → Tree → List ℕ → List ℕ → List LineMeaning → List ℕ → List ℕ → Type 0
-Part prefix tree known line meanings more bytes = IsCut prefix tree known line meanings × (bytes ≡ known ++ more)
+abbrev Part : FileFormat → Tree → List ℕ → List ℕ → List LineMeaning → List ℕ → List ℕ → Type 0
+Part format tree known line meanings more bytes = IsCut format tree known line meanings × (bytes ≡ known ++ more)
 
 -- A known part of a file, and the bytes after it.
-module _ (prefix : List ℕ) (tree : Tree) (known line : List ℕ) (meanings : List LineMeaning) (c : IsCut prefix tree known line meanings) where
+module _ (format : FileFormat) (tree : Tree) (known line : List ℕ) (meanings : List LineMeaning) (c : IsCut format tree known line meanings) where
   whole_is : (more : List ℕ) → known ++ more ≡ c.front ++ (line ++ more)
   whole_is more = ap (λ t. t ++ more) c.whole ∙ append_assoc c.front line more
 
@@ -30,7 +31,7 @@ module _ (prefix : List ℕ) (tree : Tree) (known line : List ℕ) (meanings : L
   known_length = ap length c.whole ∙ length-append c.front line
 
   says_length : length meanings ≡ newlines c.front
-  says_length = sym (zip_length (IsSound prefix tree) (file_lines c.front) meanings c.sound) ∙ ended_count c.front c.ended
+  says_length = sym (zip_length (IsSound format tree) (file_lines c.front) meanings c.sound) ∙ ended_count c.front c.ended
 
   pub known_newlines : newlines known ≡ length meanings
   known_newlines =
@@ -44,11 +45,11 @@ module _ (prefix : List ℕ) (tree : Tree) (known line : List ℕ) (meanings : L
   stands_in more found n s at =
       stands c.front line more found at.front at.rest c.ended c.one_line at.one_line at.ends at.begins (sym (whole_is more) ∙ at.whole)
 
-  earlier_sound : (found f g : List ℕ) → IsEnded f → lacks 10 found ≡ true → c.front ≡ f ++ (found ++ 10 ∷ g) → (x : LineMeaning) × IsSound prefix tree found x
+  earlier_sound : (found f g : List ℕ) → IsEnded f → lacks 10 found ≡ true → c.front ≡ f ++ (found ++ 10 ∷ g) → (x : LineMeaning) × IsSound format tree found x
   earlier_sound found f g ended one is =
       let lines : file_lines c.front ≡ file_lines f ++ (found ∷ file_lines g) = ap file_lines is ∙ lines_behind f (found ++ 10 ∷ g) ended
       ∙ ap (λ ls. file_lines f ++ ls) (first_of_lines found g one) in
-      one_of (IsSound prefix tree) (file_lines f) found (file_lines g) meanings (subst (λ ls. AllZip (IsSound prefix tree) ls meanings) lines c.sound)
+      one_of (IsSound format tree) (file_lines f) found (file_lines g) meanings (subst (λ ls. AllZip (IsSound format tree) ls meanings) lines c.sound)
 
   earlier_count : (found f g : List ℕ) → c.front ≡ f ++ (found ++ 10 ∷ g) → newlines f + 1 ≤ length meanings
   earlier_count found f g is =
@@ -64,7 +65,7 @@ module _ (prefix : List ℕ) (tree : Tree) (known line : List ℕ) (meanings : L
   earlier_length found f g is = let a = ap length is in let b = length-append f (found ++ 10 ∷ g) in let d = length-append found (10 ∷ g) in omega arith
 
   -- no fault is at a known byte, whatever follows
-  pub clean : (more : List ℕ) (kind : LoadKind) (byte number : ℕ) → OccursAt prefix tree (known ++ more) kind byte number → length known ≤ byte
+  pub clean : (more : List ℕ) (kind : LoadKind) (byte number : ℕ) → OccursAt format tree (known ++ more) kind byte number → length known ≤ byte
   clean more TooLarge byte number h = let s = c.small in let e = h.1 in omega arith
   clean more TooManyLines byte number (found, at, most) =
       let n = at.number_is in
@@ -105,9 +106,9 @@ module _ (prefix : List ℕ) (tree : Tree) (known line : List ℕ) (meanings : L
   clean more OutOfMemory byte number h = absurd h
 
   -- a fault after the known bytes is the first, if no other at its byte comes before it
-  first_by : (more : List ℕ) (kind : LoadKind) (number : ℕ) → OccursAt prefix tree (known ++ more) kind (length known) number
-      → ((other : LoadKind) (other_number : ℕ) → OccursAt prefix tree (known ++ more) other (length known) other_number → rank_of kind ≤ rank_of other)
-      → IsFirstFault prefix tree complete (known ++ more) kind number
+  first_by : (more : List ℕ) (kind : LoadKind) (number : ℕ) → OccursAt format tree (known ++ more) kind (length known) number
+      → ((other : LoadKind) (other_number : ℕ) → OccursAt format tree (known ++ more) other (length known) other_number → rank_of kind ≤ rank_of other)
+      → IsFirstFault format tree complete (known ++ more) kind number
   first_by more kind number comes rank = record {
     byte = length known;
     comes = comes;
@@ -116,22 +117,22 @@ module _ (prefix : List ℕ) (tree : Tree) (known line : List ℕ) (meanings : L
     parted : (a b : ℕ) → a ≤ b → (a < b) ⊎ (a ≡ b)
     parted a b h = grind arith
 
-    go : (other : LoadKind) (ob on : ℕ) → OccursAt prefix tree (known ++ more) other ob on → length known ≤ ob
+    go : (other : LoadKind) (ob on : ℕ) → OccursAt format tree (known ++ more) other ob on → length known ≤ ob
         → (length known < ob) ⊎ ((length known ≡ ob) × (rank_of kind ≤ rank_of other))
     go other ob on at h = elim (parted (length known) ob h) [
       | inl less ↦ inl less
-      | inr same ↦ inr (same, rank other on (subst (λ k. OccursAt prefix tree (known ++ more) other k on) (sym same) at))
+      | inr same ↦ inr (same, rank other on (subst (λ k. OccursAt format tree (known ++ more) other k on) (sym same) at))
     ]
 
   -- the faults that can't be at the first byte after the known ones
   not_large : (more : List ℕ) (number : ℕ) → (length known < MAX_CONFIG_BYTES) ⊎ (more ≡ [])
-      → OccursAt prefix tree (known ++ more) TooLarge (length known) number → ⊥
+      → OccursAt format tree (known ++ more) TooLarge (length known) number → ⊥
   not_large more number room h = elim room [
     | inl less ↦ (let e = h.1 in omega arith)
     | inr none ↦ (let a = h.0 in let b = length-append known more in let d = ap length none in let s = c.small in omega arith)
   ]
 
-  not_many : (more : List ℕ) (number : ℕ) → 0 < length line → OccursAt prefix tree (known ++ more) TooManyLines (length known) number → ⊥
+  not_many : (more : List ℕ) (number : ℕ) → 0 < length line → OccursAt format tree (known ++ more) TooManyLines (length known) number → ⊥
   not_many more number some (found, at, most) =
       let s = at.starts in
       let t = known_length in
@@ -142,7 +143,7 @@ module _ (prefix : List ℕ) (tree : Tree) (known line : List ℕ) (meanings : L
       ]
 
   not_long : (more : List ℕ) (number : ℕ) → (more ≡ []) ⊎ ((next : List ℕ) × (more ≡ 10 ∷ next))
-      → OccursAt prefix tree (known ++ more) LineTooLong (length known) number → ⊥
+      → OccursAt format tree (known ++ more) LineTooLong (length known) number → ⊥
   not_long more number ends (found, start, at, long, is_byte) =
       let s = at.starts in
       let t = known_length in
@@ -152,7 +153,7 @@ module _ (prefix : List ℕ) (tree : Tree) (known line : List ℕ) (meanings : L
         | later h ↦ omega arith
       ]
 
-  not_odd : (more : List ℕ) (number : ℕ) → IsUtf8 line → OccursAt prefix tree (known ++ more) NotUtf8 (length known) number → ⊥
+  not_odd : (more : List ℕ) (number : ℕ) → IsUtf8 line → OccursAt format tree (known ++ more) NotUtf8 (length known) number → ⊥
   not_odd more number text (found, start, at, bad, is_byte) =
       let s = at.starts in
       let t = known_length in
@@ -177,7 +178,7 @@ module _ (prefix : List ℕ) (tree : Tree) (known line : List ℕ) (meanings : L
   }
 
   pub too_large : (more : List ℕ) → length known ≡ MAX_CONFIG_BYTES → 0 < length more
-      → IsFirstFault prefix tree complete (known ++ more) TooLarge (length meanings + 1)
+      → IsFirstFault format tree complete (known ++ more) TooLarge (length meanings + 1)
   too_large more full some = first_by more TooLarge (length meanings + 1) (
     (let a = length-append known more in omega arith),
     full,
@@ -187,8 +188,8 @@ module _ (prefix : List ℕ) (tree : Tree) (known line : List ℕ) (meanings : L
       (λ other on at. omega arith)
 
   -- the rank is at least that of kinds that can't come
-  after_large : (more : List ℕ) (n : ℕ) → (OccursAt prefix tree (known ++ more) TooLarge (length known) n → ⊥) → (other : LoadKind)
-      → OccursAt prefix tree (known ++ more) other (length known) n → 1 ≤ rank_of other
+  after_large : (more : List ℕ) (n : ℕ) → (OccursAt format tree (known ++ more) TooLarge (length known) n → ⊥) → (other : LoadKind)
+      → OccursAt format tree (known ++ more) other (length known) n → 1 ≤ rank_of other
   after_large more n a TooLarge at = absurd (a at)
   after_large more n a TooManyLines at = omega arith
   after_large more n a LineTooLong at = omega arith
@@ -197,9 +198,9 @@ module _ (prefix : List ℕ) (tree : Tree) (known line : List ℕ) (meanings : L
   after_large more n a Read at = omega arith
   after_large more n a OutOfMemory at = omega arith
 
-  after_many : (more : List ℕ) (n : ℕ) → (OccursAt prefix tree (known ++ more) TooLarge (length known) n → ⊥)
-      → (OccursAt prefix tree (known ++ more) TooManyLines (length known) n → ⊥)
-      → (other : LoadKind) → OccursAt prefix tree (known ++ more) other (length known) n → 2 ≤ rank_of other
+  after_many : (more : List ℕ) (n : ℕ) → (OccursAt format tree (known ++ more) TooLarge (length known) n → ⊥)
+      → (OccursAt format tree (known ++ more) TooManyLines (length known) n → ⊥)
+      → (other : LoadKind) → OccursAt format tree (known ++ more) other (length known) n → 2 ≤ rank_of other
   after_many more n a b TooLarge at = absurd (a at)
   after_many more n a b TooManyLines at = absurd (b at)
   after_many more n a b LineTooLong at = omega arith
@@ -208,9 +209,9 @@ module _ (prefix : List ℕ) (tree : Tree) (known line : List ℕ) (meanings : L
   after_many more n a b Read at = omega arith
   after_many more n a b OutOfMemory at = omega arith
 
-  after_long : (more : List ℕ) (n : ℕ) → (OccursAt prefix tree (known ++ more) TooLarge (length known) n → ⊥)
-      → (OccursAt prefix tree (known ++ more) TooManyLines (length known) n → ⊥) → (OccursAt prefix tree (known ++ more) LineTooLong (length known) n → ⊥)
-      → (other : LoadKind) → OccursAt prefix tree (known ++ more) other (length known) n → 3 ≤ rank_of other
+  after_long : (more : List ℕ) (n : ℕ) → (OccursAt format tree (known ++ more) TooLarge (length known) n → ⊥)
+      → (OccursAt format tree (known ++ more) TooManyLines (length known) n → ⊥) → (OccursAt format tree (known ++ more) LineTooLong (length known) n → ⊥)
+      → (other : LoadKind) → OccursAt format tree (known ++ more) other (length known) n → 3 ≤ rank_of other
   after_long more n a b d TooLarge at = absurd (a at)
   after_long more n a b d TooManyLines at = absurd (b at)
   after_long more n a b d LineTooLong at = absurd (d at)
@@ -219,9 +220,9 @@ module _ (prefix : List ℕ) (tree : Tree) (known line : List ℕ) (meanings : L
   after_long more n a b d Read at = omega arith
   after_long more n a b d OutOfMemory at = omega arith
 
-  after_odd : (more : List ℕ) (n : ℕ) → (OccursAt prefix tree (known ++ more) TooLarge (length known) n → ⊥)
-      → (OccursAt prefix tree (known ++ more) TooManyLines (length known) n → ⊥) → (OccursAt prefix tree (known ++ more) LineTooLong (length known) n → ⊥)
-      → (OccursAt prefix tree (known ++ more) NotUtf8 (length known) n → ⊥) → (other : LoadKind) → OccursAt prefix tree (known ++ more) other (length known) n
+  after_odd : (more : List ℕ) (n : ℕ) → (OccursAt format tree (known ++ more) TooLarge (length known) n → ⊥)
+      → (OccursAt format tree (known ++ more) TooManyLines (length known) n → ⊥) → (OccursAt format tree (known ++ more) LineTooLong (length known) n → ⊥)
+      → (OccursAt format tree (known ++ more) NotUtf8 (length known) n → ⊥) → (other : LoadKind) → OccursAt format tree (known ++ more) other (length known) n
       → 4 ≤ rank_of other
   after_odd more n a b d e TooLarge at = absurd (a at)
   after_odd more n a b d e TooManyLines at = absurd (b at)
@@ -232,7 +233,7 @@ module _ (prefix : List ℕ) (tree : Tree) (known line : List ℕ) (meanings : L
   after_odd more n a b d e OutOfMemory at = omega arith
 
   pub too_many : (more : List ℕ) → line ≡ [] → length meanings ≡ MAX_CONFIG_LINES → length known < MAX_CONFIG_BYTES → 0 < length more
-      → IsFirstFault prefix tree complete (known ++ more) TooManyLines (length meanings + 1)
+      → IsFirstFault format tree complete (known ++ more) TooManyLines (length meanings + 1)
   too_many more none full less some =
       let found = a_line more some in
       let front_is : known ≡ c.front = c.whole ∙ ap (λ l. c.front ++ l) none ∙ append-nil c.front in
@@ -250,7 +251,7 @@ module _ (prefix : List ℕ) (tree : Tree) (known line : List ℕ) (meanings : L
       (λ other on at. after_large more on (not_large more on (inl less)) other at)
 
   pub too_long : (b : ℕ) (more : List ℕ) → length line ≡ MAX_LINE_BYTES → (b == 10) ≡ false → length known < MAX_CONFIG_BYTES
-      → IsFirstFault prefix tree complete (known ++ b ∷ more) LineTooLong (length meanings + 1)
+      → IsFirstFault format tree complete (known ++ b ∷ more) LineTooLong (length meanings + 1)
   too_long b more full other less =
       let found = a_line (b ∷ more) (omega arith) in
       let some : 0 < length found.0 = first_some found.0 found.1 found.2 found.4 in
@@ -297,33 +298,33 @@ module _ (prefix : List ℕ) (tree : Tree) (known line : List ℕ) (meanings : L
     go [] e = absurd (bad (subst P (sym e) p))
     go (x ∷ l) e = omega arith
 
-  pub not_utf8 : (more : List ℕ) → AtEnd more → (IsUtf8 line → ⊥) → IsFirstFault prefix tree complete (known ++ more) NotUtf8 (length meanings + 1)
+  pub not_utf8 : (more : List ℕ) → AtEnd more → (IsUtf8 line → ⊥) → IsFirstFault format tree complete (known ++ more) NotUtf8 (length meanings + 1)
   not_utf8 more ends bad =
       let some = subst (λ n. 0 < n) refl (some_bytes IsUtf8 IsUtf8-nil bad) in
       first_by more NotUtf8 (length meanings + 1) (line, length c.front, this_line more (ends_of more ends), bad, known_length)
       (λ o on at. after_long more on (not_large more on (room_of more ends)) (not_many more on some) (not_long more on (stops_of more ends)) o at)
 
-  pub malformed : (more : List ℕ) → AtEnd more → IsUtf8 line → IsMalformed prefix tree line
-      → IsFirstFault prefix tree complete (known ++ more) Malformed (length meanings + 1)
+  pub malformed : (more : List ℕ) → AtEnd more → IsUtf8 line → IsMalformed format tree line
+      → IsFirstFault format tree complete (known ++ more) Malformed (length meanings + 1)
   malformed more ends text bad =
-      let some = some_bytes (λ l. (meaning : LineMeaning) × Means prefix tree (without_white_end l) meaning) (silent, empty) (λ says. bad says.0 says.1) in
+      let some = some_bytes (λ l. (meaning : LineMeaning) × Means format tree (without_white_end l) meaning) (silent, empty) (λ says. bad says.0 says.1) in
       first_by more Malformed (length meanings + 1) (line, length c.front, this_line more (ends_of more ends), bad, known_length)
       (λ o on at. after_odd more on (not_large more on (room_of more ends)) (not_many more on some) (not_long more on (stops_of more ends))
       (not_odd more on text) o at)
 
   -- the line so far has a meaning, or there is none
   abbrev pub SaysLast : List LineMeaning → Type 0
-  SaysLast last = ((line ≡ []) × (last ≡ [])) ⊎ ((0 < length line) × ((x : LineMeaning) × (last ≡ x ∷ []) × IsSound prefix tree line x))
+  SaysLast last = ((line ≡ []) × (last ≡ [])) ⊎ ((0 < length line) × ((x : LineMeaning) × (last ≡ x ∷ []) × IsSound format tree line x))
 
-  last_sound : (last : List LineMeaning) → SaysLast last → 0 < length line → (x : LineMeaning) × IsSound prefix tree line x
+  last_sound : (last : List LineMeaning) → SaysLast last → 0 < length line → (x : LineMeaning) × IsSound format tree line x
   last_sound last (inl none) some = (let e = ap length none.0 in absurd (omega arith))
   last_sound last (inr says) some = (says.1.0, says.1.2)
 
   -- the file ends here without a fault
-  pub accepted : (last : List LineMeaning) → SaysLast last → IsAccepted prefix tree known
+  pub accepted : (last : List LineMeaning) → SaysLast last → IsAccepted format tree known
   accepted last says kind byte number comes =
       let whole : known ++ [] ≡ known = append-nil known in
-      go kind byte number (subst (λ b. OccursAt prefix tree b kind byte number) (sym whole) comes) where
+      go kind byte number (subst (λ b. OccursAt format tree b kind byte number) (sym whole) comes) where
         at_end : (found : List ℕ) (n s : ℕ) → (at : IsLineAt (known ++ []) found n s) → s + length found + length at.rest ≡ length known
         at_end found n s at =
             let a = ap length at.whole in
@@ -333,7 +334,7 @@ module _ (prefix : List ℕ) (tree : Tree) (known line : List ℕ) (meanings : L
             let f = at.starts in
             omega arith
 
-        found_sound : (found : List ℕ) (n s : ℕ) → (at : IsLineAt (known ++ []) found n s) → (x : LineMeaning) × IsSound prefix tree found x
+        found_sound : (found : List ℕ) (n s : ℕ) → (at : IsLineAt (known ++ []) found n s) → (x : LineMeaning) × IsSound format tree found x
         found_sound found n s at =
             let t = known_length in
             let s_is = at.starts in
@@ -351,11 +352,11 @@ module _ (prefix : List ℕ) (tree : Tree) (known line : List ℕ) (meanings : L
                         (let h = ap length next.1 in absurd (omega arith))
                   ] in
                   let sound = last_sound last says some in
-                  (sound.0, subst (λ l. IsSound prefix tree l sound.0) (sym is) sound.1))
+                  (sound.0, subst (λ l. IsSound format tree l sound.0) (sym is) sound.1))
               | later h ↦ absurd (omega arith)
             ]
 
-        go : (kind : LoadKind) (byte number : ℕ) → OccursAt prefix tree (known ++ []) kind byte number → ⊥
+        go : (kind : LoadKind) (byte number : ℕ) → OccursAt format tree (known ++ []) kind byte number → ⊥
         go TooLarge byte number h = (let s = c.small in let a = h.0 in let b = ap length (append-nil known) in omega arith)
         go TooManyLines byte number (found, at, most) =
             let h = clean [] TooManyLines byte number (found, at, most) in
@@ -367,29 +368,29 @@ module _ (prefix : List ℕ) (tree : Tree) (known line : List ℕ) (meanings : L
         go Read byte number h = h
         go OutOfMemory byte number h = h
 
-  all_say : (lines : List (List ℕ)) (all : List LineMeaning) → AllZip (IsSound prefix tree) lines all
-      → AllZip (λ l x. Means prefix tree (without_white_end l) x) lines all
+  all_say : (lines : List (List ℕ)) (all : List LineMeaning) → AllZip (IsSound format tree) lines all
+      → AllZip (λ l x. Means format tree (without_white_end l) x) lines all
   all_say [] [] h = tt
   all_say [] (x ∷ all) h = absurd h
   all_say (l ∷ lines) [] h = absurd h
   all_say (l ∷ lines) (x ∷ all) h = (h.0.says, all_say lines all h.1)
 
   -- and has the meanings of its lines
-  pub file_says : (last : List LineMeaning) → SaysLast last → FileMeans prefix tree known (meanings ++ last)
+  pub file_says : (last : List LineMeaning) → SaysLast last → FileMeans format tree known (meanings ++ last)
   file_says last (inl none) =
-      subst (λ b. FileMeans prefix tree b (meanings ++ last)) (sym (c.whole ∙ ap (λ l. c.front ++ l) none.0 ∙ append-nil c.front))
-      (subst (λ all. FileMeans prefix tree c.front all) (sym (ap (λ l. meanings ++ l) none.1 ∙ append-nil meanings))
+      subst (λ b. FileMeans format tree b (meanings ++ last)) (sym (c.whole ∙ ap (λ l. c.front ++ l) none.0 ∙ append-nil c.front))
+      (subst (λ all. FileMeans format tree c.front all) (sym (ap (λ l. meanings ++ l) none.1 ∙ append-nil meanings))
       (all_say (file_lines c.front) meanings c.sound))
   file_says last (inr (some, (x, is, sound))) =
       let lines : file_lines known ≡ file_lines c.front ++ line ∷ [] = ap file_lines c.whole ∙ lines_behind c.front line c.ended
       ∙ ap (λ ls. file_lines c.front ++ ls) (last_of_lines line c.one_line some) in
-      subst (λ all. FileMeans prefix tree known (meanings ++ all)) (sym is)
-      (subst (λ ls. AllZip (λ l x. Means prefix tree (without_white_end l) x) ls (meanings ++ x ∷ [])) (sym lines)
-      (all_say (file_lines c.front ++ line ∷ []) (meanings ++ x ∷ []) (zip_append (IsSound prefix tree) (file_lines c.front) meanings line x c.sound sound)))
+      subst (λ all. FileMeans format tree known (meanings ++ all)) (sym is)
+      (subst (λ ls. AllZip (λ l x. Means format tree (without_white_end l) x) ls (meanings ++ x ∷ [])) (sym lines)
+      (all_say (file_lines c.front ++ line ∷ []) (meanings ++ x ∷ []) (zip_append (IsSound format tree) (file_lines c.front) meanings line x c.sound sound)))
 
   -- a piece of the line goes on
   pub held : (piece : List ℕ) → lacks 10 piece ≡ true → length line + length piece ≤ MAX_LINE_BYTES → length meanings < MAX_CONFIG_LINES
-      → length known + length piece ≤ MAX_CONFIG_BYTES → IsCut prefix tree (known ++ piece) (line ++ piece) meanings
+      → length known + length piece ≤ MAX_CONFIG_BYTES → IsCut format tree (known ++ piece) (line ++ piece) meanings
   held piece one short room small = record {
     front = c.front;
     whole = ap (λ t. t ++ piece) c.whole ∙ append_assoc c.front line piece;
@@ -403,8 +404,8 @@ module _ (prefix : List ℕ) (tree : Tree) (known line : List ℕ) (meanings : L
   }
 
   -- the line ends
-  pub line_ended : (x : LineMeaning) → IsSound prefix tree line x → length meanings < MAX_CONFIG_LINES → length known < MAX_CONFIG_BYTES
-      → IsCut prefix tree (known ++ 10 ∷ []) [] (meanings ++ x ∷ [])
+  pub line_ended : (x : LineMeaning) → IsSound format tree line x → length meanings < MAX_CONFIG_LINES → length known < MAX_CONFIG_BYTES
+      → IsCut format tree (known ++ 10 ∷ []) [] (meanings ++ x ∷ [])
   line_ended x sound room small =
       let lines : file_lines (known ++ 10 ∷ []) ≡ file_lines c.front ++ line ∷ [] = ap file_lines (whole_is (10 ∷ []))
       ∙ lines_behind c.front (line ++ 10 ∷ []) c.ended ∙ ap (λ ls. file_lines c.front ++ ls) (first_of_lines line [] c.one_line) in
@@ -413,16 +414,16 @@ module _ (prefix : List ℕ) (tree : Tree) (known line : List ℕ) (meanings : L
         whole = sym (append-nil (known ++ 10 ∷ []));
         ended = inr (known, refl);
         one_line = refl;
-        sound = subst (λ ls. AllZip (IsSound prefix tree) ls (meanings ++ x ∷ [])) (sym lines)
-            (zip_append (IsSound prefix tree) (file_lines c.front) meanings line x c.sound sound);
+        sound = subst (λ ls. AllZip (IsSound format tree) ls (meanings ++ x ∷ [])) (sym lines)
+            (zip_append (IsSound format tree) (file_lines c.front) meanings line x c.sound sound);
         few = (let e = length-append meanings (x ∷ []) in omega arith);
         room = λ h. absurd (omega arith);
         small = (let e = length-append known (10 ∷ []) in omega arith);
         short = omega arith;
       }
 
-pub nothing_told : (prefix : List ℕ) (tree : Tree) → IsCut prefix tree [] [] []
-nothing_told prefix tree =
+pub nothing_told : (format : FileFormat) (tree : Tree) → IsCut format tree [] [] []
+nothing_told format tree =
     record {
       front = [];
       whole = refl;

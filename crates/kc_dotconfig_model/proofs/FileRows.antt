@@ -10,88 +10,126 @@ use Rattle.kc_rules_model.specs.declared.values.UserValue.TheVariants.{Tri as Tr
 use Rattle.kc_rules_model.proofs.RowTrees.{sets, writes, tree_a, tree_int, tree_string, tree_pick, tree_imply, tree_titled}
 use Rattle.kc_dotconfig_model.specs.declared.notice.NoticeKind.{NoticeKind}
 use Rattle.kc_dotconfig_model.specs.declared.notice.NoticeKind.TheVariants.{UnknownSymbol, NotOfType}
+use Rattle.kc_dotconfig_model.specs.declared.format.Strings.TheVariants.{Escaped, Raw}
+use Rattle.kc_dotconfig_model.specs.Formats.{FileFormat}
 use Rattle.kc_dotconfig_model.specs.ConfigLines.{LineMeaning, assigns, notice, silent}
 use Rattle.kc_dotconfig_model.specs.ConfigFiles.{file_assignment, assigned_over, overlay, notices_from}
 use Rattle.kc_dotconfig_model.specs.between.LineMeanings.{line_meaning, file_meanings}
 
 -- a file's assignment and its notices, if no line is malformed
-abbrev read : List ℕ → Tree → List ℕ → Option (List (Option UserValue) × List (ℕ × NoticeKind))
-read prefix tree bytes =
-    option_map (λ (meanings : List LineMeaning). (file_assignment tree meanings, notices_from 1 meanings)) (file_meanings prefix tree bytes)
+abbrev read : FileFormat → Tree → List ℕ → Option (List (Option UserValue) × List (ℕ × NoticeKind))
+read format tree bytes =
+    option_map (λ (meanings : List LineMeaning). (file_assignment tree meanings, notices_from 1 meanings)) (file_meanings format tree bytes)
+
+abbrev escaped : List ℕ → FileFormat
+escaped prefix = record { prefix = prefix; strings = Escaped }
+
+abbrev config : FileFormat
+config = escaped (codes "CONFIG_")
+
+-- where strings are raw
+abbrev raw : FileFormat
+raw = record { prefix = codes "CONFIG_"; strings = Raw }
 
 abbrev assigning : List (Option UserValue) → Option (List (Option UserValue) × List (ℕ × NoticeKind))
 assigning users = Some (users, [])
 
-unset_lines : (read (codes "CONFIG_") tree_a (codes "# CONFIG_A is not set\n") ≡ assigning (sets N ∷ [])) × (read (codes "CONFIG_") tree_a [] ≡ assigning (None ∷ []))
-    × (read (codes "CONFIG_") tree_imply (codes "CONFIG_FOO=y\nCONFIG_BAR=m\n# CONFIG_BAZ is not set\n") ≡ assigning (None ∷ sets Y ∷ sets M ∷ sets N ∷ []))
+unset_lines : (read config tree_a (codes "# CONFIG_A is not set\n") ≡ assigning (sets N ∷ [])) × (read config tree_a [] ≡ assigning (None ∷ []))
+    × (read config tree_imply (codes "CONFIG_FOO=y\nCONFIG_BAR=m\n# CONFIG_BAZ is not set\n") ≡ assigning (None ∷ sets Y ∷ sets M ∷ sets N ∷ []))
 unfolding line_meaning
 unset_lines = (refl, refl, refl)
 
-ints : (read (codes "CONFIG_") tree_int (codes "CONFIG_N=25\n") ≡ assigning (writes (codes "25") ∷ [])) × (read (codes "CONFIG_") tree_int (codes "CONFIG_N=010\n") ≡ assigning (writes (codes "010") ∷ []))
-    × (read (codes "CONFIG_") tree_int (codes "CONFIG_N=\n") ≡ assigning (None ∷ []))
-    × (read (codes "CONFIG_") tree_int (codes "CONFIG_N=1x\n") ≡ Some (None ∷ [], (1, NotOfType) ∷ []))
+ints : (read config tree_int (codes "CONFIG_N=25\n") ≡ assigning (writes (codes "25") ∷ [])) × (read config tree_int (codes "CONFIG_N=010\n") ≡ assigning (writes (codes "010") ∷ []))
+    × (read config tree_int (codes "CONFIG_N=\n") ≡ assigning (None ∷ []))
+    × (read config tree_int (codes "CONFIG_N=1x\n") ≡ Some (None ∷ [], (1, NotOfType) ∷ []))
 unfolding line_meaning int_text
 ints = (refl, refl, refl, refl)
 
-strings : (read (codes "CONFIG_") tree_string (codes "CONFIG_S=\"\"\n") ≡ assigning (writes [] ∷ []))
-    × (read (codes "CONFIG_") tree_string (codes "CONFIG_S=\"a\\\"b\\\\c\"\n") ≡ assigning (writes (codes "a\"b\\c") ∷ []))
-    × (read (codes "CONFIG_") tree_string (codes "CONFIG_S=\"a\"b\"\n") ≡ Some (None ∷ [], (1, NotOfType) ∷ []))
-    × (read (codes "CONFIG_") tree_string (codes "CONFIG_S=\"a\"b\n") ≡ Some (None ∷ [], (1, NotOfType) ∷ []))
-    × (read (codes "CONFIG_") tree_string (codes "CONFIG_S=\"ab") ≡ Some (None ∷ [], (1, NotOfType) ∷ []))
+strings : (read config tree_string (codes "CONFIG_S=\"\"\n") ≡ assigning (writes [] ∷ []))
+    × (read config tree_string (codes "CONFIG_S=\"a\\\"b\\\\c\"\n") ≡ assigning (writes (codes "a\"b\\c") ∷ []))
+    × (read config tree_string (codes "CONFIG_S=\"a\"b\"\n") ≡ Some (None ∷ [], (1, NotOfType) ∷ []))
+    × (read config tree_string (codes "CONFIG_S=\"a\"b\n") ≡ Some (None ∷ [], (1, NotOfType) ∷ []))
+    × (read config tree_string (codes "CONFIG_S=\"ab") ≡ Some (None ∷ [], (1, NotOfType) ∷ []))
 unfolding line_meaning
 strings = (refl, refl, refl, refl, refl)
 
+-- of a raw string the first and the last byte are quotes, and the text is what is between them
+raw_strings : (read raw tree_string (codes "CONFIG_S=\"\"\n") ≡ assigning (writes [] ∷ []))
+    × (read raw tree_string (codes "CONFIG_S=\"a\\\"b\\\\c\"\n") ≡ assigning (writes (codes "a\\\"b\\\\c") ∷ []))
+    × (read raw tree_string (codes "CONFIG_S=\"a\"b\" \n") ≡ assigning (writes (codes "a\"b") ∷ []))
+    × (read raw tree_string (codes "CONFIG_S=\"\\\"\n") ≡ assigning (writes (codes "\\") ∷ []))
+    × (read raw tree_string (codes "CONFIG_S=\"\"\"\n") ≡ assigning (writes (codes "\"") ∷ []))
+unfolding line_meaning
+raw_strings = (refl, refl, refl, refl, refl)
+
+-- and anything else is no string
+no_raw_strings : (read raw tree_string (codes "CONFIG_S=\"a\"b\n") ≡ Some (None ∷ [], (1, NotOfType) ∷ []))
+    × (read raw tree_string (codes "CONFIG_S=\"ab") ≡ Some (None ∷ [], (1, NotOfType) ∷ []))
+    × (read raw tree_string (codes "CONFIG_S=\"\n") ≡ Some (None ∷ [], (1, NotOfType) ∷ []))
+    × (read raw tree_string (codes "CONFIG_S=ab\n") ≡ Some (None ∷ [], (1, NotOfType) ∷ []))
+    × (read raw tree_string (codes "CONFIG_S=ab\"\n") ≡ Some (None ∷ [], (1, NotOfType) ∷ []))
+    × (read raw tree_string (codes "CONFIG_S=\n") ≡ Some (None ∷ [], (1, NotOfType) ∷ []))
+unfolding line_meaning
+no_raw_strings = (refl, refl, refl, refl, refl, refl)
+
+-- the other types mean the same
+raw_others : (read raw tree_a (codes "CONFIG_A=y\n") ≡ assigning (sets Y ∷ []))
+    × (read raw tree_a (codes "CONFIG_A=\"y\"\n") ≡ Some (None ∷ [], (1, NotOfType) ∷ []))
+    × (read raw tree_int (codes "CONFIG_N=25\n") ≡ assigning (writes (codes "25") ∷ []))
+unfolding line_meaning int_text
+raw_others = (refl, refl, refl)
+
 -- the member last assigned `y`; `n` of a member assigns nothing
-members : (read (codes "CONFIG_") tree_pick (codes "CONFIG_A=y\nCONFIG_C=y\n") ≡ assigning (Some (MemberUser 2) ∷ None ∷ []))
-    × (read (codes "CONFIG_") tree_pick (codes "CONFIG_C=y\nCONFIG_A=y\nCONFIG_A=n\n# CONFIG_A is not set\n") ≡ assigning (Some (MemberUser 0) ∷ None ∷ []))
-    × (read (codes "CONFIG_") tree_pick (codes "# CONFIG_B is not set\n") ≡ assigning (None ∷ None ∷ []))
-    × (read (codes "CONFIG_") tree_pick (codes "CONFIG_X=y\nCONFIG_C=y\n") ≡ assigning (Some (MemberUser 2) ∷ sets Y ∷ []))
+members : (read config tree_pick (codes "CONFIG_A=y\nCONFIG_C=y\n") ≡ assigning (Some (MemberUser 2) ∷ None ∷ []))
+    × (read config tree_pick (codes "CONFIG_C=y\nCONFIG_A=y\nCONFIG_A=n\n# CONFIG_A is not set\n") ≡ assigning (Some (MemberUser 0) ∷ None ∷ []))
+    × (read config tree_pick (codes "# CONFIG_B is not set\n") ≡ assigning (None ∷ None ∷ []))
+    × (read config tree_pick (codes "CONFIG_X=y\nCONFIG_C=y\n") ≡ assigning (Some (MemberUser 2) ∷ sets Y ∷ []))
 unfolding line_meaning
 members = (refl, refl, refl, refl)
 
-later_lines_win : read (codes "CONFIG_") tree_a (codes "CONFIG_A=y\nCONFIG_A=n\nCONFIG_A=y\n") ≡ assigning (sets Y ∷ [])
+later_lines_win : read config tree_a (codes "CONFIG_A=y\nCONFIG_A=n\nCONFIG_A=y\n") ≡ assigning (sets Y ∷ [])
 unfolding line_meaning
 later_lines_win = refl
 
 -- a line that assigns nothing leaves what was assigned
-notices_leave_assignments : (read (codes "CONFIG_") tree_a (codes "CONFIG_GONE=1\nCONFIG_A=m\n") ≡ Some (None ∷ [], (1, UnknownSymbol) ∷ (2, NotOfType) ∷ []))
-    × (read (codes "CONFIG_") tree_a (codes "CONFIG_A=y\nCONFIG_A=m\n# CONFIG_GONE is not set\n") ≡ Some
+notices_leave_assignments : (read config tree_a (codes "CONFIG_GONE=1\nCONFIG_A=m\n") ≡ Some (None ∷ [], (1, UnknownSymbol) ∷ (2, NotOfType) ∷ []))
+    × (read config tree_a (codes "CONFIG_A=y\nCONFIG_A=m\n# CONFIG_GONE is not set\n") ≡ Some
     (sets Y ∷ [], (2, NotOfType) ∷ (3, UnknownSymbol) ∷ []))
 unfolding line_meaning
 notices_leave_assignments = (refl, refl)
 
-comments_and_white_ends : (read (codes "CONFIG_") tree_a (codes "#\n# Automatically generated file; DO NOT EDIT.\n#\nCONFIG_A=y  \t\r\n\n") ≡ assigning (sets Y ∷ []))
-    × (read (codes "CONFIG_") tree_a (codes "CONFIG_A=y") ≡ assigning (sets Y ∷ []))
+comments_and_white_ends : (read config tree_a (codes "#\n# Automatically generated file; DO NOT EDIT.\n#\nCONFIG_A=y  \t\r\n\n") ≡ assigning (sets Y ∷ []))
+    × (read config tree_a (codes "CONFIG_A=y") ≡ assigning (sets Y ∷ []))
 unfolding line_meaning
 comments_and_white_ends = (refl, refl)
 
-malformed_lines : (read (codes "CONFIG_") tree_a (codes "CONFIG_A=n\n# x\nFOO=y\n") ≡ None) × (line_meaning (codes "CONFIG_") tree_a (codes "FOO=y") ≡ None) × (line_meaning (codes "CONFIG_") tree_a (codes "CONFIG_=A=y") ≡ None)
-    × (line_meaning (codes "CONFIG_") tree_a (codes " CONFIG_A=y") ≡ None) × (line_meaning (codes "CONFIG_") tree_a (codes "CONFIG_A") ≡ None)
+malformed_lines : (read config tree_a (codes "CONFIG_A=n\n# x\nFOO=y\n") ≡ None) × (line_meaning config tree_a (codes "FOO=y") ≡ None) × (line_meaning config tree_a (codes "CONFIG_=A=y") ≡ None)
+    × (line_meaning config tree_a (codes " CONFIG_A=y") ≡ None) × (line_meaning config tree_a (codes "CONFIG_A") ≡ None)
 unfolding line_meaning
 malformed_lines = (refl, refl, refl, refl, refl)
 
-names_are_what_stands_there : (line_meaning (codes "CONFIG_") tree_a (codes "CONFIG_A =y") ≡ Some (notice UnknownSymbol)) × (line_meaning (codes "CONFIG_") tree_a (codes "# CONFIG_A=B is not set") ≡ Some (notice UnknownSymbol))
-    × (line_meaning (codes "CONFIG_") tree_a (codes "# CONFIG_A is not set is not set") ≡ Some silent)
-    × (line_meaning (codes "CONFIG_") tree_a (codes " # CONFIG_A is not set") ≡ Some silent)
-    × (line_meaning (codes "CONFIG_") tree_a (codes "#CONFIG_A is not set") ≡ Some silent)
+names_are_what_stands_there : (line_meaning config tree_a (codes "CONFIG_A =y") ≡ Some (notice UnknownSymbol)) × (line_meaning config tree_a (codes "# CONFIG_A=B is not set") ≡ Some (notice UnknownSymbol))
+    × (line_meaning config tree_a (codes "# CONFIG_A is not set is not set") ≡ Some silent)
+    × (line_meaning config tree_a (codes " # CONFIG_A is not set") ≡ Some silent)
+    × (line_meaning config tree_a (codes "#CONFIG_A is not set") ≡ Some silent)
 unfolding line_meaning
 names_are_what_stands_there = (refl, refl, refl, refl, refl)
 
 -- the eleven bytes of `CONFIG_A=y` and a newline, cut
-cut_files : (line_meaning (codes "CONFIG_") tree_a (codes "C") ≡ None) × (line_meaning (codes "CONFIG_") tree_a (codes "CONFIG_A") ≡ None)
-    × (line_meaning (codes "CONFIG_") tree_a (codes "CONFIG_A=") ≡ Some (notice NotOfType))
-    × (line_meaning (codes "CONFIG_") tree_a (codes "CONFIG_A=y") ≡ Some (assigns 0 (TriUser Y)))
+cut_files : (line_meaning config tree_a (codes "C") ≡ None) × (line_meaning config tree_a (codes "CONFIG_A") ≡ None)
+    × (line_meaning config tree_a (codes "CONFIG_A=") ≡ Some (notice NotOfType))
+    × (line_meaning config tree_a (codes "CONFIG_A=y") ≡ Some (assigns 0 (TriUser Y)))
 unfolding line_meaning
 cut_files = (refl, refl, refl, refl)
 
-other_prefixes : (read (codes "BOARD_") tree_a (codes "BOARD_A=y\n") ≡ assigning (sets Y ∷ [])) × (read (codes "BOARD_") tree_a (codes "CONFIG_A=y\n") ≡ None)
-    × (read (codes "C") tree_a (codes "CONFIG_A=y\n") ≡ Some (None ∷ [], (1, UnknownSymbol) ∷ []))
+other_prefixes : (read (escaped (codes "BOARD_")) tree_a (codes "BOARD_A=y\n") ≡ assigning (sets Y ∷ [])) × (read (escaped (codes "BOARD_")) tree_a (codes "CONFIG_A=y\n") ≡ None)
+    × (read (escaped (codes "C")) tree_a (codes "CONFIG_A=y\n") ≡ Some (None ∷ [], (1, UnknownSymbol) ∷ []))
 unfolding line_meaning
 other_prefixes = (refl, refl, refl)
 
 -- titles of menus are read as nothing
-headings : (read (codes "CONFIG_") (tree_titled (codes "CONFIG_A is not set")) (codes "\n#\n#  CONFIG_A is not set\n#\nCONFIG_A=y\n# end of CONFIG_A is not set\n") ≡ assigning (sets Y ∷ []))
-    × (read (codes "end") (tree_titled (codes "CONFIG_A is not set")) (codes "\n#\n# CONFIG_A is not set\n#\nendA=y\n# end of CONFIG_A is not set\n")
+headings : (read config (tree_titled (codes "CONFIG_A is not set")) (codes "\n#\n#  CONFIG_A is not set\n#\nCONFIG_A=y\n# end of CONFIG_A is not set\n") ≡ assigning (sets Y ∷ []))
+    × (read (escaped (codes "end")) (tree_titled (codes "CONFIG_A is not set")) (codes "\n#\n# CONFIG_A is not set\n#\nendA=y\n# end of CONFIG_A is not set\n")
     ≡ assigning (sets Y ∷ []))
 unfolding line_meaning
 headings = (refl, refl)

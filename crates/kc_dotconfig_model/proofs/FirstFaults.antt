@@ -4,6 +4,7 @@ use Rattle.std.proofs.lemmas.Bool.{and_parts, not-true, cases_lt}
 use Rattle.std.proofs.Math.Seq.{take-length}
 use Rattle.std.proofs.lemmas.List.Sums.{sum_by-cons}
 use Rattle.kc_tree_model.specs.Trees.{Tree}
+use Rattle.kc_dotconfig_model.specs.Formats.{FileFormat}
 use Rattle.kc_dotconfig_model.specs.declared.fault.LoadKind.{LoadKind}
 use Rattle.kc_dotconfig_model.specs.declared.fault.LoadKind.TheVariants.{Malformed, NotUtf8, LineTooLong, TooManyLines, Read, OutOfMemory, TooLarge}
 use Rattle.kc_dotconfig_model.specs.PrefixGrammar.{lacks}
@@ -39,15 +40,15 @@ line_counts bytes line number start k byte at h e =
     at.number_is ∙ ap (λ n. n + 1) (sym (ap (λ b. newlines (take byte b)) at.whole ∙ front_counts at.front line at.rest k byte at.one_line h place))
 
 -- and so is that of each fault
-number_at : (prefix : List ℕ) (tree : Tree) (bytes : List ℕ) (kind : LoadKind) (byte number : ℕ) → OccursAt prefix tree bytes kind byte number
+number_at : (format : FileFormat) (tree : Tree) (bytes : List ℕ) (kind : LoadKind) (byte number : ℕ) → OccursAt format tree bytes kind byte number
     → number ≡ newlines (take byte bytes) + 1
-number_at prefix tree bytes TooLarge byte number c = c.2 ∙ ap (λ k. newlines (take k bytes) + 1) (sym c.1)
-number_at prefix tree bytes TooManyLines byte number c = line_counts bytes c.0 number byte 0 byte c.1 (omega arith) (omega arith)
-number_at prefix tree bytes LineTooLong byte number c = line_counts bytes c.0 number c.1 MAX_LINE_BYTES byte c.2 (let long = c.3 in omega arith) c.4
-number_at prefix tree bytes NotUtf8 byte number c = line_counts bytes c.0 number c.1 (length c.0) byte c.2 (omega arith) c.4
-number_at prefix tree bytes Malformed byte number c = line_counts bytes c.0 number c.1 (length c.0) byte c.2 (omega arith) c.4
-number_at prefix tree bytes Read byte number c = absurd c
-number_at prefix tree bytes OutOfMemory byte number c = absurd c
+number_at format tree bytes TooLarge byte number c = c.2 ∙ ap (λ k. newlines (take k bytes) + 1) (sym c.1)
+number_at format tree bytes TooManyLines byte number c = line_counts bytes c.0 number byte 0 byte c.1 (omega arith) (omega arith)
+number_at format tree bytes LineTooLong byte number c = line_counts bytes c.0 number c.1 MAX_LINE_BYTES byte c.2 (let long = c.3 in omega arith) c.4
+number_at format tree bytes NotUtf8 byte number c = line_counts bytes c.0 number c.1 (length c.0) byte c.2 (omega arith) c.4
+number_at format tree bytes Malformed byte number c = line_counts bytes c.0 number c.1 (length c.0) byte c.2 (omega arith) c.4
+number_at format tree bytes Read byte number c = absurd c
+number_at format tree bytes OutOfMemory byte number c = absurd c
 
 abbrev kind_at : ℕ → LoadKind
 kind_at n =
@@ -64,15 +65,15 @@ kind_back Read = refl
 kind_back OutOfMemory = refl
 
 -- each fault that counts is reported with the line of its byte
-pub number_told : (prefix : List ℕ) (tree : Tree) (extent : InputEnd) (bytes : List ℕ) (kind : LoadKind) (byte number : ℕ)
-    → IsConsideredAt prefix tree extent bytes kind byte number → number ≡ newlines (take byte bytes) + 1
-number_told prefix tree complete bytes kind byte number comes = number_at prefix tree bytes kind byte number comes
-number_told prefix tree cut_short bytes kind byte number (inl comes) = number_at prefix tree bytes kind byte number comes.0
-number_told prefix tree cut_short bytes kind byte number (inr read) =
+pub number_told : (format : FileFormat) (tree : Tree) (extent : InputEnd) (bytes : List ℕ) (kind : LoadKind) (byte number : ℕ)
+    → IsConsideredAt format tree extent bytes kind byte number → number ≡ newlines (take byte bytes) + 1
+number_told format tree complete bytes kind byte number comes = number_at format tree bytes kind byte number comes
+number_told format tree cut_short bytes kind byte number (inl comes) = number_at format tree bytes kind byte number comes.0
+number_told format tree cut_short bytes kind byte number (inr read) =
     read.2 ∙ ap (λ b. newlines b + 1) (sym (ap (λ k. take k bytes) read.1 ∙ take-length bytes))
 
 pub one_is_first : OneFaultIsFirst
-one_is_first prefix tree extent bytes k l m n a b =
+one_is_first format tree extent bytes k l m n a b =
     let there = a.first l b.byte n b.comes in
     let back = b.first k a.byte m a.comes in
     let both : (a.byte ≡ b.byte) × (rank_of k ≡ rank_of l) = elim there [
@@ -84,22 +85,22 @@ one_is_first prefix tree extent bytes k l m n a b =
       ]
     ] in (
       sym (kind_back k) ∙ ap kind_at both.1 ∙ kind_back l,
-      number_told prefix tree extent bytes k a.byte m a.comes ∙ ap (λ i. newlines (take i bytes) + 1) both.0
-          ∙ sym (number_told prefix tree extent bytes l b.byte n b.comes),
+      number_told format tree extent bytes k a.byte m a.comes ∙ ap (λ i. newlines (take i bytes) + 1) both.0
+          ∙ sym (number_told format tree extent bytes l b.byte n b.comes),
     )
 
 pub refused : FaultyFilesAreRefused
-refused prefix tree bytes kind number fault accepted = accepted kind fault.byte number fault.comes
+refused format tree bytes kind number fault accepted = accepted kind fault.byte number fault.comes
 
 -- a failed read comes after all bytes
-read_last : (prefix : List ℕ) (tree : Tree) (bytes : List ℕ) (byte number : ℕ) → IsConsideredAt prefix tree cut_short bytes Read byte number
+read_last : (format : FileFormat) (tree : Tree) (bytes : List ℕ) (byte number : ℕ) → IsConsideredAt format tree cut_short bytes Read byte number
     → (byte ≡ length bytes) × (number ≡ newlines bytes + 1)
-read_last prefix tree bytes byte number (inl comes) = absurd comes.0
-read_last prefix tree bytes byte number (inr read) = (read.1, read.2)
+read_last format tree bytes byte number (inl comes) = absurd comes.0
+read_last format tree bytes byte number (inr read) = (read.1, read.2)
 
 pub failed_reads : FailedReadsAreReported
-failed_reads prefix tree bytes number = (
-  λ fault. let read = read_last prefix tree bytes fault.byte number fault.comes in (
+failed_reads format tree bytes number = (
+  λ fault. let read = read_last format tree bytes fault.byte number fault.comes in (
     λ kind byte other comes. elim (cases_lt byte (length bytes)) [
       | inl below ↦ elim (fault.first kind byte other (inl (comes, below))) [
         | inl after ↦ (let e = read.0 in absurd (omega (arith, after, below, e)))

@@ -5,7 +5,10 @@ use Rattle.std.specs.List.{AllZip, AllByRecursion, list_all, onto_first}
 use Rattle.std.specs.Str.{IsUtf8, is_utf8}
 use Rattle.std.proofs.Math.Seq.{get_or-append_seam}
 use Rattle.std.proofs.lemmas.Str.{IsUtf8-drop, IsCharBoundary-after_ascii, IsUtf8-from_is_utf8, is_utf8-from_IsUtf8}
-use Rattle.kc_value.proofs.UnquotedUtf8.{unquoted_utf8}
+use Rattle.kc_value.proofs.UnquotedUtf8.{ascii_alone, utf8_after, utf8_before, unquoted_utf8}
+use Rattle.kc_dotconfig_model.specs.declared.format.Strings.{Strings}
+use Rattle.kc_dotconfig_model.specs.declared.format.Strings.TheVariants.{Escaped, Raw}
+use Rattle.kc_dotconfig_model.specs.Formats.{FileFormat, IsStringSpelling}
 use Rattle.kc_dotconfig_model.proofs.TrimmedLines.{trimmed_utf8}
 use Rattle.std.proofs.lemmas.Bool.{cases_eq, false≢true, and_parts, and_from, not-true}
 use Rattle.std.proofs.lemmas.List.{get_or-set_same, get_or-set_other, length-set}
@@ -81,6 +84,23 @@ quoted_one_line : (text means : List ℕ) → IsQuoted text means → lacks 10 t
 quoted_one_line text means q one =
     body_one_line q.0 means q.2 (first_lacks q.0 (34 ∷ []) (second_lacks (34 ∷ []) (q.0 ++ 34 ∷ []) (ap (lacks 10) (sym q.1) ∙ one)))
 
+lacks_newline : (text : List ℕ) → lacks 10 text ≡ true → has_newline text ≡ false
+lacks_newline [] one = refl
+lacks_newline (c ∷ text) one =
+    let parts = and_parts (not (c == 10)) (lacks 10 text) one in ap (λ b. b || has_newline text) (not-true (c == 10) parts.0) ∙ lacks_newline text parts.1
+
+-- in each form a string's spelling of one line has a text of one line, and one of UTF-8 a text of UTF-8
+pub string_one_line : (strings : Strings) (text means : List ℕ) → IsStringSpelling strings text means → lacks 10 text ≡ true → has_newline means ≡ false
+string_one_line Escaped text means is one = quoted_one_line text means is one
+string_one_line Raw text means is one =
+    lacks_newline means (first_lacks means (34 ∷ []) (second_lacks (34 ∷ []) (means ++ 34 ∷ []) (ap (lacks 10) (sym is) ∙ one)))
+
+pub string_utf8 : (strings : Strings) (text means : List ℕ) → IsStringSpelling strings text means → IsUtf8 text → IsUtf8 means
+string_utf8 Escaped text means is utf8 = unquoted_utf8 text means is utf8
+string_utf8 Raw text means is utf8 =
+    let inner = utf8_after text (34 ∷ []) (means ++ 34 ∷ []) utf8 (ascii_alone 34 (omega arith)) is in
+    utf8_before (means ++ 34 ∷ []) means (34 ∷ []) inner (ascii_alone 34 (omega arith)) refl
+
 -- the bytes after one below 128 are UTF-8
 utf8_behind : (bytes front back : List ℕ) (b : ℕ) → b < 128 → IsUtf8 bytes → bytes ≡ front ++ b ∷ back → IsUtf8 back
 utf8_behind bytes front back b low u is =
@@ -113,22 +133,22 @@ module _ (tree : Tree) (sound : IsConsistent tree) (s : ℕ) (symbol : Symbol) (
   outside None e other = e
   outside (Some c) e other = absurd (other (sound.bool_members s c symbol at e))
 
-  value_fits_unit : (text : List ℕ) (meaning : LineMeaning) → lacks 10 text ≡ true → IsUtf8 text → ValueMeans tree s symbol text meaning
+  value_fits_unit : (strings : Strings) (text : List ℕ) (meaning : LineMeaning) → lacks 10 text ≡ true → IsUtf8 text → ValueMeans strings tree s symbol text meaning
       → SayingFits tree meaning
-  value_fits_unit text meaning one utf8 (tri _ t out meant) = outside_fits (TriUser t) out (tri_meant_fits symbol.kind text t meant)
-  value_fits_unit text meaning one utf8 (chosen c _ within meant) = member_fits c within
-  value_fits_unit text meaning one utf8 (not_chosen c _ t within meant other) = tt
-  value_fits_unit text meaning one utf8 (quoted _ means is stands) =
+  value_fits_unit strings text meaning one utf8 (tri _ t out meant) = outside_fits (TriUser t) out (tri_meant_fits symbol.kind text t meant)
+  value_fits_unit strings text meaning one utf8 (chosen c _ within meant) = member_fits c within
+  value_fits_unit strings text meaning one utf8 (not_chosen c _ t within meant other) = tt
+  value_fits_unit strings text meaning one utf8 (quoted _ means is stands) =
       outside_fits (TextUser means) (outside symbol.choice refl (λ same. cc (is, same)))
-      (ap (λ k. user_text_fits k means) is ∙ and_from (not (has_newline means)) (is_utf8 means) (ap not (quoted_one_line text means stands one))
-      (is_utf8-from_IsUtf8 means (unquoted_utf8 text means stands utf8)))
-  value_fits_unit text meaning one utf8 (number _ some) =
+      (ap (λ k. user_text_fits k means) is ∙ and_from (not (has_newline means)) (is_utf8 means) (ap not (string_one_line strings text means stands one))
+      (is_utf8-from_IsUtf8 means (string_utf8 strings text means stands utf8)))
+  value_fits_unit strings text meaning one utf8 (number _ some) =
       let fits = number_fits symbol.kind text some in outside_fits (TextUser text) (outside symbol.choice refl fits.1) fits.0
-  value_fits_unit text meaning one utf8 (no_int is) = tt
-  value_fits_unit text meaning one utf8 (no_hex is) = tt
-  value_fits_unit text meaning one utf8 (no_tri _ small meant) = tt
-  value_fits_unit text meaning one utf8 (no_text _ is without) = tt
-  value_fits_unit text meaning one utf8 (no_number b rest large other without) = tt
+  value_fits_unit strings text meaning one utf8 (no_int is) = tt
+  value_fits_unit strings text meaning one utf8 (no_hex is) = tt
+  value_fits_unit strings text meaning one utf8 (no_tri _ small meant) = tt
+  value_fits_unit strings text meaning one utf8 (no_text _ is without) = tt
+  value_fits_unit strings text meaning one utf8 (no_number b rest large other without) = tt
 
   unset_fits : (o : Option ℕ) → symbol.choice ≡ o → (t : Bool) → is_tri_kind symbol.kind ≡ t → SayingFits tree (unset_meaning tree s symbol o)
   unset_fits (Some c) e t small = tt
@@ -136,13 +156,13 @@ module _ (tree : Tree) (sound : IsConsistent tree) (s : ℕ) (symbol : Symbol) (
       subst (λ b. SayingFits tree (cond b (assigns (unit_of tree s) (TriUser N)) silent)) (sym small) (outside_fits (TriUser N) e (n_fits symbol.kind small))
   unset_fits None e false small = subst (λ b. SayingFits tree (cond b (assigns (unit_of tree s) (TriUser N)) silent)) (sym small) tt
 
-module _ (prefix : List ℕ) (tree : Tree) (sound : IsConsistent tree) where
-  line_fits : (line : List ℕ) (meaning : LineMeaning) → lacks 10 line ≡ true → IsUtf8 line → Means prefix tree line meaning → SayingFits tree meaning
+module _ (format : FileFormat) (tree : Tree) (sound : IsConsistent tree) where
+  line_fits : (line : List ℕ) (meaning : LineMeaning) → lacks 10 line ≡ true → IsUtf8 line → Means format tree line meaning → SayingFits tree meaning
   line_fits line meaning one utf8 (value _ name text s symbol _ is named at says) =
-      let behind_name = second_lacks name (61 ∷ text) (second_lacks prefix (name ++ (61 ∷ text)) (ap (lacks 10) (sym is.2) ∙ one)) in
-      let parted : line ≡ (prefix ++ name) ++ 61 ∷ text = is.2 ∙ sym (append_assoc prefix name (61 ∷ text)) in
-      value_fits_unit tree sound s symbol at text meaning (second_lacks (61 ∷ []) text behind_name)
-      (utf8_behind line (prefix ++ name) text 61 (omega arith) utf8 parted) says
+      let behind_name = second_lacks name (61 ∷ text) (second_lacks format.prefix (name ++ (61 ∷ text)) (ap (lacks 10) (sym is.2) ∙ one)) in
+      let parted : line ≡ (format.prefix ++ name) ++ 61 ∷ text = is.2 ∙ sym (append_assoc format.prefix name (61 ∷ text)) in
+      value_fits_unit tree sound s symbol at format.strings text meaning (second_lacks (61 ∷ []) text behind_name)
+      (utf8_behind line (format.prefix ++ name) text 61 (omega arith) utf8 parted) says
   line_fits line meaning one utf8 (unset _ name s symbol is named at) = unset_fits tree sound s symbol at symbol.choice refl (is_tri_kind symbol.kind) refl
   line_fits line meaning one utf8 (unknown_value _ name text is named) = tt
   line_fits line meaning one utf8 (unknown_unset _ name is named) = tt
@@ -170,7 +190,7 @@ module _ (prefix : List ℕ) (tree : Tree) (sound : IsConsistent tree) where
     go false e all = onto_lacks b (file_lines bytes) e all
 
   sayings_fit : (lines : List (List ℕ)) (meanings : List LineMeaning) → AllByRecursion (λ line. lacks 10 line ≡ true) lines → list_all is_utf8 lines ≡ true
-      → AllZip (λ line meaning. Means prefix tree (without_white_end line) meaning) lines meanings → AllByRecursion (SayingFits tree) meanings
+      → AllZip (λ line meaning. Means format tree (without_white_end line) meaning) lines meanings → AllByRecursion (SayingFits tree) meanings
   sayings_fit [] [] one utf8 all = tt
   sayings_fit [] (meaning ∷ meanings) one utf8 all = absurd all
   sayings_fit (line ∷ lines) [] one utf8 all = absurd all
@@ -212,7 +232,7 @@ none_length zero = refl
 none_length (suc n) = let rest = none_length n in omega arith
 
 pub file_fits : FilesFit
-file_fits prefix tree bytes meanings sound utf8 says =
-    over_fits prefix tree sound meanings (empty_assignment tree)
+file_fits format tree bytes meanings sound utf8 says =
+    over_fits format tree sound meanings (empty_assignment tree)
     (none_length (length tree.units), λ u h. subst (λ o. IfSome o (λ y. IsTrue (user_fits tree u y))) (sym (none_held (length tree.units) u)) tt)
-    (sayings_fit prefix tree sound (file_lines bytes) meanings (lines_lack prefix tree sound bytes) utf8 says)
+    (sayings_fit format tree sound (file_lines bytes) meanings (lines_lack format tree sound bytes) utf8 says)

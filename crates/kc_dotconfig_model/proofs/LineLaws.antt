@@ -8,6 +8,7 @@ use Rattle.std.proofs.lemmas.Option.{slice_get_cases}
 use Rattle.kc_expr.specs.Token.{is_white_byte}
 use Rattle.kc_tree_model.specs.Trees.{Tree, Symbol}
 use Rattle.kc_tree_model.specs.TreeLookup.{is_name_byte, symbol_named}
+use Rattle.kc_dotconfig_model.specs.Formats.{FileFormat}
 use Rattle.kc_dotconfig_model.specs.PrefixGrammar.{is_prefix}
 use Rattle.kc_dotconfig_model.specs.ConfigLines.{LineMeaning, silent, Means, value, unset, unknown_value, unknown_unset, empty, comment, IsValueLine, IsUnsetLine, unset_meaning, without_white_end}
 use Rattle.kc_dotconfig_model.specs.ConfigFiles.{file_lines}
@@ -85,20 +86,20 @@ named_inside tree name s named past =
       | inr beyond ↦ (let past_end : length tree.symbols ≤ s = beyond.0 in omega arith)
     ]
 
-module _ (prefix : List ℕ) (tree : Tree) where
-  value_sound : (line : List ℕ) (parts : List ℕ × List ℕ) → IsValueLine prefix line parts.0 parts.1 → (o : Option ℕ) → symbol_named tree parts.0 ≡ o
-      → Means prefix tree line (of_named tree (λ s symbol. value_meaning tree s symbol parts.1) o)
+module _ (format : FileFormat) (tree : Tree) where
+  value_sound : (line : List ℕ) (parts : List ℕ × List ℕ) → IsValueLine format.prefix line parts.0 parts.1 → (o : Option ℕ) → symbol_named tree parts.0 ≡ o
+      → Means format tree line (of_named tree (λ s symbol. value_meaning format.strings tree s symbol parts.1) o)
   value_sound line parts is None named = unknown_value line parts.0 parts.1 is named
   value_sound line parts is (Some s) named = go (slice_get tree.symbols s) refl where
-    go : (o : Option Symbol) → slice_get tree.symbols s ≡ o → Means prefix tree line (of_symbol_at (λ s symbol. value_meaning tree s symbol parts.1) s o)
+    go : (o : Option Symbol) → slice_get tree.symbols s ≡ o → Means format tree line (of_symbol_at (λ s symbol. value_meaning format.strings tree s symbol parts.1) s o)
     go None at = absurd (named_inside tree parts.0 s named at)
-    go (Some symbol) at = value line parts.0 parts.1 s symbol (value_meaning tree s symbol parts.1) is named at (value_says tree s symbol parts.1)
+    go (Some symbol) at = value line parts.0 parts.1 s symbol (value_meaning format.strings tree s symbol parts.1) is named at (value_says format.strings tree s symbol parts.1)
 
-  unset_sound : (line name : List ℕ) → IsUnsetLine prefix line name → (o : Option ℕ) → symbol_named tree name ≡ o
-      → Means prefix tree line (of_named tree (λ s symbol. unset_meaning tree s symbol symbol.choice) o)
+  unset_sound : (line name : List ℕ) → IsUnsetLine format.prefix line name → (o : Option ℕ) → symbol_named tree name ≡ o
+      → Means format tree line (of_named tree (λ s symbol. unset_meaning tree s symbol symbol.choice) o)
   unset_sound line name is None named = unknown_unset line name is named
   unset_sound line name is (Some s) named = go (slice_get tree.symbols s) refl where
-    go : (o : Option Symbol) → slice_get tree.symbols s ≡ o → Means prefix tree line (of_symbol_at (λ s symbol. unset_meaning tree s symbol symbol.choice) s o)
+    go : (o : Option Symbol) → slice_get tree.symbols s ≡ o → Means format tree line (of_symbol_at (λ s symbol. unset_meaning tree s symbol symbol.choice) s o)
     go None at = absurd (named_inside tree name s named at)
     go (Some symbol) at = unset line name s symbol is named at
 
@@ -106,107 +107,107 @@ module _ (prefix : List ℕ) (tree : Tree) where
   hash_found None e = absurd (false≢true e)
   hash_found (Some b) e = ap Some (eqb-true b 35 e)
 
-  other_sound : (line : List ℕ) (meaning : LineMeaning) → unset_name prefix line ≡ None → of_other line ≡ Some meaning → Means prefix tree line meaning
-  other_sound [] meaning unnamed e = let same : silent ≡ meaning = cc in subst (Means prefix tree []) same empty
+  other_sound : (line : List ℕ) (meaning : LineMeaning) → unset_name format.prefix line ≡ None → of_other line ≡ Some meaning → Means format tree line meaning
+  other_sound [] meaning unnamed e = let same : silent ≡ meaning = cc in subst (Means format tree []) same empty
   other_sound (b ∷ line) meaning unnamed e = go (is_hash (find (λ c. not (is_white_byte c)) (b ∷ line))) refl e where
     go : (t : Bool) → is_hash (find (λ c. not (is_white_byte c)) (b ∷ line)) ≡ t → cond t (Some silent) None ≡ Some meaning
-        → Means prefix tree (b ∷ line) meaning
+        → Means format tree (b ∷ line) meaning
     go true hash e =
         let same : silent ≡ meaning = cc in
-        subst (Means prefix tree (b ∷ line)) same (comment (b ∷ line) (hash_found _ hash)
-        (λ name is. let read = unset_line_read prefix (b ∷ line) name is in cc))
+        subst (Means format tree (b ∷ line)) same (comment (b ∷ line) (hash_found _ hash)
+        (λ name is. let read = unset_line_read format.prefix (b ∷ line) name is in cc))
     go false hash e = cc
 
-  unset_form_sound : (line : List ℕ) (meaning : LineMeaning) (o : Option (List ℕ)) → unset_name prefix line ≡ o → of_unset tree line o ≡ Some meaning
-      → Means prefix tree line meaning
+  unset_form_sound : (line : List ℕ) (meaning : LineMeaning) (o : Option (List ℕ)) → unset_name format.prefix line ≡ o → of_unset tree line o ≡ Some meaning
+      → Means format tree line meaning
   unset_form_sound line meaning None e f = other_sound line meaning e f
   unset_form_sound line meaning (Some name) e f =
       let same : of_named tree (λ s symbol. unset_meaning tree s symbol symbol.choice) (symbol_named tree name) ≡ meaning = cc in
-      subst (Means prefix tree line) same (unset_sound line name (unset_line_is prefix line name e) (symbol_named tree name) refl)
+      subst (Means format tree line) same (unset_sound line name (unset_line_is format.prefix line name e) (symbol_named tree name) refl)
 
-  form_sound : (line : List ℕ) (meaning : LineMeaning) (o : Option (List ℕ × List ℕ)) → value_parts prefix line ≡ o → of_value prefix tree line o ≡ Some meaning
-      → Means prefix tree line meaning
-  form_sound line meaning None e f = unset_form_sound line meaning (unset_name prefix line) refl f
+  form_sound : (line : List ℕ) (meaning : LineMeaning) (o : Option (List ℕ × List ℕ)) → value_parts format.prefix line ≡ o → of_value format tree line o ≡ Some meaning
+      → Means format tree line meaning
+  form_sound line meaning None e f = unset_form_sound line meaning (unset_name format.prefix line) refl f
   form_sound line meaning (Some parts) e f =
-      let same : of_named tree (λ s symbol. value_meaning tree s symbol parts.1) (symbol_named tree parts.0) ≡ meaning = cc in
-      subst (Means prefix tree line) same (value_sound line parts (value_line_is prefix line parts e) (symbol_named tree parts.0) refl)
+      let same : of_named tree (λ s symbol. value_meaning format.strings tree s symbol parts.1) (symbol_named tree parts.0) ≡ meaning = cc in
+      subst (Means format tree line) same (value_sound line parts (value_line_is format.prefix line parts e) (symbol_named tree parts.0) refl)
 
-  no_name : (line : List ℕ) → ((name : List ℕ) → IsUnsetLine prefix line name → ⊥) → (o : Option (List ℕ)) → unset_name prefix line ≡ o → o ≡ None
+  no_name : (line : List ℕ) → ((name : List ℕ) → IsUnsetLine format.prefix line name → ⊥) → (o : Option (List ℕ)) → unset_name format.prefix line ≡ o → o ≡ None
   no_name line lacks None e = refl
-  no_name line lacks (Some name) e = absurd (lacks name (unset_line_is prefix line name e))
+  no_name line lacks (Some name) e = absurd (lacks name (unset_line_is format.prefix line name e))
 
   other_of : (line : List ℕ) → find (λ b. not (is_white_byte b)) line ≡ Some 35 → of_other line ≡ Some silent
   other_of [] hash = cc
   other_of (b ∷ line) hash = ap (λ o. cond (is_hash o) (Some silent) None) hash
 
-  module _ (valid : is_prefix prefix ≡ true) where
-    of_unset_line : (line name : List ℕ) → IsUnsetLine prefix line name
-        → of_value prefix tree line (value_parts prefix line) ≡ Some (of_named tree (λ s symbol. unset_meaning tree s symbol symbol.choice) (symbol_named tree name))
+  module _ (valid : is_prefix format.prefix ≡ true) where
+    of_unset_line : (line name : List ℕ) → IsUnsetLine format.prefix line name
+        → of_value format tree line (value_parts format.prefix line) ≡ Some (of_named tree (λ s symbol. unset_meaning tree s symbol symbol.choice) (symbol_named tree name))
     of_unset_line line name is =
-        ap (of_value prefix tree line) (ap (value_parts prefix) is.2 ∙ no_value_line prefix valid 35 (32 ∷ (prefix ++ (name ++ codes " is not set"))) refl)
-        ∙ ap (of_unset tree line) (unset_line_read prefix line name is)
+        ap (of_value format tree line) (ap (value_parts format.prefix) is.2 ∙ no_value_line format.prefix valid 35 (32 ∷ (format.prefix ++ (name ++ codes " is not set"))) refl)
+        ∙ ap (of_unset tree line) (unset_line_read format.prefix line name is)
 
-    form_complete : (line : List ℕ) (meaning : LineMeaning) → Means prefix tree line meaning → of_value prefix tree line (value_parts prefix line) ≡ Some meaning
+    form_complete : (line : List ℕ) (meaning : LineMeaning) → Means format tree line meaning → of_value format tree line (value_parts format.prefix line) ≡ Some meaning
     form_complete line meaning (value _ name text s symbol _ is named at says) =
-        ap (of_value prefix tree line) (value_line_read prefix line name text is)
-        ∙ ap (λ o. Some (of_named tree (λ s symbol. value_meaning tree s symbol text) o)) named
-        ∙ ap (λ o. Some (of_symbol_at (λ s symbol. value_meaning tree s symbol text) s o)) at ∙ ap Some (value_said tree s symbol text meaning says)
+        ap (of_value format tree line) (value_line_read format.prefix line name text is)
+        ∙ ap (λ o. Some (of_named tree (λ s symbol. value_meaning format.strings tree s symbol text) o)) named
+        ∙ ap (λ o. Some (of_symbol_at (λ s symbol. value_meaning format.strings tree s symbol text) s o)) at ∙ ap Some (value_said format.strings tree s symbol text meaning says)
     form_complete line meaning (unset _ name s symbol is named at) =
         of_unset_line line name is ∙ ap (λ o. Some (of_named tree (λ s symbol. unset_meaning tree s symbol symbol.choice) o)) named
         ∙ ap (λ o. Some (of_symbol_at (λ s symbol. unset_meaning tree s symbol symbol.choice) s o)) at
     form_complete line meaning (unknown_value _ name text is named) =
-        ap (of_value prefix tree line) (value_line_read prefix line name text is)
-        ∙ ap (λ o. Some (of_named tree (λ s symbol. value_meaning tree s symbol text) o)) named
+        ap (of_value format tree line) (value_line_read format.prefix line name text is)
+        ∙ ap (λ o. Some (of_named tree (λ s symbol. value_meaning format.strings tree s symbol text) o)) named
     form_complete line meaning (unknown_unset _ name is named) =
         of_unset_line line name is ∙ ap (λ o. Some (of_named tree (λ s symbol. unset_meaning tree s symbol symbol.choice) o)) named
-    form_complete line meaning empty = ap (of_value prefix tree []) (no_value_in_nothing prefix valid)
+    form_complete line meaning empty = ap (of_value format tree []) (no_value_in_nothing format.prefix valid)
     form_complete line meaning (comment _ hash lacks) =
-        ap (of_value prefix tree line) (no_value_in_comment prefix valid line hash (value_parts prefix line) refl)
-        ∙ ap (of_unset tree line) (no_name line lacks (unset_name prefix line) refl) ∙ other_of line hash
+        ap (of_value format tree line) (no_value_in_comment format.prefix valid line hash (value_parts format.prefix line) refl)
+        ∙ ap (of_unset tree line) (no_name line lacks (unset_name format.prefix line) refl) ∙ other_of line hash
 
 pub line_read : LinesAreRead
 unfolding line_meaning
-line_read prefix tree line meaning valid = (form_sound prefix tree line meaning (value_parts prefix line) refl, form_complete prefix tree valid line meaning)
+line_read format tree line meaning valid = (form_sound format tree line meaning (value_parts format.prefix line) refl, form_complete format tree valid line meaning)
 
-lines_sound : (prefix : List ℕ) (tree : Tree) → is_prefix prefix ≡ true → (lines : List (List ℕ)) (meanings : List LineMeaning)
-    → meanings_of_lines prefix tree lines ≡ Some meanings → AllZip (λ line meaning. Means prefix tree (without_white_end line) meaning) lines meanings
-lines_sound prefix tree valid [] [] e = tt
-lines_sound prefix tree valid [] (meaning ∷ meanings) e = cc
-lines_sound prefix tree valid (line ∷ lines) meanings e =
-    go (line_meaning prefix tree (without_white_end line)) (meanings_of_lines prefix tree lines) refl refl e (lines_sound prefix tree valid lines) where
-      go : (o : Option LineMeaning) (os : Option (List LineMeaning)) → line_meaning prefix tree (without_white_end line) ≡ o
-          → meanings_of_lines prefix tree lines ≡ os → with_rest o os ≡ Some meanings
-          → ((rest : List LineMeaning) → meanings_of_lines prefix tree lines ≡ Some rest
-          → AllZip (λ line meaning. Means prefix tree (without_white_end line) meaning) lines rest)
-          → AllZip (λ line meaning. Means prefix tree (without_white_end line) meaning) (line ∷ lines) meanings
+lines_sound : (format : FileFormat) (tree : Tree) → is_prefix format.prefix ≡ true → (lines : List (List ℕ)) (meanings : List LineMeaning)
+    → meanings_of_lines format tree lines ≡ Some meanings → AllZip (λ line meaning. Means format tree (without_white_end line) meaning) lines meanings
+lines_sound format tree valid [] [] e = tt
+lines_sound format tree valid [] (meaning ∷ meanings) e = cc
+lines_sound format tree valid (line ∷ lines) meanings e =
+    go (line_meaning format tree (without_white_end line)) (meanings_of_lines format tree lines) refl refl e (lines_sound format tree valid lines) where
+      go : (o : Option LineMeaning) (os : Option (List LineMeaning)) → line_meaning format tree (without_white_end line) ≡ o
+          → meanings_of_lines format tree lines ≡ os → with_rest o os ≡ Some meanings
+          → ((rest : List LineMeaning) → meanings_of_lines format tree lines ≡ Some rest
+          → AllZip (λ line meaning. Means format tree (without_white_end line) meaning) lines rest)
+          → AllZip (λ line meaning. Means format tree (without_white_end line) meaning) (line ∷ lines) meanings
       go None os a b e next = cc
       go (Some meaning) None a b e next = cc
       go (Some meaning) (Some rest) a b e next =
           let same : meaning ∷ rest ≡ meanings = cc in
-          subst (AllZip (λ line meaning. Means prefix tree (without_white_end line) meaning) (line ∷ lines)) same
-          ((line_read prefix tree (without_white_end line) meaning valid).0 a, next rest b)
+          subst (AllZip (λ line meaning. Means format tree (without_white_end line) meaning) (line ∷ lines)) same
+          ((line_read format tree (without_white_end line) meaning valid).0 a, next rest b)
 
-lines_complete : (prefix : List ℕ) (tree : Tree) → is_prefix prefix ≡ true → (lines : List (List ℕ)) (meanings : List LineMeaning)
-    → AllZip (λ line meaning. Means prefix tree (without_white_end line) meaning) lines meanings → meanings_of_lines prefix tree lines ≡ Some meanings
-lines_complete prefix tree valid [] [] all = refl
-lines_complete prefix tree valid [] (meaning ∷ meanings) all = absurd all
-lines_complete prefix tree valid (line ∷ lines) [] all = absurd all
-lines_complete prefix tree valid (line ∷ lines) (meaning ∷ meanings) all =
-    ap (λ o. with_rest o (meanings_of_lines prefix tree lines)) ((line_read prefix tree (without_white_end line) meaning valid).1 all.0)
-    ∙ ap (with_rest (Some meaning)) (lines_complete prefix tree valid lines meanings all.1)
+lines_complete : (format : FileFormat) (tree : Tree) → is_prefix format.prefix ≡ true → (lines : List (List ℕ)) (meanings : List LineMeaning)
+    → AllZip (λ line meaning. Means format tree (without_white_end line) meaning) lines meanings → meanings_of_lines format tree lines ≡ Some meanings
+lines_complete format tree valid [] [] all = refl
+lines_complete format tree valid [] (meaning ∷ meanings) all = absurd all
+lines_complete format tree valid (line ∷ lines) [] all = absurd all
+lines_complete format tree valid (line ∷ lines) (meaning ∷ meanings) all =
+    ap (λ o. with_rest o (meanings_of_lines format tree lines)) ((line_read format tree (without_white_end line) meaning valid).1 all.0)
+    ∙ ap (with_rest (Some meaning)) (lines_complete format tree valid lines meanings all.1)
 
 pub file_read : FilesAreRead
-file_read prefix tree bytes meanings valid =
-    (lines_sound prefix tree valid (file_lines bytes) meanings, lines_complete prefix tree valid (file_lines bytes) meanings)
+file_read format tree bytes meanings valid =
+    (lines_sound format tree valid (file_lines bytes) meanings, lines_complete format tree valid (file_lines bytes) meanings)
 
 same_told : {X : Type 0} (a b : X) (o : Option X) → o ≡ Some a → o ≡ Some b → a ≡ b
 same_told a b o p q = cc
 
 pub line_says_one : LinesHaveOneMeaning
-line_says_one prefix tree line a b valid of_a of_b =
-    same_told a b (line_meaning prefix tree line) ((line_read prefix tree line a valid).1 of_a) ((line_read prefix tree line b valid).1 of_b)
+line_says_one format tree line a b valid of_a of_b =
+    same_told a b (line_meaning format tree line) ((line_read format tree line a valid).1 of_a) ((line_read format tree line b valid).1 of_b)
 
 pub file_says_one : FilesHaveOneMeaning
-file_says_one prefix tree bytes a b valid of_a of_b =
-    same_told a b (meanings_of_lines prefix tree (file_lines bytes)) ((file_read prefix tree bytes a valid).1 of_a)
-    ((file_read prefix tree bytes b valid).1 of_b)
+file_says_one format tree bytes a b valid of_a of_b =
+    same_told a b (meanings_of_lines format tree (file_lines bytes)) ((file_read format tree bytes a valid).1 of_a)
+    ((file_read format tree bytes b valid).1 of_b)

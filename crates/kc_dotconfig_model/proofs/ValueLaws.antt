@@ -15,8 +15,11 @@ use Rattle.kc_rules_model.specs.Kinds.{is_y}
 use Rattle.kc_value.specs.Kinds.{is_tri_kind}
 use Rattle.kc_value.specs.Number.{number_of_text}
 use Rattle.kc_dotconfig_model.specs.declared.notice.NoticeKind.TheVariants.{NotOfType}
+use Rattle.kc_dotconfig_model.specs.declared.format.Strings.{Strings}
+use Rattle.kc_dotconfig_model.specs.declared.format.Strings.TheVariants.{Escaped, Raw}
+use Rattle.kc_dotconfig_model.specs.Formats.{between_quotes, IsStringSpelling}
 use Rattle.kc_dotconfig_model.specs.ConfigLines.{LineMeaning, assigns, notice, silent, tri_of_text, ValueMeans, tri, chosen, not_chosen, quoted, number, no_int, no_hex, no_tri, no_text, no_number}
-use Rattle.kc_dotconfig_model.specs.between.LineMeanings.{ended, unquoted_rest, unquoted, tri_meaning, string_meaning, without_number, number_meaning, meaning_of_kind, value_meaning}
+use Rattle.kc_dotconfig_model.specs.between.LineMeanings.{ended, unquoted_rest, unquoted, before_quote, raw_text, string_text, tri_meaning, string_meaning, without_number, number_meaning, meaning_of_kind, value_meaning}
 
 -- what is read after an opening quote is a body and a closing quote
 record IsRest (rest means : List ℕ) : Type 0 where
@@ -84,42 +87,74 @@ unquoted_means (c ∷ rest) means e = go (c == 34) refl e where
 pub means_unquoted : (text means : List ℕ) → IsQuoted text means → unquoted text ≡ Some means
 means_unquoted text means q = ap unquoted q.1 ∙ unquoted_complete q.0 means q.2
 
-tri_sound : (tree : Tree) (s : ℕ) (symbol : Symbol) (kind : Kind) (text : List ℕ) → symbol.kind ≡ kind → is_tri_kind kind ≡ true → (c : Option ℕ)
+before_quote_is : (text means : List ℕ) → before_quote text ≡ Some means → text ≡ means ++ 34 ∷ []
+before_quote_is [] means e = cc
+before_quote_is (c ∷ []) means e = go (c == 34) refl e where
+  go : (t : Bool) → (c == 34) ≡ t → cond t (Some []) None ≡ Some means → c ∷ [] ≡ means ++ 34 ∷ []
+  go true quote e = let same : [] ≡ means = cc in ap (λ b. b ∷ []) (eqb-true c 34 quote) ∙ ap (λ l. l ++ 34 ∷ []) same
+  go false quote e = cc
+before_quote_is (c ∷ d ∷ rest) means e =
+    let o = some_mapped c (before_quote (d ∷ rest)) means e in
+    ap (λ l. c ∷ l) (before_quote_is (d ∷ rest) o.0 o.1) ∙ ap (λ l. l ++ 34 ∷ []) (sym o.2)
+
+before_its_quote : (means : List ℕ) → before_quote (means ++ 34 ∷ []) ≡ Some means
+before_its_quote [] = refl
+before_its_quote (c ∷ []) = refl
+before_its_quote (c ∷ d ∷ means) = ap (option_map (λ text. c ∷ text)) (before_its_quote (d ∷ means))
+
+raw_is : (text means : List ℕ) → raw_text text ≡ Some means → text ≡ between_quotes means
+raw_is [] means e = cc
+raw_is (c ∷ rest) means e = go (c == 34) refl e where
+  go : (t : Bool) → (c == 34) ≡ t → cond t (before_quote rest) None ≡ Some means → c ∷ rest ≡ between_quotes means
+  go true quote e = ap (λ b. b ∷ rest) (eqb-true c 34 quote) ∙ ap (λ l. 34 ∷ l) (before_quote_is rest means e)
+  go false quote e = cc
+
+-- in each form a text is a string exactly where one is read
+pub string_is : (strings : Strings) (text means : List ℕ) → string_text strings text ≡ Some means → IsStringSpelling strings text means
+string_is Escaped text means e = unquoted_means text means e
+string_is Raw text means e = raw_is text means e
+
+pub string_read : (strings : Strings) (text means : List ℕ) → IsStringSpelling strings text means → string_text strings text ≡ Some means
+string_read Escaped text means is = means_unquoted text means is
+string_read Raw text means is = ap raw_text is ∙ before_its_quote means
+
+tri_sound : (strings : Strings) (tree : Tree) (s : ℕ) (symbol : Symbol) (kind : Kind) (text : List ℕ) → symbol.kind ≡ kind → is_tri_kind kind ≡ true → (c : Option ℕ)
     → symbol.choice ≡ c → (o : Option Tri) → tri_of_text symbol.kind text ≡ o
-    → ValueMeans tree s symbol text (tri_meaning (unit_of tree s) s c o)
-tri_sound tree s symbol kind text is small c choice None meant = no_tri text (ap is_tri_kind is ∙ small) meant
-tri_sound tree s symbol kind text is small None choice (Some t) meant = tri text t choice meant
-tri_sound tree s symbol kind text is small (Some c) choice (Some Y) meant = chosen c text choice meant
-tri_sound tree s symbol kind text is small (Some c) choice (Some N) meant = not_chosen c text N choice meant (λ e. cc)
-tri_sound tree s symbol kind text is small (Some c) choice (Some M) meant = not_chosen c text M choice meant (λ e. cc)
+    → ValueMeans strings tree s symbol text (tri_meaning (unit_of tree s) s c o)
+tri_sound strings tree s symbol kind text is small c choice None meant = no_tri text (ap is_tri_kind is ∙ small) meant
+tri_sound strings tree s symbol kind text is small None choice (Some t) meant = tri text t choice meant
+tri_sound strings tree s symbol kind text is small (Some c) choice (Some Y) meant = chosen c text choice meant
+tri_sound strings tree s symbol kind text is small (Some c) choice (Some N) meant = not_chosen c text N choice meant (λ e. cc)
+tri_sound strings tree s symbol kind text is small (Some c) choice (Some M) meant = not_chosen c text M choice meant (λ e. cc)
 
-string_sound : (tree : Tree) (s : ℕ) (symbol : Symbol) (text : List ℕ) → symbol.kind ≡ Text → (o : Option (List ℕ)) → unquoted text ≡ o
-    → ValueMeans tree s symbol text (string_meaning (unit_of tree s) o)
-string_sound tree s symbol text is None e = no_text text is (λ means q. let same = means_unquoted text means q in cc)
-string_sound tree s symbol text is (Some means) e = quoted text means is (unquoted_means text means e)
+string_sound : (strings : Strings) (tree : Tree) (s : ℕ) (symbol : Symbol) (text : List ℕ) → symbol.kind ≡ Text → (o : Option (List ℕ))
+    → string_text strings text ≡ o
+    → ValueMeans strings tree s symbol text (string_meaning (unit_of tree s) o)
+string_sound strings tree s symbol text is None e = no_text text is (λ means q. let same = string_read strings text means q in cc)
+string_sound strings tree s symbol text is (Some means) e = quoted text means is (string_is strings text means e)
 
-number_sound : (tree : Tree) (s : ℕ) (symbol : Symbol) (text : List ℕ) → is_tri_kind symbol.kind ≡ false → symbol.kind ≢ Text
-    → ValueMeans tree s symbol [] silent → (o : Option ℤ) → number_of_text symbol.kind text ≡ o
-    → ValueMeans tree s symbol text (cond (is_some o) (assigns (unit_of tree s) (TextUser text)) (without_number text))
-number_sound tree s symbol text large other empty (Some n) e = number text (ap is_some e)
-number_sound tree s symbol [] large other empty None e = empty
-number_sound tree s symbol (b ∷ text) large other empty None e = no_number b text large other e
+number_sound : (strings : Strings) (tree : Tree) (s : ℕ) (symbol : Symbol) (text : List ℕ) → is_tri_kind symbol.kind ≡ false → symbol.kind ≢ Text
+    → ValueMeans strings tree s symbol [] silent → (o : Option ℤ) → number_of_text symbol.kind text ≡ o
+    → ValueMeans strings tree s symbol text (cond (is_some o) (assigns (unit_of tree s) (TextUser text)) (without_number text))
+number_sound strings tree s symbol text large other empty (Some n) e = number text (ap is_some e)
+number_sound strings tree s symbol [] large other empty None e = empty
+number_sound strings tree s symbol (b ∷ text) large other empty None e = no_number b text large other e
 
-says_at : (tree : Tree) (s : ℕ) (symbol : Symbol) (text : List ℕ) (kind : Kind) → symbol.kind ≡ kind
-    → ValueMeans tree s symbol text (meaning_of_kind kind (unit_of tree s) s symbol.choice text)
-says_at tree s symbol text Boolean is =
-    tri_sound tree s symbol Boolean text is refl symbol.choice refl (tri_of_text Boolean text) (ap (λ k. tri_of_text k text) is)
-says_at tree s symbol text Tristate is =
-    tri_sound tree s symbol Tristate text is refl symbol.choice refl (tri_of_text Tristate text) (ap (λ k. tri_of_text k text) is)
-says_at tree s symbol text Text is = string_sound tree s symbol text is (unquoted text) refl
-says_at tree s symbol text Int is =
-    number_sound tree s symbol text (ap is_tri_kind is) (λ e. cc) (no_int is) (number_of_text Int text) (ap (λ k. number_of_text k text) is)
-says_at tree s symbol text Hex is =
-    number_sound tree s symbol text (ap is_tri_kind is) (λ e. cc) (no_hex is) (number_of_text Hex text) (ap (λ k. number_of_text k text) is)
+says_at : (strings : Strings) (tree : Tree) (s : ℕ) (symbol : Symbol) (text : List ℕ) (kind : Kind) → symbol.kind ≡ kind
+    → ValueMeans strings tree s symbol text (meaning_of_kind strings kind (unit_of tree s) s symbol.choice text)
+says_at strings tree s symbol text Boolean is =
+    tri_sound strings tree s symbol Boolean text is refl symbol.choice refl (tri_of_text Boolean text) (ap (λ k. tri_of_text k text) is)
+says_at strings tree s symbol text Tristate is =
+    tri_sound strings tree s symbol Tristate text is refl symbol.choice refl (tri_of_text Tristate text) (ap (λ k. tri_of_text k text) is)
+says_at strings tree s symbol text Text is = string_sound strings tree s symbol text is (string_text strings text) refl
+says_at strings tree s symbol text Int is =
+    number_sound strings tree s symbol text (ap is_tri_kind is) (λ e. cc) (no_int is) (number_of_text Int text) (ap (λ k. number_of_text k text) is)
+says_at strings tree s symbol text Hex is =
+    number_sound strings tree s symbol text (ap is_tri_kind is) (λ e. cc) (no_hex is) (number_of_text Hex text) (ap (λ k. number_of_text k text) is)
 
 -- the text has the meaning that the function returns
-pub value_says : (tree : Tree) (s : ℕ) (symbol : Symbol) (text : List ℕ) → ValueMeans tree s symbol text (value_meaning tree s symbol text)
-value_says tree s symbol text = says_at tree s symbol text symbol.kind refl
+pub value_says : (strings : Strings) (tree : Tree) (s : ℕ) (symbol : Symbol) (text : List ℕ) → ValueMeans strings tree s symbol text (value_meaning strings tree s symbol text)
+value_says strings tree s symbol text = says_at strings tree s symbol text symbol.kind refl
 
 is_tri_meant : (kind : Kind) (text : List ℕ) (t : Tri) → tri_of_text kind text ≡ Some t → is_tri_kind kind ≡ true
 is_tri_meant Boolean text t e = refl
@@ -128,21 +163,21 @@ is_tri_meant Text text t e = cc
 is_tri_meant Int text t e = cc
 is_tri_meant Hex text t e = cc
 
-of_tri_kind : (kind : Kind) (u s : ℕ) (choice : Option ℕ) (text : List ℕ) → is_tri_kind kind ≡ true
-    → meaning_of_kind kind u s choice text ≡ tri_meaning u s choice (tri_of_text kind text)
-of_tri_kind Boolean u s choice text e = refl
-of_tri_kind Tristate u s choice text e = refl
-of_tri_kind Text u s choice text e = absurd (false≢true e)
-of_tri_kind Int u s choice text e = absurd (false≢true e)
-of_tri_kind Hex u s choice text e = absurd (false≢true e)
+of_tri_kind : (strings : Strings) (kind : Kind) (u s : ℕ) (choice : Option ℕ) (text : List ℕ) → is_tri_kind kind ≡ true
+    → meaning_of_kind strings kind u s choice text ≡ tri_meaning u s choice (tri_of_text kind text)
+of_tri_kind strings Boolean u s choice text e = refl
+of_tri_kind strings Tristate u s choice text e = refl
+of_tri_kind strings Text u s choice text e = absurd (false≢true e)
+of_tri_kind strings Int u s choice text e = absurd (false≢true e)
+of_tri_kind strings Hex u s choice text e = absurd (false≢true e)
 
-of_number_kind : (kind : Kind) (u s : ℕ) (choice : Option ℕ) (text : List ℕ) → is_tri_kind kind ≡ false → kind ≢ Text
-    → meaning_of_kind kind u s choice text ≡ number_meaning u kind text
-of_number_kind Boolean u s choice text e other = absurd (false≢true (sym e))
-of_number_kind Tristate u s choice text e other = absurd (false≢true (sym e))
-of_number_kind Text u s choice text e other = absurd (other refl)
-of_number_kind Int u s choice text e other = refl
-of_number_kind Hex u s choice text e other = refl
+of_number_kind : (strings : Strings) (kind : Kind) (u s : ℕ) (choice : Option ℕ) (text : List ℕ) → is_tri_kind kind ≡ false → kind ≢ Text
+    → meaning_of_kind strings kind u s choice text ≡ number_meaning u kind text
+of_number_kind strings Boolean u s choice text e other = absurd (false≢true (sym e))
+of_number_kind strings Tristate u s choice text e other = absurd (false≢true (sym e))
+of_number_kind strings Text u s choice text e other = absurd (other refl)
+of_number_kind strings Int u s choice text e other = refl
+of_number_kind strings Hex u s choice text e other = refl
 
 number_kind : (kind : Kind) (text : List ℕ) → is_some (number_of_text kind text) ≡ true → (is_tri_kind kind ≡ false) × (kind ≢ Text)
 number_kind Boolean text e = absurd (false≢true e)
@@ -164,39 +199,41 @@ no_hex_number : number_of_text Hex [] ≡ None
 unfolding hex_text
 no_hex_number = refl
 
-no_meaning : (text : List ℕ) (o : Option (List ℕ)) → unquoted text ≡ o → ((means : List ℕ) → IsQuoted text means → ⊥) → o ≡ None
-no_meaning text None e lacks = refl
-no_meaning text (Some means) e lacks = absurd (lacks means (unquoted_means text means e))
+no_meaning : (strings : Strings) (text : List ℕ) (o : Option (List ℕ)) → string_text strings text ≡ o
+    → ((means : List ℕ) → IsStringSpelling strings text means → ⊥)
+    → o ≡ None
+no_meaning strings text None e lacks = refl
+no_meaning strings text (Some means) e lacks = absurd (lacks means (string_is strings text means e))
 
 -- and nothing else
-pub value_said : (tree : Tree) (s : ℕ) (symbol : Symbol) (text : List ℕ) (meaning : LineMeaning) → ValueMeans tree s symbol text meaning
-    → value_meaning tree s symbol text ≡ meaning
-value_said tree s symbol text meaning (tri _ t out meant) =
-    of_tri_kind symbol.kind (unit_of tree s) s symbol.choice text (is_tri_meant symbol.kind text t meant)
+pub value_said : (strings : Strings) (tree : Tree) (s : ℕ) (symbol : Symbol) (text : List ℕ) (meaning : LineMeaning) → ValueMeans strings tree s symbol text meaning
+    → value_meaning strings tree s symbol text ≡ meaning
+value_said strings tree s symbol text meaning (tri _ t out meant) =
+    of_tri_kind strings symbol.kind (unit_of tree s) s symbol.choice text (is_tri_meant symbol.kind text t meant)
     ∙ ap (λ o. tri_meaning (unit_of tree s) s symbol.choice o) meant ∙ ap (λ c. tri_meaning (unit_of tree s) s c (Some t)) out
-value_said tree s symbol text meaning (chosen c _ within meant) =
-    of_tri_kind symbol.kind (unit_of tree s) s symbol.choice text (is_tri_meant symbol.kind text Y meant)
+value_said strings tree s symbol text meaning (chosen c _ within meant) =
+    of_tri_kind strings symbol.kind (unit_of tree s) s symbol.choice text (is_tri_meant symbol.kind text Y meant)
     ∙ ap (λ o. tri_meaning (unit_of tree s) s symbol.choice o) meant ∙ ap (λ k. tri_meaning (unit_of tree s) s k (Some Y)) within
-value_said tree s symbol text meaning (not_chosen c _ t within meant other) =
-    of_tri_kind symbol.kind (unit_of tree s) s symbol.choice text (is_tri_meant symbol.kind text t meant)
+value_said strings tree s symbol text meaning (not_chosen c _ t within meant other) =
+    of_tri_kind strings symbol.kind (unit_of tree s) s symbol.choice text (is_tri_meant symbol.kind text t meant)
     ∙ ap (λ o. tri_meaning (unit_of tree s) s symbol.choice o) meant ∙ ap (λ k. tri_meaning (unit_of tree s) s k (Some t)) within
     ∙ ap (λ b. cond b (assigns (unit_of tree s) (MemberUser s)) silent) (not_y t other)
-value_said tree s symbol text meaning (quoted _ means is stands) =
-    ap (λ k. meaning_of_kind k (unit_of tree s) s symbol.choice text) is ∙ ap (string_meaning (unit_of tree s)) (means_unquoted text means stands)
-value_said tree s symbol text meaning (number _ some) =
+value_said strings tree s symbol text meaning (quoted _ means is stands) =
+    ap (λ k. meaning_of_kind strings k (unit_of tree s) s symbol.choice text) is ∙ ap (string_meaning (unit_of tree s)) (string_read strings text means stands)
+value_said strings tree s symbol text meaning (number _ some) =
     let kinds = number_kind symbol.kind text some in
-    of_number_kind symbol.kind (unit_of tree s) s symbol.choice text kinds.0 kinds.1
+    of_number_kind strings symbol.kind (unit_of tree s) s symbol.choice text kinds.0 kinds.1
     ∙ ap (λ b. cond b (assigns (unit_of tree s) (TextUser text)) (without_number text)) some
-value_said tree s symbol text meaning (no_int is) =
-    ap (λ k. meaning_of_kind k (unit_of tree s) s symbol.choice []) is
+value_said strings tree s symbol text meaning (no_int is) =
+    ap (λ k. meaning_of_kind strings k (unit_of tree s) s symbol.choice []) is
     ∙ ap (λ o. cond (is_some o) (assigns (unit_of tree s) (TextUser [])) silent) no_int_number
-value_said tree s symbol text meaning (no_hex is) =
-    ap (λ k. meaning_of_kind k (unit_of tree s) s symbol.choice []) is
+value_said strings tree s symbol text meaning (no_hex is) =
+    ap (λ k. meaning_of_kind strings k (unit_of tree s) s symbol.choice []) is
     ∙ ap (λ o. cond (is_some o) (assigns (unit_of tree s) (TextUser [])) silent) no_hex_number
-value_said tree s symbol text meaning (no_tri _ small meant) =
-    of_tri_kind symbol.kind (unit_of tree s) s symbol.choice text small ∙ ap (λ o. tri_meaning (unit_of tree s) s symbol.choice o) meant
-value_said tree s symbol text meaning (no_text _ is lacks) =
-    ap (λ k. meaning_of_kind k (unit_of tree s) s symbol.choice text) is ∙ ap (string_meaning (unit_of tree s)) (no_meaning text (unquoted text) refl lacks)
-value_said tree s symbol text meaning (no_number b rest large other lacks) =
-    of_number_kind symbol.kind (unit_of tree s) s symbol.choice (b ∷ rest) large other
+value_said strings tree s symbol text meaning (no_tri _ small meant) =
+    of_tri_kind strings symbol.kind (unit_of tree s) s symbol.choice text small ∙ ap (λ o. tri_meaning (unit_of tree s) s symbol.choice o) meant
+value_said strings tree s symbol text meaning (no_text _ is lacks) =
+    ap (λ k. meaning_of_kind strings k (unit_of tree s) s symbol.choice text) is ∙ ap (string_meaning (unit_of tree s)) (no_meaning strings text (string_text strings text) refl lacks)
+value_said strings tree s symbol text meaning (no_number b rest large other lacks) =
+    of_number_kind strings symbol.kind (unit_of tree s) s symbol.choice (b ∷ rest) large other
     ∙ ap (λ o. cond (is_some o) (assigns (unit_of tree s) (TextUser (b ∷ rest))) (notice NotOfType)) lacks

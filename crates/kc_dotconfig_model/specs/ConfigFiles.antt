@@ -4,6 +4,7 @@ use Rattle.std.specs.List.{AllZip, list_all, onto_first}
 use Rattle.std.specs.Str.{is_utf8}
 use Rattle.kc_tree_model.specs.Trees.{Tree}
 use Rattle.kc_rules_model.specs.declared.values.UserValue.{UserValue}
+use Rattle.kc_dotconfig_model.specs.Formats.{FileFormat}
 use Rattle.kc_dotconfig_model.specs.declared.notice.NoticeKind.{NoticeKind}
 use Rattle.kc_dotconfig_model.specs.ConfigLines.{LineMeaning, assigns, notice, silent, Means, without_white_end}
 
@@ -17,9 +18,9 @@ abbrev pub has_utf8_lines : List ℕ → Bool
 has_utf8_lines bytes = list_all is_utf8 (file_lines bytes)
 
 -- the meanings of the lines of a file, in order
-abbrev pub FileMeans : List ℕ → Tree → List ℕ → List LineMeaning → Type 0
-FileMeans prefix tree bytes meanings =
-    AllZip (λ line meaning. Means prefix tree (without_white_end line) meaning) (file_lines bytes) meanings
+abbrev pub FileMeans : FileFormat → Tree → List ℕ → List LineMeaning → Type 0
+FileMeans format tree bytes meanings =
+    AllZip (λ line meaning. Means format tree (without_white_end line) meaning) (file_lines bytes) meanings
 
 -- the assignment after one line, over the one before it
 abbrev pub assigned : LineMeaning → List (Option UserValue) → List (Option UserValue)

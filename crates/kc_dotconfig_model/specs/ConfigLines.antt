@@ -1,11 +1,10 @@
--- The meaning of a line of a configuration file. Each file has a prefix, such as `CONFIG_`.
+-- The meaning of a line of a configuration file. Each file has a format: a prefix, such as `CONFIG_`, and a form of strings.
 use Rattle.std.specs.Prelude.{◌≡◌, ◌≢◌, ℕ, ◌-◌, ◌<◌, true, false, not, List, [], ◌∷◌, ◌++◌, Option, Some, None, is_some, length, take, slice_get, codes, bytes_eq, if◌then◌else◌}
 use Rattle.std.specs.List.{suffix_len, find}
 use Rattle.kc_value.specs.declared.tri.Tri.{Tri}
 use Rattle.kc_value.specs.declared.tri.Tri.TheVariants.{N, M, Y}
 use Rattle.kc_value.specs.declared.value.Kind.{Kind}
 use Rattle.kc_value.specs.declared.value.Kind.TheVariants.{Bool as Boolean, Tristate, Text, Int, Hex}
-use Rattle.kc_value.specs.Quoted.{IsQuoted}
 use Rattle.kc_expr.specs.Token.{is_white_byte}
 use Rattle.kc_tree_model.specs.Trees.{Tree, Symbol}
 use Rattle.kc_tree_model.specs.TreeLookup.{symbol_named, unit_of}
@@ -13,6 +12,8 @@ use Rattle.kc_value.specs.Kinds.{is_tri_kind}
 use Rattle.kc_value.specs.Number.{number_of_text}
 use Rattle.kc_rules_model.specs.declared.values.UserValue.{UserValue}
 use Rattle.kc_rules_model.specs.declared.values.UserValue.TheVariants.{Tri as TriUser, Text as TextUser, Member as MemberUser}
+use Rattle.kc_dotconfig_model.specs.declared.format.Strings.{Strings}
+use Rattle.kc_dotconfig_model.specs.Formats.{FileFormat, IsStringSpelling}
 use Rattle.kc_dotconfig_model.specs.declared.notice.NoticeKind.{NoticeKind}
 use Rattle.kc_dotconfig_model.specs.declared.notice.NoticeKind.TheVariants.{UnknownSymbol, NotOfType}
 use Rattle.kc_dotconfig_model.specs.PrefixGrammar.{lacks}
@@ -37,27 +38,27 @@ tri_of_text Tristate text = if bytes_eq text (codes "y")
     else (if bytes_eq text (codes "m") then Some M else (if bytes_eq text (codes "n") then Some N else None))
 tri_of_text _ text = None
 
--- the meaning of the text after `=`, by the type of the symbol; `n` of a member of a choice and an empty int or hex have
+-- the meaning of the text after `=`, by the type of the symbol and the form of strings; `n` of a member of a choice and an empty int or hex have
 -- none
-pub data ValueMeans (tree : Tree) (s : ℕ) (symbol : Symbol) : List ℕ → LineMeaning → Type 0 where
+pub data ValueMeans (strings : Strings) (tree : Tree) (s : ℕ) (symbol : Symbol) : List ℕ → LineMeaning → Type 0 where
   tri : (text : List ℕ) (t : Tri) → symbol.choice ≡ None → tri_of_text symbol.kind text ≡ Some t
-      → ValueMeans tree s symbol text (assigns (unit_of tree s) (TriUser t))
+      → ValueMeans strings tree s symbol text (assigns (unit_of tree s) (TriUser t))
   chosen : (c : ℕ) (text : List ℕ) → symbol.choice ≡ Some c → tri_of_text symbol.kind text ≡ Some Y
-      → ValueMeans tree s symbol text (assigns (unit_of tree s) (MemberUser s))
+      → ValueMeans strings tree s symbol text (assigns (unit_of tree s) (MemberUser s))
   not_chosen : (c : ℕ) (text : List ℕ) (t : Tri) → symbol.choice ≡ Some c → tri_of_text symbol.kind text ≡ Some t
-      → t ≢ Y → ValueMeans tree s symbol text silent
-  quoted : (text means : List ℕ) → symbol.kind ≡ Text → IsQuoted text means
-      → ValueMeans tree s symbol text (assigns (unit_of tree s) (TextUser means))
+      → t ≢ Y → ValueMeans strings tree s symbol text silent
+  quoted : (text means : List ℕ) → symbol.kind ≡ Text → IsStringSpelling strings text means
+      → ValueMeans strings tree s symbol text (assigns (unit_of tree s) (TextUser means))
   number : (text : List ℕ) → is_some (number_of_text symbol.kind text) ≡ true
-      → ValueMeans tree s symbol text (assigns (unit_of tree s) (TextUser text))
-  no_int : symbol.kind ≡ Int → ValueMeans tree s symbol [] silent
-  no_hex : symbol.kind ≡ Hex → ValueMeans tree s symbol [] silent
+      → ValueMeans strings tree s symbol text (assigns (unit_of tree s) (TextUser text))
+  no_int : symbol.kind ≡ Int → ValueMeans strings tree s symbol [] silent
+  no_hex : symbol.kind ≡ Hex → ValueMeans strings tree s symbol [] silent
   no_tri : (text : List ℕ) → is_tri_kind symbol.kind ≡ true → tri_of_text symbol.kind text ≡ None
-      → ValueMeans tree s symbol text (notice NotOfType)
-  no_text : (text : List ℕ) → symbol.kind ≡ Text → ((means : List ℕ) → IsQuoted text means → ⊥)
-      → ValueMeans tree s symbol text (notice NotOfType)
+      → ValueMeans strings tree s symbol text (notice NotOfType)
+  no_text : (text : List ℕ) → symbol.kind ≡ Text → ((means : List ℕ) → IsStringSpelling strings text means → ⊥)
+      → ValueMeans strings tree s symbol text (notice NotOfType)
   no_number : (b : ℕ) (text : List ℕ) → is_tri_kind symbol.kind ≡ false → symbol.kind ≢ Text
-      → number_of_text symbol.kind (b ∷ text) ≡ None → ValueMeans tree s symbol (b ∷ text) (notice NotOfType)
+      → number_of_text symbol.kind (b ∷ text) ≡ None → ValueMeans strings tree s symbol (b ∷ text) (notice NotOfType)
 
 -- `is not set` assigns `n` to a bool or tristate outside choices, and nothing to another symbol
 abbrev pub unset_meaning : Tree → ℕ → Symbol → Option ℕ → LineMeaning
@@ -76,21 +77,21 @@ IsValueLine prefix line name text = (0 < length name) × (lacks 61 name ≡ true
 
 -- The meaning of a line without trailing white space (Kconfiglib's `load_config`). Each line has at most one
 -- meaning, and a line without one is malformed.
-pub data Means (prefix : List ℕ) (tree : Tree) : List ℕ → LineMeaning → Type 0 where
-  value : (line name text : List ℕ) (s : ℕ) (symbol : Symbol) (meaning : LineMeaning) → IsValueLine prefix line name text
-      → symbol_named tree name ≡ Some s → slice_get tree.symbols s ≡ Some symbol → ValueMeans tree s symbol text meaning
-      → Means prefix tree line meaning
-  unset : (line name : List ℕ) (s : ℕ) (symbol : Symbol) → IsUnsetLine prefix line name
+pub data Means (format : FileFormat) (tree : Tree) : List ℕ → LineMeaning → Type 0 where
+  value : (line name text : List ℕ) (s : ℕ) (symbol : Symbol) (meaning : LineMeaning) → IsValueLine format.prefix line name text
+      → symbol_named tree name ≡ Some s → slice_get tree.symbols s ≡ Some symbol → ValueMeans format.strings tree s symbol text meaning
+      → Means format tree line meaning
+  unset : (line name : List ℕ) (s : ℕ) (symbol : Symbol) → IsUnsetLine format.prefix line name
       → symbol_named tree name ≡ Some s → slice_get tree.symbols s ≡ Some symbol
-      → Means prefix tree line (unset_meaning tree s symbol symbol.choice)
-  unknown_value : (line name text : List ℕ) → IsValueLine prefix line name text → symbol_named tree name ≡ None
-      → Means prefix tree line (notice UnknownSymbol)
-  unknown_unset : (line name : List ℕ) → IsUnsetLine prefix line name → symbol_named tree name ≡ None
-      → Means prefix tree line (notice UnknownSymbol)
-  empty : Means prefix tree [] silent
+      → Means format tree line (unset_meaning tree s symbol symbol.choice)
+  unknown_value : (line name text : List ℕ) → IsValueLine format.prefix line name text → symbol_named tree name ≡ None
+      → Means format tree line (notice UnknownSymbol)
+  unknown_unset : (line name : List ℕ) → IsUnsetLine format.prefix line name → symbol_named tree name ≡ None
+      → Means format tree line (notice UnknownSymbol)
+  empty : Means format tree [] silent
   comment : (line : List ℕ) → find (λ b. not (is_white_byte b)) line ≡ Some 35
-      → ((name : List ℕ) → IsUnsetLine prefix line name → ⊥) → Means prefix tree line silent
+      → ((name : List ℕ) → IsUnsetLine format.prefix line name → ⊥) → Means format tree line silent
 
 -- a line of none of these forms
-abbrev pub IsMalformed : List ℕ → Tree → List ℕ → Type 0
-IsMalformed prefix tree line = (meaning : LineMeaning) → Means prefix tree (without_white_end line) meaning → ⊥
+abbrev pub IsMalformed : FileFormat → Tree → List ℕ → Type 0
+IsMalformed format tree line = (meaning : LineMeaning) → Means format tree (without_white_end line) meaning → ⊥

@@ -6,6 +6,7 @@ use Rattle.kc_tree_model.specs.TreeLookup.{IsConsistent}
 use Rattle.kc_system.specs.Solutions.{FitsUsers}
 use Rattle.kc_rules_model.specs.Shapes.{user_fits}
 use Rattle.kc_rules_model.specs.declared.values.UserValue.{UserValue}
+use Rattle.kc_dotconfig_model.specs.Formats.{FileFormat}
 use Rattle.kc_dotconfig_model.specs.declared.fault.LoadKind.{LoadKind}
 use Rattle.kc_dotconfig_model.specs.declared.fault.LoadKind.TheVariants.{Read}
 use Rattle.kc_dotconfig_model.specs.PrefixGrammar.{is_prefix}
@@ -16,13 +17,13 @@ use Rattle.kc_dotconfig_model.specs.LoadFaults.{InputEnd, complete, cut_short, O
 
 -- each line has at most one meaning
 abbrev pub LinesHaveOneMeaning : Type 0
-LinesHaveOneMeaning = (prefix : List ℕ) (tree : Tree) (line : List ℕ) (a b : LineMeaning) → is_prefix prefix ≡ true
-    → Means prefix tree line a → Means prefix tree line b → a ≡ b
+LinesHaveOneMeaning = (format : FileFormat) (tree : Tree) (line : List ℕ) (a b : LineMeaning) → is_prefix format.prefix ≡ true
+    → Means format tree line a → Means format tree line b → a ≡ b
 
 -- and so does each file
 abbrev pub FilesHaveOneMeaning : Type 0
-FilesHaveOneMeaning = (prefix : List ℕ) (tree : Tree) (bytes : List ℕ) (a b : List LineMeaning) → is_prefix prefix ≡ true
-    → FileMeans prefix tree bytes a → FileMeans prefix tree bytes b → a ≡ b
+FilesHaveOneMeaning = (format : FileFormat) (tree : Tree) (bytes : List ℕ) (a b : List LineMeaning) → is_prefix format.prefix ≡ true
+    → FileMeans format tree bytes a → FileMeans format tree bytes b → a ≡ b
 
 -- the lines of a file over an assignment are its own assignment over it
 abbrev pub FilesLieOverAssignments : Type 0
@@ -31,57 +32,57 @@ FilesLieOverAssignments = (tree : Tree) (meanings : List LineMeaning) (users : L
 
 -- what a file of UTF-8 assigns fits its units
 abbrev pub FilesFit : Type 0
-FilesFit = (prefix : List ℕ) (tree : Tree) (bytes : List ℕ) (meanings : List LineMeaning) → IsConsistent tree
-    → has_utf8_lines bytes ≡ true → FileMeans prefix tree bytes meanings
+FilesFit = (format : FileFormat) (tree : Tree) (bytes : List ℕ) (meanings : List LineMeaning) → IsConsistent tree
+    → has_utf8_lines bytes ≡ true → FileMeans format tree bytes meanings
     → FitsUsers (length tree.units) (λ u x. IsTrue (user_fits tree u x)) (file_assignment tree meanings)
 
 -- an accepted file has a meaning
 abbrev pub AcceptedFilesAreRead : Type 0
-AcceptedFilesAreRead = (prefix : List ℕ) (tree : Tree) (bytes : List ℕ) → is_prefix prefix ≡ true
-    → IsAccepted prefix tree bytes → (meanings : List LineMeaning) × FileMeans prefix tree bytes meanings
+AcceptedFilesAreRead = (format : FileFormat) (tree : Tree) (bytes : List ℕ) → is_prefix format.prefix ≡ true
+    → IsAccepted format tree bytes → (meanings : List LineMeaning) × FileMeans format tree bytes meanings
 
 -- only one fault is the first, with one number of a line
 abbrev pub OneFaultIsFirst : Type 0
-OneFaultIsFirst = (prefix : List ℕ) (tree : Tree) (extent : InputEnd) (bytes : List ℕ) (a b : LoadKind) (m n : ℕ)
-    → IsFirstFault prefix tree extent bytes a m → IsFirstFault prefix tree extent bytes b n → (a ≡ b) × (m ≡ n)
+OneFaultIsFirst = (format : FileFormat) (tree : Tree) (extent : InputEnd) (bytes : List ℕ) (a b : LoadKind) (m n : ℕ)
+    → IsFirstFault format tree extent bytes a m → IsFirstFault format tree extent bytes b n → (a ≡ b) × (m ≡ n)
 
 -- a file with a first fault isn't accepted
 abbrev pub FaultyFilesAreRefused : Type 0
-FaultyFilesAreRefused = (prefix : List ℕ) (tree : Tree) (bytes : List ℕ) (kind : LoadKind) (number : ℕ)
-    → IsFirstFault prefix tree complete bytes kind number → IsAccepted prefix tree bytes → ⊥
+FaultyFilesAreRefused = (format : FileFormat) (tree : Tree) (bytes : List ℕ) (kind : LoadKind) (number : ℕ)
+    → IsFirstFault format tree complete bytes kind number → IsAccepted format tree bytes → ⊥
 
 -- a failed read is reported exactly if no fault occurs at a byte before it, with the line on which it failed
 abbrev pub FailedReadsAreReported : Type 0
-FailedReadsAreReported = (prefix : List ℕ) (tree : Tree) (bytes : List ℕ) (number : ℕ)
-    → IsFirstFault prefix tree cut_short bytes Read number
-    ↔ (((kind : LoadKind) (byte other : ℕ) → OccursAt prefix tree bytes kind byte other → length bytes ≤ byte)
+FailedReadsAreReported = (format : FileFormat) (tree : Tree) (bytes : List ℕ) (number : ℕ)
+    → IsFirstFault format tree cut_short bytes Read number
+    ↔ (((kind : LoadKind) (byte other : ℕ) → OccursAt format tree bytes kind byte other → length bytes ≤ byte)
     × (number ≡ newlines bytes + 1))
 
 -- a line without a fault of its own
-pub record IsGoodLine (prefix : List ℕ) (tree : Tree) (line : List ℕ) : Type 0 where
+pub record IsGoodLine (format : FileFormat) (tree : Tree) (line : List ℕ) : Type 0 where
   pub short : length line ≤ MAX_LINE_BYTES
   pub utf8 : IsUtf8 line
   pub meaning : LineMeaning
-  pub says : Means prefix tree (without_white_end line) meaning
+  pub says : Means format tree (without_white_end line) meaning
 
 -- a file within the limits, of good lines alone
-pub record IsOfGoodLines (prefix : List ℕ) (tree : Tree) (bytes : List ℕ) : Type 0 where
+pub record IsOfGoodLines (format : FileFormat) (tree : Tree) (bytes : List ℕ) : Type 0 where
   pub small : length bytes ≤ MAX_CONFIG_BYTES
   pub few : length (file_lines bytes) ≤ MAX_CONFIG_LINES
-  pub good : (i : ℕ) (line : List ℕ) → slice_get (file_lines bytes) i ≡ Some line → IsGoodLine prefix tree line
+  pub good : (i : ℕ) (line : List ℕ) → slice_get (file_lines bytes) i ≡ Some line → IsGoodLine format tree line
 
 -- just these files are accepted
 abbrev pub AcceptedFilesHaveGoodLines : Type 0
-AcceptedFilesHaveGoodLines = (prefix : List ℕ) (tree : Tree) (bytes : List ℕ) → is_prefix prefix ≡ true
-    → IsAccepted prefix tree bytes ↔ IsOfGoodLines prefix tree bytes
+AcceptedFilesHaveGoodLines = (format : FileFormat) (tree : Tree) (bytes : List ℕ) → is_prefix format.prefix ≡ true
+    → IsAccepted format tree bytes ↔ IsOfGoodLines format tree bytes
 
 -- each file is accepted or has a first fault
 abbrev pub EachFileIsJudged : Type 0
-EachFileIsJudged = (prefix : List ℕ) (tree : Tree) (bytes : List ℕ) → is_prefix prefix ≡ true
-    → IsAccepted prefix tree bytes
-    ⊎ ((kind : LoadKind) × (number : ℕ) × IsFirstFault prefix tree complete bytes kind number)
+EachFileIsJudged = (format : FileFormat) (tree : Tree) (bytes : List ℕ) → is_prefix format.prefix ≡ true
+    → IsAccepted format tree bytes
+    ⊎ ((kind : LoadKind) × (number : ℕ) × IsFirstFault format tree complete bytes kind number)
 
 -- and each that a failed read cut short has a first fault
 abbrev pub EachCutFileIsJudged : Type 0
-EachCutFileIsJudged = (prefix : List ℕ) (tree : Tree) (bytes : List ℕ) → is_prefix prefix ≡ true
-    → (kind : LoadKind) × (number : ℕ) × IsFirstFault prefix tree cut_short bytes kind number
+EachCutFileIsJudged = (format : FileFormat) (tree : Tree) (bytes : List ℕ) → is_prefix format.prefix ≡ true
+    → (kind : LoadKind) × (number : ℕ) × IsFirstFault format tree cut_short bytes kind number

@@ -1,4 +1,5 @@
 pub mod PrefixGrammar
+pub mod Formats
 pub mod ConfigLines
 pub mod ConfigFiles
 pub mod LoadFaults

@@ -4,6 +4,7 @@ use Rattle.std.specs.List.{count_by}
 use Rattle.std.specs.Str.{IsUtf8}
 use Rattle.kc_value.specs.declared.limits.TheConstants.{MAX_CONFIG_BYTES, MAX_CONFIG_LINES, MAX_LINE_BYTES}
 use Rattle.kc_tree_model.specs.Trees.{Tree}
+use Rattle.kc_dotconfig_model.specs.Formats.{FileFormat}
 use Rattle.kc_dotconfig_model.specs.declared.fault.LoadKind.{LoadKind}
 use Rattle.kc_dotconfig_model.specs.declared.fault.LoadKind.TheVariants.{Malformed, NotUtf8, LineTooLong, TooManyLines, Read, OutOfMemory, TooLarge}
 use Rattle.kc_dotconfig_model.specs.PrefixGrammar.{lacks}
@@ -25,19 +26,19 @@ pub record IsLineAt (bytes line : List ℕ) (number start : ℕ) : Type 0 where
   pub one_line : lacks 10 line ≡ true
 
 -- a fault of this kind occurs at this byte, and is reported with this line
-abbrev pub OccursAt : List ℕ → Tree → List ℕ → LoadKind → ℕ → ℕ → Type 0
-OccursAt prefix tree bytes TooLarge byte number = (MAX_CONFIG_BYTES < length bytes) × (byte ≡ MAX_CONFIG_BYTES)
+abbrev pub OccursAt : FileFormat → Tree → List ℕ → LoadKind → ℕ → ℕ → Type 0
+OccursAt format tree bytes TooLarge byte number = (MAX_CONFIG_BYTES < length bytes) × (byte ≡ MAX_CONFIG_BYTES)
     × (number ≡ newlines (take MAX_CONFIG_BYTES bytes) + 1)
-OccursAt prefix tree bytes TooManyLines byte number = (line : List ℕ) × IsLineAt bytes line number byte
+OccursAt format tree bytes TooManyLines byte number = (line : List ℕ) × IsLineAt bytes line number byte
     × (number ≡ MAX_CONFIG_LINES + 1)
-OccursAt prefix tree bytes LineTooLong byte number = (line : List ℕ) × (start : ℕ) × IsLineAt bytes line number start
+OccursAt format tree bytes LineTooLong byte number = (line : List ℕ) × (start : ℕ) × IsLineAt bytes line number start
     × (MAX_LINE_BYTES < length line) × (byte ≡ start + MAX_LINE_BYTES)
-OccursAt prefix tree bytes NotUtf8 byte number = (line : List ℕ) × (start : ℕ) × IsLineAt bytes line number start
+OccursAt format tree bytes NotUtf8 byte number = (line : List ℕ) × (start : ℕ) × IsLineAt bytes line number start
     × (IsUtf8 line → ⊥) × (byte ≡ start + length line)
-OccursAt prefix tree bytes Malformed byte number = (line : List ℕ) × (start : ℕ) × IsLineAt bytes line number start
-    × IsMalformed prefix tree line × (byte ≡ start + length line)
-OccursAt prefix tree bytes Read byte number = ⊥
-OccursAt prefix tree bytes OutOfMemory byte number = ⊥
+OccursAt format tree bytes Malformed byte number = (line : List ℕ) × (start : ℕ) × IsLineAt bytes line number start
+    × IsMalformed format tree line × (byte ≡ start + length line)
+OccursAt format tree bytes Read byte number = ⊥
+OccursAt format tree bytes OutOfMemory byte number = ⊥
 
 -- the order of kinds that come at one byte
 abbrev pub rank_of : LoadKind → ℕ
@@ -56,20 +57,20 @@ pub data InputEnd : Type 0 where
 
 -- The faults considered: all of them in a complete file; after a failed read those placed before it, then the
 -- failed read itself. So an incomplete last line can only be too long or one line too many.
-abbrev pub IsConsideredAt : List ℕ → Tree → InputEnd → List ℕ → LoadKind → ℕ → ℕ → Type 0
-IsConsideredAt prefix tree complete bytes kind byte number = OccursAt prefix tree bytes kind byte number
-IsConsideredAt prefix tree cut_short bytes kind byte number =
-    (OccursAt prefix tree bytes kind byte number × (byte < length bytes)) ⊎ ((kind ≡ Read) × (byte ≡ length bytes) × (number ≡ newlines bytes + 1))
+abbrev pub IsConsideredAt : FileFormat → Tree → InputEnd → List ℕ → LoadKind → ℕ → ℕ → Type 0
+IsConsideredAt format tree complete bytes kind byte number = OccursAt format tree bytes kind byte number
+IsConsideredAt format tree cut_short bytes kind byte number =
+    (OccursAt format tree bytes kind byte number × (byte < length bytes)) ⊎ ((kind ≡ Read) × (byte ≡ length bytes) × (number ≡ newlines bytes + 1))
 
 -- the first fault
-pub record IsFirstFault (prefix : List ℕ) (tree : Tree) (extent : InputEnd) (bytes : List ℕ) (kind : LoadKind) (number : ℕ) : Type 0 where
+pub record IsFirstFault (format : FileFormat) (tree : Tree) (extent : InputEnd) (bytes : List ℕ) (kind : LoadKind) (number : ℕ) : Type 0 where
   pub byte : ℕ
-  pub comes : IsConsideredAt prefix tree extent bytes kind byte number
+  pub comes : IsConsideredAt format tree extent bytes kind byte number
   pub first : (other : LoadKind) (other_byte other_number : ℕ)
-      → IsConsideredAt prefix tree extent bytes other other_byte other_number
+      → IsConsideredAt format tree extent bytes other other_byte other_number
       → (byte < other_byte) ⊎ ((byte ≡ other_byte) × (rank_of kind ≤ rank_of other))
 
 -- a file without a fault
-abbrev pub IsAccepted : List ℕ → Tree → List ℕ → Type 0
-IsAccepted prefix tree bytes =
-    (kind : LoadKind) (byte number : ℕ) → IsConsideredAt prefix tree complete bytes kind byte number → ⊥
+abbrev pub IsAccepted : FileFormat → Tree → List ℕ → Type 0
+IsAccepted format tree bytes =
+    (kind : LoadKind) (byte number : ℕ) → IsConsideredAt format tree complete bytes kind byte number → ⊥

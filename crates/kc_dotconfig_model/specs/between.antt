@@ -1,4 +1,5 @@
 pub mod Prefixes
+pub mod Formats
 pub mod LineMeanings
 pub mod LineMeaningLaws
 pub mod Cutting

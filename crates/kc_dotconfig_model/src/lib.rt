@@ -2,11 +2,13 @@
 #![tactic(auto)]
 
 mod fault;
+mod format;
 mod laws;
 mod notice;
 mod prefix;
 
 pub use fault::{LoadFault, LoadKind};
+pub use format::{Format, Strings};
 pub use laws::{
     accepted_files_are_read, accepted_files_have_good_lines, each_file_is_judged,
     failed_reads_are_reported, faulty_files_are_refused, files_are_read, files_fit,

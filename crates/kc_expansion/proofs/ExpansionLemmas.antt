@@ -6,17 +6,19 @@ use Rattle.kc_tree_model.specs.Keywords.{keyword_in_table}
 use Rattle.kc_tree_model.specs.LogicalLines.{split_at_newlines}
 use Rattle.kc_macros_model.specs.declared.fault.MacroKind.TheVariants.{MissingFile, TooMany}
 use Rattle.kc_macros_model.specs.AnswerFiles.{Recorded}
-use Rattle.kc_macros_model.specs.Limits.{max_bytes, max_work}
+use Rattle.kc_macros_model.specs.Limits.{max_files, max_bytes, max_work}
 use Rattle.kc_macros_model.specs.Programs.{Fault, Notice, Program, returns, fails, ◌>>=◌}
 use Rattle.kc_macros_model.specs.ReadingStates.{ExpandedFile, ReadingState, initial_state, Progress, progress, counted}
 use Rattle.kc_macros_model.specs.TreeExpansion.{place, lines_read, root_read, tree_read}
 use Rattle.kc_macros_model.specs.Worlds.{World, Ending, returned, failed, stopped, outcome, questions_or_fault, expansion, wanted}
 use Rattle.kc_macros.specs.RunStates.{RunState, run_at_start}
+use Rattle.kc_macros.specs.declared.stop.MacroFault.{MacroFault}
 use Rattle.kc_macros.specs.declared.stop.Stop.{Stop}
 use Rattle.kc_macros.specs.declared.stop.Stop.TheVariants as kinds
 use Rattle.kc_macros.specs.Runs.{RunEnd, ends, end_of, fault_of}
+use Rattle.kc_macros_model.proofs.BoundedReadings.{files_are_bounded}
 use Rattle.kc_macros_model.proofs.KnownTrees.{expansion_never_stops}
-use Rattle.kc_expansion.specs.Expansions.{ending_of, IsExpansion, AreWanted}
+use Rattle.kc_expansion.specs.Expansions.{ending_of, tree_of, IsExpansion, AreWanted}
 use Rattle.kc_expansion.specs.TreeContents.{TreeContents}
 use Rattle.kc_expansion.specs.between.KnownFiles.{FileRead, missing, KnownFiles, AreBytes, AreAsKnown, Grows}
 use Rattle.kc_expansion.specs.between.Reads.{FileRun, Reaches, Reads}
@@ -137,3 +139,9 @@ pub root_leads : (a b : FileRun) (root : List ℕ) (s : ReadingState) (read : Fi
 unfolding tree_read
 root_leads a b root s read q i same grows run known h =
     leads_read a b root (root_read root initial_state) q read same grows run known (λ bytes e. ap (λ t. root_read root t bytes) (sym i) ∙ h bytes e)
+
+-- a tree has no more expanded files than files may be read
+pub few_files : (contents : TreeContents) (answers : Recorded) (root : List ℕ) (notices : List Notice) (tree : Result (List ExpandedFile) MacroFault)
+    → IsExpansion contents answers root notices (tree_of tree) → IfOk tree (λ files. length files ≤ max_files)
+few_files contents answers root notices (Ok files) e = files_are_bounded e.world root files e.ends_so
+few_files contents answers root notices (Err fault) e = tt

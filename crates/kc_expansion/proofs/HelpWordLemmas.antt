@@ -228,7 +228,7 @@ help_by_words s = by_tests (begins_help s) (help_at s) refl refl
     by_tests true false e f = sym (read_help s (lexemes_from Strict 0 0 s) refl e) ∙ f
     by_tests false true e f = sym e ∙ read_so f
 
--- the same by the lengths of what comes first, and by what is left behind it
+-- the same by the lengths of what comes first, and by what is left after it
 pub help_split : (text line rest : List ℕ) (w n : ℕ) (a b : Bool) → w ≡ length (take_while is_white_byte text) → line ≡ drop w text → n ≡ length (take_while is_word_byte line) → rest ≡ drop n line
     → a ≡ is_help_text (take n line) → b ≡ is_end rest → (a && b) ≡ begins_help text
 help_split text line rest w n a b h l k r e f =

@@ -1,6 +1,7 @@
 -- Keys of expanded files, through the map that holds them.
-use Rattle.std.proofs.Common.{◌≡◌, ℕ, suc, ◌+◌, Bool, true, false, cond, not, ◌&&◌, ◌||◌, List, [], ◌∷◌, ◌++◌, length, map, Option, Some, None, refl, sym, ap, ◌∙◌}
-use Rattle.std.specs.Prelude.{Vec, bytes_eq, is_some, decimal}
+use Rattle.std.proofs.Common.{◌≡◌, ℕ, suc, ◌+◌, Bool, true, false, cond, not, ◌&&◌, ◌||◌, List, [], ◌∷◌, ◌++◌, length, map, Option, Some}
+use Rattle.std.proofs.Common.{None, refl, sym, ap, ◌∙◌, arith}
+use Rattle.std.specs.Prelude.{Vec, bytes_eq, is_some, unwrap_or, decimal, nat_lt}
 use Rattle.std.specs.List.{list_any, IsDistinct, AllByRecursion}
 use Rattle.std.specs.Map.{lookup}
 use Rattle.std.specs.declared.alloc.Global.{Global}
@@ -10,6 +11,8 @@ use Rattle.kc_expansion.specs.declared.expanded_files.FileOfKey.{FileOfKey}
 use Rattle.kc_expansion.specs.checker.ExpandedViews.{expanded_file, HasDistinctKeys, with_file}
 use Rattle.kc_expansion.proofs.TableLemmas.{bytes_eq_turned}
 use Rattle.std.proofs.lemmas.Slice.Eq.{bytes_eq-Decides}
+use Rattle.std.proofs.lemmas.List.{length-append}
+use Rattle.std.proofs.lemmas.Bool.Decides.{nat_tests}
 
 abbrev Entry : Type 0
 Entry = Vec ℕ Global × FileOfKey
@@ -102,6 +105,62 @@ kept_new key path text files e = sym (ap (λ b. cond b files (files ++ record { 
 
 pub kept_there : (key path text : List ℕ) (files : List ExpandedFile) → has_key files key ≡ true → files ≡ with_file key path text files
 kept_there key path text files e = sym (ap (λ b. cond b files (files ++ record { key = key; path = path; text = text } ∷ [])) e)
+
+-- what a map has of a key, and its entries once a file is put under the key
+abbrev there_of : List Entry → List ℕ → Option FileOfKey
+there_of es key = lookup (λ (j : Vec ℕ Global). bytes_eq key j.items) es
+
+abbrev put_in : List Entry → Vec ℕ Global → FileOfKey → List Entry
+put_in es k f = insert_entry (λ (a b : Vec ℕ Global). bytes_eq a.items b.items) es k f
+
+-- what is there under a key stays where it is put there again
+same_put : (es : List Entry) (k : Vec ℕ Global) (f : FileOfKey) → there_of es k.items ≡ Some f → put_in es k f ≡ es
+same_put [] k f h = absurd (let z : ⊥ = cc in z)
+same_put (e ∷ es) k f h = by_test (bytes_eq k.items e.0.items) h (same_put es k f)
+  where
+    by_test : (b : Bool) → cond b (Some e.1) (there_of es k.items) ≡ Some f → (there_of es k.items ≡ Some f → put_in es k f ≡ es)
+        → cond b ((e.0, f) ∷ es) (e ∷ put_in es k f) ≡ e ∷ es
+    by_test true h ih = ap (λ (x : FileOfKey). (e.0, x) ∷ es) (let z : f ≡ e.1 = cc in z)
+    by_test false h ih = ap (λ xs. e ∷ xs) (ih h)
+
+-- a file is put under its key, unless one is there
+pub put_or_there : (es : List Entry) (k : Vec ℕ Global) (new put : FileOfKey) (o : Option FileOfKey) → there_of es k.items ≡ o → put ≡ unwrap_or o new
+    → map expanded_file (put_in es k put) ≡ with_file k.items new.path.items new.text.value.items (map expanded_file es)
+put_or_there es k new put None h p =
+    let absent : has_key (map expanded_file es) k.items ≡ false = sym (key_is_there k.items es) ∙ ap is_some h in
+    ap (λ f. map expanded_file (put_in es k f)) p
+    ∙ file_inserted es k new absent ∙ kept_new k.items new.path.items new.text.value.items (map expanded_file es) absent
+put_or_there es k new put (Some there) h p =
+    ap (λ f. map expanded_file (put_in es k f)) p
+    ∙ ap (map expanded_file) (same_put es k there h)
+    ∙ kept_there k.items new.path.items new.text.value.items (map expanded_file es) (sym (key_is_there k.items es) ∙ ap is_some h)
+
+-- entries that are these
+pub seen_as : (es fs : List Entry) (files : List ExpandedFile) → es ≡ fs → map expanded_file fs ≡ files → map expanded_file es ≡ files
+seen_as es fs files e h = ap (map expanded_file) e ∙ h
+
+-- files grow where a key is new
+pub grown_where_new : (key path text : List ℕ) (files more : List ExpandedFile) (before after : ℕ) → before ≡ length files → after ≡ length more
+    → more ≡ with_file key path text files → nat_lt before after ≡ not (has_key files key)
+grown_where_new key path text files more before after b a e = by_test (has_key files key) (ap length e)
+  where
+    new : ExpandedFile
+    new = record { key = key; path = path; text = text }
+
+    by_test : (there : Bool) → length more ≡ length (cond there files (files ++ new ∷ [])) → nat_lt before after ≡ not there
+    by_test true h = let z : nat_lt before after ≡ false = grind (arith, nat_tests) in z
+    by_test false h =
+        let n = h ∙ length-append files (new ∷ []) in
+        let z : nat_lt before after ≡ true = grind (arith, nat_tests) in z
+
+-- whether a key was new
+pub new_key : (there : Bool) → not there ≡ true → there ≡ false
+new_key true h = absurd (let z : ⊥ = cc in z)
+new_key false h = refl
+
+pub old_key : (there : Bool) → not there ≡ false → there ≡ true
+old_key true h = refl
+old_key false h = absurd (let z : ⊥ = cc in z)
 
 -- a path that is no key is free
 no_other : (key text : List ℕ) (files : List ExpandedFile) → has_key files key ≡ false → list_any (λ (f : ExpandedFile). bytes_eq f.key key && not (bytes_eq f.text text)) files ≡ false

@@ -1,11 +1,11 @@
--- The first file of a tree stands behind the files that were sourced.
+-- The first file of a tree stands after the files that were sourced.
 use Rattle.std.proofs.Common.{◌≡◌, ℕ, Bool, true, false, cond, List, [], ◌∷◌, ◌++◌, Some, None, refl, ap, ◌∙◌}
 use Rattle.std.specs.Prelude.{bytes_eq}
 use Rattle.kc_macros_model.specs.ReadingStates.{ExpandedFile}
 use Rattle.kc_expansion.specs.PathsOfKeys.{path_of_key}
 use Rattle.kc_expansion.proofs.TableLemmas.{bytes_eq_turned}
 
--- the path of a file in front, and of one behind files that don't have its key
+-- the path of a file in front, and of one after files that don't have its key
 pub path_in_front : (fs gs : List ExpandedFile) (key path : List ℕ) → path_of_key fs key ≡ Some path → path_of_key (fs ++ gs) key ≡ Some path
 path_in_front [] gs key path h = absurd (let z : ⊥ = cc in z)
 path_in_front (f ∷ fs) gs key path h = by_test (bytes_eq f.key key) h (path_in_front fs gs key path)

@@ -78,7 +78,7 @@ lines_skipped sub file zero n ls s = ap (λ m. lines_read sub file 0 m ls s) (le
 lines_skipped sub file (suc k) n [] s = refl
 lines_skipped sub file (suc k) n (l ∷ ls) s = lines_skipped sub file k (n + 1) ls s ∙ ap (λ m. lines_read sub file 0 m (drop k ls) s) (let e : n + 1 + k ≡ n + suc k = omega arith in e)
 
--- what is left of a file's lines behind one that is written; `lines` counts its physical lines
+-- what is left of a file's lines after one that is written; `lines` counts its physical lines
 abbrev pub lines_behind : SourceReader → (file : List ℕ) → (lines n : ℕ) → List PhysicalLine → (text : List ℕ) → WrittenLine → Program Progress
 lines_behind sub file lines n all text line =
     let help = help_after line.begins_help (drop lines all) in

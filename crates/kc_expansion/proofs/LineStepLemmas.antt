@@ -22,7 +22,7 @@ use Rattle.kc_expansion.specs.between.Reads.{FileRun, cut_short, Reads}
 use Rattle.kc_expansion.specs.checker.Leads.{Leads}
 use Rattle.kc_macros.specs.declared.assignments.Assignment.{Assignment}
 use Rattle.kc_macros.specs.Assigning.{operator_of}
-use Rattle.kc_expansion.specs.checker.KeptLines.{Stays}
+use Rattle.kc_expansion.specs.checker.SameLines.{Stays}
 use Rattle.kc_expansion.specs.checker.ReadingViews.{fault_at, assigned_or_fault, IsNoPath}
 use Rattle.kc_macros.proofs.QuietLemmas.{narrow_is_utf8}
 use Rattle.kc_expansion.proofs.ProgramLemmas.{grouped}

@@ -81,7 +81,7 @@ module _ (sub : SourceReader) (file bytes : List ℕ) (start : LineStart) (there
         (leads_then a b b (written_here >>= behind_line) (behind_line (written_line new help t)) q (leads_on a b written_here behind_line (written_line new help t) r)
         (leads_same b (behind_line (written_line new help t)) q (line_goes_on ∙ ap (λ x. lines_left sub file behind x (split_at_newlines (drop behind.at bytes)) t) (sym e))))
 
-    -- the text behind a line and its help text
+    -- the text after a line and its help text
     pub written_behind : (out : WrittenFile) → out.original.value.items ≡ bytes → out.copied ≤ after.at → text_up_to out after.at ≡ done ++ lines_written (take lines all) text new → text_up_to out behind.at ≡ text_behind
     written_behind out o c w =
         text_further out bytes after.at behind.at o c passed.from
@@ -95,7 +95,7 @@ stayed out bytes at next lines text o c h w =
     text_further out bytes at next o c h
     ∙ ap (λ x. text_up_to out at ++ x) (sym (lines_stay (take lines (split_at_newlines (drop at bytes))) text text (bytes_eq_same text) ∙ lines_between bytes at next lines h w))
 
--- a file that is written up to the line behind
+-- a file that is written up to the next line
 pub written_next : (bytes text : List ℕ) (start after behind : LineStart) (next lines : ℕ) (help : Bool) (before out : WrittenFile) → IsWrittenTo bytes start before → IsLogicalAt bytes start.at text next lines → after.at ≡ next → after.number ≡ start.number + lines
     → IsHelpPassed bytes after help behind → out.original.value.items ≡ bytes → out.copied ≤ next → IsWrittenTo bytes behind out
 written_next bytes text start after behind next lines help before out w l a n p o c = record {

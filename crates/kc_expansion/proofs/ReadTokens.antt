@@ -169,7 +169,7 @@ quoted_means {q = q} quote body means b = ap (unescaped false) (between q quote)
         of_quote double_quote x y = refl
         of_quote single_quote x y = refl
 
--- what stands behind a word begins no run
+-- what stands after a word begins no run
 abbrev begins_with_word : List ℕ → Bool
 begins_with_word [] = false
 begins_with_word (c ∷ s) = is_word_byte c

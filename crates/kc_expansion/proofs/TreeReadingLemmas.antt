@@ -20,7 +20,7 @@ use Rattle.kc_expansion.specs.TextViews.{items_of}
 use Rattle.kc_expansion.specs.between.KnownFiles.{FileRead, whole, Grows}
 use Rattle.kc_expansion.specs.between.Reads.{FileRun, Reads}
 use Rattle.kc_expansion.specs.checker.ExpandedViews.{with_file}
-use Rattle.kc_expansion.specs.checker.KeptLines.{Stays}
+use Rattle.kc_expansion.specs.checker.SameLines.{Stays}
 use Rattle.kc_expansion.specs.checker.Leads.{Leads, Steps}
 use Rattle.kc_expansion.specs.checker.LineViews.{is_first_continued, IsHelpPassed}
 use Rattle.kc_expansion.specs.checker.ReadingViews.{reader_for, lines_left, lists_left, AreCounts, MayBeRead, IsWrittenTo}
@@ -179,7 +179,7 @@ line_broken a b sub file bytes start there text next lines logical s done shown 
     (subst (λ y. Reads a b (line_written sub (place file start.number) (is_first_continued (physical_lines (drop start.at bytes))) y s) (end_of_stop stop)) d
     (subst (λ y. Reads a b (line_written sub (place file start.number) y shown s) (end_of_stop stop)) j r))
 
--- the bytes of a file behind its counts of owners
+-- the bytes of a file beneath its counts of owners
 pub original_is : (r q : Rc (Vec ℕ Global) Global) (v : Vec ℕ Global) → r ≡ q → q.value ≡ v → r.value.items ≡ v.items
 original_is r q v h k = ap (λ (x : Rc (Vec ℕ Global) Global). x.value.items) h ∙ ap (λ (x : Vec ℕ Global). x.items) k
 

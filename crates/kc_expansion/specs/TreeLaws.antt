@@ -31,7 +31,7 @@ text_of_key expanded key = file_at (by_key expanded) key
 abbrev pub is_sourced_by : Option Statement → List ℕ → Bool
 is_sourced_by o path = elim (path_to_read o) [ None ↦ false | Some p ↦ bytes_eq p path ]
 
--- the expansion doesn't act on a line that the reader accepts, but to follow its `source`, and sees a help text behind it
+-- the expansion doesn't act on a line that the reader accepts, but to follow its `source`, and sees a help text after it
 -- where the reader does
 abbrev pub AcceptedLinesStay : Type 0
 AcceptedLinesStay = (language : Language) (read : List Group) (l : LogicalLine) (o : Option Statement) → l.help ≡ false → statement_on_line language read l ≡ Ok o
@@ -91,8 +91,8 @@ abbrev pub WholeTreesStay : Type 0
 WholeTreesStay = (w again : World) (root : List ℕ) (files : List ExpandedFile) → (expansion w root).ending ≡ returned files
     → first_tree_fault (by_key files) root ≡ None → AreAmong (text_of_key files) again.bytes → MeetsEach files root → IsSameTree files (expansion again root)
 
--- An expansion of which the reader accepts the files without meeting each. There are such: a line behind a help text of which
--- nothing is left is blank, so that the help text goes on over lines behind it that are indented, a `source` among them.
+-- An expansion of which the reader accepts the files without meeting each. There are such: a line after a help text of which
+-- nothing is left is blank, so that the help text goes on over lines after it that are indented, a `source` among them.
 pub record LosesAFile : Type 0 where
   pub world : World
   pub root : List ℕ

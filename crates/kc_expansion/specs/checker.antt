@@ -9,7 +9,7 @@ pub mod Leads
 pub mod ReadingViews
 pub mod ChoiceViews
 pub mod Slices
-pub mod KeptLines
+pub mod SameLines
 pub mod LineViews
 pub mod ExpansionViews
 pub mod HelpWords

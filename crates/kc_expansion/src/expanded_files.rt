@@ -1,5 +1,5 @@
 //! Expanded files and their keys.
-ghost use Rattle.std.specs.Prelude.{◌≡◌, ◌<◌, ◌^◌, ℕ, false, List, [], ◌∷◌, ◌++◌, decimal, length, IfOk, OnOk, OnErr, option_map, slice_get, if◌then◌else◌};
+ghost use Rattle.std.specs.Prelude.{◌≡◌, ◌<◌, ◌^◌, ℕ, false, List, [], ◌∷◌, ◌++◌, decimal, length, not, IfOk, OnOk, OnErr, option_map, slice_get, if◌then◌else◌};
 ghost use Rattle.kc_expansion.specs.ExpandedTexts.{file_of_slices};
 ghost use Rattle.kc_macros_model.specs.ReadingStates.{is_taken, has_key, key_of};
 ghost use Rattle.kc_expansion.specs.PathsOfKeys.{path_of_key};
@@ -132,6 +132,19 @@ impl ExpandedFiles {
         Ok(())
     }
 
+    /// Keeps the text that was read for a path under the path, unless a file has that key; returns whether none had.
+    fn push_first(&mut self, path: &[u8], text: Rc<Vec<u8>>) -> Result<bool, AllocError>
+        ensures first { IfOk result (λ first. first ≡ not (has_key self.old path.now)) }
+        ensures ok { OnOk result (self.new ≡ with_file path.now path.now text.value.items self.old) }
+        ensures err { OnErr result (self.new ≡ self.old) }
+    {
+        let before = self.files.len();
+        let key = Vec::from_slice(self.alloc, path)?;
+        let path = Vec::from_slice(self.alloc, path)?;
+        self.files.entry(key)?.or_insert(FileOfKey { path, text });
+        Ok(self.files.len() > before)
+    }
+
     /// Keeps the text that was read for a path whose key may be another, as another file has that path.
     fn keep_beside(
         &mut self,
@@ -166,12 +179,14 @@ impl ExpandedFiles {
         ensures ok { IfOk result (λ key. self.new ≡ with_file (key_of root.now self.old path.now text.value.items) path.now text.value.items self.old) }
         ensures err { OnErr result (self.new ≡ self.old) }
     {
-        if path == root || self.has_key(path) {
+        if path == root {
             return self.keep_beside(root, path, text);
         }
         let key = Vec::from_slice(self.alloc, path)?;
-        self.push(&key, path, text)?;
-        Ok(key)
+        if self.push_first(path, text.clone()?)? {
+            return Ok(key);
+        }
+        self.keep_beside(root, path, text)
     }
 
     /// The path that was read for a key, if a file has it.

@@ -1,5 +1,5 @@
 //! The public calls: the expansion of a tree, and the questions that its reading meets.
-ghost use Rattle.std.specs.Prelude.{◌≡◌, ℕ, List, Vec, IfOk, OnOk, map};
+ghost use Rattle.std.specs.Prelude.{◌≡◌, ◌≤◌, ℕ, List, Vec, IfOk, OnOk, length, map};
 ghost use Rattle.std.specs.declared.alloc.Global.{Global};
 ghost use Rattle.kc_macros_model.specs.ReadingStates.{ExpandedFile, initial_state};
 ghost use Rattle.kc_macros_model.specs.TreeExpansion.{tree_read};
@@ -19,10 +19,11 @@ use super::expanded_tree::ExpandedTree;
 use super::faults::fault;
 use super::file_read::FileRead;
 use super::files::TreeFiles;
+use super::limits::{MAX_FILES, MAX_TREE_BYTES};
 use super::line_steps::LineState;
 use super::open_files::{OpenFiles, with_path};
 use super::reading::Reading;
-use super::source_faults::{MAX_BYTES, ReadCounts};
+use super::source_faults::ReadCounts;
 use super::store::Store;
 use super::tree_reading::read_lines;
 use kc_macros::{Answers, Bindings, MacroFault, MacroKind, MacroNotice, Place, Run, Stop};
@@ -76,7 +77,7 @@ fn read_root<F: TreeFiles>(
         FileRead::Missing => return Err(fault(reading.alloc, at, MacroKind::MissingFile)),
         FileRead::TooLong => return Err(fault(reading.alloc, at, MacroKind::TooMany)),
     };
-    if bytes.len() > MAX_BYTES {
+    if bytes.len() > MAX_TREE_BYTES {
         return Err(fault(reading.alloc, at, MacroKind::TooMany));
     }
     let paths = with_path(reading.alloc, root, &[])?;
@@ -113,7 +114,8 @@ fn read_tree(
 }
 
 /// The expansion of a tree by its first file: each line is written with the values of its macros, and a `source` line is
-/// followed where it is read. Each file is opened once at most. `answers` has the answers to the questions that macros ask.
+/// followed where it is read. Each file is opened once at most, and no tree has more than 4,096 expanded files. `answers` has
+/// the answers to the questions that macros ask.
 ///
 /// # Errors
 ///
@@ -126,6 +128,7 @@ pub fn expand<F: TreeFiles>(
 ) -> Result<Expansion, AllocError>
     ensures same { F.contents files.new ≡ F.contents files.old }
     ensures expanded { IfOk result (λ e. IsExpansion (F.contents files.old) answers.now root.now (map notice_of e.notices.items) (tree_of e.tree)) }
+    ensures few { IfOk result (λ e. IfOk e.tree (λ expanded. length expanded ≤ MAX_FILES)) }
 {
     let mut reading = new_reading(alloc, files.seed(), answers, true);
     let read = read_root(&mut reading, files, root);
@@ -157,7 +160,7 @@ fn wanted_by(
 }
 
 /// The questions without an answer that a reading of a tree meets, each once in order of first sight; where it meets none, its
-/// fault, if it has one. The reading goes on behind a question as far as nothing depends on its answer.
+/// fault, if it has one. The reading goes on after a question as far as nothing depends on its answer.
 ///
 /// # Errors
 ///

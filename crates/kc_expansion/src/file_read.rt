@@ -5,15 +5,10 @@ ghost use Rattle.kc_expansion.specs.between.KnownFiles.{MatchFile, content_of_re
 ghost use Rattle.kc_expansion.specs.checker.FileViews.{file_of};
 
 use super::files::TreeFiles;
+use super::limits::{MAX_BLOCK_BYTES, MAX_FILE_BYTES};
 use kc_value::Source;
 use std::alloc::{AllocError, Global};
 use std::rc::Rc;
-
-/// The most bytes of a file that are read: one more than a tree may have.
-const MAX_READ: usize = 67_108_865;
-
-/// How many bytes are read at once.
-const BLOCK: usize = 8192;
 
 /// A file is missing, has these bytes, or has more bytes than may be read.
 #[derive(Drop)]
@@ -23,19 +18,19 @@ pub(crate) enum FileRead {
     TooLong,
 }
 
-/// All bytes of a reader, or the first `MAX_READ` of more; nothing where a read fails. `room` is for how many bytes room is
-/// made at once.
+/// All bytes of a reader, or the first `MAX_FILE_BYTES` of more; nothing where a read fails. `room` is for how many bytes
+/// room is made at once, and `block` is read into.
 fn read_front<S: Source>(
     alloc: Global,
     source: &mut S,
     room: usize,
+    block: &mut [u8; MAX_BLOCK_BYTES],
 ) -> Result<Option<Vec<u8>>, AllocError>
-    ensures bytes { IfOk result (λ found. IfSome found (λ bytes. Consumes (S.left source.old) (S.left source.new) bytes.items × (length bytes.items ≤ MAX_READ) × ((length bytes.items ≡ MAX_READ) ⊎ IsAtEnd (S.left source.new)))) }
+    ensures bytes { IfOk result (λ found. IfSome found (λ bytes. Consumes (S.left source.old) (S.left source.new) bytes.items × (length bytes.items ≤ MAX_FILE_BYTES) × ((length bytes.items ≡ MAX_FILE_BYTES) ⊎ IsAtEnd (S.left source.new)))) }
 {
     let mut bytes = Vec::with_capacity(alloc, room)?;
-    let mut block = [0; BLOCK];
-    while bytes.len() < MAX_READ {
-        let most = (MAX_READ - bytes.len()).min(BLOCK);
+    while bytes.len() < MAX_FILE_BYTES {
+        let most = (MAX_FILE_BYTES - bytes.len()).min(MAX_BLOCK_BYTES);
         let Ok(count) = source.read_some(&mut block[..most]) else {
             return Ok(None);
         };
@@ -48,17 +43,22 @@ fn read_front<S: Source>(
 }
 
 /// What is read of a reader's bytes.
-fn read_bytes<S: Source>(alloc: Global, source: &mut S, room: usize) -> Result<FileRead, AllocError>
+fn read_bytes<S: Source>(
+    alloc: Global,
+    source: &mut S,
+    room: usize,
+    block: &mut [u8; MAX_BLOCK_BYTES],
+) -> Result<FileRead, AllocError>
     ensures { IfOk result (λ read. MatchFile (content_of_reader (S.left source.old)) (file_of read)) }
 {
-    match read_front(alloc, source, room)? {
+    match read_front(alloc, source, room, block)? {
         None => Ok(FileRead::Missing),
-        Some(bytes) if bytes.len() < MAX_READ => Ok(FileRead::Whole(Rc::new(alloc, bytes)?)),
+        Some(bytes) if bytes.len() < MAX_FILE_BYTES => Ok(FileRead::Whole(Rc::new(alloc, bytes)?)),
         Some(_) => Ok(FileRead::TooLong),
     }
 }
 
-/// What is read of the file of a path, which is opened.
+/// What is read of the file of a path, which is opened, by blocks of bytes.
 ///
 /// # Errors
 ///
@@ -67,14 +67,15 @@ pub(crate) fn read_file<F: TreeFiles>(
     alloc: Global,
     files: &mut F,
     path: &[u8],
+    block: &mut [u8; MAX_BLOCK_BYTES],
 ) -> Result<FileRead, AllocError>
     ensures same { F.contents files.new ≡ F.contents files.old }
     ensures matched { IfOk result (λ read. MatchFile ((F.contents files.old).file path.now) (file_of read)) }
 {
     match files.open(alloc, path)? {
         Some(mut reader) => {
-            let room = files.size_of(&reader).min(MAX_READ);
-            read_bytes(alloc, &mut reader, room)
+            let room = files.size_of(&reader).min(MAX_FILE_BYTES);
+            read_bytes(alloc, &mut reader, room, block)
         }
         None => Ok(FileRead::Missing),
     }

@@ -18,7 +18,7 @@ pub fn accepted_trees_stay()
 
 /// A tree that was expanded is given back when it is expanded again, if the reader accepts it: the files that the reader
 /// meets, and where it meets each, all of them. It may meet fewer: for example a blank line that the first expansion leaves
-/// behind a help text lets that go on.
+/// after a help text lets that go on.
 pub fn expanded_trees_stay()
     ensures met { ExpandedTreesStay }
     ensures all { WholeTreesStay }

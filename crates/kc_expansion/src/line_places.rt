@@ -5,6 +5,7 @@ ghost use Rattle.kc_macros_model.specs.TreeExpansion.{lines_written};
 ghost use Rattle.kc_expansion.specs.checker.LineViews.{is_first_continued, IsHelpPassed};
 ghost use Rattle.kc_expansion.specs.checker.WrittenViews.{text_up_to};
 
+use super::limits::MAX_TREE_BYTES;
 use super::written_file::WrittenFile;
 use kc_lines::{help_at, physical_at};
 use std::alloc::AllocError;
@@ -25,10 +26,10 @@ pub(crate) fn is_continued_at(bytes: &[u8], at: usize) -> bool
     line.ended && line.end > at && bytes[line.end - 1] == b'\\'
 }
 
-/// The place behind the help text that begins at a place.
-fn behind_text(bytes: &[u8], after: LineStart) -> LineStart
+/// The place after the help text that begins at a place.
+fn after_help_text(bytes: &[u8], after: LineStart) -> LineStart
     requires within { after.at ≤ length bytes.now }
-    requires small { length bytes.now ≤ 67108864 }
+    requires small { length bytes.now ≤ MAX_TREE_BYTES }
     requires few { after.number ≤ after.at + 1 }
     ensures { IsHelpPassed bytes.now after true result }
 {
@@ -39,15 +40,15 @@ fn behind_text(bytes: &[u8], after: LineStart) -> LineStart
     }
 }
 
-/// The place behind the help text that follows a line, if one does; `number` is that of the line after.
-pub(crate) fn behind_help(bytes: &[u8], after: LineStart, begins_help: bool) -> LineStart
+/// The place after the help text that follows a line, if one does; `after` is the place after the line.
+pub(crate) fn after_help(bytes: &[u8], after: LineStart, begins_help: bool) -> LineStart
     requires within { after.at ≤ length bytes.now }
-    requires small { length bytes.now ≤ 67108864 }
+    requires small { length bytes.now ≤ MAX_TREE_BYTES }
     requires few { after.number ≤ after.at + 1 }
     ensures { IsHelpPassed bytes.now after begins_help result }
 {
     if begins_help {
-        return behind_text(bytes, after);
+        return after_help_text(bytes, after);
     }
     after
 }

@@ -19,15 +19,13 @@ ghost use Rattle.kc_expansion.specs.checker.ReadingViews.{with_lines, step_left,
 
 use super::choice_names::ChoiceNames;
 use super::faults::fault;
+use super::limits::MAX_LINE_BYTES;
 use kc_macros::{
     Assignment, Bindings, LineContent, LineForm, MacroKind, Place, Run, SourceSort, Stop,
     WrittenToken, assign, is_help_line, is_undecided, line_bytes, line_form, read_line,
     with_bare_prompt, with_replacement, without_choice_name,
 };
 use std::alloc::{AllocError, Global};
-
-/// The most bytes of a line, before and after it is written.
-pub(crate) const MAX_LINE_BYTES: usize = 65_536;
 
 /// The state that lines act on: the run, the variables, and the names of choices.
 #[derive(Drop)]

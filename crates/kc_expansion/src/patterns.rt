@@ -10,9 +10,10 @@ ghost use Rattle.kc_expansion.specs.checker.FileViews.{known_of};
 ghost use Rattle.kc_expansion.specs.checker.PatternRuns.{found_of, slashed, IsCut, Finds, FindsMore};
 
 use super::files::TreeFiles;
+use super::limits::MAX_LISTED_NAMES;
 use super::matching::matches_name;
 use super::paths::is_pattern;
-use super::store::{MAX_LISTED_NAMES, Store};
+use super::store::Store;
 use std::alloc::{AllocError, Global};
 
 /// Paths, and how many names were listed for the tree so far.
@@ -176,7 +177,7 @@ fn cut_at_slash(path: &[u8]) -> Option<CutPath<'_>>
     }
 }
 
-/// Paths with a slash behind each.
+/// Paths with a slash after each.
 fn with_slashes(alloc: Global, paths: &[Vec<u8>]) -> Result<Vec<Vec<u8>>, AllocError>
     ensures { IfOk result (λ folders. texts_of folders ≡ map (λ path. path ++ 47 ∷ []) (items_of paths.now)) }
 {
@@ -197,7 +198,7 @@ fn root_folder(alloc: Global) -> Result<Vec<Vec<u8>>, AllocError>
     Ok(folders)
 }
 
-/// The folders that match a piece in some folders, with a slash behind each.
+/// The folders that match a piece in some folders, with a slash after each.
 fn folders_in_folders<F: TreeFiles>(
     alloc: Global,
     store: &mut Store,

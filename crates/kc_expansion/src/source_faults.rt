@@ -8,17 +8,9 @@ ghost use Rattle.kc_expansion.specs.checker.ReadingViews.{MayBeRead, MayNotBeRea
 ghost use Rattle.kc_expansion.specs.checker.Sizes.{size_fault};
 
 use super::file_read::FileRead;
+use super::limits::{MAX_FILES, MAX_OPEN_FILES, MAX_TREE_BYTES};
 use kc_macros_model::MacroKind;
 use std::rc::Rc;
-
-/// The most files that are read for a tree, lists of files among them.
-const MAX_FILES: usize = 4096;
-
-/// The most bytes that are read for a tree.
-pub(crate) const MAX_BYTES: usize = 67_108_864;
-
-/// The most files that are open within each other.
-const MAX_OPEN_FILES: usize = 32;
 
 /// How many files and bytes were read.
 #[derive(Clone, Copy)]
@@ -30,8 +22,8 @@ pub(crate) struct ReadCounts {
 impl ReadCounts {
     /// The counts with a file of this many bytes more.
     pub(crate) fn with(self, bytes: usize) -> ReadCounts
-        requires files { self.files < 4096 }
-        requires bytes { self.bytes + bytes ≤ 67108864 }
+        requires files { self.files < MAX_FILES }
+        requires bytes { self.bytes + bytes ≤ MAX_TREE_BYTES }
         ensures { result ≡ record { files = self.files + 1; bytes = self.bytes + bytes } }
     {
         ReadCounts {
@@ -59,7 +51,7 @@ fn is_open(open_files: &[&[u8]], path: &[u8]) -> bool
 fn is_too_many(counts: ReadCounts, bytes: usize) -> bool
     ensures { result ≡ (nat_le max_files counts.files || nat_lt max_bytes (counts.bytes + bytes)) }
 {
-    counts.files >= MAX_FILES || counts.bytes.saturating_add(bytes) > MAX_BYTES
+    counts.files >= MAX_FILES || counts.bytes.saturating_add(bytes) > MAX_TREE_BYTES
 }
 
 /// The fault of a file of this many bytes that isn't open, where so many files are open within each other.

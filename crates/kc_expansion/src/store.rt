@@ -9,18 +9,17 @@ use super::file_read::{FileRead, read_file};
 use super::file_table::FileTable;
 use super::files::TreeFiles;
 use super::folder_table::FolderTable;
+use super::limits::{MAX_BLOCK_BYTES, MAX_LISTED_NAMES};
 use kc_value::Seed;
 use std::alloc::{AllocError, Global};
 use std::rc::Rc;
 
-/// The most names of a folder that are listed.
-pub(crate) const MAX_LISTED_NAMES: usize = 1_048_576;
-
-/// What was read of paths and folders.
+/// What was read of paths and folders, and room for the bytes that are read at once.
 #[derive(Drop)]
 pub(crate) struct Store {
     files: FileTable,
     folders: FolderTable,
+    block: [u8; MAX_BLOCK_BYTES],
 }
 
 /// The same as what was read, without a copy of its bytes.
@@ -54,6 +53,7 @@ impl Store {
         Store {
             files: FileTable::new(alloc, seed),
             folders: FolderTable::new(alloc, seed),
+            block: [0; MAX_BLOCK_BYTES],
         }
     }
 
@@ -76,7 +76,7 @@ impl Store {
         if let Some(read) = self.files.get(path) {
             return shared(read);
         }
-        let read = read_file(alloc, files, path)?;
+        let read = read_file(alloc, files, path, &mut self.block)?;
         let kept = shared(&read)?;
         self.files.insert(path, kept)?;
         Ok(read)

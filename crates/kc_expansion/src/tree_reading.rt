@@ -17,12 +17,13 @@ ghost use Rattle.kc_expansion.specs.checker.WrittenViews.{text_up_to};
 use super::faults::fault;
 use super::file_read::FileRead;
 use super::files::TreeFiles;
-use super::kept_lines::stays;
-use super::line_places::{LineStart, behind_help, is_continued_at, write_over};
+use super::limits::{MAX_OPEN_FILES, MAX_TREE_BYTES};
+use super::line_places::{LineStart, after_help, is_continued_at, write_over};
 use super::line_steps::{LineStep, NewLine, SourceLine, line_step, short_line};
 use super::open_files::{OpenFiles, with_path};
 use super::paths::{has_bracket, list_name, path_meant};
 use super::reading::Reading;
+use super::same_lines::stays;
 use super::source_faults::bytes_to_read;
 use super::source_lines::push_source_line;
 use super::source_paths::paths_to_read;
@@ -40,7 +41,7 @@ fn read_source<F: TreeFiles>(
     at: Place<'_>,
     path: &[u8],
 ) -> Result<Vec<u8>, Stop>
-    requires { length opened.now.paths.now ≤ 32 }
+    requires { length opened.now.paths.now ≤ MAX_OPEN_FILES }
     ensures { Reads (file_run_of (F.contents files.old) reading.old) (file_run_of (F.contents files.new) reading.new) (reader_of opened.now (place_of at.entry) (one_file path.now) (state_of reading.old)) (end_of (λ key. progress key.items (state_of reading.new)) result) }
 {
     let read = reading.store.file(reading.alloc, files, path)?;
@@ -68,7 +69,7 @@ fn read_list<F: TreeFiles>(
     name: &[u8],
     paths: &[Vec<u8>],
 ) -> Result<Vec<u8>, Stop>
-    requires { length opened.now.paths.now ≤ 32 }
+    requires { length opened.now.paths.now ≤ MAX_OPEN_FILES }
     ensures { Reads (file_run_of (F.contents files.old) reading.old) (file_run_of (F.contents files.new) reading.new) (reader_of opened.now (place_of at.entry) (file_list name.now (items_of paths.now)) (state_of reading.old)) (end_of (λ key. progress key.items (state_of reading.new)) result) }
 {
     let empty = FileRead::Whole(Rc::new(reading.alloc, Vec::new(reading.alloc))?);
@@ -98,7 +99,7 @@ fn list_lines<F: TreeFiles>(
     at: Place<'_>,
     paths: &[Vec<u8>],
 ) -> Result<Vec<u8>, Stop>
-    requires { length opened.now.paths.now ≤ 32 }
+    requires { length opened.now.paths.now ≤ MAX_OPEN_FILES }
     ensures { Reads (file_run_of (F.contents files.old) reading.old) (file_run_of (F.contents files.new) reading.new) (list_read (reader_of opened.now) (place_of at.entry) (items_of paths.now) (state_of reading.old)) (end_of (λ text. progress text.items (state_of reading.new)) result) }
 {
     let mut text = Vec::new(reading.alloc);
@@ -119,7 +120,7 @@ fn read_path<F: TreeFiles>(
     sort: SourceSort,
     path: &[u8],
 ) -> Result<Vec<u8>, Stop>
-    requires { length opened.now.paths.now ≤ 32 }
+    requires { length opened.now.paths.now ≤ MAX_OPEN_FILES }
     ensures { Reads (file_run_of (F.contents files.old) reading.old) (file_run_of (F.contents files.new) reading.new) (path_read (reader_of opened.now) (place_of at.entry) (source_sort_of sort) path.now (state_of reading.old)) (end_of (λ key. progress key.items (state_of reading.new)) result) }
 {
     match paths_to_read(reading, files, at, sort, path)? {
@@ -140,7 +141,7 @@ fn follow_source<F: TreeFiles>(
     at: Place<'_>,
     line: &SourceLine,
 ) -> Result<Vec<u8>, Stop>
-    requires { length opened.now.paths.now ≤ 32 }
+    requires { length opened.now.paths.now ≤ MAX_OPEN_FILES }
     ensures { Reads (file_run_of (F.contents files.old) reading.old) (file_run_of (F.contents files.new) reading.new) (source_followed (reader_of opened.now) (place_of at.entry) (tokens_of line.now.tokens.items) (source_sort_of line.now.sort) (Some line.now.given.items) (state_of reading.old)) (end_of (λ text. progress text.items (state_of reading.new)) result) }
 {
     let path = path_meant(reading.alloc, line.sort.relative, at.file, &line.given)?;
@@ -161,7 +162,7 @@ fn write_line<F: TreeFiles>(
     joined: bool,
     text: &[u8],
 ) -> Result<NewLine, Stop>
-    requires few { length opened.now.paths.now ≤ 32 }
+    requires few { length opened.now.paths.now ≤ MAX_OPEN_FILES }
     requires may_change { (nat_lt max_text_bytes (length text.now) || not (is_utf8 text.now)) ≡ false }
     ensures { Reads (file_run_of (F.contents files.old) reading.old) (file_run_of (F.contents files.new) reading.new) (line_written (reader_of opened.now) (place_of at.entry) joined text.now (state_of reading.old)) (end_of (λ l. written_line l.text.items l.begins_help (state_of reading.new)) result) }
 {
@@ -174,7 +175,7 @@ fn write_line<F: TreeFiles>(
     }
 }
 
-/// Writes the logical line at a place; returns the place behind it and behind the help text that follows it.
+/// Writes the logical line at a place; returns the place after it and after the help text that follows it.
 #[cycle(reading)]
 fn next_line<F: TreeFiles>(
     reading: &mut Reading<'_>,
@@ -185,9 +186,9 @@ fn next_line<F: TreeFiles>(
     start: LineStart,
     out: &mut WrittenFile,
 ) -> Result<LineStart, Stop>
-    requires few { length opened.now.paths.now ≤ 32 }
+    requires few { length opened.now.paths.now ≤ MAX_OPEN_FILES }
     requires there { start.at < length bytes.now }
-    requires small { length bytes.now ≤ 67108864 }
+    requires small { length bytes.now ≤ MAX_TREE_BYTES }
     requires written { IsWrittenTo bytes.now start out.old }
     ensures written { IfOk result (λ next. IsWrittenTo bytes.now next out.new) }
     ensures forward { IfOk result (λ next. start.at < next.at) }
@@ -199,7 +200,7 @@ fn next_line<F: TreeFiles>(
         number: start.number + line.lines as u32,
     };
     if let Some(begins_help) = stays(&line.text) {
-        return Ok(behind_help(bytes, after, begins_help));
+        return Ok(after_help(bytes, after, begins_help));
     }
     let at = Place {
         file,
@@ -208,7 +209,7 @@ fn next_line<F: TreeFiles>(
     let joined = is_continued_at(bytes, start.at);
     let new = write_line(reading, files, opened, at, joined, &line.text)?;
     write_over(out, bytes, start.at, line.next, &line.text, &new.text)?;
-    Ok(behind_help(bytes, after, new.begins_help))
+    Ok(after_help(bytes, after, new.begins_help))
 }
 
 /// Writes the lines of a file with these bytes.
@@ -220,8 +221,8 @@ pub(crate) fn read_lines<F: TreeFiles>(
     file: &[u8],
     bytes: Rc<Vec<u8>>,
 ) -> Result<Rc<Vec<u8>>, Stop>
-    requires few { length opened.now.paths.now ≤ 32 }
-    requires small { length bytes.value.items ≤ 67108864 }
+    requires few { length opened.now.paths.now ≤ MAX_OPEN_FILES }
+    requires small { length bytes.value.items ≤ MAX_TREE_BYTES }
     ensures { Reads (file_run_of (F.contents files.old) reading.old) (file_run_of (F.contents files.new) reading.new) (lines_read (reader_of opened.now) file.now 0 1 (split_at_newlines bytes.value.items) (state_of reading.old)) (end_of (λ text. progress text.value.items (state_of reading.new)) result) }
 {
     let mut out = WrittenFile::new(reading.alloc, bytes.clone()?);

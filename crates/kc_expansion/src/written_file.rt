@@ -46,7 +46,7 @@ impl WrittenFile {
         }
     }
 
-    /// Replaces the bytes between two places behind those that were replaced before by a text and newlines.
+    /// Replaces the bytes between two places, after those that were replaced before, by a text and newlines.
     ///
     /// # Errors
     ///

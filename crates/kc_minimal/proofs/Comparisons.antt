@@ -1,5 +1,5 @@
 -- The differences of two configurations.
-use Rattle.std.proofs.Common.{◌≡◌, ◌↔◌, ℕ, true, IsTrue, List, [], ◌∷◌, length, map, refl, sym, ◌∙◌, ap, subst}
+use Rattle.std.proofs.Common.{◌≡◌, ◌↔◌, true, IsTrue, List, [], ◌∷◌, length, map, refl, sym, ◌∙◌, ap, subst}
 use Rattle.kc_tree_model.specs.Trees.{Tree}
 use Rattle.kc_system.specs.Solutions.{UniquelySolves, FitsUsers}
 use Rattle.kc_rules_model.specs.declared.profile.Profile.{Profile}
@@ -8,6 +8,7 @@ use Rattle.kc_rules_model.specs.Shapes.{user_fits}
 use Rattle.kc_rules_model.specs.declared.values.UnitValue.{UnitValue}
 use Rattle.kc_rules.specs.declared.rules.Settled.{Settled}
 use Rattle.kc_rules.specs.between.SettledViews.{tree_of_settled, profile_of}
+use Rattle.kc_dotconfig_model.specs.Formats.{FileFormat}
 use Rattle.kc_dotconfig_model.specs.PrefixGrammar.{is_prefix}
 use Rattle.kc_dotconfig.specs.Configured.{Configured, tree_in, IsSolved}
 use Rattle.kc_minimal_model.specs.MinimalFile.{minimal_file}
@@ -22,13 +23,13 @@ no_difference [] e = refl
 no_difference (d ∷ ds) e = cc
 
 pub compared : DifferencesDecideMinimalFiles → (l r : Configured) → IsSolved l → IsSolved r → tree_in l ≡ tree_in r → profile_of l.system ≡ profile_of r.system
-    → (found : List DifferenceOfCode) → found ≡ map difference_view (differences (tree_in l) l.values r.values) → (prefix : List ℕ) → is_prefix prefix ≡ true
-    → (found ≡ []) ↔ (minimal_file prefix (profile_of l.system) (tree_in l) l.values ≡ minimal_file prefix (profile_of l.system) (tree_in l) r.values)
-compared law l r solved other tree profile found is prefix valid =
+    → (found : List DifferenceOfCode) → found ≡ map difference_view (differences (tree_in l) l.values r.values) → (format : FileFormat) → is_prefix format.prefix ≡ true
+    → (found ≡ []) ↔ (minimal_file format (profile_of l.system) (tree_in l) l.values ≡ minimal_file format (profile_of l.system) (tree_in l) r.values)
+compared law l r solved other tree profile found is format valid =
     let fits = subst (λ (t : Tree). FitsUsers (length t.units) (λ u x. IsTrue (user_fits t u x)) r.users) (sym tree) other.fits in
     let gives = subst (λ (p : Profile). UniquelySolves (length (tree_in l).units) (rule p (tree_in l)) r.users r.values) (sym profile)
     (subst (λ (t : Tree). UniquelySolves (length t.units) (rule (profile_of r.system) t) r.users r.values) (sym tree) other.gives) in
-    let both = law prefix (profile_of l.system) (tree_in l) l.users r.users l.values r.values valid solved.settled solved.fits fits solved.gives gives in
+    let both = law format (profile_of l.system) (tree_in l) l.users r.users l.values r.values valid solved.settled solved.fits fits solved.gives gives in
     (λ none. both.0 (no_difference (differences (tree_in l) l.values r.values) (sym is ∙ none)), λ same. is ∙ ap (map difference_view) (both.1 same))
 
 -- the differences of equal trees and values

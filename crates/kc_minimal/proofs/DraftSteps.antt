@@ -16,6 +16,7 @@ use Rattle.kc_minimal_model.specs.between.EntryTexts.{entry_texts}
 use Rattle.kc_minimal_model.proofs.EntryTexts.{full_file_by_entry}
 use Rattle.kc_minimal.specs.declared.full.Draft.{Draft}
 use Rattle.kc_minimal.specs.checker.Drafts.{IsDraft}
+use Rattle.kc_dotconfig_model.specs.Formats.{FileFormat}
 
 -- what is written where it is shown, with whether an end line came last
 shown_or_not : (shown : Bool) (added : List ℕ) (rest : Bool → List ℕ) (behind before : Bool)
@@ -23,49 +24,49 @@ shown_or_not : (shown : Bool) (added : List ℕ) (rest : Bool → List ℕ) (beh
 shown_or_not true added rest behind before = refl
 shown_or_not false added rest behind before = refl
 
-module _ (prefix : List ℕ) (tree : Tree) (values : List UnitValue) (left : List Entry) (old new : Draft) where
+module _ (format : FileFormat) (tree : Tree) (values : List UnitValue) (left : List Entry) (old new : Draft) where
   -- what an entry that defines no symbol appends, if it is shown
   appended : (entry : Entry) (added : List ℕ) (gap shown : Bool)
-      → ((seen : List ℕ) → entry_texts prefix tree values seen old.gap (entry ∷ left) ≡ cond shown (added ++ entry_texts prefix tree values seen gap left)
-      (entry_texts prefix tree values seen old.gap left))
+      → ((seen : List ℕ) → entry_texts format tree values seen old.gap (entry ∷ left) ≡ cond shown (added ++ entry_texts format tree values seen gap left)
+      (entry_texts format tree values seen old.gap left))
       → new.text.items ≡ old.text.items ++ cond shown added [] → new.gap ≡ cond shown gap old.gap → new.defined.items ≡ old.defined.items
-      → IsDraft prefix tree values (entry ∷ left) old → IsDraft prefix tree values left new
+      → IsDraft format tree values (entry ∷ left) old → IsDraft format tree values left new
   appended entry added gap shown adds text behind defined d =
       let written = cond shown added [] in
       record {
         seen = d.seen;
         marked = λ s b. ap (λ ds. slice_index_or ds s false) defined ∙ d.marked s b;
-        whole = ap (λ t. t ++ entry_texts prefix tree values d.seen new.gap left) text
-            ∙ append_assoc old.text.items written (entry_texts prefix tree values d.seen new.gap left)
-            ∙ ap (λ g. old.text.items ++ (written ++ entry_texts prefix tree values d.seen g left)) behind
-            ∙ sym (ap (λ p. old.text.items ++ p) (adds d.seen ∙ shown_or_not shown added (λ g. entry_texts prefix tree values d.seen g left) gap old.gap))
+        whole = ap (λ t. t ++ entry_texts format tree values d.seen new.gap left) text
+            ∙ append_assoc old.text.items written (entry_texts format tree values d.seen new.gap left)
+            ∙ ap (λ g. old.text.items ++ (written ++ entry_texts format tree values d.seen g left)) behind
+            ∙ sym (ap (λ p. old.text.items ++ p) (adds d.seen ∙ shown_or_not shown added (λ g. entry_texts format tree values d.seen g left) gap old.gap))
             ∙ d.whole;
       }
 
   pub menu_begun : (title : List ℕ) (dependency visible : Expr) (shown : Bool) → shown ≡ (applies tree values dependency && applies tree values visible)
-      → new.text.items ≡ old.text.items ++ cond shown (heading prefix title) [] → new.gap ≡ cond shown false old.gap → new.defined.items ≡ old.defined.items
-      → IsDraft prefix tree values (menu_begins title dependency visible ∷ left) old → IsDraft prefix tree values left new
-  menu_begun title dependency visible shown e = appended (menu_begins title dependency visible) (heading prefix title) false shown
-      (λ seen. sym (ap (λ t. cond t (heading prefix title ++ entry_texts prefix tree values seen false left) (entry_texts prefix tree values seen old.gap left))
+      → new.text.items ≡ old.text.items ++ cond shown (heading format.prefix title) [] → new.gap ≡ cond shown false old.gap → new.defined.items ≡ old.defined.items
+      → IsDraft format tree values (menu_begins title dependency visible ∷ left) old → IsDraft format tree values left new
+  menu_begun title dependency visible shown e = appended (menu_begins title dependency visible) (heading format.prefix title) false shown
+      (λ seen. sym (ap (λ t. cond t (heading format.prefix title ++ entry_texts format tree values seen false left) (entry_texts format tree values seen old.gap left))
       e))
 
   pub menu_ended : (title : List ℕ) (dependency visible : Expr) (shown : Bool) → shown ≡ (applies tree values dependency && applies tree values visible)
       → new.text.items ≡ old.text.items ++ cond shown (end_line title) [] → new.gap ≡ cond shown true old.gap → new.defined.items ≡ old.defined.items
-      → IsDraft prefix tree values (menu_ends title dependency visible ∷ left) old → IsDraft prefix tree values left new
+      → IsDraft format tree values (menu_ends title dependency visible ∷ left) old → IsDraft format tree values left new
   menu_ended title dependency visible shown e = appended (menu_ends title dependency visible) (end_line title) true shown
-      (λ seen. sym (ap (λ t. cond t (end_line title ++ entry_texts prefix tree values seen true left) (entry_texts prefix tree values seen old.gap left)) e))
+      (λ seen. sym (ap (λ t. cond t (end_line title ++ entry_texts format tree values seen true left) (entry_texts format tree values seen old.gap left)) e))
 
   pub commented : (title : List ℕ) (dependency : Expr) (shown : Bool) → shown ≡ applies tree values dependency
-      → new.text.items ≡ old.text.items ++ cond shown (heading prefix title) [] → new.gap ≡ cond shown false old.gap → new.defined.items ≡ old.defined.items
-      → IsDraft prefix tree values (comment title dependency ∷ left) old → IsDraft prefix tree values left new
-  commented title dependency shown e = appended (comment title dependency) (heading prefix title) false shown
-      (λ seen. sym (ap (λ t. cond t (heading prefix title ++ entry_texts prefix tree values seen false left) (entry_texts prefix tree values seen old.gap left))
+      → new.text.items ≡ old.text.items ++ cond shown (heading format.prefix title) [] → new.gap ≡ cond shown false old.gap → new.defined.items ≡ old.defined.items
+      → IsDraft format tree values (comment title dependency ∷ left) old → IsDraft format tree values left new
+  commented title dependency shown e = appended (comment title dependency) (heading format.prefix title) false shown
+      (λ seen. sym (ap (λ t. cond t (heading format.prefix title ++ entry_texts format tree values seen false left) (entry_texts format tree values seen old.gap left))
       e))
 
 -- a choice writes nothing
-pub choice_passed : (prefix : List ℕ) (tree : Tree) (values : List UnitValue) (left : List Entry) (draft : Draft) (c : ℕ)
-    → IsDraft prefix tree values (choice_begins c ∷ left) draft → IsDraft prefix tree values left draft
-choice_passed prefix tree values left draft c d = record { seen = d.seen; marked = d.marked; whole = d.whole }
+pub choice_passed : (format : FileFormat) (tree : Tree) (values : List UnitValue) (left : List Entry) (draft : Draft) (c : ℕ)
+    → IsDraft format tree values (choice_begins c ∷ left) draft → IsDraft format tree values left draft
+choice_passed format tree values left draft c d = record { seen = d.seen; marked = d.marked; whole = d.whole }
 
 -- one symbol more is marked
 marked_more : (n : ℕ) (xs : List Bool) (seen : List ℕ) (s : ℕ) → s < length xs → ((t : ℕ) → t < n → slice_index_or xs t false ≡ list_any (nat_eq t) seen)
@@ -78,47 +79,47 @@ marked_more n xs seen s below marks t within = elim (cases_Bool (nat_eq t s)) [
       get_or-set_other xs s t true false (λ e. false≢true (sym other ∙ eq-eqb t s e)) ∙ marks t within ∙ sym (ap (λ b. b || list_any (nat_eq t) seen) other)
 ]
 
-module _ (prefix : List ℕ) (tree : Tree) (values : List UnitValue) (left : List Entry) (old new : Draft) (s : ℕ) (there : s < length tree.symbols) (marks : length old.defined.items ≡ length tree.symbols)
+module _ (format : FileFormat) (tree : Tree) (values : List UnitValue) (left : List Entry) (old new : Draft) (s : ℕ) (there : s < length tree.symbols) (marks : length old.defined.items ≡ length tree.symbols)
     (defined : new.defined.items ≡ slice_set old.defined.items s true) where
-  marked_now : (d : IsDraft prefix tree values (definition s ∷ left) old) (t : ℕ) → t < length tree.symbols
+  marked_now : (d : IsDraft format tree values (definition s ∷ left) old) (t : ℕ) → t < length tree.symbols
       → slice_index_or new.defined.items t false ≡ list_any (nat_eq t) (s ∷ d.seen)
   marked_now d t within =
       ap (λ ds. slice_index_or ds t false) defined ∙ marked_more (length tree.symbols) old.defined.items d.seen s (omega (arith, marks, there)) d.marked t
       within
 
   -- a definition is written if no mark has its symbol
-  definition_pieces : (d : IsDraft prefix tree values (definition s ∷ left) old) (b : Bool)
+  definition_pieces : (d : IsDraft format tree values (definition s ∷ left) old) (b : Bool)
       → (is_written tree values s && not (slice_index_or old.defined.items s false)) ≡ b
-      → entry_texts prefix tree values d.seen old.gap (definition s ∷ left)
-      ≡ cond b (cond old.gap (10 ∷ ended_line prefix tree values s) (ended_line prefix tree values s) ++ entry_texts prefix tree values (s ∷ d.seen) false left)
-      (entry_texts prefix tree values (s ∷ d.seen) old.gap left)
+      → entry_texts format tree values d.seen old.gap (definition s ∷ left)
+      ≡ cond b (cond old.gap (10 ∷ ended_line format tree values s) (ended_line format tree values s) ++ entry_texts format tree values (s ∷ d.seen) false left)
+      (entry_texts format tree values (s ∷ d.seen) old.gap left)
   definition_pieces d b e =
-      ap (λ t. cond t (cond old.gap (10 ∷ ended_line prefix tree values s) (ended_line prefix tree values s) ++ entry_texts prefix tree values (s ∷ d.seen)
-      false left) (entry_texts prefix tree values (s ∷ d.seen) old.gap left))
+      ap (λ t. cond t (cond old.gap (10 ∷ ended_line format tree values s) (ended_line format tree values s) ++ entry_texts format tree values (s ∷ d.seen)
+      false left) (entry_texts format tree values (s ∷ d.seen) old.gap left))
       (ap (λ m. is_written tree values s && not m) (sym (d.marked s there)) ∙ e)
 
   pub symbol_passed : (is_written tree values s && not (slice_index_or old.defined.items s false)) ≡ false → new.text.items ≡ old.text.items → new.gap ≡ old.gap
-      → IsDraft prefix tree values (definition s ∷ left) old → IsDraft prefix tree values left new
+      → IsDraft format tree values (definition s ∷ left) old → IsDraft format tree values left new
   symbol_passed e text gap d = record {
     seen = s ∷ d.seen;
     marked = marked_now d;
     whole =
-        ap (λ t. t ++ entry_texts prefix tree values (s ∷ d.seen) new.gap left) text
-        ∙ ap (λ g. old.text.items ++ entry_texts prefix tree values (s ∷ d.seen) g left) gap
+        ap (λ t. t ++ entry_texts format tree values (s ∷ d.seen) new.gap left) text
+        ∙ ap (λ g. old.text.items ++ entry_texts format tree values (s ∷ d.seen) g left) gap
         ∙ sym (ap (λ p. old.text.items ++ p) (definition_pieces d false e)) ∙ d.whole;
   }
 
   pub symbol_written : (is_written tree values s && not (slice_index_or old.defined.items s false)) ≡ true
-      → new.text.items ≡ old.text.items ++ cond old.gap (10 ∷ ended_line prefix tree values s) (ended_line prefix tree values s) → new.gap ≡ false
-      → IsDraft prefix tree values (definition s ∷ left) old → IsDraft prefix tree values left new
+      → new.text.items ≡ old.text.items ++ cond old.gap (10 ∷ ended_line format tree values s) (ended_line format tree values s) → new.gap ≡ false
+      → IsDraft format tree values (definition s ∷ left) old → IsDraft format tree values left new
   symbol_written e text gap d =
-      let written = cond old.gap (10 ∷ ended_line prefix tree values s) (ended_line prefix tree values s) in
+      let written = cond old.gap (10 ∷ ended_line format tree values s) (ended_line format tree values s) in
       record {
         seen = s ∷ d.seen;
         marked = marked_now d;
-        whole = ap (λ t. t ++ entry_texts prefix tree values (s ∷ d.seen) new.gap left) text
-            ∙ append_assoc old.text.items written (entry_texts prefix tree values (s ∷ d.seen) new.gap left)
-            ∙ ap (λ g. old.text.items ++ (written ++ entry_texts prefix tree values (s ∷ d.seen) g left)) gap
+        whole = ap (λ t. t ++ entry_texts format tree values (s ∷ d.seen) new.gap left) text
+            ∙ append_assoc old.text.items written (entry_texts format tree values (s ∷ d.seen) new.gap left)
+            ∙ ap (λ g. old.text.items ++ (written ++ entry_texts format tree values (s ∷ d.seen) g left)) gap
             ∙ sym (ap (λ p. old.text.items ++ p) (definition_pieces d true e)) ∙ d.whole;
       }
 
@@ -130,17 +131,17 @@ next_left entries i entry at =
     (sym (unwrap_or-slice_get entries i entry) ∙ ap (λ o. unwrap_or o entry) at) ∙ ap (λ k. entry ∷ drop k entries) next
 
 -- nothing is written before the first entry
-pub begun : (prefix : List ℕ) (tree : Tree) (values : List UnitValue) (draft : Draft) → draft.text.items ≡ []
-    → draft.defined.items ≡ replicate (length tree.symbols) false → draft.gap ≡ false → IsDraft prefix tree values tree.entries draft
-begun prefix tree values draft text defined gap = record {
+pub begun : (format : FileFormat) (tree : Tree) (values : List UnitValue) (draft : Draft) → draft.text.items ≡ []
+    → draft.defined.items ≡ replicate (length tree.symbols) false → draft.gap ≡ false → IsDraft format tree values tree.entries draft
+begun format tree values draft text defined gap = record {
   seen = [];
   marked = λ s b. ap (λ ds. slice_index_or ds s false) defined ∙ get_or-replicate (length tree.symbols) s false false b;
-  whole = ap (λ t. t ++ entry_texts prefix tree values [] draft.gap tree.entries) text ∙ ap (λ g. entry_texts prefix tree values [] g tree.entries) gap
-      ∙ sym (full_file_by_entry prefix tree values);
+  whole = ap (λ t. t ++ entry_texts format tree values [] draft.gap tree.entries) text ∙ ap (λ g. entry_texts format tree values [] g tree.entries) gap
+      ∙ sym (full_file_by_entry format tree values);
 }
 
 -- and all after the last
-pub written : (prefix : List ℕ) (tree : Tree) (values : List UnitValue) (draft : Draft) (left : List Entry) → left ≡ [] → IsDraft prefix tree values left draft
-    → draft.text.items ≡ full_file prefix tree values
-written prefix tree values draft left none d =
-    sym (append-nil draft.text.items) ∙ sym (ap (λ l. draft.text.items ++ entry_texts prefix tree values d.seen draft.gap l) none) ∙ d.whole
+pub written : (format : FileFormat) (tree : Tree) (values : List UnitValue) (draft : Draft) (left : List Entry) → left ≡ [] → IsDraft format tree values left draft
+    → draft.text.items ≡ full_file format tree values
+written format tree values draft left none d =
+    sym (append-nil draft.text.items) ∙ sym (ap (λ l. draft.text.items ++ entry_texts format tree values d.seen draft.gap l) none) ∙ d.whole

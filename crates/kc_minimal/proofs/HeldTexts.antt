@@ -3,6 +3,7 @@ use Rattle.std.proofs.Common.{◌≡◌, ◌≤◌, ℕ, true, List, length, sym
 use Rattle.kc_rules_model.specs.declared.values.UnitValue.{UnitValue}
 use Rattle.kc_rules.specs.declared.rules.Settled.{Settled}
 use Rattle.kc_rules.specs.between.SettledViews.{tree_of_settled, profile_of}
+use Rattle.kc_dotconfig_model.specs.Formats.{FileFormat}
 use Rattle.kc_dotconfig_model.specs.PrefixGrammar.{is_prefix}
 use Rattle.kc_dotconfig_model.specs.ConfigFiles.{file_lines}
 use Rattle.kc_value.specs.declared.limits.TheConstants.{MAX_CONFIG_BYTES, MAX_CONFIG_LINES}
@@ -14,28 +15,28 @@ use Rattle.kc_minimal_model.specs.Loading.{ReadsTo, Loads, has_short_lines}
 use Rattle.kc_minimal_model.specs.MinimalFile.{minimal_file}
 use Rattle.kc_minimal_model.specs.CanonicalText.{IsCanonicalText, MinimalTextsAreCanonical}
 
-module _ (prefix : List ℕ) (valid : is_prefix prefix ≡ true) (held : Configured) (solved : IsSolved held) (settled : Settled) (values : List UnitValue) (same : settled ≡ held.system) (same_values : values ≡ held.values) (text : List ℕ) where
-  pub minimal_held : MinimalTextsAreCanonical → text ≡ minimal_file prefix (profile_of settled) (tree_of_settled settled) values
-      → IsCanonicalText prefix (profile_of held.system) (tree_in held) held.values text
+module _ (format : FileFormat) (valid : is_prefix format.prefix ≡ true) (held : Configured) (solved : IsSolved held) (settled : Settled) (values : List UnitValue) (same : settled ≡ held.system) (same_values : values ≡ held.values) (text : List ℕ) where
+  pub minimal_held : MinimalTextsAreCanonical → text ≡ minimal_file format (profile_of settled) (tree_of_settled settled) values
+      → IsCanonicalText format (profile_of held.system) (tree_in held) held.values text
   minimal_held law is =
-      let e = is ∙ ap (λ s. minimal_file prefix (profile_of s) (tree_of_settled s) values) same
-      ∙ ap (minimal_file prefix (profile_of held.system) (tree_in held)) same_values in
-      subst (IsCanonicalText prefix (profile_of held.system) (tree_in held) held.values) (sym e)
-      (law prefix (profile_of held.system) (tree_in held) held.users held.values valid solved.settled solved.fits solved.gives.solves)
+      let e = is ∙ ap (λ s. minimal_file format (profile_of s) (tree_of_settled s) values) same
+      ∙ ap (minimal_file format (profile_of held.system) (tree_in held)) same_values in
+      subst (IsCanonicalText format (profile_of held.system) (tree_in held) held.values) (sym e)
+      (law format (profile_of held.system) (tree_in held) held.users held.values valid solved.settled solved.fits solved.gives.solves)
 
-  pub full_held : text ≡ full_file prefix (tree_of_settled settled) values → text ≡ full_file prefix (tree_in held) held.values
-  full_held is = is ∙ ap (λ s. full_file prefix (tree_of_settled s) values) same ∙ ap (full_file prefix (tree_in held)) same_values
+  pub full_held : text ≡ full_file format (tree_of_settled settled) values → text ≡ full_file format (tree_in held) held.values
+  full_held is = is ∙ ap (λ s. full_file format (tree_of_settled s) values) same ∙ ap (full_file format (tree_in held)) same_values
 
-  pub full_back : FullFilesLeadBack → text ≡ full_file prefix (tree_of_settled settled) values → IsUnlifted (profile_of held.system) (tree_in held) held.values
-      → ReadsTo prefix (profile_of held.system) (tree_in held) text held.values
+  pub full_back : FullFilesLeadBack → text ≡ full_file format (tree_of_settled settled) values → IsUnlifted (profile_of held.system) (tree_in held) held.values
+      → ReadsTo format (profile_of held.system) (tree_in held) text held.values
   full_back law is unlifted =
-      subst (λ t. ReadsTo prefix (profile_of held.system) (tree_in held) t held.values) (sym (full_held is))
-      (law prefix (profile_of held.system) (tree_in held) held.users held.values valid solved.settled solved.fits solved.gives unlifted)
+      subst (λ t. ReadsTo format (profile_of held.system) (tree_in held) t held.values) (sym (full_held is))
+      (law format (profile_of held.system) (tree_in held) held.users held.values valid solved.settled solved.fits solved.gives unlifted)
 
-  pub full_accepted : FullFilesLeadBack → ReadFilesAreAccepted → text ≡ full_file prefix (tree_of_settled settled) values
+  pub full_accepted : FullFilesLeadBack → ReadFilesAreAccepted → text ≡ full_file format (tree_of_settled settled) values
       → IsUnlifted (profile_of held.system) (tree_in held) held.values
       → length text ≤ MAX_CONFIG_BYTES → length (file_lines text) ≤ MAX_CONFIG_LINES → has_short_lines text ≡ true
-      → Loads prefix (profile_of held.system) (tree_in held) text held.values
+      → Loads format (profile_of held.system) (tree_in held) text held.values
   full_accepted law accepts is unlifted small few short =
       let back = full_back law is unlifted in
-      record { accepted = accepts prefix (profile_of held.system) (tree_in held) text held.values back small few short; reads = back }
+      record { accepted = accepts format (profile_of held.system) (tree_in held) text held.values back small few short; reads = back }

@@ -6,6 +6,7 @@ use Rattle.kc_system.specs.Solutions.{UniquelySolves}
 use Rattle.kc_rules_model.specs.declared.profile.Profile.{Profile}
 use Rattle.kc_rules_model.specs.declared.values.UnitValue.{UnitValue}
 use Rattle.kc_rules_model.specs.Rule.{rule}
+use Rattle.kc_dotconfig_model.specs.Formats.{FileFormat}
 use Rattle.kc_dotconfig_model.specs.PrefixGrammar.{is_prefix}
 use Rattle.kc_dotconfig_model.proofs.AcceptedLines.{accepted_utf8}
 use Rattle.kc_dotconfig.specs.declared.fragment.Fragment.{Fragment}
@@ -15,15 +16,15 @@ use Rattle.kc_minimal_model.specs.CanonicalText.{IsCanonicalText}
 use Rattle.kc_minimal_model.specs.Loading.{Loads}
 use Rattle.kc_minimal.specs.Minimised.{IsMinimised, IsCutOff}
 
-module _ (prefix : List ℕ) (valid : is_prefix prefix ≡ true) (profile : Profile) (tree : Tree)
-    (before after : Option (List ℕ)) (f : Fragment) (read : IsReadAs prefix tree before after f) (values : List UnitValue) (text : List ℕ)
+module _ (format : FileFormat) (valid : is_prefix format.prefix ≡ true) (profile : Profile) (tree : Tree)
+    (before after : Option (List ℕ)) (f : Fragment) (read : IsReadAs format tree before after f) (values : List UnitValue) (text : List ℕ)
     (gives : UniquelySolves (length tree.units) (rule profile tree) (users_of tree f.assigns.items) values)
-    (canonical : IsCanonicalText prefix profile tree values text) where
-  abbrev loaded : Loads prefix profile tree read.known values
+    (canonical : IsCanonicalText format profile tree values text) where
+  abbrev loaded : Loads format profile tree read.known values
   loaded = record {
     accepted = read.accepted;
     reads = record {
-      utf8 = accepted_utf8 prefix tree read.known valid read.accepted;
+      utf8 = accepted_utf8 format tree read.known valid read.accepted;
       meanings = read.meanings;
       says = read.says;
       gives = subst (λ users. UniquelySolves (length tree.units) (rule profile tree) users values) read.users gives;
@@ -32,7 +33,7 @@ module _ (prefix : List ℕ) (valid : is_prefix prefix ≡ true) (profile : Prof
 
   -- written whole
   pub minimised : (taken taken_after : Option (List ℕ)) → Appends taken taken_after text
-      → IsMinimised prefix profile tree before after taken taken_after f.notices.items
+      → IsMinimised format profile tree before after taken taken_after f.notices.items
   minimised taken taken_after written = record {
     known = read.known;
     consumed = read.consumed;
@@ -48,7 +49,7 @@ module _ (prefix : List ℕ) (valid : is_prefix prefix ≡ true) (profile : Prof
   -- and in part
   pub cut_off : (taken taken_after : Option (List ℕ)) (failed failed_after written : ℕ) → written < length text → Appends taken taken_after (take written text)
       → (failed < 2 ^ 64 - 1 → failed < failed_after)
-      → IsCutOff prefix profile tree before after taken taken_after failed failed_after written
+      → IsCutOff format profile tree before after taken taken_after failed failed_after written
   cut_off taken taken_after failed failed_after written part took rose = record {
     known = read.known;
     consumed = read.consumed;

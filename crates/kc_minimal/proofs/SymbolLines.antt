@@ -7,16 +7,17 @@ use Rattle.kc_tree_model.specs.Trees.{Tree, Symbol}
 use Rattle.kc_rules_model.specs.declared.values.UnitValue.{UnitValue}
 use Rattle.kc_rules_model.specs.SymbolValues.{value_of_symbol}
 use Rattle.kc_minimal_model.specs.Spelling.{line_with, line_of_value, symbol_line}
+use Rattle.kc_dotconfig_model.specs.Formats.{FileFormat}
 
-by_symbol : (prefix : List ℕ) (o : Option Symbol) (q : Option SymbolValue) (name : List ℕ) (seen : SymbolValue)
-    → option_map (λ (t : Symbol). t.name) o ≡ Some name → q ≡ Some seen → line_of_value prefix o q ≡ line_with prefix name seen
-by_symbol prefix None q name seen en es = cc
-by_symbol prefix (Some symbol) q name seen en es =
+by_symbol : (format : FileFormat) (o : Option Symbol) (q : Option SymbolValue) (name : List ℕ) (seen : SymbolValue)
+    → option_map (λ (t : Symbol). t.name) o ≡ Some name → q ≡ Some seen → line_of_value format o q ≡ line_with format name seen
+by_symbol format None q name seen en es = cc
+by_symbol format (Some symbol) q name seen en es =
     let same : symbol.name ≡ name = cc in
-    ap (line_of_value prefix (Some symbol)) es ∙ ap (λ n. line_with prefix n seen) same
+    ap (line_of_value format (Some symbol)) es ∙ ap (λ n. line_with format n seen) same
 
-pub line_of : (prefix : List ℕ) (tree : Tree) (values : List UnitValue) (s : ℕ) (name : List ℕ) (seen : SymbolValue)
+pub line_of : (format : FileFormat) (tree : Tree) (values : List UnitValue) (s : ℕ) (name : List ℕ) (seen : SymbolValue)
     → option_map (λ (t : Symbol). t.name) (slice_get tree.symbols s) ≡ Some name → value_of_symbol tree values s ≡ Some seen
-    → symbol_line prefix tree values s ≡ line_with prefix name seen
+    → symbol_line format tree values s ≡ line_with format name seen
 unfolding symbol_line
-line_of prefix tree values s name seen en es = by_symbol prefix (slice_get tree.symbols s) (value_of_symbol tree values s) name seen en es
+line_of format tree values s name seen en es = by_symbol format (slice_get tree.symbols s) (value_of_symbol tree values s) name seen en es

@@ -4,6 +4,7 @@ use Rattle.std.specs.Io.KnownBytes.{Consumes, IsAtEnd, Appends, Keeps}
 use Rattle.kc_tree_model.specs.Trees.{Tree}
 use Rattle.kc_rules_model.specs.declared.profile.Profile.{Profile}
 use Rattle.kc_rules_model.specs.declared.values.UnitValue.{UnitValue}
+use Rattle.kc_dotconfig_model.specs.Formats.{FileFormat}
 use Rattle.kc_dotconfig_model.specs.declared.notice.Notice.{Notice}
 use Rattle.kc_dotconfig_model.specs.ConfigFiles.{notices_from}
 use Rattle.kc_dotconfig.specs.Fragments.{notice_pair}
@@ -15,38 +16,38 @@ use Rattle.kc_minimal_model.specs.CanonicalText.{IsCanonicalText}
 use Rattle.kc_minimal_model.specs.Loading.{Loads}
 
 -- The bytes of a reader are minimised to a writer.
-pub record IsMinimised (prefix : List ℕ) (profile : Profile) (tree : Tree) (before after taken taken_after : Option (List ℕ)) (notices : List Notice) : Type 0 where
+pub record IsMinimised (format : FileFormat) (profile : Profile) (tree : Tree) (before after taken taken_after : Option (List ℕ)) (notices : List Notice) : Type 0 where
   -- the bytes that the reader supplied, to its end
   pub known : List ℕ
   pub consumed : Consumes before after known
   pub ended : IsAtEnd after
   -- they are an accepted file, which gives these values and no others
   pub values : List UnitValue
-  pub loads : Loads prefix profile tree known values
+  pub loads : Loads format profile tree known values
   -- the notices of its lines
   pub noted : map notice_pair notices ≡ notices_from 1 loads.reads.meanings
   -- the writer took this text and nothing else
   pub text : List ℕ
   pub written : Appends taken taken_after text
   -- it is the canonical file of the values
-  pub canonical : IsCanonicalText prefix profile tree values text
+  pub canonical : IsCanonicalText format profile tree values text
 
 -- A write failed after a part of the minimal file of an accepted file.
-pub record IsCutOff (prefix : List ℕ) (profile : Profile) (tree : Tree) (before after taken taken_after : Option (List ℕ)) (failed failed_after written : ℕ) : Type 0 where
+pub record IsCutOff (format : FileFormat) (profile : Profile) (tree : Tree) (before after taken taken_after : Option (List ℕ)) (failed failed_after written : ℕ) : Type 0 where
   pub known : List ℕ
   pub consumed : Consumes before after known
   pub ended : IsAtEnd after
   pub values : List UnitValue
-  pub loads : Loads prefix profile tree known values
-  pub part : written < length (minimal_file prefix profile tree values)
-  pub took : Appends taken taken_after (take written (minimal_file prefix profile tree values))
+  pub loads : Loads format profile tree known values
+  pub part : written < length (minimal_file format profile tree values)
+  pub took : Appends taken taken_after (take written (minimal_file format profile tree values))
   pub rose : failed < 2 ^ 64 - 1 → failed < failed_after
 
 -- what is known of the reader and the writer where a file isn't minimised
-abbrev pub FailsWith : List ℕ → Profile → Tree → (before after : Option (List ℕ)) → (failed failed_after : ℕ) → (taken taken_after : Option (List ℕ)) → (writes_failed writes_failed_after : ℕ) → RunFault → Type 0
-FailsWith prefix profile tree before after failed failed_after taken taken_after writes_failed writes_failed_after (Load fault) =
-    ReportsFault prefix tree before after failed failed_after fault.kind fault.line × Keeps taken taken_after
-FailsWith prefix profile tree before after failed failed_after taken taken_after writes_failed writes_failed_after Memory =
+abbrev pub FailsWith : FileFormat → Profile → Tree → (before after : Option (List ℕ)) → (failed failed_after : ℕ) → (taken taken_after : Option (List ℕ)) → (writes_failed writes_failed_after : ℕ) → RunFault → Type 0
+FailsWith format profile tree before after failed failed_after taken taken_after writes_failed writes_failed_after (Load fault) =
+    ReportsFault format tree before after failed failed_after fault.kind fault.line × Keeps taken taken_after
+FailsWith format profile tree before after failed failed_after taken taken_after writes_failed writes_failed_after Memory =
     Keeps taken taken_after
-FailsWith prefix profile tree before after failed failed_after taken taken_after writes_failed writes_failed_after (Write fault) =
-    IsCutOff prefix profile tree before after taken taken_after writes_failed writes_failed_after fault.written
+FailsWith format profile tree before after failed failed_after taken taken_after writes_failed writes_failed_after (Write fault) =
+    IsCutOff format profile tree before after taken taken_after writes_failed writes_failed_after fault.written

@@ -5,13 +5,14 @@ ghost use Rattle.kc_tree.specs.between.Views.{entry_view, EntryFits};
 ghost use Rattle.kc_tree_model.specs.Trees.{Entry as TreeEntry, definition};
 ghost use Rattle.kc_rules_model.specs.Reports.{is_written};
 ghost use Rattle.kc_rules.specs.between.SettledViews.{tree_of_settled, tree_model_of};
+ghost use Rattle.kc_dotconfig_model.specs.between.Formats.{file_format};
 ghost use Rattle.kc_dotconfig_model.specs.between.Prefixes.{prefix_bytes};
 ghost use Rattle.kc_minimal_model.specs.Spelling.{ended_line};
 ghost use Rattle.kc_minimal_model.specs.FullFile.{heading, end_line, applies, full_file};
 ghost use Rattle.kc_minimal.specs.checker.Drafts.{IsDraft};
 
 use crate::spelling::{is_n, push_symbol};
-use kc_dotconfig_model::Prefix;
+use kc_dotconfig_model::{Format, Prefix};
 use kc_expr::ExprId;
 use kc_rules::{Settled, UnitValue};
 use kc_tree::{Entry, Sym};
@@ -84,18 +85,18 @@ fn push_spaced_line(
     out: &mut Vec<u8>,
     gap: bool,
     settled: &Settled,
-    prefix: &Prefix,
+    format: &Format,
     values: &[UnitValue],
     s: Sym,
 ) -> Result<(), AllocError>
     requires there { s < length (tree_of_settled settled.now).symbols }
-    ensures ok { OnOk result (out.new.items ≡ out.old.items ++ (if gap then 10 ∷ ended_line (prefix_bytes prefix.now) (tree_of_settled settled.now) values.now s else ended_line (prefix_bytes prefix.now) (tree_of_settled settled.now) values.now s)) }
+    ensures ok { OnOk result (out.new.items ≡ out.old.items ++ (if gap then 10 ∷ ended_line (file_format format.now) (tree_of_settled settled.now) values.now s else ended_line (file_format format.now) (tree_of_settled settled.now) values.now s)) }
 {
     if gap {
         out.push(b'\n')?;
-        push_symbol(out, settled, prefix, values, s)
+        push_symbol(out, settled, format, values, s)
     } else {
-        push_symbol(out, settled, prefix, values, s)
+        push_symbol(out, settled, format, values, s)
     }
 }
 
@@ -115,18 +116,18 @@ fn is_written_here(settled: &Settled, values: &[UnitValue], s: Sym, fresh: bool)
 fn push_definition(
     draft: &mut Draft,
     settled: &Settled,
-    prefix: &Prefix,
+    format: &Format,
     values: &[UnitValue],
     s: Sym,
 ) -> Result<(), AllocError>
     requires symbol { s < length (tree_of_settled settled.now).symbols }
     requires marks { length draft.old.defined.items ≡ length (tree_of_settled settled.now).symbols }
     ensures marks { length draft.new.defined.items ≡ length draft.old.defined.items }
-    ensures goes { OnOk result ((left : List TreeEntry) → IsDraft (prefix_bytes prefix.now) (tree_of_settled settled.now) values.now (definition s ∷ left) draft.old → IsDraft (prefix_bytes prefix.now) (tree_of_settled settled.now) values.now left draft.new) }
+    ensures goes { OnOk result ((left : List TreeEntry) → IsDraft (file_format format.now) (tree_of_settled settled.now) values.now (definition s ∷ left) draft.old → IsDraft (file_format format.now) (tree_of_settled settled.now) values.now left draft.new) }
 {
     let fresh = mark(&mut draft.defined, s);
     if is_written_here(settled, values, s, fresh) {
-        push_spaced_line(&mut draft.text, draft.gap, settled, prefix, values, s)?;
+        push_spaced_line(&mut draft.text, draft.gap, settled, format, values, s)?;
         draft.gap = false;
         Ok(())
     } else {
@@ -167,17 +168,17 @@ fn push_menu_end(draft: &mut Draft, title: &str, shown: bool) -> Result<(), Allo
 fn push_entry(
     draft: &mut Draft,
     settled: &Settled,
-    prefix: &Prefix,
+    format: &Format,
     values: &[UnitValue],
     entry: &Entry<'_>,
 ) -> Result<(), AllocError>
     requires entry { EntryFits (length (tree_model_of settled.now).exprs.nodes) (length (tree_of_settled settled.now).symbols) (length (tree_of_settled settled.now).choices) entry.now }
     requires marks { length draft.old.defined.items ≡ length (tree_of_settled settled.now).symbols }
     ensures marks { length draft.new.defined.items ≡ length draft.old.defined.items }
-    ensures goes { OnOk result ((left : List TreeEntry) → IsDraft (prefix_bytes prefix.now) (tree_of_settled settled.now) values.now (entry_view (tree_model_of settled.now).exprs entry.now ∷ left) draft.old → IsDraft (prefix_bytes prefix.now) (tree_of_settled settled.now) values.now left draft.new) }
+    ensures goes { OnOk result ((left : List TreeEntry) → IsDraft (file_format format.now) (tree_of_settled settled.now) values.now (entry_view (tree_model_of settled.now).exprs entry.now ∷ left) draft.old → IsDraft (file_format format.now) (tree_of_settled settled.now) values.now left draft.new) }
 {
     match *entry {
-        Entry::Definition(s) => push_definition(draft, settled, prefix, values, s),
+        Entry::Definition(s) => push_definition(draft, settled, format, values, s),
         Entry::ChoiceBegins(_) => Ok(()),
         Entry::MenuBegins {
             title,
@@ -185,7 +186,7 @@ fn push_entry(
             visible,
         } => push_title(
             draft,
-            prefix,
+            &format.prefix,
             title,
             both_apply(settled, values, dependency, visible),
         ),
@@ -199,7 +200,12 @@ fn push_entry(
             both_apply(settled, values, dependency, visible),
         ),
         Entry::Comment { title, dependency } => {
-            push_title(draft, prefix, title, applies(settled, values, dependency))
+            push_title(
+                draft,
+                &format.prefix,
+                title,
+                applies(settled, values, dependency),
+            )
         }
     }
 }
@@ -208,10 +214,10 @@ fn push_entry(
 pub(crate) fn full_lines(
     alloc: Global,
     settled: &Settled,
-    prefix: &Prefix,
+    format: &Format,
     values: &[UnitValue],
 ) -> Result<Vec<u8>, AllocError>
-    ensures { IfOk result (λ text. text.items ≡ full_file (prefix_bytes prefix.now) (tree_of_settled settled.now) values.now) }
+    ensures { IfOk result (λ text. text.items ≡ full_file (file_format format.now) (tree_of_settled settled.now) values.now) }
 {
     let tree = settled.tree();
     let defined = vec![in alloc; false; tree.symbol_count() as usize]?;
@@ -221,7 +227,7 @@ pub(crate) fn full_lines(
         gap: false,
     };
     for i in 0..tree.entry_count() {
-        push_entry(&mut draft, settled, prefix, values, &tree.entry(i))?;
+        push_entry(&mut draft, settled, format, values, &tree.entry(i))?;
     }
     let Draft { text, .. } = draft;
     Ok(text)

@@ -13,5 +13,6 @@ mod writing;
 pub use comparing::compare;
 pub use differing::Difference;
 pub use minimising::{RunFault, minimise};
+pub use spelling::push_spelled;
 pub use texts::{full_text, minimal_text};
 pub use writing::{WriteFault, write_out};

@@ -1,13 +1,13 @@
 //! Minimal files.
 ghost use Rattle.std.specs.Prelude.{◌≡◌, ◌<◌, ◌++◌, [], length, IfOk, OnOk, if◌then◌else◌};
 ghost use Rattle.kc_rules.specs.between.SettledViews.{tree_of_settled, profile_of};
-ghost use Rattle.kc_dotconfig_model.specs.between.Prefixes.{prefix_bytes};
+ghost use Rattle.kc_dotconfig_model.specs.between.Formats.{file_format};
 ghost use Rattle.kc_minimal_model.specs.Spelling.{ended_line};
 ghost use Rattle.kc_minimal_model.specs.MinimalFile.{is_kept, has_line, minimal_file};
 ghost use Rattle.kc_minimal.specs.checker.Values.{FitValues, AreGivenBy};
 
 use crate::spelling::{is_n, push_symbol};
-use kc_dotconfig_model::Prefix;
+use kc_dotconfig_model::Format;
 use kc_rules::{Settled, Steps, UnitValue, UserValue};
 use kc_system::System;
 use kc_tree::Sym;
@@ -62,7 +62,7 @@ fn push_if_kept(
     out: &mut Vec<u8>,
     alloc: Global,
     settled: &Settled,
-    prefix: &Prefix,
+    format: &Format,
     users: &[Option<UserValue>],
     values: &[UnitValue],
     s: Sym,
@@ -70,11 +70,11 @@ fn push_if_kept(
     requires symbol { s < length (tree_of_settled settled.now).symbols }
     requires values { FitValues (tree_of_settled settled.now) values.now }
     requires given { AreGivenBy (profile_of settled.now) (tree_of_settled settled.now) users.now values.now }
-    ensures ok { OnOk result (out.new.items ≡ out.old.items ++ (if has_line (profile_of settled.now) (tree_of_settled settled.now) values.now s then ended_line (prefix_bytes prefix.now) (tree_of_settled settled.now) values.now s else [])) }
+    ensures ok { OnOk result (out.new.items ≡ out.old.items ++ (if has_line (profile_of settled.now) (tree_of_settled settled.now) values.now s then ended_line (file_format format.now) (tree_of_settled settled.now) values.now s else [])) }
 {
     let line = has_line(alloc, settled, users, values, s)?;
     if line {
-        push_symbol(out, settled, prefix, values, s)
+        push_symbol(out, settled, format, values, s)
     } else {
         Ok(())
     }
@@ -84,18 +84,18 @@ fn push_if_kept(
 pub(crate) fn minimal_lines(
     alloc: Global,
     settled: &Settled,
-    prefix: &Prefix,
+    format: &Format,
     users: &[Option<UserValue>],
     values: &[UnitValue],
 ) -> Result<Vec<u8>, AllocError>
     requires values { FitValues (tree_of_settled settled.now) values.now }
     requires given { AreGivenBy (profile_of settled.now) (tree_of_settled settled.now) users.now values.now }
-    ensures ok { IfOk result (λ text. text.items ≡ minimal_file (prefix_bytes prefix.now) (profile_of settled.now) (tree_of_settled settled.now) values.now) }
+    ensures ok { IfOk result (λ text. text.items ≡ minimal_file (file_format format.now) (profile_of settled.now) (tree_of_settled settled.now) values.now) }
 {
     let mut text = Vec::new(alloc);
     for number in 0..settled.tree().symbol_count() {
         let s = Sym::at(number);
-        push_if_kept(&mut text, alloc, settled, prefix, users, values, s)?;
+        push_if_kept(&mut text, alloc, settled, format, users, values, s)?;
     }
     Ok(text)
 }

@@ -4,14 +4,14 @@ ghost use Rattle.kc_system.specs.Solutions.{UniquelySolves};
 ghost use Rattle.kc_rules_model.specs.declared.values.UnitValue.{UnitValue as Held};
 ghost use Rattle.kc_rules_model.specs.Rule.{rule};
 ghost use Rattle.kc_rules.specs.between.SettledViews.{tree_of_settled, profile_of};
-ghost use Rattle.kc_dotconfig_model.specs.between.Prefixes.{prefix_bytes};
+ghost use Rattle.kc_dotconfig_model.specs.between.Formats.{file_format};
 ghost use Rattle.kc_dotconfig.specs.Fragments.{FitsTree, users_of};
 ghost use Rattle.kc_minimal_model.specs.CanonicalText.{IsCanonicalText};
 ghost use Rattle.kc_minimal.specs.Minimised.{IsMinimised, FailsWith};
 
 use crate::texts::minimal_text;
 use crate::writing::{WriteFault, write_out};
-use kc_dotconfig::{Config, Fragment, LoadFault, Notice, Prefix, read_config};
+use kc_dotconfig::{Config, Format, Fragment, LoadFault, Notice, read_config};
 use kc_rules::Settled;
 use kc_value::{Sink, Source};
 use std::alloc::{AllocError, Global};
@@ -35,14 +35,14 @@ pub enum RunFault {
 fn minimal_of(
     alloc: Global,
     settled: &Settled,
-    prefix: &Prefix,
+    format: &Format,
     fragment: &Fragment,
 ) -> Result<Vec<u8>, AllocError>
     requires fits { FitsTree (tree_of_settled settled.now) fragment.now.assigns.items }
-    ensures ok { IfOk result (λ text. (values : List Held) × UniquelySolves (length (tree_of_settled settled.now).units) (rule (profile_of settled.now) (tree_of_settled settled.now)) (users_of (tree_of_settled settled.now) fragment.now.assigns.items) values × IsCanonicalText (prefix_bytes prefix.now) (profile_of settled.now) (tree_of_settled settled.now) values text.items) }
+    ensures ok { IfOk result (λ text. (values : List Held) × UniquelySolves (length (tree_of_settled settled.now).units) (rule (profile_of settled.now) (tree_of_settled settled.now)) (users_of (tree_of_settled settled.now) fragment.now.assigns.items) values × IsCanonicalText (file_format format.now) (profile_of settled.now) (tree_of_settled settled.now) values text.items) }
 {
     let config = Config::of(alloc, settled, fragment)?;
-    minimal_text(alloc, &config, prefix)
+    minimal_text(alloc, &config, format)
 }
 
 /// Reads a configuration file to its end, and writes the minimal file of its values: its canonical form. Answers the
@@ -54,22 +54,22 @@ fn minimal_of(
 pub fn minimise<R: Source, W: Sink>(
     alloc: Global,
     settled: &Settled,
-    prefix: &Prefix,
+    format: &Format,
     source: &mut R,
     sink: &mut W,
 ) -> Result<Vec<Notice>, RunFault>
-    ensures minimised { IfOk result (λ notices. IsMinimised (prefix_bytes prefix.now) (profile_of settled.now) (tree_of_settled settled.now) (R.left source.old) (R.left source.new) (W.taken sink.old) (W.taken sink.new) notices.items) }
+    ensures minimised { IfOk result (λ notices. IsMinimised (file_format format.now) (profile_of settled.now) (tree_of_settled settled.now) (R.left source.old) (R.left source.new) (W.taken sink.old) (W.taken sink.new) notices.items) }
     ensures unfailed { OnOk result (W.failures sink.new ≡ W.failures sink.old) }
     ensures reads_unfailed { OnOk result (R.failures source.new ≡ R.failures source.old) }
     ensures one_read { R.failures source.new ≤ R.failures source.old + 1 }
     ensures one_write { W.failures sink.new ≤ W.failures sink.old + 1 }
-    ensures fault { IfErr result (FailsWith (prefix_bytes prefix.now) (profile_of settled.now) (tree_of_settled settled.now) (R.left source.old) (R.left source.new) (R.failures source.old) (R.failures source.new) (W.taken sink.old) (W.taken sink.new) (W.failures sink.old) (W.failures sink.new)) }
+    ensures fault { IfErr result (FailsWith (file_format format.now) (profile_of settled.now) (tree_of_settled settled.now) (R.left source.old) (R.left source.new) (R.failures source.old) (R.failures source.new) (W.taken sink.old) (W.taken sink.new) (W.failures sink.old) (W.failures sink.new)) }
 {
-    let fragment = match read_config(alloc, settled, prefix, source) {
+    let fragment = match read_config(alloc, settled, format, source) {
         Ok(fragment) => fragment,
         Err(fault) => return Err(RunFault::Load(fault)),
     };
-    let text = match minimal_of(alloc, settled, prefix, &fragment) {
+    let text = match minimal_of(alloc, settled, format, &fragment) {
         Ok(text) => text,
         Err(AllocError) => return Err(RunFault::Memory),
     };

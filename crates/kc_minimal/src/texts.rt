@@ -3,7 +3,7 @@ ghost use Rattle.std.specs.Prelude.{◌≡◌, ◌≤◌, true, length, IfOk};
 ghost use Rattle.kc_system.specs.Solutions.{UniquelySolves};
 ghost use Rattle.kc_rules_model.specs.Rule.{rule};
 ghost use Rattle.kc_rules.specs.between.SettledViews.{profile_of};
-ghost use Rattle.kc_dotconfig_model.specs.between.Prefixes.{prefix_bytes};
+ghost use Rattle.kc_dotconfig_model.specs.between.Formats.{file_format};
 ghost use Rattle.kc_dotconfig_model.specs.ConfigFiles.{file_lines};
 ghost use Rattle.kc_value.specs.declared.limits.TheConstants.{MAX_CONFIG_BYTES, MAX_CONFIG_LINES};
 ghost use Rattle.kc_dotconfig.specs.Configured.{tree_in};
@@ -14,7 +14,7 @@ ghost use Rattle.kc_minimal_model.specs.Loading.{ReadsTo, Loads, has_short_lines
 
 use crate::full::full_lines;
 use crate::minimal::minimal_lines;
-use kc_dotconfig::{Config, Prefix};
+use kc_dotconfig::{Config, Format};
 use kc_minimal_model::{
     full_files_lead_back, minimal_texts_are_canonical, read_files_are_accepted,
 };
@@ -31,16 +31,16 @@ use std::alloc::{AllocError, Global};
 pub fn minimal_text(
     alloc: Global,
     config: &Config<'_>,
-    prefix: &Prefix,
+    format: &Format,
 ) -> Result<Vec<u8>, AllocError>
-    ensures canonical { IfOk result (λ text. IsCanonicalText (prefix_bytes prefix.now) (profile_of config.now.system) (tree_in config.now) config.now.values text.items) }
+    ensures canonical { IfOk result (λ text. IsCanonicalText (file_format format.now) (profile_of config.now.system) (tree_in config.now) config.now.values text.items) }
     ensures values { UniquelySolves (length (tree_in config.now).units) (rule (profile_of config.now.system) (tree_in config.now)) config.now.users config.now.values }
 {
     minimal_texts_are_canonical();
     minimal_lines(
         alloc,
         config.settled(),
-        prefix,
+        format,
         config.users(),
         config.values(),
     )
@@ -50,12 +50,12 @@ pub fn minimal_text(
 /// definition, with the titles of menus and comments. An `Err` means out of memory.
 ///
 /// Where no tristate is above its visibility, reading it gives the values back.
-pub fn full_text(alloc: Global, config: &Config<'_>, prefix: &Prefix) -> Result<Vec<u8>, AllocError>
-    ensures text { IfOk result (λ text. text.items ≡ full_file (prefix_bytes prefix.now) (tree_in config.now) config.now.values) }
-    ensures back { IfOk result (λ text. IsUnlifted (profile_of config.now.system) (tree_in config.now) config.now.values → ReadsTo (prefix_bytes prefix.now) (profile_of config.now.system) (tree_in config.now) text.items config.now.values) }
-    ensures accepted { IfOk result (λ text. IsUnlifted (profile_of config.now.system) (tree_in config.now) config.now.values → length text.items ≤ MAX_CONFIG_BYTES → length (file_lines text.items) ≤ MAX_CONFIG_LINES → has_short_lines text.items ≡ true → Loads (prefix_bytes prefix.now) (profile_of config.now.system) (tree_in config.now) text.items config.now.values) }
+pub fn full_text(alloc: Global, config: &Config<'_>, format: &Format) -> Result<Vec<u8>, AllocError>
+    ensures text { IfOk result (λ text. text.items ≡ full_file (file_format format.now) (tree_in config.now) config.now.values) }
+    ensures back { IfOk result (λ text. IsUnlifted (profile_of config.now.system) (tree_in config.now) config.now.values → ReadsTo (file_format format.now) (profile_of config.now.system) (tree_in config.now) text.items config.now.values) }
+    ensures accepted { IfOk result (λ text. IsUnlifted (profile_of config.now.system) (tree_in config.now) config.now.values → length text.items ≤ MAX_CONFIG_BYTES → length (file_lines text.items) ≤ MAX_CONFIG_LINES → has_short_lines text.items ≡ true → Loads (file_format format.now) (profile_of config.now.system) (tree_in config.now) text.items config.now.values) }
 {
     full_files_lead_back();
     read_files_are_accepted();
-    full_lines(alloc, config.settled(), prefix, config.values())
+    full_lines(alloc, config.settled(), format, config.values())
 }

@@ -14,6 +14,7 @@ use Rattle.kc_rules_model.specs.declared.values.UnitValue.{UnitValue}
 use Rattle.kc_rules_model.specs.declared.values.UserValue.{UserValue}
 use Rattle.kc_rules_model.specs.Rule.{rule}
 use Rattle.kc_rules_model.specs.Shapes.{user_fits}
+use Rattle.kc_dotconfig_model.specs.Formats.{FileFormat}
 use Rattle.kc_dotconfig_model.specs.PrefixGrammar.{is_prefix}
 use Rattle.kc_dotconfig_model.specs.ConfigLines.{LineMeaning, Means, without_white_end}
 use Rattle.kc_dotconfig_model.specs.ConfigFiles.{FileMeans, file_lines, has_utf8_lines}
@@ -35,21 +36,21 @@ passes_at p (y ∷ xs) zero x all at = let same : y ≡ x = cc in ap p (sym same
 passes_at p (y ∷ xs) (suc i) x all at = passes_at p xs i x (and_parts (p y) (list_all p xs) all).1 at
 
 -- a line of a file that has a meaning
-line_says : (prefix : List ℕ) (tree : Tree) (lines : List (List ℕ)) (meanings : List LineMeaning) (i : ℕ) (line : List ℕ)
-    → AllZip (λ l meaning. Means prefix tree (without_white_end l) meaning) lines meanings → slice_get lines i ≡ Some line
-    → (meaning : LineMeaning) × Means prefix tree (without_white_end line) meaning
-line_says prefix tree [] meanings i line all at = cc
-line_says prefix tree (l ∷ lines) [] i line all at = absurd all
-line_says prefix tree (l ∷ lines) (meaning ∷ meanings) zero line all at =
-    let same : l ≡ line = cc in (meaning, subst (λ k. Means prefix tree (without_white_end k) meaning) same all.0)
-line_says prefix tree (l ∷ lines) (meaning ∷ meanings) (suc i) line all at = line_says prefix tree lines meanings i line all.1 at
+line_says : (format : FileFormat) (tree : Tree) (lines : List (List ℕ)) (meanings : List LineMeaning) (i : ℕ) (line : List ℕ)
+    → AllZip (λ l meaning. Means format tree (without_white_end l) meaning) lines meanings → slice_get lines i ≡ Some line
+    → (meaning : LineMeaning) × Means format tree (without_white_end line) meaning
+line_says format tree [] meanings i line all at = cc
+line_says format tree (l ∷ lines) [] i line all at = absurd all
+line_says format tree (l ∷ lines) (meaning ∷ meanings) zero line all at =
+    let same : l ≡ line = cc in (meaning, subst (λ k. Means format tree (without_white_end k) meaning) same all.0)
+line_says format tree (l ∷ lines) (meaning ∷ meanings) (suc i) line all at = line_says format tree lines meanings i line all.1 at
 
 -- a file that is read is accepted within the limits
-pub accepted_within : (prefix : List ℕ) (tree : Tree) (bytes : List ℕ) (meanings : List LineMeaning) → has_utf8_lines bytes ≡ true
-    → FileMeans prefix tree bytes meanings
-    → length bytes ≤ MAX_CONFIG_BYTES → length (file_lines bytes) ≤ MAX_CONFIG_LINES → has_short_lines bytes ≡ true → IsAccepted prefix tree bytes
-accepted_within prefix tree bytes meanings utf8 says small few short = accepted_of_lines prefix tree bytes small few (λ i line at.
-    let meaning = line_says prefix tree (file_lines bytes) meanings i line says at in
+pub accepted_within : (format : FileFormat) (tree : Tree) (bytes : List ℕ) (meanings : List LineMeaning) → has_utf8_lines bytes ≡ true
+    → FileMeans format tree bytes meanings
+    → length bytes ≤ MAX_CONFIG_BYTES → length (file_lines bytes) ≤ MAX_CONFIG_LINES → has_short_lines bytes ≡ true → IsAccepted format tree bytes
+accepted_within format tree bytes meanings utf8 says small few short = accepted_of_lines format tree bytes small few (λ i line at.
+    let meaning = line_says format tree (file_lines bytes) meanings i line says at in
     record {
       short = leb-true (length line) MAX_LINE_BYTES (passes_at (λ (l : List ℕ). nat_le (length l) MAX_LINE_BYTES) (file_lines bytes) i line short at);
       utf8 = IsUtf8-from_is_utf8 line (passes_at is_utf8 (file_lines bytes) i line utf8 at);
@@ -58,43 +59,43 @@ accepted_within prefix tree bytes meanings utf8 says small few short = accepted_
     })
 
 pub read_accepted : ReadFilesAreAccepted
-read_accepted prefix profile tree bytes values reads small few short = accepted_within prefix tree bytes reads.meanings reads.utf8 reads.says small few short
+read_accepted format profile tree bytes values reads small few short = accepted_within format tree bytes reads.meanings reads.utf8 reads.says small few short
 
 all_of_map : {X Y : Type 0} (p : Y → Bool) (f : X → Y) (xs : List X) → list_all p (map f xs) ≡ list_all (λ x. p (f x)) xs
 all_of_map p f [] = refl
 all_of_map p f (x ∷ xs) = ap (λ b. p (f x) && b) (all_of_map p f xs)
 
-module _ (prefix : List ℕ) (valid : is_prefix prefix ≡ true) (profile : Profile) (tree : Tree) (sound : IsConsistent tree) (users : List (Option UserValue)) (values : List UnitValue)
+module _ (format : FileFormat) (valid : is_prefix format.prefix ≡ true) (profile : Profile) (tree : Tree) (sound : IsConsistent tree) (users : List (Option UserValue)) (values : List UnitValue)
     (fitting : FitsUsers (length tree.units) (λ u x. IsTrue (user_fits tree u x)) users) (solved : Solves (length tree.units) (rule profile tree) users values) where
   -- whether the line of a symbol is short
   abbrev pub is_short : ℕ → Bool
-  is_short s = nat_le (length (symbol_line prefix tree values s)) MAX_LINE_BYTES
+  is_short s = nat_le (length (symbol_line format tree values s)) MAX_LINE_BYTES
 
   short_lines : (xs : List ℕ) → list_all (has_line profile tree values) xs ≡ true
-      → has_short_lines (flat_map (ended_line prefix tree values) xs) ≡ list_all is_short xs
+      → has_short_lines (flat_map (ended_line format tree values) xs) ≡ list_all is_short xs
   short_lines xs all =
       ap (list_all (λ (line : List ℕ). nat_le (length line) MAX_LINE_BYTES))
-      (lines_of_symbols prefix valid profile tree sound users values fitting solved xs all)
-      ∙ all_of_map (λ (line : List ℕ). nat_le (length line) MAX_LINE_BYTES) (symbol_line prefix tree values) xs
+      (lines_of_symbols format valid profile tree sound users values fitting solved xs all)
+      ∙ all_of_map (λ (line : List ℕ). nat_le (length line) MAX_LINE_BYTES) (symbol_line format tree values) xs
 
   -- the short lines of some symbols that have one
   pub accepted_symbols : (xs : List ℕ) → list_all (has_line profile tree values) xs ≡ true → list_all is_short xs ≡ true → length xs ≤ MAX_CONFIG_LINES
-      → length (flat_map (ended_line prefix tree values) xs) ≤ MAX_CONFIG_BYTES
-      → IsAccepted prefix tree (flat_map (ended_line prefix tree values) xs)
+      → length (flat_map (ended_line format tree values) xs) ≤ MAX_CONFIG_BYTES
+      → IsAccepted format tree (flat_map (ended_line format tree values) xs)
   accepted_symbols xs all short few small =
-      let bytes = flat_map (ended_line prefix tree values) xs in
-      let lines = ap length (lines_of_symbols prefix valid profile tree sound users values fitting solved xs all) in
-      let count = length-map xs (symbol_line prefix tree values) in
-      accepted_within prefix tree bytes (map (λ s. meant values (unit_of tree s)) xs)
-      (lines_are_utf8 prefix valid profile tree sound users values fitting solved xs all)
-      (lines_say prefix valid profile tree sound users values fitting solved xs all) small (omega (arith, lines, count, few)) (short_lines xs all ∙ short)
+      let bytes = flat_map (ended_line format tree values) xs in
+      let lines = ap length (lines_of_symbols format valid profile tree sound users values fitting solved xs all) in
+      let count = length-map xs (symbol_line format tree values) in
+      accepted_within format tree bytes (map (λ s. meant values (unit_of tree s)) xs)
+      (lines_are_utf8 format valid profile tree sound users values fitting solved xs all)
+      (lines_say format valid profile tree sound users values fitting solved xs all) small (omega (arith, lines, count, few)) (short_lines xs all ∙ short)
 
-  pub shorts_of_file : (xs : List ℕ) → list_all (has_line profile tree values) xs ≡ true → has_short_lines (flat_map (ended_line prefix tree values) xs) ≡ true
+  pub shorts_of_file : (xs : List ℕ) → list_all (has_line profile tree values) xs ≡ true → has_short_lines (flat_map (ended_line format tree values) xs) ≡ true
       → list_all is_short xs ≡ true
   shorts_of_file xs all short = sym (short_lines xs all) ∙ short
 
   pub file_of_shorts : (xs : List ℕ) → list_all (has_line profile tree values) xs ≡ true → list_all is_short xs ≡ true
-      → has_short_lines (flat_map (ended_line prefix tree values) xs) ≡ true
+      → has_short_lines (flat_map (ended_line format tree values) xs) ≡ true
   file_of_shorts xs all short = short_lines xs all ∙ short
 
 pub filter_shorter : (p : ℕ → Bool) (xs : List ℕ) → length (filter p xs) ≤ length xs

@@ -19,6 +19,7 @@ use Rattle.kc_rules_model.specs.Dependencies.{dependencies}
 use Rattle.kc_rules_model.specs.Shapes.{user_fits}
 use Rattle.kc_rules_model.specs.checker.FrameLaw.{rules_frame}
 use Rattle.kc_rules_model.specs.checker.RestoreLaw.{rules_restore}
+use Rattle.kc_dotconfig_model.specs.Formats.{FileFormat}
 use Rattle.kc_dotconfig_model.specs.PrefixGrammar.{is_prefix}
 use Rattle.kc_dotconfig_model.specs.ConfigLines.{LineMeaning}
 use Rattle.kc_rules_model.specs.SymbolValues.{value_of_symbol}
@@ -37,9 +38,9 @@ use Rattle.kc_minimal_model.proofs.LineUnits.{different_units}
 use Rattle.kc_minimal_model.proofs.LeastFile.{passes_filter, none_held, none_length, after_lines, length_after, lines_say, least_of_lines, reads_as_least}
 
 -- the lines of some of the symbols that have one
-abbrev pub symbol_lines : (ℕ → Bool) → List ℕ → Profile → Tree → List UnitValue → List ℕ
-symbol_lines keeps prefix profile tree values =
-    flat_map (ended_line prefix tree values) (filter keeps (minimal_symbols profile tree values))
+abbrev pub symbol_lines : (ℕ → Bool) → FileFormat → Profile → Tree → List UnitValue → List ℕ
+symbol_lines keeps format profile tree values =
+    flat_map (ended_line format tree values) (filter keeps (minimal_symbols profile tree values))
 
 pub decides : (a b : UnitValue) → (a ≡ b) ⊎ (a ≢ b)
 decides a b =
@@ -51,14 +52,14 @@ decides a b =
 abbrev pub Fitting : Tree → List (Option UserValue) → Type 0
 Fitting tree users = FitsUsers (length tree.units) (λ u x. IsTrue (user_fits tree u x)) users
 
-module _ (prefix : List ℕ) (valid : is_prefix prefix ≡ true) (profile : Profile) (tree : Tree) (settled : IsOrderedTree tree) where
-  pub fits_of : (bytes : List ℕ) (meanings : List LineMeaning) → has_utf8_lines bytes ≡ true → FileMeans prefix tree bytes meanings
+module _ (format : FileFormat) (valid : is_prefix format.prefix ≡ true) (profile : Profile) (tree : Tree) (settled : IsOrderedTree tree) where
+  pub fits_of : (bytes : List ℕ) (meanings : List LineMeaning) → has_utf8_lines bytes ≡ true → FileMeans format tree bytes meanings
       → Fitting tree (file_assignment tree meanings)
-  fits_of bytes meanings utf8 says = file_fits prefix tree bytes meanings settled.consistent utf8 says
+  fits_of bytes meanings utf8 says = file_fits format tree bytes meanings settled.consistent utf8 says
 
   -- what a file that can be read gives
-  pub each : (bytes : List ℕ) (meanings : List LineMeaning) → has_utf8_lines bytes ≡ true → FileMeans prefix tree bytes meanings
-      → (values : List UnitValue) × ReadsTo prefix profile tree bytes values
+  pub each : (bytes : List ℕ) (meanings : List LineMeaning) → has_utf8_lines bytes ≡ true → FileMeans format tree bytes meanings
+      → (values : List UnitValue) × ReadsTo format profile tree bytes values
   each bytes meanings utf8 says =
       let fitting = fits_of bytes meanings utf8 says in
       let found = solving.solution (length tree.units) (dependencies tree) (rule profile tree) (λ u x. IsTrue (user_fits tree u x)) settled.order
@@ -75,25 +76,25 @@ module _ (prefix : List ℕ) (valid : is_prefix prefix ≡ true) (profile : Prof
       )
 
   -- a file has one meaning
-  same_sayings : (bytes : List ℕ) (a b : List LineMeaning) → FileMeans prefix tree bytes a → FileMeans prefix tree bytes b → a ≡ b
+  same_sayings : (bytes : List ℕ) (a b : List LineMeaning) → FileMeans format tree bytes a → FileMeans format tree bytes b → a ≡ b
   same_sayings bytes a b first second =
-      let e = (file_read prefix tree bytes a valid).1 first in let f = (file_read prefix tree bytes b valid).1 second in cc (e, f)
+      let e = (file_read format tree bytes a valid).1 first in let f = (file_read format tree bytes b valid).1 second in cc (e, f)
 
-  pub one : (bytes : List ℕ) (v w : List UnitValue) → ReadsTo prefix profile tree bytes v → ReadsTo prefix profile tree bytes w → v ≡ w
+  pub one : (bytes : List ℕ) (v w : List UnitValue) → ReadsTo format profile tree bytes v → ReadsTo format profile tree bytes w → v ≡ w
   one bytes v w a b =
       let same = same_sayings bytes a.meanings b.meanings a.says b.says in
       b.gives.only v (subst (λ s. Solves (length tree.units) (rule profile tree) (file_assignment tree s) v) same a.gives.solves)
 
   -- the minimal file of the values of any fitting assignment gives them back
   pub reads_back : (users : List (Option UserValue)) (values : List UnitValue) → Fitting tree users → Solves (length tree.units) (rule profile tree) users values
-      → ReadsTo prefix profile tree (minimal_file prefix profile tree values) values
+      → ReadsTo format profile tree (minimal_file format profile tree values) values
   reads_back users values fitting solved =
-      let l = reads_as_least prefix valid profile tree settled.consistent users values fitting solved in
+      let l = reads_as_least format valid profile tree settled.consistent users values fitting solved in
       let given = least_gives (length tree.units) (dependencies tree) (rule profile tree) (λ u x. IsTrue (user_fits tree u x)) settled.order settled.ordered
       (rules_frame profile tree) decides as_user (rules_restore profile tree)
       users (file_assignment tree l.meanings) values fitting solved l.least in
       record {
-        utf8 = lines_are_utf8 prefix valid profile tree settled.consistent users values fitting solved (minimal_symbols profile tree values)
+        utf8 = lines_are_utf8 format valid profile tree settled.consistent users values fitting solved (minimal_symbols profile tree values)
             (passes_filter (has_line profile tree values) (symbol_numbers tree));
         meanings = l.meanings;
         says = l.says;
@@ -103,10 +104,10 @@ module _ (prefix : List ℕ) (valid : is_prefix prefix ≡ true) (profile : Prof
   -- the values of two fitting assignments are the same exactly if their minimal files are
   pub same_files : (a b : List (Option UserValue)) (v w : List UnitValue) → Fitting tree a → Fitting tree b → Solves (length tree.units) (rule profile tree) a v
       → Solves (length tree.units) (rule profile tree) b w
-      → (v ≡ w) ↔ (minimal_file prefix profile tree v ≡ minimal_file prefix profile tree w)
+      → (v ≡ w) ↔ (minimal_file format profile tree v ≡ minimal_file format profile tree w)
   same_files a b v w fits_a fits_b first second = (
-    λ e. ap (minimal_file prefix profile tree) e,
-    λ e. one (minimal_file prefix profile tree w) v w (subst (λ t. ReadsTo prefix profile tree t v) e (reads_back a v fits_a first))
+    λ e. ap (minimal_file format profile tree) e,
+    λ e. one (minimal_file format profile tree w) v w (subst (λ t. ReadsTo format profile tree t v) e (reads_back a v fits_a first))
         (reads_back b w fits_b second),
   )
 
@@ -142,20 +143,20 @@ none_of_two p q r (x ∷ xs) fails = go (r x) (q x) refl refl (none_of_two p q r
         ∙ rest
     at_head false f = ap (λ b. list_any p (cond b (x ∷ filter q (filter r xs)) (filter q (filter r xs)))) f ∙ rest
 
-module _ (prefix : List ℕ) (valid : is_prefix prefix ≡ true) (profile : Profile) (tree : Tree) (settled : IsOrderedTree tree) (users : List (Option UserValue)) (values : List UnitValue)
+module _ (format : FileFormat) (valid : is_prefix format.prefix ≡ true) (profile : Profile) (tree : Tree) (settled : IsOrderedTree tree) (users : List (Option UserValue)) (values : List UnitValue)
     (fitting : FitsUsers (length tree.units) (λ u x. IsTrue (user_fits tree u x)) users) (solved : Solves (length tree.units) (rule profile tree) users values) (keeps : ℕ → Bool) where
   pub some_have_lines : list_all (has_line profile tree values) (filter keeps (minimal_symbols profile tree values)) ≡ true
   some_have_lines =
       all_of_filter (has_line profile tree values) keeps (minimal_symbols profile tree values)
       (passes_filter (has_line profile tree values) (symbol_numbers tree))
 
-  utf8_some : has_utf8_lines (symbol_lines keeps prefix profile tree values) ≡ true
+  utf8_some : has_utf8_lines (symbol_lines keeps format profile tree values) ≡ true
   utf8_some =
-      lines_are_utf8 prefix valid profile tree settled.consistent users values fitting solved (filter keeps (minimal_symbols profile tree values))
+      lines_are_utf8 format valid profile tree settled.consistent users values fitting solved (filter keeps (minimal_symbols profile tree values))
       some_have_lines
 
-  says_some : FileMeans prefix tree (symbol_lines keeps prefix profile tree values) (map (λ s. meant values (unit_of tree s)) (filter keeps (minimal_symbols profile tree values)))
-  says_some = lines_say prefix valid profile tree settled.consistent users values fitting solved (filter keeps (minimal_symbols profile tree values))
+  says_some : FileMeans format tree (symbol_lines keeps format profile tree values) (map (λ s. meant values (unit_of tree s)) (filter keeps (minimal_symbols profile tree values)))
+  says_some = lines_say format valid profile tree settled.consistent users values fitting solved (filter keeps (minimal_symbols profile tree values))
       some_have_lines
 
   user_after : (xs : List ℕ) (u : ℕ) → u < length tree.units → user_of (file_assignment tree (map (λ s. meant values (unit_of tree s)) xs)) u ≡ cond (list_any (λ s. unit_of tree s == u) xs) (user_meant values u) None
@@ -184,10 +185,10 @@ module _ (prefix : List ℕ) (valid : is_prefix prefix ≡ true) (profile : Prof
 
   -- without a line, and others or not, it gives other values
   pub needed : (s : ℕ) → has_line profile tree values s ≡ true → keeps s ≡ false
-      → (others : List UnitValue) × ReadsTo prefix profile tree (symbol_lines keeps prefix profile tree values) others × (others ≢ values)
+      → (others : List UnitValue) × ReadsTo format profile tree (symbol_lines keeps format profile tree values) others × (others ≢ values)
   needed s has dropped =
       let parts = and_parts (is_kept profile tree values (unit_of tree s)) (may_have_line (slice_get tree.symbols s) (value_of_symbol tree values s)) has in
-      let inside = unit_inside prefix valid profile tree settled.consistent users values fitting solved s (slice_get tree.symbols s) refl parts.1 in
+      let inside = unit_inside format valid profile tree settled.consistent users values fitting solved s (slice_get tree.symbols s) refl parts.1 in
       let kept : IsKept (rule profile tree) values (unit_of tree s) = λ same. false≢true
       (sym (others_fail profile tree users values fitting solved (unit_of tree s) same) ∙ parts.0) in
       let fails : (t : ℕ) → keeps t ≡ true → has_line profile tree values t ≡ true
@@ -202,7 +203,7 @@ module _ (prefix : List ℕ) (valid : is_prefix prefix ≡ true) (profile : Prof
       let given = least_gives (length tree.units) (dependencies tree) (rule profile tree) (λ u x. IsTrue (user_fits tree u x)) settled.order settled.ordered
       (rules_frame profile tree) decides as_user (rules_restore profile tree)
       users (file_assignment tree (map (λ t. meant values (unit_of tree t)) (minimal_symbols profile tree values))) values fitting solved
-      (least_of_lines prefix valid profile tree settled.consistent users values fitting solved) in
+      (least_of_lines format valid profile tree settled.consistent users values fitting solved) in
       let found = given.3 (λ u. list_any (λ t. unit_of tree t == u) (filter keeps (minimal_symbols profile tree values)))
       (file_assignment tree (map (λ t. meant values (unit_of tree t)) (filter keeps (minimal_symbols profile tree values)))) (unit_of tree s) cut inside
       kept lost in (

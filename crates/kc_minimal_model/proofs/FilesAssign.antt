@@ -11,6 +11,7 @@ use Rattle.kc_rules_model.specs.declared.profile.Profile.{Profile}
 use Rattle.kc_rules_model.specs.declared.values.UnitValue.{UnitValue}
 use Rattle.kc_rules_model.specs.declared.values.UserValue.{UserValue}
 use Rattle.kc_rules_model.specs.Shapes.{user_fits}
+use Rattle.kc_dotconfig_model.specs.Formats.{FileFormat}
 use Rattle.kc_dotconfig_model.specs.ConfigLines.{LineMeaning, assigns, notice, silent}
 use Rattle.kc_dotconfig_model.specs.ConfigFiles.{file_assignment, assigned_over, empty_assignment}
 use Rattle.kc_dotconfig_model.proofs.FittingFiles.{file_fits}
@@ -95,9 +96,9 @@ comes_from p f q (x ∷ xs) any = go (p x) refl any (comes_from p f q xs) where
   go true e any next =
       elim (or_cases (eqb q (f x)) (list_any (eqb q) (map f (filter p xs))) any) [ inl here ↦ (x, e, eqb-true q (f x) here) | inr later ↦ next later ]
 
-module _ (prefix : List ℕ) (profile : Profile) (tree : Tree) (settled : IsOrderedTree tree) (bytes : List ℕ) (values : List UnitValue) (reads : ReadsTo prefix profile tree bytes values) where
+module _ (format : FileFormat) (profile : Profile) (tree : Tree) (settled : IsOrderedTree tree) (bytes : List ℕ) (values : List UnitValue) (reads : ReadsTo format profile tree bytes values) where
   fitting : FitsUsers (length tree.units) (λ u x. IsTrue (user_fits tree u x)) (file_assignment tree reads.meanings)
-  fitting = file_fits prefix tree bytes reads.meanings settled.consistent reads.utf8 reads.says
+  fitting = file_fits format tree bytes reads.meanings settled.consistent reads.utf8 reads.says
 
   held_each : (s : ℕ) → has_line profile tree values s ≡ true → is_some (user_of (file_assignment tree reads.meanings) (unit_of tree s)) ≡ true
   held_each s has =
@@ -131,9 +132,9 @@ module _ (prefix : List ℕ) (profile : Profile) (tree : Tree) (settled : IsOrde
       omega (arith, long, same)
 
 pub files_assign : FilesAssignTheLines
-files_assign prefix profile tree file values settled reads =
+files_assign format profile tree file values settled reads =
     let ordered = ordered_tree tree settled in record {
-      each = assigns_each prefix profile tree ordered file values reads;
-      each_value = assigns_values prefix profile tree ordered file values reads;
-      as_many = assigns_as_many prefix profile tree ordered file values reads;
+      each = assigns_each format profile tree ordered file values reads;
+      each_value = assigns_values format profile tree ordered file values reads;
+      as_many = assigns_as_many format profile tree ordered file values reads;
     }

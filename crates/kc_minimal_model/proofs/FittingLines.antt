@@ -13,6 +13,7 @@ use Rattle.kc_tree_model.specs.TreeLookup.{is_name_byte}
 use Rattle.kc_rules_model.specs.Kinds.{is_n}
 use Rattle.kc_value.specs.Kinds.{is_tri_kind}
 use Rattle.kc_rules_model.specs.SymbolValues.{tri_symbol_value}
+use Rattle.kc_dotconfig_model.specs.Formats.{FileFormat}
 use Rattle.kc_dotconfig_model.specs.PrefixGrammar.{is_prefix}
 use Rattle.kc_value.specs.declared.limits.TheConstants.{MAX_PREFIX_BYTES, MAX_LINE_BYTES}
 use Rattle.kc_minimal_model.specs.Spelling.{spelled, value_line, unset_line, line_with}
@@ -38,49 +39,49 @@ letter_fits N = (omega arith, ascii_alone 110 (omega arith))
 letter_fits M = (omega arith, ascii_alone 109 (omega arith))
 letter_fits Y = (omega arith, ascii_alone 121 (omega arith))
 
-module _ (prefix : List ℕ) (valid : is_prefix prefix ≡ true) (name : List ℕ) (short : length name ≤ 256) (word : list_all is_name_byte name ≡ true) where
+module _ (format : FileFormat) (valid : is_prefix format.prefix ≡ true) (name : List ℕ) (short : length name ≤ 256) (word : list_all is_name_byte name ≡ true) where
   -- a value line
-  pub value_fits : (text : List ℕ) → length prefix + length name + 1 + length text ≤ MAX_LINE_BYTES → IsUtf8 text → IsFitLine (value_line prefix name text)
+  pub value_fits : (text : List ℕ) → length format.prefix + length name + 1 + length text ≤ MAX_LINE_BYTES → IsUtf8 text → IsFitLine (value_line format.prefix name text)
   value_fits text small u =
-      let p = prefix_fits prefix valid in (
-        omega (arith, small, length-append prefix (name ++ (61 ∷ text)), length-append name (61 ∷ text)),
-        IsUtf8-append prefix (name ++ (61 ∷ text)) p.1 (IsUtf8-append name (61 ∷ text) (name_utf8 name word) (ascii_then 61 text (omega arith) u)),
+      let p = prefix_fits format.prefix valid in (
+        omega (arith, small, length-append format.prefix (name ++ (61 ∷ text)), length-append name (61 ∷ text)),
+        IsUtf8-append format.prefix (name ++ (61 ∷ text)) p.1 (IsUtf8-append name (61 ∷ text) (name_utf8 name word) (ascii_then 61 text (omega arith) u)),
       )
 
   -- an unset line
-  pub unset_fits : IsFitLine (unset_line prefix name)
+  pub unset_fits : IsFitLine (unset_line format.prefix name)
   unset_fits =
-      let p = prefix_fits prefix valid in
+      let p = prefix_fits format.prefix valid in
       let few = p.0 in (
         omega (
           arith,
           short,
           few,
-          length-append (codes "# ") (prefix ++ (name ++ codes " is not set")),
-          length-append prefix (name ++ codes " is not set"),
+          length-append (codes "# ") (format.prefix ++ (name ++ codes " is not set")),
+          length-append format.prefix (name ++ codes " is not set"),
           length-append name (codes " is not set"),
         ),
-        IsUtf8-append (codes "# ") (prefix ++ (name ++ codes " is not set")) (low_utf8 (codes "# ") refl)
-            (IsUtf8-append prefix (name ++ codes " is not set") p.1 (IsUtf8-append name (codes " is not set") (name_utf8 name word)
+        IsUtf8-append (codes "# ") (format.prefix ++ (name ++ codes " is not set")) (low_utf8 (codes "# ") refl)
+            (IsUtf8-append format.prefix (name ++ codes " is not set") p.1 (IsUtf8-append name (codes " is not set") (name_utf8 name word)
             (low_utf8 (codes " is not set") refl))),
       )
 
-  either_fits : (b : Bool) (text : List ℕ) → length prefix + length name + 1 + length text ≤ MAX_LINE_BYTES → IsUtf8 text
-      → IsFitLine (cond b (unset_line prefix name) (value_line prefix name text))
+  either_fits : (b : Bool) (text : List ℕ) → length format.prefix + length name + 1 + length text ≤ MAX_LINE_BYTES → IsUtf8 text
+      → IsFitLine (cond b (unset_line format.prefix name) (value_line format.prefix name text))
   either_fits true text small u = unset_fits
   either_fits false text small u = value_fits text small u
 
   -- the line of a bool or tristate
-  pub tri_fits_line : (kind : Kind) (t : Tri) → is_tri_kind kind ≡ true → IsFitLine (line_with prefix name (tri_symbol_value kind t))
+  pub tri_fits_line : (kind : Kind) (t : Tri) → is_tri_kind kind ≡ true → IsFitLine (line_with format name (tri_symbol_value kind t))
   tri_fits_line Boolean t small =
-      let p = (prefix_fits prefix valid).0 in let l = letter_fits t in let one = l.0 in either_fits (is_n t) (letter t) (omega (arith, p, one, short)) l.1
+      let p = (prefix_fits format.prefix valid).0 in let l = letter_fits t in let one = l.0 in either_fits (is_n t) (letter t) (omega (arith, p, one, short)) l.1
   tri_fits_line Tristate t small =
-      let p = (prefix_fits prefix valid).0 in let l = letter_fits t in let one = l.0 in either_fits (is_n t) (letter t) (omega (arith, p, one, short)) l.1
+      let p = (prefix_fits format.prefix valid).0 in let l = letter_fits t in let one = l.0 in either_fits (is_n t) (letter t) (omega (arith, p, one, short)) l.1
   tri_fits_line Text t small = absurd (false≢true small)
   tri_fits_line Int t small = absurd (false≢true small)
   tri_fits_line Hex t small = absurd (false≢true small)
 
   -- the line of a text
-  pub text_fits_line : (kind : Kind) (text : List ℕ) → length prefix + length name + 1 + length (spelled kind text) ≤ MAX_LINE_BYTES → IsUtf8 (spelled kind text)
-      → IsFitLine (line_with prefix name (record { kind = kind; tri = N; text = text }))
-  text_fits_line kind text small u = either_fits (is_tri_kind kind && is_n N) (spelled kind text) small u
+  pub text_fits_line : (kind : Kind) (text : List ℕ) → length format.prefix + length name + 1 + length (spelled format.strings kind text) ≤ MAX_LINE_BYTES → IsUtf8 (spelled format.strings kind text)
+      → IsFitLine (line_with format name (record { kind = kind; tri = N; text = text }))
+  text_fits_line kind text small u = either_fits (is_tri_kind kind && is_n N) (spelled format.strings kind text) small u

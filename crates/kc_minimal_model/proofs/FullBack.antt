@@ -167,7 +167,7 @@ module _ (profile : Profile) (tree : Tree) (settled : IsOrderedTree tree) (users
 
 -- where nothing is lifted, reading the full file gives the values back
 pub full_files_back : FullFilesLeadBack
-full_files_back prefix profile tree users values valid whole fitting gives unlifted =
+full_files_back format profile tree users values valid whole fitting gives unlifted =
     record { utf8 = full.utf8; meanings = full.meanings; says = full.says; gives = record { solves = solves; only = λ others solved_too. solving.unique (length tree.units) (dependencies tree) (rule profile tree) (λ u x. IsTrue (user_fits tree u x)) (ordered_tree tree whole).order (ordered_tree tree whole).ordered (rules_frame profile tree) again fits_again.1 others values solved_too solves } } where
       settled : IsOrderedTree tree
       settled = ordered_tree tree whole
@@ -180,17 +180,17 @@ full_files_back prefix profile tree users values valid whole fitting gives unlif
           and_from (not (has_newline title)) (is_utf8 title) (ap not (whole.consistent.titles_one_line k entry title at is))
           (whole.consistent.titles_utf8 k entry title at is)
 
-      full : HasOwnLines prefix tree values (λ s. (list_any (defines s) tree.entries ≡ true) × (list_any (nat_eq s) [] ≡ false) × (is_written tree values s ≡ true) × (has_line profile tree values s ≡ true)) (full_file prefix tree values)
+      full : HasOwnLines format tree values (λ s. (list_any (defines s) tree.entries ≡ true) × (list_any (nat_eq s) [] ≡ false) × (is_written tree values s ≡ true) × (has_line profile tree values s ≡ true)) (full_file format tree values)
       full =
-          subst (HasOwnLines prefix tree values (λ s. (list_any (defines s) tree.entries ≡ true) × (list_any (nat_eq s) [] ≡ false) × (is_written tree values s ≡ true) × (has_line profile tree values s ≡ true))) (sym (full_file_by_entry prefix tree values))
-          (own_lines prefix valid profile tree settled users values fitting solved (solutions_fit profile tree settled users fitting values solved) tree.entries
+          subst (HasOwnLines format tree values (λ s. (list_any (defines s) tree.entries ≡ true) × (list_any (nat_eq s) [] ≡ false) × (is_written tree values s ≡ true) × (has_line profile tree values s ≡ true))) (sym (full_file_by_entry format tree values))
+          (own_lines format valid profile tree settled users values fitting solved (solutions_fit profile tree settled users fitting values solved) tree.entries
           [] false plain)
 
       again : List (Option UserValue)
       again = file_assignment tree full.meanings
 
       fits_again : FitsUsers (length tree.units) (λ u x. IsTrue (user_fits tree u x)) (file_assignment tree full.meanings)
-      fits_again = file_fits prefix tree (full_file prefix tree values) full.meanings settled.consistent full.utf8 full.says
+      fits_again = file_fits format tree (full_file format tree values) full.meanings settled.consistent full.utf8 full.says
 
       user_again : (u : ℕ) → u < length tree.units → user_of (file_assignment tree full.meanings) u ≡ cond (list_any (is_for u) full.meanings) (user_meant values u) None
       user_again u below =
@@ -200,9 +200,9 @@ full_files_back prefix profile tree users values valid whole fitting gives unlif
       -- a kept unit has a line in the full file
       listed : (u : ℕ) → u < length tree.units → is_kept profile tree values u ≡ true → list_any (is_for u) full.meanings ≡ true
       listed u below kept =
-          let unit = unit_there prefix valid profile tree settled.consistent users values fitting solved u below in
+          let unit = unit_there format valid profile tree settled.consistent users values fitting solved u below in
           let k = kept_unit profile tree users values fitting solved u below kept in
-          let some = speaks_at prefix valid profile tree settled.consistent users values fitting solved u kept k unit.0 unit.1 in
+          let some = speaks_at format valid profile tree settled.consistent users values fitting solved u kept k unit.0 unit.1 in
           let s = any_found (λ t. unit_of tree t == u) (has_line profile tree values) (symbol_numbers tree) some in
           let written = line_written profile tree settled users values fitting solved s.0 s.1 in
           let place = whole.consistent.defined s.0 written.0 written.1 in

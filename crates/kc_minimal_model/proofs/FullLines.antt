@@ -6,6 +6,7 @@ use Rattle.std.specs.List.{AllZip, AllByRecursion, list_any, list_all, starts_wi
 use Rattle.std.specs.Str.{IsUtf8, is_utf8}
 use Rattle.std.proofs.lemmas.Str.{IsUtf8-nil, IsUtf8-append, IsUtf8-from_is_utf8, is_utf8-from_IsUtf8}
 use Rattle.kc_value.proofs.UnquotedUtf8.{ascii_then, ascii_alone}
+use Rattle.kc_dotconfig_model.specs.Formats.{FileFormat}
 use Rattle.kc_dotconfig_model.proofs.TrimmedLines.{low_utf8}
 use Rattle.std.proofs.lemmas.Bool.{cases_Bool, false≢true, and_parts, and_from, or_left, or_right, or_parts, not-true, eq-eqb, eqb-true}
 use Rattle.kc_tree_model.specs.Trees.{Tree, Symbol, Entry, definition, choice_begins, menu_begins, menu_ends, comment}
@@ -38,9 +39,9 @@ is_for u (notice kind) = false
 is_for u silent = false
 
 -- bytes whose lines assign each unit its own value or nothing, with a line for each of these symbols
-pub record HasOwnLines (prefix : List ℕ) (tree : Tree) (values : List UnitValue) (covered : ℕ → Type 0) (bytes : List ℕ) : Type 0 where
+pub record HasOwnLines (format : FileFormat) (tree : Tree) (values : List UnitValue) (covered : ℕ → Type 0) (bytes : List ℕ) : Type 0 where
   pub meanings : List LineMeaning
-  pub says : FileMeans prefix tree bytes meanings
+  pub says : FileMeans format tree bytes meanings
   pub utf8 : has_utf8_lines bytes ≡ true
   pub own : AllByRecursion (IsOwn values) meanings
   pub covers : (s : ℕ) → covered s → list_any (is_for (unit_of tree s)) meanings ≡ true
@@ -64,14 +65,14 @@ plain_title title e =
     let parts = and_parts (not (has_newline title)) (is_utf8 title) e in
     record { one = one_line title (not-true (has_newline title) parts.0); utf8 = IsUtf8-from_is_utf8 title parts.1 }
 
-module _ (prefix : List ℕ) (valid : is_prefix prefix ≡ true) (tree : Tree) (values : List UnitValue) where
+module _ (format : FileFormat) (valid : is_prefix format.prefix ≡ true) (tree : Tree) (values : List UnitValue) where
   -- one more line
   own_lines_line : (C D : ℕ → Type 0) (line rest : List ℕ) (meaning : LineMeaning) → lacks 10 line ≡ true → IsUtf8 line
-      → Means prefix tree (without_white_end line) meaning → IsOwn values meaning → HasOwnLines prefix tree values C rest
-      → ((s : ℕ) → D s → (is_for (unit_of tree s) meaning ≡ true) ⊎ C s) → HasOwnLines prefix tree values D (line ++ 10 ∷ rest)
+      → Means format tree (without_white_end line) meaning → IsOwn values meaning → HasOwnLines format tree values C rest
+      → ((s : ℕ) → D s → (is_for (unit_of tree s) meaning ≡ true) ⊎ C s) → HasOwnLines format tree values D (line ++ 10 ∷ rest)
   own_lines_line C D line rest meaning one utf8 says own t covers = record {
     meanings = meaning ∷ t.meanings;
-    says = subst (λ ls. AllZip (λ l x. Means prefix tree (without_white_end l) x) ls (meaning ∷ t.meanings)) (sym (first_line line rest one)) (says, t.says);
+    says = subst (λ ls. AllZip (λ l x. Means format tree (without_white_end l) x) ls (meaning ∷ t.meanings)) (sym (first_line line rest one)) (says, t.says);
     utf8 = ap (list_all is_utf8) (first_line line rest one) ∙ and_from (is_utf8 line) (list_all is_utf8 (file_lines rest)) (is_utf8-from_IsUtf8 line utf8)
         t.utf8;
     own = (own, t.own);
@@ -82,22 +83,22 @@ module _ (prefix : List ℕ) (valid : is_prefix prefix ≡ true) (tree : Tree) (
   }
 
   -- one more line without an assignment
-  silent_line : (C : ℕ → Type 0) (line rest : List ℕ) → lacks 10 line ≡ true → IsUtf8 line → Means prefix tree (without_white_end line) silent
-      → HasOwnLines prefix tree values C rest → HasOwnLines prefix tree values C (line ++ 10 ∷ rest)
+  silent_line : (C : ℕ → Type 0) (line rest : List ℕ) → lacks 10 line ≡ true → IsUtf8 line → Means format tree (without_white_end line) silent
+      → HasOwnLines format tree values C rest → HasOwnLines format tree values C (line ++ 10 ∷ rest)
   silent_line C line rest one utf8 says t = own_lines_line C C line rest silent one utf8 says tt t (λ s c. inr c)
 
   -- of fewer symbols
-  own_lines_fewer : (C D : ℕ → Type 0) (bytes : List ℕ) → ((s : ℕ) → D s → C s) → HasOwnLines prefix tree values C bytes → HasOwnLines prefix tree values D bytes
+  own_lines_fewer : (C D : ℕ → Type 0) (bytes : List ℕ) → ((s : ℕ) → D s → C s) → HasOwnLines format tree values C bytes → HasOwnLines format tree values D bytes
   own_lines_fewer C D bytes fewer t = record { meanings = t.meanings; says = t.says; utf8 = t.utf8; own = t.own; covers = λ s d. t.covers s (fewer s d) }
 
-  title_lacks : (title : List ℕ) → lacks 10 title ≡ true → lacks 10 (heading_title prefix title) ≡ true
-  title_lacks title one = go (starts_with nat_eq title prefix) where
+  title_lacks : (title : List ℕ) → lacks 10 title ≡ true → lacks 10 (heading_title format.prefix title) ≡ true
+  title_lacks title one = go (starts_with nat_eq title format.prefix) where
     go : (t : Bool) → lacks 10 (cond t (32 ∷ title) title) ≡ true
     go true = one
     go false = one
 
-  title_utf8 : (title : List ℕ) → IsUtf8 title → IsUtf8 (heading_title prefix title)
-  title_utf8 title utf8 = go (starts_with nat_eq title prefix) where
+  title_utf8 : (title : List ℕ) → IsUtf8 title → IsUtf8 (heading_title format.prefix title)
+  title_utf8 title utf8 = go (starts_with nat_eq title format.prefix) where
     go : (t : Bool) → IsUtf8 (cond t (32 ∷ title) title)
     go true = ascii_then 32 title (omega arith) utf8
     go false = utf8
@@ -106,30 +107,30 @@ module _ (prefix : List ℕ) (valid : is_prefix prefix ≡ true) (tree : Tree) (
   hash_utf8 = ascii_alone 35 (omega arith)
 
   -- a heading
-  own_lines_heading : (C : ℕ → Type 0) (title rest : List ℕ) → IsTitle title → HasOwnLines prefix tree values C rest
-      → HasOwnLines prefix tree values C (heading prefix title ++ rest)
+  own_lines_heading : (C : ℕ → Type 0) (title rest : List ℕ) → IsTitle title → HasOwnLines format tree values C rest
+      → HasOwnLines format tree values C (heading format.prefix title ++ rest)
   own_lines_heading C title rest good t =
-      let name = heading_title prefix title in
-      let last = silent_line C (35 ∷ []) rest refl hash_utf8 (hash_says prefix tree) t in
+      let name = heading_title format.prefix title in
+      let last = silent_line C (35 ∷ []) rest refl hash_utf8 (hash_says format tree) t in
       let third = silent_line C (35 ∷ 32 ∷ name) (35 ∷ 10 ∷ rest) (title_lacks title good.one)
-      (ascii_then 35 (32 ∷ name) (omega arith) (ascii_then 32 name (omega arith) (title_utf8 title good.utf8))) (heading_says prefix tree title valid)
+      (ascii_then 35 (32 ∷ name) (omega arith) (ascii_then 32 name (omega arith) (title_utf8 title good.utf8))) (heading_says format tree title valid)
       last in
-      let second = silent_line C (35 ∷ []) ((35 ∷ 32 ∷ name) ++ 10 ∷ 35 ∷ 10 ∷ rest) refl hash_utf8 (hash_says prefix tree) third in
-      let first = silent_line C [] (35 ∷ 10 ∷ ((35 ∷ 32 ∷ name) ++ 10 ∷ 35 ∷ 10 ∷ rest)) refl IsUtf8-nil (blank_says prefix tree) second in
-      let same : heading prefix title ++ rest ≡ 10 ∷ 35 ∷ 10 ∷ 35 ∷ 32 ∷ (name ++ 10 ∷ 35 ∷ 10 ∷ rest) = ap (λ l. 10 ∷ 35 ∷ 10 ∷ 35 ∷ 32 ∷ l)
+      let second = silent_line C (35 ∷ []) ((35 ∷ 32 ∷ name) ++ 10 ∷ 35 ∷ 10 ∷ rest) refl hash_utf8 (hash_says format tree) third in
+      let first = silent_line C [] (35 ∷ 10 ∷ ((35 ∷ 32 ∷ name) ++ 10 ∷ 35 ∷ 10 ∷ rest)) refl IsUtf8-nil (blank_says format tree) second in
+      let same : heading format.prefix title ++ rest ≡ 10 ∷ 35 ∷ 10 ∷ 35 ∷ 32 ∷ (name ++ 10 ∷ 35 ∷ 10 ∷ rest) = ap (λ l. 10 ∷ 35 ∷ 10 ∷ 35 ∷ 32 ∷ l)
       (append_assoc name (10 ∷ 35 ∷ 10 ∷ []) rest) in
-      subst (HasOwnLines prefix tree values C) (sym same) first
+      subst (HasOwnLines format tree values C) (sym same) first
 
   -- an end line
-  own_lines_end : (C : ℕ → Type 0) (title rest : List ℕ) → IsTitle title → HasOwnLines prefix tree values C rest
-      → HasOwnLines prefix tree values C (end_line title ++ rest)
+  own_lines_end : (C : ℕ → Type 0) (title rest : List ℕ) → IsTitle title → HasOwnLines format tree values C rest
+      → HasOwnLines format tree values C (end_line title ++ rest)
   own_lines_end C title rest good t =
       let line = silent_line C (codes "# end of " ++ title) rest (all_of_both (λ c. not (c == 10)) (codes "# end of ") title refl good.one)
-      (IsUtf8-append (codes "# end of ") title (low_utf8 (codes "# end of ") refl) good.utf8) (end_says prefix tree title valid) t in
+      (IsUtf8-append (codes "# end of ") title (low_utf8 (codes "# end of ") refl) good.utf8) (end_says format tree title valid) t in
       let same : end_line title ++ rest ≡ (codes "# end of " ++ title) ++ 10 ∷ rest = ap (λ l. codes "# end of " ++ l) (append_assoc title (10 ∷ []) rest) in
-      subst (HasOwnLines prefix tree values C) (sym same) line
+      subst (HasOwnLines format tree values C) (sym same) line
 
-module _ (prefix : List ℕ) (valid : is_prefix prefix ≡ true) (profile : Profile) (tree : Tree) (settled : IsOrderedTree tree) (users : List (Option UserValue)) (values : List UnitValue)
+module _ (format : FileFormat) (valid : is_prefix format.prefix ≡ true) (profile : Profile) (tree : Tree) (settled : IsOrderedTree tree) (users : List (Option UserValue)) (values : List UnitValue)
     (fitting : FitsUsers (length tree.units) (λ u x. IsTrue (user_fits tree u x)) users) (solved : Solves (length tree.units) (rule profile tree) users values)
     (fits : FitsValues (length tree.units) (λ u v. IsTrue (value_fits tree u v)) values) where
   -- a symbol that is defined by these entries for the first time, is written, and has a line in the minimal file
@@ -141,7 +142,7 @@ module _ (prefix : List ℕ) (valid : is_prefix prefix ≡ true) (profile : Prof
   -- the meaning of the line of a symbol
   record SymbolHasOwnLine (s : ℕ) : Type 0 where
     meaning : LineMeaning
-    reads : IsLine prefix tree (symbol_line prefix tree values s) meaning
+    reads : IsLine format tree (symbol_line format tree values s) meaning
     own : IsOwn values meaning
     assigning : has_line profile tree values s ≡ true → is_for (unit_of tree s) meaning ≡ true
 
@@ -156,32 +157,32 @@ module _ (prefix : List ℕ) (valid : is_prefix prefix ≡ true) (profile : Prof
   symbol_own_line : (s : ℕ) (symbol : Symbol) → slice_get tree.symbols s ≡ Some symbol → SymbolHasOwnLine s
   symbol_own_line s symbol at = elim (cases_Bool (has_line profile tree values s)) [
     | inl has ↦
-        let r = read_as_assignment prefix valid profile tree settled.consistent users values fitting solved s has in
+        let r = read_as_assignment format valid profile tree settled.consistent users values fitting solved s has in
         let u = unit_of tree s in
         let some : user_meant values u ≡ Some r.user = ap (option_and_then as_user) r.has ∙ r.meant in
         record {
           meaning = meant values u;
-          reads = line_reads prefix valid profile tree settled.consistent users values fitting solved s has;
+          reads = line_reads format valid profile tree settled.consistent users values fitting solved s has;
           own = own_meant u (user_meant values u) refl;
           assigning = λ e. for_meant u (user_meant values u) r.user some;
         }
     | inr none ↦
-        let line = own_line prefix valid tree settled.consistent values fits s symbol at in
+        let line = own_line format valid tree settled.consistent values fits s symbol at in
         record { meaning = line.meaning; reads = line.reads; own = line.own; assigning = λ e. absurd (false≢true (sym none ∙ e)) }
   ]
 
   -- the line of a symbol, and those after it
   own_lines_symbol : (s : ℕ) (symbol : Symbol) → slice_get tree.symbols s ≡ Some symbol → (seen : List ℕ) (gap : Bool) (entries : List Entry) (rest : List ℕ)
-      → HasOwnLines prefix tree values (IsToCome (s ∷ seen) entries) rest
-      → HasOwnLines prefix tree values (IsToCome seen (definition s ∷ entries))
-      (cond gap (10 ∷ ended_line prefix tree values s) (ended_line prefix tree values s) ++ rest)
+      → HasOwnLines format tree values (IsToCome (s ∷ seen) entries) rest
+      → HasOwnLines format tree values (IsToCome seen (definition s ∷ entries))
+      (cond gap (10 ∷ ended_line format tree values s) (ended_line format tree values s) ++ rest)
   own_lines_symbol s symbol at seen gap entries rest t =
       let line = symbol_own_line s symbol at in
-      let next = own_lines_line prefix valid tree values (IsToCome (s ∷ seen) entries) (IsToCome seen (definition s ∷ entries))
-      (symbol_line prefix tree values s) rest line.meaning line.reads.one line.reads.utf8
-      (subst (λ l. Means prefix tree l line.meaning) (sym line.reads.whole) line.reads.says) line.own t (covered line) in
-      let ended = subst (HasOwnLines prefix tree values (IsToCome seen (definition s ∷ entries)))
-      (sym (append_assoc (symbol_line prefix tree values s) (10 ∷ []) rest)) next in
+      let next = own_lines_line format valid tree values (IsToCome (s ∷ seen) entries) (IsToCome seen (definition s ∷ entries))
+      (symbol_line format tree values s) rest line.meaning line.reads.one line.reads.utf8
+      (subst (λ l. Means format tree l line.meaning) (sym line.reads.whole) line.reads.says) line.own t (covered line) in
+      let ended = subst (HasOwnLines format tree values (IsToCome seen (definition s ∷ entries)))
+      (sym (append_assoc (symbol_line format tree values s) (10 ∷ []) rest)) next in
       go gap ended where
         covered : (line : SymbolHasOwnLine s) (w : ℕ) → IsToCome seen (definition s ∷ entries) w
             → (is_for (unit_of tree w) line.meaning ≡ true) ⊎ IsToCome (s ∷ seen) entries w
@@ -191,10 +192,10 @@ module _ (prefix : List ℕ) (valid : is_prefix prefix ≡ true) (profile : Prof
           | inr other ↦ inr (ap (λ b. b || list_any (defines w) entries) (sym other) ∙ c.0, ap (λ b. b || list_any (nat_eq w) seen) other ∙ c.1, c.2, c.3)
         ]
 
-        go : (g : Bool) → HasOwnLines prefix tree values (IsToCome seen (definition s ∷ entries)) (ended_line prefix tree values s ++ rest)
-            → HasOwnLines prefix tree values (IsToCome seen (definition s ∷ entries)) (cond g (10 ∷ ended_line prefix tree values s) (ended_line prefix tree values s) ++ rest)
-        go true ended = silent_line prefix valid tree values (IsToCome seen (definition s ∷ entries)) [] (ended_line prefix tree values s ++ rest) refl
-            IsUtf8-nil (blank_says prefix tree) ended
+        go : (g : Bool) → HasOwnLines format tree values (IsToCome seen (definition s ∷ entries)) (ended_line format tree values s ++ rest)
+            → HasOwnLines format tree values (IsToCome seen (definition s ∷ entries)) (cond g (10 ∷ ended_line format tree values s) (ended_line format tree values s) ++ rest)
+        go true ended = silent_line format valid tree values (IsToCome seen (definition s ∷ entries)) [] (ended_line format tree values s ++ rest) refl
+            IsUtf8-nil (blank_says format tree) ended
         go false ended = ended
 
   written_there : (s : ℕ) (o : Option Symbol) → slice_get tree.symbols s ≡ o → unwrap_or (option_map (is_written_symbol tree values) o) false ≡ true
@@ -204,24 +205,24 @@ module _ (prefix : List ℕ) (valid : is_prefix prefix ≡ true) (profile : Prof
 
   -- what all entries write
   pub own_lines : (entries : List Entry) (seen : List ℕ) (gap : Bool) → HasPlainTitles entries
-      → HasOwnLines prefix tree values (IsToCome seen entries) (entry_texts prefix tree values seen gap entries)
+      → HasOwnLines format tree values (IsToCome seen entries) (entry_texts format tree values seen gap entries)
   own_lines [] seen gap plain = record { meanings = []; says = tt; utf8 = refl; own = tt; covers = λ s c. absurd (false≢true c.0) }
   own_lines (definition s ∷ entries) seen gap plain =
       go (is_written tree values s && not (list_any (nat_eq s) seen)) refl
       (own_lines entries (s ∷ seen) false (λ k entry title at is. plain (suc k) entry title at is))
       (own_lines entries (s ∷ seen) gap (λ k entry title at is. plain (suc k) entry title at is)) where
         go : (t : Bool) → (is_written tree values s && not (list_any (nat_eq s) seen)) ≡ t
-            → HasOwnLines prefix tree values (IsToCome (s ∷ seen) entries) (entry_texts prefix tree values (s ∷ seen) false entries)
-            → HasOwnLines prefix tree values (IsToCome (s ∷ seen) entries) (entry_texts prefix tree values (s ∷ seen) gap entries)
-            → HasOwnLines prefix tree values (IsToCome seen (definition s ∷ entries))
-            (cond t (cond gap (10 ∷ ended_line prefix tree values s) (ended_line prefix tree values s) ++ entry_texts prefix tree values (s ∷ seen) false
-            entries) (entry_texts prefix tree values (s ∷ seen) gap entries))
+            → HasOwnLines format tree values (IsToCome (s ∷ seen) entries) (entry_texts format tree values (s ∷ seen) false entries)
+            → HasOwnLines format tree values (IsToCome (s ∷ seen) entries) (entry_texts format tree values (s ∷ seen) gap entries)
+            → HasOwnLines format tree values (IsToCome seen (definition s ∷ entries))
+            (cond t (cond gap (10 ∷ ended_line format tree values s) (ended_line format tree values s) ++ entry_texts format tree values (s ∷ seen) false
+            entries) (entry_texts format tree values (s ∷ seen) gap entries))
         go true e one two =
             let there = written_there s (slice_get tree.symbols s) refl (and_parts (is_written tree values s) (not (list_any (nat_eq s) seen)) e).0 in
-            own_lines_symbol s there.0 there.1 seen gap entries (entry_texts prefix tree values (s ∷ seen) false entries) one
+            own_lines_symbol s there.0 there.1 seen gap entries (entry_texts format tree values (s ∷ seen) false entries) one
         go false e one two =
-            own_lines_fewer prefix valid tree values (IsToCome (s ∷ seen) entries) (IsToCome seen (definition s ∷ entries))
-            (entry_texts prefix tree values (s ∷ seen) gap entries) fewer two where
+            own_lines_fewer format valid tree values (IsToCome (s ∷ seen) entries) (IsToCome seen (definition s ∷ entries))
+            (entry_texts format tree values (s ∷ seen) gap entries) fewer two where
               fewer : (w : ℕ) → IsToCome seen (definition s ∷ entries) w → IsToCome (s ∷ seen) entries w
               fewer w c = elim (cases_Bool (nat_eq w s)) [
                 | inl same ↦
@@ -233,45 +234,45 @@ module _ (prefix : List ℕ) (valid : is_prefix prefix ≡ true) (profile : Prof
                 | inr other ↦ (ap (λ b. b || list_any (defines w) entries) (sym other) ∙ c.0, ap (λ b. b || list_any (nat_eq w) seen) other ∙ c.1, c.2, c.3)
               ]
   own_lines (choice_begins c ∷ entries) seen gap plain =
-      own_lines_fewer prefix valid tree values (IsToCome seen entries) (IsToCome seen (choice_begins c ∷ entries))
-      (entry_texts prefix tree values seen gap entries) (λ s d. (d.0, d.1, d.2, d.3))
+      own_lines_fewer format valid tree values (IsToCome seen entries) (IsToCome seen (choice_begins c ∷ entries))
+      (entry_texts format tree values seen gap entries) (λ s d. (d.0, d.1, d.2, d.3))
       (own_lines entries seen gap (λ k entry title at is. plain (suc k) entry title at is))
   own_lines (menu_begins title dependency visible ∷ entries) seen gap plain =
       go (applies tree values dependency && applies tree values visible) (own_lines entries seen false (λ k entry title at is. plain (suc k) entry title at is))
       (own_lines entries seen gap (λ k entry title at is. plain (suc k) entry title at is)) where
-        go : (t : Bool) → HasOwnLines prefix tree values (IsToCome seen entries) (entry_texts prefix tree values seen false entries)
-            → HasOwnLines prefix tree values (IsToCome seen entries) (entry_texts prefix tree values seen gap entries)
-            → HasOwnLines prefix tree values (IsToCome seen (menu_begins title dependency visible ∷ entries))
-            (cond t (heading prefix title ++ entry_texts prefix tree values seen false entries) (entry_texts prefix tree values seen gap entries))
-        go true one two = own_lines_fewer prefix valid tree values (IsToCome seen entries) (IsToCome seen (menu_begins title dependency visible ∷ entries))
-            (heading prefix title ++ entry_texts prefix tree values seen false entries) (λ s d. (d.0, d.1, d.2, d.3))
-            (own_lines_heading prefix valid tree values (IsToCome seen entries) title (entry_texts prefix tree values seen false entries)
+        go : (t : Bool) → HasOwnLines format tree values (IsToCome seen entries) (entry_texts format tree values seen false entries)
+            → HasOwnLines format tree values (IsToCome seen entries) (entry_texts format tree values seen gap entries)
+            → HasOwnLines format tree values (IsToCome seen (menu_begins title dependency visible ∷ entries))
+            (cond t (heading format.prefix title ++ entry_texts format tree values seen false entries) (entry_texts format tree values seen gap entries))
+        go true one two = own_lines_fewer format valid tree values (IsToCome seen entries) (IsToCome seen (menu_begins title dependency visible ∷ entries))
+            (heading format.prefix title ++ entry_texts format tree values seen false entries) (λ s d. (d.0, d.1, d.2, d.3))
+            (own_lines_heading format valid tree values (IsToCome seen entries) title (entry_texts format tree values seen false entries)
             (plain_title title (plain 0 (menu_begins title dependency visible) title refl refl)) one)
-        go false one two = own_lines_fewer prefix valid tree values (IsToCome seen entries) (IsToCome seen (menu_begins title dependency visible ∷ entries))
-            (entry_texts prefix tree values seen gap entries) (λ s d. (d.0, d.1, d.2, d.3)) two
+        go false one two = own_lines_fewer format valid tree values (IsToCome seen entries) (IsToCome seen (menu_begins title dependency visible ∷ entries))
+            (entry_texts format tree values seen gap entries) (λ s d. (d.0, d.1, d.2, d.3)) two
   own_lines (menu_ends title dependency visible ∷ entries) seen gap plain =
       go (applies tree values dependency && applies tree values visible) (own_lines entries seen true (λ k entry title at is. plain (suc k) entry title at is))
       (own_lines entries seen gap (λ k entry title at is. plain (suc k) entry title at is)) where
-        go : (t : Bool) → HasOwnLines prefix tree values (IsToCome seen entries) (entry_texts prefix tree values seen true entries)
-            → HasOwnLines prefix tree values (IsToCome seen entries) (entry_texts prefix tree values seen gap entries)
-            → HasOwnLines prefix tree values (IsToCome seen (menu_ends title dependency visible ∷ entries))
-            (cond t (end_line title ++ entry_texts prefix tree values seen true entries) (entry_texts prefix tree values seen gap entries))
-        go true one two = own_lines_fewer prefix valid tree values (IsToCome seen entries) (IsToCome seen (menu_ends title dependency visible ∷ entries))
-            (end_line title ++ entry_texts prefix tree values seen true entries) (λ s d. (d.0, d.1, d.2, d.3))
-            (own_lines_end prefix valid tree values (IsToCome seen entries) title (entry_texts prefix tree values seen true entries)
+        go : (t : Bool) → HasOwnLines format tree values (IsToCome seen entries) (entry_texts format tree values seen true entries)
+            → HasOwnLines format tree values (IsToCome seen entries) (entry_texts format tree values seen gap entries)
+            → HasOwnLines format tree values (IsToCome seen (menu_ends title dependency visible ∷ entries))
+            (cond t (end_line title ++ entry_texts format tree values seen true entries) (entry_texts format tree values seen gap entries))
+        go true one two = own_lines_fewer format valid tree values (IsToCome seen entries) (IsToCome seen (menu_ends title dependency visible ∷ entries))
+            (end_line title ++ entry_texts format tree values seen true entries) (λ s d. (d.0, d.1, d.2, d.3))
+            (own_lines_end format valid tree values (IsToCome seen entries) title (entry_texts format tree values seen true entries)
             (plain_title title (plain 0 (menu_ends title dependency visible) title refl refl)) one)
-        go false one two = own_lines_fewer prefix valid tree values (IsToCome seen entries) (IsToCome seen (menu_ends title dependency visible ∷ entries))
-            (entry_texts prefix tree values seen gap entries) (λ s d. (d.0, d.1, d.2, d.3)) two
+        go false one two = own_lines_fewer format valid tree values (IsToCome seen entries) (IsToCome seen (menu_ends title dependency visible ∷ entries))
+            (entry_texts format tree values seen gap entries) (λ s d. (d.0, d.1, d.2, d.3)) two
   own_lines (comment title dependency ∷ entries) seen gap plain =
       go (applies tree values dependency) (own_lines entries seen false (λ k entry title at is. plain (suc k) entry title at is))
       (own_lines entries seen gap (λ k entry title at is. plain (suc k) entry title at is)) where
-        go : (t : Bool) → HasOwnLines prefix tree values (IsToCome seen entries) (entry_texts prefix tree values seen false entries)
-            → HasOwnLines prefix tree values (IsToCome seen entries) (entry_texts prefix tree values seen gap entries)
-            → HasOwnLines prefix tree values (IsToCome seen (comment title dependency ∷ entries))
-            (cond t (heading prefix title ++ entry_texts prefix tree values seen false entries) (entry_texts prefix tree values seen gap entries))
-        go true one two = own_lines_fewer prefix valid tree values (IsToCome seen entries) (IsToCome seen (comment title dependency ∷ entries))
-            (heading prefix title ++ entry_texts prefix tree values seen false entries) (λ s d. (d.0, d.1, d.2, d.3))
-            (own_lines_heading prefix valid tree values (IsToCome seen entries) title (entry_texts prefix tree values seen false entries)
+        go : (t : Bool) → HasOwnLines format tree values (IsToCome seen entries) (entry_texts format tree values seen false entries)
+            → HasOwnLines format tree values (IsToCome seen entries) (entry_texts format tree values seen gap entries)
+            → HasOwnLines format tree values (IsToCome seen (comment title dependency ∷ entries))
+            (cond t (heading format.prefix title ++ entry_texts format tree values seen false entries) (entry_texts format tree values seen gap entries))
+        go true one two = own_lines_fewer format valid tree values (IsToCome seen entries) (IsToCome seen (comment title dependency ∷ entries))
+            (heading format.prefix title ++ entry_texts format tree values seen false entries) (λ s d. (d.0, d.1, d.2, d.3))
+            (own_lines_heading format valid tree values (IsToCome seen entries) title (entry_texts format tree values seen false entries)
             (plain_title title (plain 0 (comment title dependency) title refl refl)) one)
-        go false one two = own_lines_fewer prefix valid tree values (IsToCome seen entries) (IsToCome seen (comment title dependency ∷ entries))
-            (entry_texts prefix tree values seen gap entries) (λ s d. (d.0, d.1, d.2, d.3)) two
+        go false one two = own_lines_fewer format valid tree values (IsToCome seen entries) (IsToCome seen (comment title dependency ∷ entries))
+            (entry_texts format tree values seen gap entries) (λ s d. (d.0, d.1, d.2, d.3)) two

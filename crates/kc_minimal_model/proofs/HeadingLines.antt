@@ -7,6 +7,7 @@ use Rattle.std.proofs.lemmas.List.{take-append-drop}
 use Rattle.kc_expr.specs.Token.{is_white_byte}
 use Rattle.kc_tree_model.specs.Trees.{Tree}
 use Rattle.kc_tree_model.specs.TreeLookup.{is_name_byte}
+use Rattle.kc_dotconfig_model.specs.Formats.{FileFormat}
 use Rattle.kc_dotconfig_model.specs.PrefixGrammar.{is_prefix, lacks}
 use Rattle.kc_dotconfig_model.proofs.LineLaws.{line_read}
 use Rattle.kc_dotconfig_model.specs.ConfigLines.{LineMeaning, silent, Means, empty, comment, IsUnsetLine, without_white_end}
@@ -38,21 +39,21 @@ front_of : (line : List ℕ) → (rest : List ℕ) × (line ≡ without_white_en
 front_of line = (drop (length line - suffix_len is_white_byte line) line, sym (take-append-drop (length line - suffix_len is_white_byte line) line))
 
 -- a line that begins with `#` is a comment if it is no unset line
-pub says_comment : (prefix : List ℕ) (tree : Tree) (line : List ℕ) → ((name : List ℕ) → IsUnsetLine prefix (without_white_end (35 ∷ line)) name → ⊥)
-    → Means prefix tree (without_white_end (35 ∷ line)) silent
-says_comment prefix tree line none =
+pub says_comment : (format : FileFormat) (tree : Tree) (line : List ℕ) → ((name : List ℕ) → IsUnsetLine format.prefix (without_white_end (35 ∷ line)) name → ⊥)
+    → Means format tree (without_white_end (35 ∷ line)) silent
+says_comment format tree line none =
     let h = hash_stays line in
     comment (without_white_end (35 ∷ line)) (ap (find (λ b. not (is_white_byte b))) h.1) none
 
 -- an empty line
-pub blank_says : (prefix : List ℕ) (tree : Tree) → Means prefix tree (without_white_end []) silent
-blank_says prefix tree = empty
+pub blank_says : (format : FileFormat) (tree : Tree) → Means format tree (without_white_end []) silent
+blank_says format tree = empty
 
 -- a `#` alone
-pub hash_says : (prefix : List ℕ) (tree : Tree) → Means prefix tree (without_white_end (35 ∷ [])) silent
-hash_says prefix tree =
-    says_comment prefix tree [] (λ name unset. let front = front_of (35 ∷ []) in let e = unset.2 in two (without_white_end (35 ∷ []))
-    (prefix ++ (name ++ codes " is not set")) front.0 front.1 e) where
+pub hash_says : (format : FileFormat) (tree : Tree) → Means format tree (without_white_end (35 ∷ [])) silent
+hash_says format tree =
+    says_comment format tree [] (λ name unset. let front = front_of (35 ∷ []) in let e = unset.2 in two (without_white_end (35 ∷ []))
+    (format.prefix ++ (name ++ codes " is not set")) front.0 front.1 e) where
       two : (w x rest : List ℕ) → 35 ∷ [] ≡ w ++ rest → w ≡ 35 ∷ 32 ∷ x → ⊥
       two w x rest whole e = let both : 35 ∷ [] ≡ 35 ∷ 32 ∷ (x ++ rest) = whole ∙ ap (λ l. l ++ rest) e in cc
 
@@ -77,18 +78,18 @@ heading_begins prefix title rest valid e = go (starts_with nat_eq title prefix) 
   go false starts e = false≢true (sym starts ∙ ap (λ t. starts_with nat_eq t prefix) e ∙ starts_own prefix rest)
 
 -- the line of a heading's title is a comment
-pub heading_says : (prefix : List ℕ) (tree : Tree) (title : List ℕ) → is_prefix prefix ≡ true
-    → Means prefix tree (without_white_end (35 ∷ 32 ∷ heading_title prefix title)) silent
-heading_says prefix tree title valid = says_comment prefix tree (32 ∷ heading_title prefix title) (λ name unset.
-    let front = front_of (35 ∷ 32 ∷ heading_title prefix title) in
+pub heading_says : (format : FileFormat) (tree : Tree) (title : List ℕ) → is_prefix format.prefix ≡ true
+    → Means format tree (without_white_end (35 ∷ 32 ∷ heading_title format.prefix title)) silent
+heading_says format tree title valid = says_comment format tree (32 ∷ heading_title format.prefix title) (λ name unset.
+    let front = front_of (35 ∷ 32 ∷ heading_title format.prefix title) in
     let e = unset.2 in
-    no_title (heading_title prefix title) (without_white_end (35 ∷ 32 ∷ heading_title prefix title)) (name ++ codes " is not set") front.0 front.1 e
-    (λ rest same. heading_begins prefix title rest valid same)) where
-      no_title : (t w x rest : List ℕ) → 35 ∷ 32 ∷ t ≡ w ++ rest → w ≡ 35 ∷ 32 ∷ (prefix ++ x) → ((more : List ℕ) → t ≡ prefix ++ more → ⊥) → ⊥
+    no_title (heading_title format.prefix title) (without_white_end (35 ∷ 32 ∷ heading_title format.prefix title)) (name ++ codes " is not set") front.0 front.1 e
+    (λ rest same. heading_begins format.prefix title rest valid same)) where
+      no_title : (t w x rest : List ℕ) → 35 ∷ 32 ∷ t ≡ w ++ rest → w ≡ 35 ∷ 32 ∷ (format.prefix ++ x) → ((more : List ℕ) → t ≡ format.prefix ++ more → ⊥) → ⊥
       no_title t w x rest whole e begins =
-          let both : 35 ∷ 32 ∷ t ≡ 35 ∷ 32 ∷ ((prefix ++ x) ++ rest) = whole ∙ ap (λ l. l ++ rest) e in
-          let tail : t ≡ (prefix ++ x) ++ rest = cc in
-          begins (x ++ rest) (tail ∙ append_assoc prefix x rest)
+          let both : 35 ∷ 32 ∷ t ≡ 35 ∷ 32 ∷ ((format.prefix ++ x) ++ rest) = whole ∙ ap (λ l. l ++ rest) e in
+          let tail : t ≡ (format.prefix ++ x) ++ rest = cc in
+          begins (x ++ rest) (tail ∙ append_assoc format.prefix x rest)
 
 -- the bytes after the first space
 behind_space : (a b x y : List ℕ) → lacks 32 a ≡ true → lacks 32 b ≡ true → a ++ 32 ∷ x ≡ b ++ 32 ∷ y → x ≡ y
@@ -108,31 +109,31 @@ o_is_i : (x y : List ℕ) → 111 ∷ x ≡ 105 ∷ y → ⊥
 o_is_i x y e = omega (arith, first_same 111 105 x y e)
 
 -- an end line is a comment
-pub end_says : (prefix : List ℕ) (tree : Tree) (title : List ℕ) → is_prefix prefix ≡ true
-    → Means prefix tree (without_white_end (codes "# end of " ++ title)) silent
-end_says prefix tree title valid = says_comment prefix tree (32 ∷ 101 ∷ 110 ∷ 100 ∷ 32 ∷ 111 ∷ 102 ∷ 32 ∷ title) (λ name unset.
+pub end_says : (format : FileFormat) (tree : Tree) (title : List ℕ) → is_prefix format.prefix ≡ true
+    → Means format tree (without_white_end (codes "# end of " ++ title)) silent
+end_says format tree title valid = says_comment format tree (32 ∷ 101 ∷ 110 ∷ 100 ∷ 32 ∷ 111 ∷ 102 ∷ 32 ∷ title) (λ name unset.
     let line = 35 ∷ 32 ∷ 101 ∷ 110 ∷ 100 ∷ 32 ∷ 111 ∷ 102 ∷ 32 ∷ title in
     let front = front_of line in
     let e = unset.2 in
     no_end name (without_white_end line) front.0 unset.1 front.1 e) where
       no_end : (name w rest : List ℕ) → lacks 32 name ≡ true → 35 ∷ 32 ∷ 101 ∷ 110 ∷ 100 ∷ 32 ∷ 111 ∷ 102 ∷ 32 ∷ title ≡ w ++ rest
-          → w ≡ 35 ∷ 32 ∷ (prefix ++ (name ++ codes " is not set")) → ⊥
+          → w ≡ 35 ∷ 32 ∷ (format.prefix ++ (name ++ codes " is not set")) → ⊥
       no_end name w rest one whole e =
           let set = 105 ∷ 115 ∷ 32 ∷ 110 ∷ 111 ∷ 116 ∷ 32 ∷ 115 ∷ 101 ∷ 116 ∷ [] in
-          let both : 35 ∷ 32 ∷ 101 ∷ 110 ∷ 100 ∷ 32 ∷ 111 ∷ 102 ∷ 32 ∷ title ≡ 35 ∷ 32 ∷ ((prefix ++ (name ++ 32 ∷ set)) ++ rest) = whole
+          let both : 35 ∷ 32 ∷ 101 ∷ 110 ∷ 100 ∷ 32 ∷ 111 ∷ 102 ∷ 32 ∷ title ≡ 35 ∷ 32 ∷ ((format.prefix ++ (name ++ 32 ∷ set)) ++ rest) = whole
           ∙ ap (λ l. l ++ rest) e in
-          let tail : 101 ∷ 110 ∷ 100 ∷ 32 ∷ 111 ∷ 102 ∷ 32 ∷ title ≡ (prefix ++ (name ++ 32 ∷ set)) ++ rest = cc in
-          let split : (prefix ++ (name ++ 32 ∷ set)) ++ rest ≡ (prefix ++ name) ++ 32 ∷ (set ++ rest) = simp append_assoc in
+          let tail : 101 ∷ 110 ∷ 100 ∷ 32 ∷ 111 ∷ 102 ∷ 32 ∷ title ≡ (format.prefix ++ (name ++ 32 ∷ set)) ++ rest = cc in
+          let split : (format.prefix ++ (name ++ 32 ∷ set)) ++ rest ≡ (format.prefix ++ name) ++ 32 ∷ (set ++ rest) = simp append_assoc in
           let after : 111 ∷ 102 ∷ 32 ∷ title ≡ set ++ rest =
-          behind_space (101 ∷ 110 ∷ 100 ∷ []) (prefix ++ name) (111 ∷ 102 ∷ 32 ∷ title) (set ++ rest) refl
-          (all_of_both (λ c. not (c == 32)) prefix name (name_lacks 32 refl prefix (prefix_bytes prefix valid)) one) (tail ∙ split) in
+          behind_space (101 ∷ 110 ∷ 100 ∷ []) (format.prefix ++ name) (111 ∷ 102 ∷ 32 ∷ title) (set ++ rest) refl
+          (all_of_both (λ c. not (c == 32)) format.prefix name (name_lacks 32 refl format.prefix (prefix_bytes format.prefix valid)) one) (tail ∙ split) in
           o_is_i (102 ∷ 32 ∷ title) (115 ∷ 32 ∷ 110 ∷ 111 ∷ 116 ∷ 32 ∷ 115 ∷ 101 ∷ 116 ∷ rest) after
 
 some_same : (a b : LineMeaning) → Some a ≡ Some b → a ≡ b
 some_same a b e = cc
 
 -- a line without an assignment has no other meaning
-pub says_nothing_else : (prefix : List ℕ) (tree : Tree) (line : List ℕ) (meaning : LineMeaning) → is_prefix prefix ≡ true → Means prefix tree line silent
-    → Means prefix tree line meaning → meaning ≡ silent
-says_nothing_else prefix tree line meaning valid first second =
-    some_same meaning silent (sym ((line_read prefix tree line meaning valid).1 second) ∙ (line_read prefix tree line silent valid).1 first)
+pub says_nothing_else : (format : FileFormat) (tree : Tree) (line : List ℕ) (meaning : LineMeaning) → is_prefix format.prefix ≡ true → Means format tree line silent
+    → Means format tree line meaning → meaning ≡ silent
+says_nothing_else format tree line meaning valid first second =
+    some_same meaning silent (sym ((line_read format tree line meaning valid).1 second) ∙ (line_read format tree line silent valid).1 first)

@@ -7,6 +7,7 @@ use Rattle.kc_rules_model.specs.declared.profile.Profile.{Profile}
 use Rattle.kc_rules_model.specs.SettledTrees.{IsSettledTree}
 use Rattle.kc_rules_model.proofs.OrderedTrees.{ordered_tree}
 use Rattle.kc_rules_model.proofs.SolutionsFit.{solutions_fit}
+use Rattle.kc_dotconfig_model.specs.Formats.{FileFormat}
 use Rattle.kc_dotconfig_model.specs.PrefixGrammar.{is_prefix}
 use Rattle.kc_dotconfig_model.specs.ConfigFiles.{file_assignment}
 use Rattle.kc_dotconfig_model.specs.LoadFaults.{IsAccepted}
@@ -18,35 +19,35 @@ use Rattle.kc_minimal_model.proofs.Canonical.{fits_of, each, same_files}
 use Rattle.kc_minimal_model.proofs.MinimalTexts.{canonical_text}
 
 pub canonical : MinimalFilesAreCanonical
-canonical prefix profile tree bytes valid settled accepted =
+canonical format profile tree bytes valid settled accepted =
     let ordered = ordered_tree tree settled in
-    let meanings = accepted_read prefix tree bytes valid accepted in
-    let utf8 = accepted_utf8 prefix tree bytes valid accepted in
-    let found = each prefix valid profile tree ordered bytes meanings.0 utf8 meanings.1 in
+    let meanings = accepted_read format tree bytes valid accepted in
+    let utf8 = accepted_utf8 format tree bytes valid accepted in
+    let found = each format valid profile tree ordered bytes meanings.0 utf8 meanings.1 in
     let reads = found.1 in
-    let fits = fits_of prefix valid profile tree ordered bytes reads.meanings reads.utf8 reads.says in
+    let fits = fits_of format valid profile tree ordered bytes reads.meanings reads.utf8 reads.says in
     record {
       values = found.0;
       loads = record { accepted = accepted; reads = reads };
-      canonical = canonical_text prefix valid profile tree ordered (file_assignment tree reads.meanings) found.0 fits reads.gives.solves;
+      canonical = canonical_text format valid profile tree ordered (file_assignment tree reads.meanings) found.0 fits reads.gives.solves;
     }
 
-pub compared : (prefix : List ℕ) (profile : Profile) (tree : Tree) (a b : List ℕ) → is_prefix prefix ≡ true → IsSettledTree tree → IsAccepted prefix tree a
-    → IsAccepted prefix tree b → AreComparedByMinimalFiles prefix profile tree a b
-compared prefix profile tree a b valid settled accepted_a accepted_b =
-    let left = canonical prefix profile tree a valid settled accepted_a in
-    let right = canonical prefix profile tree b valid settled accepted_b in
+pub compared : (format : FileFormat) (profile : Profile) (tree : Tree) (a b : List ℕ) → is_prefix format.prefix ≡ true → IsSettledTree tree → IsAccepted format tree a
+    → IsAccepted format tree b → AreComparedByMinimalFiles format profile tree a b
+compared format profile tree a b valid settled accepted_a accepted_b =
+    let left = canonical format profile tree a valid settled accepted_a in
+    let right = canonical format profile tree b valid settled accepted_b in
     record { left = left; right = right; same = left.canonical.same b right.values right.loads.reads }
 
 pub differences_decide_files : DifferencesDecideMinimalFiles
-differences_decide_files prefix profile tree a b left right valid settled fits_a fits_b gives_a gives_b =
+differences_decide_files format profile tree a b left right valid settled fits_a fits_b gives_a gives_b =
     let ordered = ordered_tree tree settled in
     let exact = differences_are_exact tree left right settled.consistent (solutions_fit profile tree ordered a fits_a left gives_a.solves)
     (solutions_fit profile tree ordered b fits_b right gives_b.solves) in
-    let equal = same_files prefix valid profile tree ordered a b left right fits_a fits_b gives_a.solves gives_b.solves in
+    let equal = same_files format valid profile tree ordered a b left right fits_a fits_b gives_a.solves gives_b.solves in
     (λ none. equal.0 (exact.0 none), λ files. exact.1 (equal.1 files))
 
 pub headline : Headline
-headline files root prefix profile a b valid no_fault acyclic accepted_a accepted_b =
-    compared prefix profile (tree_of_files files root) a b valid (record { consistent = tree_is_consistent files root no_fault; acyclic = acyclic }) accepted_a
+headline files root format profile a b valid no_fault acyclic accepted_a accepted_b =
+    compared format profile (tree_of_files files root) a b valid (record { consistent = tree_is_consistent files root no_fault; acyclic = acyclic }) accepted_a
     accepted_b

@@ -22,6 +22,7 @@ use Rattle.kc_value.specs.Kinds.{is_tri_kind}
 use Rattle.kc_rules_model.specs.SymbolValues.{value_of_symbol, value_in_unit, tri_symbol_value, tri_of, text_of, member_of, tri_if_selected}
 use Rattle.kc_rules_model.specs.Rule.{rule, as_user}
 use Rattle.kc_rules_model.specs.Shapes.{user_fits, unit_user_fits, symbol_user_fits, choice_user_fits, tri_fits, user_text_fits}
+use Rattle.kc_dotconfig_model.specs.Formats.{FileFormat}
 use Rattle.kc_dotconfig_model.specs.PrefixGrammar.{is_prefix}
 use Rattle.kc_dotconfig_model.specs.ConfigLines.{LineMeaning, assigns, silent, Means}
 use Rattle.kc_minimal_model.specs.Spelling.{symbol_line, line_of_value, line_with}
@@ -75,35 +76,35 @@ text_kind Text t e = refl
 text_kind Int t e = refl
 text_kind Hex t e = refl
 
-module _ (prefix : List ℕ) (valid : is_prefix prefix ≡ true) (profile : Profile) (tree : Tree) (sound : IsConsistent tree) (users : List (Option UserValue)) (values : List UnitValue)
+module _ (format : FileFormat) (valid : is_prefix format.prefix ≡ true) (profile : Profile) (tree : Tree) (sound : IsConsistent tree) (users : List (Option UserValue)) (values : List UnitValue)
     (fitting : FitsUsers (length tree.units) (λ u x. IsTrue (user_fits tree u x)) users) (solved : Solves (length tree.units) (rule profile tree) users values) where
   -- a symbol outside choices, by the user value that gives its value again
   line_by_user : (s : ℕ) (symbol : Symbol) → slice_get tree.symbols s ≡ Some symbol → symbol.choice ≡ None → (held : UnitValue)
       → slice_get values (unit_of tree s) ≡ Some held
       → (again : UserValue) → as_user held ≡ Some again → symbol_user_fits (Some symbol) again ≡ true
-      → IsLine prefix tree (line_with prefix symbol.name (value_in_unit tree values s symbol None)) (assigns (unit_of tree s) again)
+      → IsLine format tree (line_with format symbol.name (value_in_unit tree values s symbol None)) (assigns (unit_of tree s) again)
   line_by_user s symbol at out held has (TriUser t) assigned fits =
       let F : Option UnitValue → Bool → SymbolValue = λ h b. cond b (tri_symbol_value symbol.kind (tri_of h))
       (record { kind = symbol.kind; tri = N; text = text_of h }) in
       let seen : value_in_unit tree values s symbol None ≡ tri_symbol_value symbol.kind t =
       ap (λ h. F h (is_tri_kind symbol.kind)) (has ∙ ap Some (value_of_tri held t assigned)) ∙ ap (F (Some (TriValue t))) (tri_kind symbol.kind t fits) in
-      subst (λ e. IsLine prefix tree (line_with prefix symbol.name e) (assigns (unit_of tree s) (TriUser t))) (sym seen)
-      (tri_line prefix valid tree sound s symbol at symbol.kind t refl out fits)
+      subst (λ e. IsLine format tree (line_with format symbol.name e) (assigns (unit_of tree s) (TriUser t))) (sym seen)
+      (tri_line format valid tree sound s symbol at symbol.kind t refl out fits)
   line_by_user s symbol at out held has (TextUser text) assigned fits =
       let F : Option UnitValue → Bool → SymbolValue = λ h b. cond b (tri_symbol_value symbol.kind (tri_of h))
       (record { kind = symbol.kind; tri = N; text = text_of h }) in
       let seen : value_in_unit tree values s symbol None ≡ record { kind = symbol.kind; tri = N; text = text } =
       ap (λ h. F h (is_tri_kind symbol.kind)) (has ∙ ap Some (value_of_text held text assigned))
       ∙ ap (F (Some (TextValue text))) (text_kind symbol.kind text fits) in
-      subst (λ e. IsLine prefix tree (line_with prefix symbol.name e) (assigns (unit_of tree s) (TextUser text))) (sym seen)
-      (text_line prefix valid tree sound s symbol at symbol.kind text refl fits)
+      subst (λ e. IsLine format tree (line_with format symbol.name e) (assigns (unit_of tree s) (TextUser text))) (sym seen)
+      (text_line format valid tree sound s symbol at symbol.kind text refl fits)
   line_by_user s symbol at out held has (MemberUser m) assigned fits = absurd (false≢true fits)
 
   meaning : (u : ℕ) (k : KeptUnit tree values u) → assigns u k.again ≡ meant values u
   meaning u k = sym (ap (λ o. meaning_of_user u (option_and_then as_user o)) k.has ∙ ap (meaning_of_user u) k.assigned)
 
   outside : (s : ℕ) (symbol : Symbol) → slice_get tree.symbols s ≡ Some symbol → symbol.choice ≡ None → is_kept profile tree values (unit_of tree s) ≡ true
-      → IsLine prefix tree (line_with prefix symbol.name (value_in_unit tree values s symbol None)) (meant values (unit_of tree s))
+      → IsLine format tree (line_with format symbol.name (value_in_unit tree values s symbol None)) (meant values (unit_of tree s))
   unfolding user_fits
   outside s symbol at out kept =
       let own = sound.own_units s symbol at out in
@@ -112,7 +113,7 @@ module _ (prefix : List ℕ) (valid : is_prefix prefix ≡ true) (profile : Prof
       let k = kept_unit profile tree users values fitting solved (unit_of tree s) (inside tree.units (unit_of tree s) (of_symbol s) here) kept in
       let fits : symbol_user_fits (Some symbol) k.again ≡ true = sym (ap (λ o. unit_user_fits tree o k.again) here ∙ ap (λ o. symbol_user_fits o k.again) at)
       ∙ k.fits in
-      subst (IsLine prefix tree (line_with prefix symbol.name (value_in_unit tree values s symbol None))) (meaning (unit_of tree s) k)
+      subst (IsLine format tree (line_with format symbol.name (value_in_unit tree values s symbol None))) (meaning (unit_of tree s) k)
       (line_by_user s symbol at out k.held k.has k.again k.assigned fits)
 
   -- a member, by the user's member that gives its choice's value again
@@ -120,7 +121,7 @@ module _ (prefix : List ℕ) (valid : is_prefix prefix ≡ true) (profile : Prof
       → index_of_unit tree (of_choice c) ≡ unit_of tree s → not (is_n (value_in_unit tree values s symbol (Some c)).tri) ≡ true
       → (held : UnitValue) → slice_get values (unit_of tree s) ≡ Some held → (again : UserValue) → as_user held ≡ Some again
       → choice_user_fits (slice_get tree.choices c) again ≡ true
-      → IsLine prefix tree (line_with prefix symbol.name (value_in_unit tree values s symbol (Some c))) (assigns (unit_of tree s) again)
+      → IsLine format tree (line_with format symbol.name (value_in_unit tree values s symbol (Some c))) (assigns (unit_of tree s) again)
   member_by_user s c symbol at within place chosen held has (TriUser t) assigned fits = absurd (false≢true fits)
   member_by_user s c symbol at within place chosen held has (TextUser t) assigned fits = absurd (false≢true fits)
   member_by_user s c symbol at within place chosen held has (MemberUser m) assigned fits =
@@ -130,16 +131,16 @@ module _ (prefix : List ℕ) (valid : is_prefix prefix ≡ true) (profile : Prof
         | inl same ↦
             let seen : value_in_unit tree values s symbol (Some c) ≡ tri_symbol_value Boolean Y = ap (tri_symbol_value symbol.kind)
             (tri ∙ ap (λ b. cond b Y N) same) ∙ ap (λ k. tri_symbol_value k Y) (sound.bool_members s c symbol at within) in
-            let line = member_line prefix valid tree sound s symbol at c within (sound.bool_members s c symbol at within) in
-            subst (λ e. IsLine prefix tree (line_with prefix symbol.name e) (assigns (unit_of tree s) (MemberUser m))) (sym seen)
-            (subst (λ x. IsLine prefix tree (line_with prefix symbol.name (tri_symbol_value Boolean Y)) (assigns (unit_of tree s) (MemberUser x)))
+            let line = member_line format valid tree sound s symbol at c within (sound.bool_members s c symbol at within) in
+            subst (λ e. IsLine format tree (line_with format symbol.name e) (assigns (unit_of tree s) (MemberUser m))) (sym seen)
+            (subst (λ x. IsLine format tree (line_with format symbol.name (tri_symbol_value Boolean Y)) (assigns (unit_of tree s) (MemberUser x)))
             (sym (eqb-true m s same)) line)
         | inr other ↦ absurd (false≢true (sym (ap (λ t. not (is_n t)) (tri ∙ ap (λ b. cond b Y N) other)) ∙ chosen))
       ]
 
   within_choice : (s c : ℕ) (symbol : Symbol) → slice_get tree.symbols s ≡ Some symbol → symbol.choice ≡ Some c
       → is_kept profile tree values (unit_of tree s) ≡ true → not (is_n (value_in_unit tree values s symbol (Some c)).tri) ≡ true
-      → IsLine prefix tree (line_with prefix symbol.name (value_in_unit tree values s symbol (Some c))) (meant values (unit_of tree s))
+      → IsLine format tree (line_with format symbol.name (value_in_unit tree values s symbol (Some c))) (meant values (unit_of tree s))
   unfolding user_fits
   within_choice s c symbol at within kept chosen =
       let own = sound.units_of_members s c symbol at within in
@@ -147,24 +148,24 @@ module _ (prefix : List ℕ) (valid : is_prefix prefix ≡ true) (profile : Prof
       let here : slice_get tree.units (unit_of tree s) ≡ Some (of_choice c) = ap (slice_get tree.units) number ∙ own.1 in
       let k = kept_unit profile tree users values fitting solved (unit_of tree s) (inside tree.units (unit_of tree s) (of_choice c) here) kept in
       let fits : choice_user_fits (slice_get tree.choices c) k.again ≡ true = sym (ap (λ o. unit_user_fits tree o k.again) here) ∙ k.fits in
-      subst (IsLine prefix tree (line_with prefix symbol.name (value_in_unit tree values s symbol (Some c)))) (meaning (unit_of tree s) k)
+      subst (IsLine format tree (line_with format symbol.name (value_in_unit tree values s symbol (Some c)))) (meaning (unit_of tree s) k)
       (member_by_user s c symbol at within (place_is tree sound (unit_of tree s) (of_choice c) here) chosen k.held k.has k.again k.assigned fits)
 
   at_choice : (s : ℕ) (symbol : Symbol) → slice_get tree.symbols s ≡ Some symbol → (c : Option ℕ) → symbol.choice ≡ c
       → is_kept profile tree values (unit_of tree s) ≡ true → is_line_of_its_unit c (value_in_unit tree values s symbol c) ≡ true
-      → IsLine prefix tree (line_with prefix symbol.name (value_in_unit tree values s symbol c)) (meant values (unit_of tree s))
+      → IsLine format tree (line_with format symbol.name (value_in_unit tree values s symbol c)) (meant values (unit_of tree s))
   at_choice s symbol at None out kept may = outside s symbol at out kept
   at_choice s symbol at (Some c) within kept may = within_choice s c symbol at within kept may
 
   at_symbol : (s : ℕ) (o : Option Symbol) → slice_get tree.symbols s ≡ o → is_kept profile tree values (unit_of tree s) ≡ true
       → may_have_line o (option_map (λ (symbol : Symbol). value_in_unit tree values s symbol symbol.choice) o) ≡ true
-      → IsLine prefix tree (line_of_value prefix o (option_map (λ (symbol : Symbol). value_in_unit tree values s symbol symbol.choice) o))
+      → IsLine format tree (line_of_value format o (option_map (λ (symbol : Symbol). value_in_unit tree values s symbol symbol.choice) o))
       (meant values (unit_of tree s))
   at_symbol s None at kept may = absurd (false≢true may)
   at_symbol s (Some symbol) at kept may = at_choice s symbol at symbol.choice refl kept may
 
   -- the line of a symbol that has one
-  pub line_reads : (s : ℕ) → has_line profile tree values s ≡ true → IsLine prefix tree (symbol_line prefix tree values s) (meant values (unit_of tree s))
+  pub line_reads : (s : ℕ) → has_line profile tree values s ≡ true → IsLine format tree (symbol_line format tree values s) (meant values (unit_of tree s))
   unfolding symbol_line
   line_reads s has =
       let parts = and_parts (is_kept profile tree values (unit_of tree s)) (may_have_line (slice_get tree.symbols s) (value_of_symbol tree values s)) has in
@@ -184,7 +185,7 @@ module _ (prefix : List ℕ) (valid : is_prefix prefix ≡ true) (profile : Prof
         (ap (slice_get tree.units) (unit_is tree sound s own.0 symbol (Some c) at within own.1) ∙ own.1)
 
   -- the line of a symbol that has one is read as its unit's assignment
-  pub read_as_assignment : (s : ℕ) → has_line profile tree values s ≡ true → IsReadAsItsAssignment prefix tree values s
+  pub read_as_assignment : (s : ℕ) → has_line profile tree values s ≡ true → IsReadAsItsAssignment format tree values s
   read_as_assignment s has =
       let parts = and_parts (is_kept profile tree values (unit_of tree s)) (may_have_line (slice_get tree.symbols s) (value_of_symbol tree values s)) has in
       let k = kept_unit profile tree users values fitting solved (unit_of tree s) (unit_inside s (slice_get tree.symbols s) refl parts.1) parts.0 in
@@ -195,5 +196,5 @@ module _ (prefix : List ℕ) (valid : is_prefix prefix ≡ true) (profile : Prof
         has = k.has;
         meant = k.assigned;
         trimmed = line.whole;
-        says = subst (Means prefix tree (symbol_line prefix tree values s)) (sym (meaning (unit_of tree s) k)) line.says;
+        says = subst (Means format tree (symbol_line format tree values s)) (sym (meaning (unit_of tree s) k)) line.says;
       }

@@ -22,6 +22,7 @@ use Rattle.kc_rules_model.specs.SymbolValues.{value_in_unit, tri_if_selected, me
 use Rattle.kc_rules_model.specs.Rule.{rule, as_user}
 use Rattle.kc_rules_model.specs.Shapes.{user_fits, unit_user_fits, choice_user_fits, is_member}
 use Rattle.kc_rules_model.specs.Reports.{symbol_numbers}
+use Rattle.kc_dotconfig_model.specs.Formats.{FileFormat}
 use Rattle.kc_dotconfig_model.specs.PrefixGrammar.{is_prefix}
 use Rattle.kc_dotconfig_model.specs.ConfigLines.{LineMeaning, Means, without_white_end}
 use Rattle.kc_dotconfig_model.specs.ConfigFiles.{file_lines, assigned, assigned_over, file_assignment, empty_assignment}
@@ -130,22 +131,22 @@ module _ (tree : Tree) (values : List UnitValue) where
   length_after (s ∷ xs) users =
       length_after xs (assigned (meant values (unit_of tree s)) users) ∙ same_length (unit_of tree s) (user_meant values (unit_of tree s)) users
 
-module _ (prefix : List ℕ) (valid : is_prefix prefix ≡ true) (profile : Profile) (tree : Tree) (sound : IsConsistent tree) (users : List (Option UserValue)) (values : List UnitValue)
+module _ (format : FileFormat) (valid : is_prefix format.prefix ≡ true) (profile : Profile) (tree : Tree) (sound : IsConsistent tree) (users : List (Option UserValue)) (values : List UnitValue)
     (fitting : FitsUsers (length tree.units) (λ u x. IsTrue (user_fits tree u x)) users) (solved : Solves (length tree.units) (rule profile tree) users values) where
   -- the lines of some symbols that have one
   pub lines_say : (xs : List ℕ) → list_all (has_line profile tree values) xs ≡ true
-      → AllZip (λ line meaning. Means prefix tree (without_white_end line) meaning) (file_lines (flat_map (ended_line prefix tree values) xs))
+      → AllZip (λ line meaning. Means format tree (without_white_end line) meaning) (file_lines (flat_map (ended_line format tree values) xs))
       (map (λ s. meant values (unit_of tree s)) xs)
   lines_say [] all = tt
   lines_say (s ∷ xs) all =
-      let rest = flat_map (ended_line prefix tree values) xs in
+      let rest = flat_map (ended_line format tree values) xs in
       let parts = and_parts (has_line profile tree values s) (list_all (has_line profile tree values) xs) all in
-      let line = line_reads prefix valid profile tree sound users values fitting solved s parts.0 in
-      let cut : file_lines (ended_line prefix tree values s ++ rest) ≡ symbol_line prefix tree values s ∷ file_lines rest =
-      ap file_lines (append_assoc (symbol_line prefix tree values s) (10 ∷ []) rest) ∙ first_line (symbol_line prefix tree values s) rest line.one in
-      subst (λ lines. AllZip (λ l meaning. Means prefix tree (without_white_end l) meaning) lines
+      let line = line_reads format valid profile tree sound users values fitting solved s parts.0 in
+      let cut : file_lines (ended_line format tree values s ++ rest) ≡ symbol_line format tree values s ∷ file_lines rest =
+      ap file_lines (append_assoc (symbol_line format tree values s) (10 ∷ []) rest) ∙ first_line (symbol_line format tree values s) rest line.one in
+      subst (λ lines. AllZip (λ l meaning. Means format tree (without_white_end l) meaning) lines
       (meant values (unit_of tree s) ∷ map (λ t. meant values (unit_of tree t)) xs)) (sym cut)
-      (subst (λ l. Means prefix tree l (meant values (unit_of tree s))) (sym line.whole) line.says, lines_say xs parts.1)
+      (subst (λ l. Means format tree l (meant values (unit_of tree s))) (sym line.whole) line.says, lines_say xs parts.1)
 
   -- a symbol whose line is of the unit
   pub speaks_at : (u : ℕ) → is_kept profile tree values u ≡ true → KeptUnit tree values u → (unit : TreeUnit) → slice_get tree.units u ≡ Some unit
@@ -213,7 +214,7 @@ module _ (prefix : List ℕ) (valid : is_prefix prefix ≡ true) (profile : Prof
   }
 
   -- the minimal file is read as the least assignment
-  pub reads_as_least : IsReadAsLeast prefix profile tree values
+  pub reads_as_least : IsReadAsLeast format profile tree values
   reads_as_least = record {
     meanings = map (λ s. meant values (unit_of tree s)) (minimal_symbols profile tree values);
     says = lines_say (minimal_symbols profile tree values) (passes_filter (has_line profile tree values) (symbol_numbers tree));

@@ -14,6 +14,7 @@ use Rattle.kc_rules_model.specs.declared.values.UserValue.{UserValue}
 use Rattle.kc_rules_model.specs.Rule.{rule}
 use Rattle.kc_rules_model.specs.Shapes.{user_fits}
 use Rattle.kc_rules_model.specs.Reports.{symbol_numbers}
+use Rattle.kc_dotconfig_model.specs.Formats.{FileFormat}
 use Rattle.kc_dotconfig_model.specs.PrefixGrammar.{is_prefix}
 use Rattle.kc_dotconfig_model.specs.ConfigFiles.{file_lines}
 use Rattle.kc_minimal_model.specs.Spelling.{symbol_line, ended_line}
@@ -100,29 +101,29 @@ number_kept keeps p k a (suc n) j s at = go (p a) j at (λ h. number_kept keeps 
       ∙ next (k + 1) j s at ∙ ap keeps number
   go false j at next = next k j s at
 
-module _ (prefix : List ℕ) (valid : is_prefix prefix ≡ true) (profile : Profile) (tree : Tree) (sound : IsConsistent tree) (users : List (Option UserValue)) (values : List UnitValue)
+module _ (format : FileFormat) (valid : is_prefix format.prefix ≡ true) (profile : Profile) (tree : Tree) (sound : IsConsistent tree) (users : List (Option UserValue)) (values : List UnitValue)
     (fitting : FitsUsers (length tree.units) (λ u x. IsTrue (user_fits tree u x)) users) (solved : Solves (length tree.units) (rule profile tree) users values) where
   -- the test of the symbols whose lines have these numbers
   abbrev pub keeps_symbol : (ℕ → Bool) → ℕ → Bool
   keeps_symbol keeps = keeps_number_of keeps 0 (minimal_symbols profile tree values)
 
-  pub lines_kept : (keeps : ℕ → Bool) → with_lines keeps (minimal_file prefix profile tree values) ≡ symbol_lines (keeps_symbol keeps) prefix profile tree values
+  pub lines_kept : (keeps : ℕ → Bool) → with_lines keeps (minimal_file format profile tree values) ≡ symbol_lines (keeps_symbol keeps) format profile tree values
   lines_kept keeps =
       let xs = minimal_symbols profile tree values in
       let ended : List ℕ → List ℕ = λ line. line ++ 10 ∷ [] in
-      ap (λ ls. flat_map ended (at_numbers keeps 0 ls)) (minimal_file_lines prefix valid profile tree sound users values fitting solved)
-      ∙ ap (flat_map ended) (at_numbers_of_map (symbol_line prefix tree values) keeps 0 xs)
-      ∙ flat_of_map ended (symbol_line prefix tree values) (at_numbers keeps 0 xs)
-      ∙ ap (flat_map (ended_line prefix tree values)) (at_numbers_filtered keeps (has_line profile tree values) 0 0 (length tree.symbols))
+      ap (λ ls. flat_map ended (at_numbers keeps 0 ls)) (minimal_file_lines format valid profile tree sound users values fitting solved)
+      ∙ ap (flat_map ended) (at_numbers_of_map (symbol_line format tree values) keeps 0 xs)
+      ∙ flat_of_map ended (symbol_line format tree values) (at_numbers keeps 0 xs)
+      ∙ ap (flat_map (ended_line format tree values)) (at_numbers_filtered keeps (has_line profile tree values) 0 0 (length tree.symbols))
 
   -- the number of lines
-  pub line_count : length (file_lines (minimal_file prefix profile tree values)) ≡ length (minimal_symbols profile tree values)
+  pub line_count : length (file_lines (minimal_file format profile tree values)) ≡ length (minimal_symbols profile tree values)
   line_count =
-      ap length (minimal_file_lines prefix valid profile tree sound users values fitting solved)
-      ∙ length-map (minimal_symbols profile tree values) (symbol_line prefix tree values)
+      ap length (minimal_file_lines format valid profile tree sound users values fitting solved)
+      ∙ length-map (minimal_symbols profile tree values) (symbol_line format tree values)
 
   -- the symbol of a line that isn't kept
-  pub symbol_dropped : (keeps : ℕ → Bool) (k : ℕ) → k < length (file_lines (minimal_file prefix profile tree values)) → keeps k ≡ false
+  pub symbol_dropped : (keeps : ℕ → Bool) (k : ℕ) → k < length (file_lines (minimal_file format profile tree values)) → keeps k ≡ false
       → (s : ℕ) × (has_line profile tree values s ≡ true) × (keeps_symbol keeps s ≡ false)
   symbol_dropped keeps k below dropped =
       let count = line_count in

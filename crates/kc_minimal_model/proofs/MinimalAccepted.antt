@@ -9,7 +9,6 @@ use Rattle.kc_value.specs.declared.tri.Tri.TheVariants.{N}
 use Rattle.kc_value.specs.declared.value.Kind.{Kind}
 use Rattle.kc_value.specs.declared.value.Kind.TheVariants.{Bool as Boolean, Tristate, Text, Int, Hex}
 use Rattle.kc_value.specs.Number.{number_of_text}
-use Rattle.kc_value.specs.Quoted.{IsQuoted, quoted}
 use Rattle.kc_expr.specs.Expr.{SymbolValue}
 use Rattle.kc_tree_model.specs.Trees.{Tree, Symbol}
 use Rattle.kc_tree_model.specs.declared.ids.Unit.TheVariants.{Symbol as of_symbol, Choice as of_choice}
@@ -26,6 +25,10 @@ use Rattle.kc_rules_model.specs.Rule.{as_user}
 use Rattle.kc_rules_model.specs.Shapes.{user_fits, unit_user_fits, symbol_user_fits}
 use Rattle.kc_rules_model.specs.Reports.{symbol_numbers}
 use Rattle.kc_tree_model.proofs.Lookups.{inside, unit_is}
+use Rattle.kc_value.proofs.QuotedUtf8.{quoted_utf8}
+use Rattle.kc_dotconfig_model.specs.declared.format.Strings.{Strings}
+use Rattle.kc_dotconfig_model.specs.declared.format.Strings.TheVariants.{Escaped, Raw}
+use Rattle.kc_dotconfig_model.specs.Formats.{FileFormat, string_spelling, IsStringSpelling}
 use Rattle.kc_dotconfig_model.specs.PrefixGrammar.{is_prefix}
 use Rattle.kc_dotconfig_model.specs.ConfigLines.{without_white_end}
 use Rattle.kc_dotconfig_model.specs.ConfigFiles.{file_lines, file_assignment, empty_assignment}
@@ -46,31 +49,35 @@ use Rattle.kc_minimal_model.proofs.KeptLines.{value_of_text, tri_kind}
 use Rattle.kc_minimal_model.proofs.KeptUnits.{kept_unit}
 use Rattle.kc_minimal_model.proofs.LeastFile.{none_held, none_length, passes_filter}
 use Rattle.kc_minimal_model.proofs.NeededUnits.{needs_values}
-use Rattle.kc_value.proofs.QuotedUtf8.{quoted_utf8}
 use Rattle.kc_dotconfig_model.proofs.TrimmedLines.{name_utf8, trimmed_utf8, trimmed_no_longer}
 use Rattle.kc_value.proofs.UnquotedUtf8.{ascii_alone, utf8_after, unquoted_utf8, quoted_no_longer}
 
-abbrev TextStands : Symbol → List ℕ → List ℕ → Type 0
-TextStands symbol text means = (IsQuoted text means × (symbol.kind ≡ Text)) ⊎ ((text ≡ means) × (is_some (number_of_text symbol.kind text) ≡ true))
+abbrev TextStands : Strings → Symbol → List ℕ → List ℕ → Type 0
+TextStands strings symbol text means = (IsStringSpelling strings text means × (symbol.kind ≡ Text)) ⊎ ((text ≡ means) × (is_some (number_of_text symbol.kind text) ≡ true))
 
-not_bool : (symbol : Symbol) (text means : List ℕ) → TextStands symbol text means → symbol.kind ≡ Boolean → ⊥
-not_bool symbol text means (inl q) e = let is = q.1 in cc
-not_bool symbol text means (inr n) e = false≢true (sym (ap (λ k. is_some (number_of_text k text)) e) ∙ n.1)
+not_bool : (strings : Strings) (symbol : Symbol) (text means : List ℕ) → TextStands strings symbol text means → symbol.kind ≡ Boolean → ⊥
+not_bool strings symbol text means (inl q) e = let is = q.1 in cc
+not_bool strings symbol text means (inr n) e = false≢true (sym (ap (λ k. is_some (number_of_text k text)) e) ∙ n.1)
 
-number_spelled : (kind : Kind) (text : List ℕ) → is_some (number_of_text kind text) ≡ true → spelled kind text ≡ text
-number_spelled Boolean text e = refl
-number_spelled Tristate text e = refl
-number_spelled Text text e = absurd (false≢true e)
-number_spelled Int text e = refl
-number_spelled Hex text e = refl
+number_spelled : (strings : Strings) (kind : Kind) (text : List ℕ) → is_some (number_of_text kind text) ≡ true → spelled strings kind text ≡ text
+number_spelled strings Boolean text e = refl
+number_spelled strings Tristate text e = refl
+number_spelled strings Text text e = absurd (false≢true e)
+number_spelled strings Int text e = refl
+number_spelled strings Hex text e = refl
 
-spelled_no_longer : (kind : Kind) (symbol : Symbol) (text means : List ℕ) → symbol.kind ≡ kind → TextStands symbol text means → IsUtf8 text
-    → (length (spelled kind means) ≤ length text) × IsUtf8 (spelled kind means)
-spelled_no_longer kind symbol text means is (inl q) u =
-    let same : spelled kind means ≡ quoted means = ap (λ k. spelled k means) (sym is ∙ q.1) in
-    subst (λ l. (length l ≤ length text) × IsUtf8 l) (sym same) (quoted_no_longer text means q.0, quoted_utf8 means (unquoted_utf8 text means q.0 u))
-spelled_no_longer kind symbol text means is (inr n) u =
-    let same : spelled kind means ≡ text = ap (spelled kind) (sym n.0) ∙ number_spelled kind text (ap (λ k. is_some (number_of_text k text)) (sym is) ∙ n.1) in
+string_no_longer : (strings : Strings) (text means : List ℕ) → IsStringSpelling strings text means → IsUtf8 text
+    → (length (string_spelling strings means) ≤ length text) × IsUtf8 (string_spelling strings means)
+string_no_longer Escaped text means is u = (quoted_no_longer text means is, quoted_utf8 means (unquoted_utf8 text means is u))
+string_no_longer Raw text means is u = subst (λ l. (length l ≤ length text) × IsUtf8 l) is (omega arith, u)
+
+spelled_no_longer : (strings : Strings) (kind : Kind) (symbol : Symbol) (text means : List ℕ) → symbol.kind ≡ kind → TextStands strings symbol text means → IsUtf8 text
+    → (length (spelled strings kind means) ≤ length text) × IsUtf8 (spelled strings kind means)
+spelled_no_longer strings kind symbol text means is (inl q) u =
+    let same : spelled strings kind means ≡ string_spelling strings means = ap (λ k. spelled strings k means) (sym is ∙ q.1) in
+    subst (λ l. (length l ≤ length text) × IsUtf8 l) (sym same) (string_no_longer strings text means q.0 u)
+spelled_no_longer strings kind symbol text means is (inr n) u =
+    let same : spelled strings kind means ≡ text = ap (spelled strings kind) (sym n.0) ∙ number_spelled strings kind text (ap (λ k. is_some (number_of_text k text)) (sym is) ∙ n.1) in
     subst (λ l. (length l ≤ length text) × IsUtf8 l) (sym same) (omega arith, u)
 
 text_held : (symbol : Symbol) (held : UnitValue) (again : UserValue) → is_tri_kind symbol.kind ≡ false → as_user held ≡ Some again
@@ -79,44 +86,44 @@ text_held symbol held (TriUser t) large e fits = absurd (false≢true (sym large
 text_held symbol held (TextUser text) large e fits = (text, value_of_text held text e)
 text_held symbol held (MemberUser m) large e fits = absurd (false≢true fits)
 
-module _ (prefix : List ℕ) (profile : Profile) (tree : Tree) (bytes : List ℕ) (values : List UnitValue) (valid : is_prefix prefix ≡ true) (settled : IsOrderedTree tree)
-    (accepted : IsAccepted prefix tree bytes) (reads : ReadsTo prefix profile tree bytes values) where
+module _ (format : FileFormat) (profile : Profile) (tree : Tree) (bytes : List ℕ) (values : List UnitValue) (valid : is_prefix format.prefix ≡ true) (settled : IsOrderedTree tree)
+    (accepted : IsAccepted format tree bytes) (reads : ReadsTo format profile tree bytes values) where
   abbrev held_users : List (Option UserValue)
   held_users = file_assignment tree reads.meanings
 
   fitting : FitsUsers (length tree.units) (λ u x. IsTrue (user_fits tree u x)) (file_assignment tree reads.meanings)
-  fitting = file_fits prefix tree bytes reads.meanings settled.consistent reads.utf8 reads.says
+  fitting = file_fits format tree bytes reads.meanings settled.consistent reads.utf8 reads.says
 
   -- a text that the file assigns to a symbol is on a short line
   text_is_short : (s : ℕ) (symbol : Symbol) (text : List ℕ) → slice_get tree.symbols s ≡ Some symbol → symbol.choice ≡ None → unit_of tree s < length tree.units
       → user_of (file_assignment tree reads.meanings) (unit_of tree s) ≡ Some (TextUser text)
-      → (length prefix + length symbol.name + 1 + length (spelled symbol.kind text) ≤ MAX_LINE_BYTES) × IsUtf8 (spelled symbol.kind text)
+      → (length format.prefix + length symbol.name + 1 + length (spelled format.strings symbol.kind text) ≤ MAX_LINE_BYTES) × IsUtf8 (spelled format.strings symbol.kind text)
   text_is_short s symbol text at out below has =
       let u = unit_of tree s in
       let all = none_length (length tree.units) in
-      elim (assigning_line prefix tree (file_lines bytes) reads.meanings (empty_assignment tree) u (TextUser text) reads.says (omega arith) has) [
+      elim (assigning_line format tree (file_lines bytes) reads.meanings (empty_assignment tree) u (TextUser text) reads.says (omega arith) has) [
         | inl before ↦ (let none = none_held (length tree.units) u in absurd (some_not_none (sym before ∙ none)))
         | inr l ↦ on_line l
       ] where
         some_not_none : Some (TextUser text) ≡ None → ⊥
         some_not_none e = cc
 
-        on_line : HasAssigningLine prefix tree (file_lines bytes) (unit_of tree s) (TextUser text)
-            → (length prefix + length symbol.name + 1 + length (spelled symbol.kind text) ≤ MAX_LINE_BYTES) × IsUtf8 (spelled symbol.kind text)
+        on_line : HasAssigningLine format tree (file_lines bytes) (unit_of tree s) (TextUser text)
+            → (length format.prefix + length symbol.name + 1 + length (spelled format.strings symbol.kind text) ≤ MAX_LINE_BYTES) × IsUtf8 (spelled format.strings symbol.kind text)
         on_line l =
-            let fits = accepted_line prefix tree bytes valid accepted l.number l.line l.at in
-            let t = text_line prefix tree (without_white_end l.line) (unit_of tree s) text l.says in
+            let fits = accepted_line format tree bytes valid accepted l.number l.line l.at in
+            let t = text_line format tree (without_white_end l.line) (unit_of tree s) text l.says in
             let free : t.symbol.choice ≡ None = outside t.s t.symbol t.text t.at t.says t.symbol.choice refl in
             let same : t.s ≡ s = same_symbol tree settled.consistent t.s s t.symbol symbol t.at at free out t.unit in
             let one : t.symbol ≡ symbol = only (sym t.at ∙ ap (slice_get tree.symbols) same ∙ at) in
             let name : t.name ≡ symbol.name = named_so tree t.name t.s t.symbol t.named t.at ∙ ap (λ (x : Symbol). x.name) one in
             let words = (settled.consistent.words s symbol at).1 in
-            let whole : without_white_end l.line ≡ prefix ++ (symbol.name ++ (61 ∷ t.text)) = t.whole ∙ ap (λ n. prefix ++ (n ++ (61 ∷ t.text))) name in
-            let after_prefix = utf8_after (without_white_end l.line) prefix (symbol.name ++ (61 ∷ t.text)) (trimmed_utf8 l.line fits.utf8)
-            (prefix_fits prefix valid).1 whole in
+            let whole : without_white_end l.line ≡ format.prefix ++ (symbol.name ++ (61 ∷ t.text)) = t.whole ∙ ap (λ n. format.prefix ++ (n ++ (61 ∷ t.text))) name in
+            let after_prefix = utf8_after (without_white_end l.line) format.prefix (symbol.name ++ (61 ∷ t.text)) (trimmed_utf8 l.line fits.utf8)
+            (prefix_fits format.prefix valid).1 whole in
             let after_name = utf8_after (symbol.name ++ (61 ∷ t.text)) symbol.name (61 ∷ t.text) after_prefix (name_utf8 symbol.name words) refl in
             let u = utf8_after (61 ∷ t.text) (61 ∷ []) t.text after_name (ascii_alone 61 (omega arith)) refl in
-            let end = spelled_no_longer symbol.kind t.symbol t.text text (ap (λ (x : Symbol). x.kind) one) t.says u in
+            let end = spelled_no_longer format.strings symbol.kind t.symbol t.text text (ap (λ (x : Symbol). x.kind) one) t.says u in
             let size = ap length whole in
             let line_size = fits.short in
             let less = end.0 in (
@@ -126,7 +133,7 @@ module _ (prefix : List ℕ) (profile : Profile) (tree : Tree) (bytes : List ℕ
                 less,
                 size,
                 trimmed_no_longer l.line,
-                length-append prefix (symbol.name ++ (61 ∷ t.text)),
+                length-append format.prefix (symbol.name ++ (61 ∷ t.text)),
                 length-append symbol.name
                     (61 ∷ t.text),
               ),
@@ -135,14 +142,14 @@ module _ (prefix : List ℕ) (profile : Profile) (tree : Tree) (bytes : List ℕ
               only : {a b : Symbol} → Some a ≡ Some b → a ≡ b
               only e = cc
 
-              outside : (r : ℕ) (other : Symbol) (written : List ℕ) → slice_get tree.symbols r ≡ Some other → TextStands other written text → (c : Option ℕ)
+              outside : (r : ℕ) (other : Symbol) (written : List ℕ) → slice_get tree.symbols r ≡ Some other → TextStands format.strings other written text → (c : Option ℕ)
                   → other.choice ≡ c → other.choice ≡ None
               outside r other written there stands None e = e
-              outside r other written there stands (Some c) e = absurd (not_bool other written text stands (settled.consistent.bool_members r c other there e))
+              outside r other written there stands (Some c) e = absurd (not_bool format.strings other written text stands (settled.consistent.bool_members r c other there e))
 
   outside_line : (s : ℕ) (symbol : Symbol) → slice_get tree.symbols s ≡ Some symbol → symbol.choice ≡ None → has_line profile tree values s ≡ true
       → is_kept profile tree values (unit_of tree s) ≡ true
-      → IsFitLine (line_with prefix symbol.name (value_in_unit tree values s symbol None))
+      → IsFitLine (line_with format symbol.name (value_in_unit tree values s symbol None))
   unfolding user_fits
   outside_line s symbol at out has kept =
       let word = (settled.consistent.words s symbol at).1 in
@@ -160,8 +167,8 @@ module _ (prefix : List ℕ) (profile : Profile) (tree : Tree) (bytes : List ℕ
         | inl small ↦
             let seen : value_in_unit tree values s symbol None ≡ tri_symbol_value symbol.kind (tri_of (slice_get values (unit_of tree s))) = ap
             (F (slice_get values (unit_of tree s))) small in
-            subst (λ e. IsFitLine (line_with prefix symbol.name e)) (sym seen)
-            (tri_fits_line prefix valid symbol.name short word symbol.kind (tri_of (slice_get values (unit_of tree s))) small)
+            subst (λ e. IsFitLine (line_with format symbol.name e)) (sym seen)
+            (tri_fits_line format valid symbol.name short word symbol.kind (tri_of (slice_get values (unit_of tree s))) small)
         | inr large ↦
             let t = text_held symbol k.held k.again large k.assigned fits in
             let holds : slice_get values (unit_of tree s) ≡ Some (TextValue t.0) = k.has ∙ ap Some t.1 in
@@ -170,31 +177,31 @@ module _ (prefix : List ℕ) (profile : Profile) (tree : Tree) (bytes : List ℕ
             let assigned = needs_values profile tree (file_assignment tree reads.meanings) values settled fitting reads.gives.solves s (TextValue t.0) has holds
             refl in
             let good = text_is_short s symbol t.0 at out below assigned in
-            subst (λ e. IsFitLine (line_with prefix symbol.name e)) (sym seen)
-            (text_fits_line prefix valid symbol.name short word symbol.kind t.0 good.0 good.1)
+            subst (λ e. IsFitLine (line_with format symbol.name e)) (sym seen)
+            (text_fits_line format valid symbol.name short word symbol.kind t.0 good.0 good.1)
       ]
 
   member_line : (s c : ℕ) (symbol : Symbol) → slice_get tree.symbols s ≡ Some symbol → symbol.choice ≡ Some c
-      → IsFitLine (line_with prefix symbol.name (value_in_unit tree values s symbol (Some c)))
+      → IsFitLine (line_with format symbol.name (value_in_unit tree values s symbol (Some c)))
   member_line s c symbol at within =
-      tri_fits_line prefix valid symbol.name (settled.consistent.short_names s symbol at) (settled.consistent.words s symbol at).1 symbol.kind
+      tri_fits_line format valid symbol.name (settled.consistent.short_names s symbol at) (settled.consistent.words s symbol at).1 symbol.kind
       (tri_if_selected s (member_of (slice_get values (index_of_unit tree (of_choice c)))))
       (ap is_tri_kind (settled.consistent.bool_members s c symbol at within))
 
   at_choice : (s : ℕ) (symbol : Symbol) → slice_get tree.symbols s ≡ Some symbol → (c : Option ℕ) → symbol.choice ≡ c → has_line profile tree values s ≡ true
-      → is_kept profile tree values (unit_of tree s) ≡ true → IsFitLine (line_with prefix symbol.name (value_in_unit tree values s symbol c))
+      → is_kept profile tree values (unit_of tree s) ≡ true → IsFitLine (line_with format symbol.name (value_in_unit tree values s symbol c))
   at_choice s symbol at None out has kept = outside_line s symbol at out has kept
   at_choice s symbol at (Some c) within has kept = member_line s c symbol at within
 
   at_symbol : (s : ℕ) (o : Option Symbol) → slice_get tree.symbols s ≡ o → has_line profile tree values s ≡ true
       → is_kept profile tree values (unit_of tree s) ≡ true
       → may_have_line o (option_map (λ (symbol : Symbol). value_in_unit tree values s symbol symbol.choice) o) ≡ true
-      → IsFitLine (line_of_value prefix o (option_map (λ (symbol : Symbol). value_in_unit tree values s symbol symbol.choice) o))
+      → IsFitLine (line_of_value format o (option_map (λ (symbol : Symbol). value_in_unit tree values s symbol symbol.choice) o))
   at_symbol s None at has kept may = absurd (false≢true may)
   at_symbol s (Some symbol) at has kept may = at_choice s symbol at symbol.choice refl has kept
 
   -- each line of the minimal file is short and UTF-8
-  pub symbol_line_fits : (s : ℕ) → has_line profile tree values s ≡ true → IsFitLine (symbol_line prefix tree values s)
+  pub symbol_line_fits : (s : ℕ) → has_line profile tree values s ≡ true → IsFitLine (symbol_line format tree values s)
   unfolding symbol_line
   symbol_line_fits s has =
       let parts = and_parts (is_kept profile tree values (unit_of tree s)) (may_have_line (slice_get tree.symbols s) (value_of_symbol tree values s)) has in
@@ -207,13 +214,13 @@ short_each p q (x ∷ xs) each all =
     let parts = and_parts (p x) (list_all p xs) all in and_from (q x) (list_all q xs) (each x parts.0) (short_each p q xs each parts.1)
 
 -- so no line of the minimal file is too long
-pub lines_are_short : (prefix : List ℕ) (profile : Profile) (tree : Tree) (bytes : List ℕ) (values : List UnitValue) → (valid : is_prefix prefix ≡ true)
-    → IsOrderedTree tree → IsAccepted prefix tree bytes → ReadsTo prefix profile tree bytes values
-    → list_all (λ s. nat_le (length (symbol_line prefix tree values s)) MAX_LINE_BYTES) (minimal_symbols profile tree values) ≡ true
-lines_are_short prefix profile tree bytes values valid settled accepted reads =
-    short_each (has_line profile tree values) (λ s. nat_le (length (symbol_line prefix tree values s)) MAX_LINE_BYTES) (minimal_symbols profile tree values)
-    (λ s has. le-leb (length (symbol_line prefix tree values s)) MAX_LINE_BYTES
-    (symbol_line_fits prefix profile tree bytes values valid settled accepted reads s has).0)
+pub lines_are_short : (format : FileFormat) (profile : Profile) (tree : Tree) (bytes : List ℕ) (values : List UnitValue) → (valid : is_prefix format.prefix ≡ true)
+    → IsOrderedTree tree → IsAccepted format tree bytes → ReadsTo format profile tree bytes values
+    → list_all (λ s. nat_le (length (symbol_line format tree values s)) MAX_LINE_BYTES) (minimal_symbols profile tree values) ≡ true
+lines_are_short format profile tree bytes values valid settled accepted reads =
+    short_each (has_line profile tree values) (λ s. nat_le (length (symbol_line format tree values s)) MAX_LINE_BYTES) (minimal_symbols profile tree values)
+    (λ s has. le-leb (length (symbol_line format tree values s)) MAX_LINE_BYTES
+    (symbol_line_fits format profile tree bytes values valid settled accepted reads s has).0)
     (passes_filter (has_line profile tree values) (symbol_numbers tree))
 
 -- a minimal file has no more lines than the tree has symbols
@@ -226,14 +233,14 @@ few_lines profile tree values sound =
 
 -- a minimal file of an accepted file is accepted, if its size is within the limit
 pub minimal_files_accepted : MinimalFilesAreAccepted
-minimal_files_accepted prefix profile tree bytes values valid settled loads small =
+minimal_files_accepted format profile tree bytes values valid settled loads small =
     let ordered = ordered_tree tree settled in
     let users = file_assignment tree loads.reads.meanings in
-    let fits = file_fits prefix tree bytes loads.reads.meanings settled.consistent loads.reads.utf8 loads.reads.says in
+    let fits = file_fits format tree bytes loads.reads.meanings settled.consistent loads.reads.utf8 loads.reads.says in
     record {
       accepted =
-          accepted_symbols prefix valid profile tree settled.consistent users values fits loads.reads.gives.solves (minimal_symbols profile tree values)
+          accepted_symbols format valid profile tree settled.consistent users values fits loads.reads.gives.solves (minimal_symbols profile tree values)
           (passes_filter (has_line profile tree values) (symbol_numbers tree))
-          (lines_are_short prefix profile tree bytes values valid ordered loads.accepted loads.reads) (few_lines profile tree values settled.consistent) small;
-      reads = reads_back prefix valid profile tree ordered users values fits loads.reads.gives.solves;
+          (lines_are_short format profile tree bytes values valid ordered loads.accepted loads.reads) (few_lines profile tree values settled.consistent) small;
+      reads = reads_back format valid profile tree ordered users values fits loads.reads.gives.solves;
     }

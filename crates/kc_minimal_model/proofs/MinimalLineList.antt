@@ -13,6 +13,7 @@ use Rattle.kc_rules_model.specs.declared.values.UserValue.{UserValue}
 use Rattle.kc_rules_model.specs.Rule.{rule}
 use Rattle.kc_rules_model.specs.Shapes.{user_fits}
 use Rattle.kc_rules_model.specs.Reports.{symbol_numbers}
+use Rattle.kc_dotconfig_model.specs.Formats.{FileFormat}
 use Rattle.kc_dotconfig_model.specs.PrefixGrammar.{is_prefix}
 use Rattle.kc_dotconfig_model.specs.ConfigFiles.{file_lines, has_utf8_lines}
 use Rattle.kc_minimal_model.specs.Spelling.{symbol_line, ended_line}
@@ -22,35 +23,35 @@ use Rattle.kc_minimal_model.proofs.Bytes.{first_line}
 use Rattle.kc_minimal_model.proofs.KeptLines.{line_reads}
 use Rattle.kc_minimal_model.proofs.LeastFile.{passes_filter}
 
-module _ (prefix : List ℕ) (valid : is_prefix prefix ≡ true) (profile : Profile) (tree : Tree) (sound : IsConsistent tree) (users : List (Option UserValue)) (values : List UnitValue)
+module _ (format : FileFormat) (valid : is_prefix format.prefix ≡ true) (profile : Profile) (tree : Tree) (sound : IsConsistent tree) (users : List (Option UserValue)) (values : List UnitValue)
     (fitting : FitsUsers (length tree.units) (λ u x. IsTrue (user_fits tree u x)) users) (solved : Solves (length tree.units) (rule profile tree) users values) where
   -- the ended lines of symbols that have one are cut into these lines
   pub lines_of_symbols : (xs : List ℕ) → list_all (has_line profile tree values) xs ≡ true
-      → file_lines (flat_map (ended_line prefix tree values) xs) ≡ map (symbol_line prefix tree values) xs
+      → file_lines (flat_map (ended_line format tree values) xs) ≡ map (symbol_line format tree values) xs
   lines_of_symbols [] all = refl
   lines_of_symbols (s ∷ xs) all =
-      let rest = flat_map (ended_line prefix tree values) xs in
+      let rest = flat_map (ended_line format tree values) xs in
       let parts = and_parts (has_line profile tree values s) (list_all (has_line profile tree values) xs) all in
-      let line = line_reads prefix valid profile tree sound users values fitting solved s parts.0 in
-      ap file_lines (append_assoc (symbol_line prefix tree values s) (10 ∷ []) rest) ∙ first_line (symbol_line prefix tree values s) rest line.one
-      ∙ ap (λ ls. symbol_line prefix tree values s ∷ ls) (lines_of_symbols xs parts.1)
+      let line = line_reads format valid profile tree sound users values fitting solved s parts.0 in
+      ap file_lines (append_assoc (symbol_line format tree values s) (10 ∷ []) rest) ∙ first_line (symbol_line format tree values s) rest line.one
+      ∙ ap (λ ls. symbol_line format tree values s ∷ ls) (lines_of_symbols xs parts.1)
 
   -- and are UTF-8
-  utf8_of_symbols : (xs : List ℕ) → list_all (has_line profile tree values) xs ≡ true → list_all is_utf8 (map (symbol_line prefix tree values) xs) ≡ true
+  utf8_of_symbols : (xs : List ℕ) → list_all (has_line profile tree values) xs ≡ true → list_all is_utf8 (map (symbol_line format tree values) xs) ≡ true
   utf8_of_symbols [] all = refl
   utf8_of_symbols (s ∷ xs) all =
       let parts = and_parts (has_line profile tree values s) (list_all (has_line profile tree values) xs) all in
-      let line = line_reads prefix valid profile tree sound users values fitting solved s parts.0 in
-      and_from (is_utf8 (symbol_line prefix tree values s)) (list_all is_utf8 (map (symbol_line prefix tree values) xs))
-      (is_utf8-from_IsUtf8 (symbol_line prefix tree values s) line.utf8) (utf8_of_symbols xs parts.1)
+      let line = line_reads format valid profile tree sound users values fitting solved s parts.0 in
+      and_from (is_utf8 (symbol_line format tree values s)) (list_all is_utf8 (map (symbol_line format tree values) xs))
+      (is_utf8-from_IsUtf8 (symbol_line format tree values s) line.utf8) (utf8_of_symbols xs parts.1)
 
-  pub lines_are_utf8 : (xs : List ℕ) → list_all (has_line profile tree values) xs ≡ true → has_utf8_lines (flat_map (ended_line prefix tree values) xs) ≡ true
+  pub lines_are_utf8 : (xs : List ℕ) → list_all (has_line profile tree values) xs ≡ true → has_utf8_lines (flat_map (ended_line format tree values) xs) ≡ true
   lines_are_utf8 xs all = ap (list_all is_utf8) (lines_of_symbols xs all) ∙ utf8_of_symbols xs all
 
   -- the lines of the minimal file are its symbols' lines, in order
-  pub minimal_file_lines : file_lines (minimal_file prefix profile tree values) ≡ map (symbol_line prefix tree values) (minimal_symbols profile tree values)
+  pub minimal_file_lines : file_lines (minimal_file format profile tree values) ≡ map (symbol_line format tree values) (minimal_symbols profile tree values)
   minimal_file_lines = lines_of_symbols (minimal_symbols profile tree values) (passes_filter (has_line profile tree values) (symbol_numbers tree))
 
 -- as a law
 pub file_lines_listed : MinimalFileLines
-file_lines_listed prefix valid profile tree users values sound fitting solved = minimal_file_lines prefix valid profile tree sound users values fitting solved
+file_lines_listed format valid profile tree users values sound fitting solved = minimal_file_lines format valid profile tree sound users values fitting solved

@@ -10,6 +10,7 @@ use Rattle.kc_rules_model.specs.Rule.{rule}
 use Rattle.kc_rules_model.specs.SymbolValues.{value_of_symbol}
 use Rattle.kc_rules_model.specs.Shapes.{user_fits}
 use Rattle.kc_rules_model.specs.Reports.{symbol_numbers}
+use Rattle.kc_dotconfig_model.specs.Formats.{FileFormat}
 use Rattle.kc_dotconfig_model.specs.PrefixGrammar.{is_prefix}
 use Rattle.kc_value.specs.declared.limits.TheConstants.{MAX_CONFIG_BYTES}
 use Rattle.kc_dotconfig_model.specs.LoadFaults.{IsAccepted}
@@ -29,43 +30,43 @@ use Rattle.kc_minimal_model.proofs.LineNumbers.{keeps_symbol, lines_kept, line_c
 use Rattle.kc_minimal_model.proofs.Accepting.{is_short, accepted_symbols, shorts_of_file, file_of_shorts, filter_shorter, flat_shorter}
 use Rattle.kc_minimal_model.proofs.MinimalAccepted.{few_lines, lines_are_short}
 
-module _ (prefix : List ℕ) (valid : is_prefix prefix ≡ true) (profile : Profile) (tree : Tree) (settled : IsOrderedTree tree) (users : List (Option UserValue)) (values : List UnitValue)
+module _ (format : FileFormat) (valid : is_prefix format.prefix ≡ true) (profile : Profile) (tree : Tree) (settled : IsOrderedTree tree) (users : List (Option UserValue)) (values : List UnitValue)
     (fitting : FitsUsers (length tree.units) (λ u x. IsTrue (user_fits tree u x)) users) (solved : Solves (length tree.units) (rule profile tree) users values) where
   -- some of the lines, where each line is short
-  pub part_accepted : (keeps : ℕ → Bool) → length (minimal_file prefix profile tree values) ≤ MAX_CONFIG_BYTES
-      → list_all (is_short prefix valid profile tree settled.consistent users values fitting solved) (minimal_symbols profile tree values) ≡ true
-      → IsAccepted prefix tree (symbol_lines keeps prefix profile tree values)
+  pub part_accepted : (keeps : ℕ → Bool) → length (minimal_file format profile tree values) ≤ MAX_CONFIG_BYTES
+      → list_all (is_short format valid profile tree settled.consistent users values fitting solved) (minimal_symbols profile tree values) ≡ true
+      → IsAccepted format tree (symbol_lines keeps format profile tree values)
   part_accepted keeps small short =
       let xs = minimal_symbols profile tree values in
-      let some = some_have_lines prefix valid profile tree settled users values fitting solved keeps in
+      let some = some_have_lines format valid profile tree settled users values fitting solved keeps in
       let less = filter_shorter keeps xs in
       let few = few_lines profile tree values settled.consistent in
-      let smaller = flat_shorter (ended_line prefix tree values) keeps xs in
-      accepted_symbols prefix valid profile tree settled.consistent users values fitting solved (filter keeps xs) some
-      (all_of_filter (is_short prefix valid profile tree settled.consistent users values fitting solved) keeps xs short) (omega (arith, less, few))
+      let smaller = flat_shorter (ended_line format tree values) keeps xs in
+      accepted_symbols format valid profile tree settled.consistent users values fitting solved (filter keeps xs) some
+      (all_of_filter (is_short format valid profile tree settled.consistent users values fitting solved) keeps xs short) (omega (arith, less, few))
       (omega (arith, smaller, small))
 
-  pub whole_accepted : length (minimal_file prefix profile tree values) ≤ MAX_CONFIG_BYTES
-      → list_all (is_short prefix valid profile tree settled.consistent users values fitting solved) (minimal_symbols profile tree values) ≡ true
-      → IsAccepted prefix tree (minimal_file prefix profile tree values)
+  pub whole_accepted : length (minimal_file format profile tree values) ≤ MAX_CONFIG_BYTES
+      → list_all (is_short format valid profile tree settled.consistent users values fitting solved) (minimal_symbols profile tree values) ≡ true
+      → IsAccepted format tree (minimal_file format profile tree values)
   whole_accepted small short =
-      accepted_symbols prefix valid profile tree settled.consistent users values fitting solved (minimal_symbols profile tree values)
+      accepted_symbols format valid profile tree settled.consistent users values fitting solved (minimal_symbols profile tree values)
       (passes_filter (has_line profile tree values) (symbol_numbers tree))
       short (few_lines profile tree values settled.consistent) small
 
-  pub shorts : has_short_lines (minimal_file prefix profile tree values) ≡ true
-      → list_all (is_short prefix valid profile tree settled.consistent users values fitting solved) (minimal_symbols profile tree values) ≡ true
+  pub shorts : has_short_lines (minimal_file format profile tree values) ≡ true
+      → list_all (is_short format valid profile tree settled.consistent users values fitting solved) (minimal_symbols profile tree values) ≡ true
   shorts short =
-      shorts_of_file prefix valid profile tree settled.consistent users values fitting solved (minimal_symbols profile tree values)
+      shorts_of_file format valid profile tree settled.consistent users values fitting solved (minimal_symbols profile tree values)
       (passes_filter (has_line profile tree values) (symbol_numbers tree)) short
 
   -- without a line, and others or not, some symbol has another value
   differing : (keeps : ℕ → Bool) (s : ℕ) → has_line profile tree values s ≡ true → keeps s ≡ false
-      → (others : List UnitValue) × ReadsTo prefix profile tree (symbol_lines keeps prefix profile tree values) others × DifferAtASymbol tree others values
+      → (others : List UnitValue) × ReadsTo format profile tree (symbol_lines keeps format profile tree values) others × DifferAtASymbol tree others values
   differing keeps s has dropped =
-      let lost = needed prefix valid profile tree settled users values fitting solved keeps s has dropped in
-      let bytes = symbol_lines keeps prefix profile tree values in
-      let fits_lost = fits_of prefix valid profile tree settled bytes lost.1.meanings lost.1.utf8 lost.1.says in
+      let lost = needed format valid profile tree settled users values fitting solved keeps s has dropped in
+      let bytes = symbol_lines keeps format profile tree values in
+      let fits_lost = fits_of format valid profile tree settled bytes lost.1.meanings lost.1.utf8 lost.1.says in
       let others_fit = solutions_fit profile tree settled (file_assignment tree lost.1.meanings) fits_lost lost.0 lost.1.gives.solves in (
         lost.0,
         lost.1,
@@ -74,11 +75,11 @@ module _ (prefix : List ℕ) (valid : is_prefix prefix ≡ true) (profile : Prof
       )
 
   -- a file gives every symbol the same value exactly if its minimal file is the same
-  compared : (file : List ℕ) (others : List UnitValue) → ReadsTo prefix profile tree file others
-      → HaveSameValues tree values others ↔ (minimal_file prefix profile tree values ≡ minimal_file prefix profile tree others)
+  compared : (file : List ℕ) (others : List UnitValue) → ReadsTo format profile tree file others
+      → HaveSameValues tree values others ↔ (minimal_file format profile tree values ≡ minimal_file format profile tree others)
   compared file others reads =
-      let fits = fits_of prefix valid profile tree settled file reads.meanings reads.utf8 reads.says in
-      let equal = same_files prefix valid profile tree settled users (file_assignment tree reads.meanings) values others fitting fits solved
+      let fits = fits_of format valid profile tree settled file reads.meanings reads.utf8 reads.says in
+      let equal = same_files format valid profile tree settled users (file_assignment tree reads.meanings) values others fitting fits solved
       reads.gives.solves in
       let values_fit = solutions_fit profile tree settled users fitting values solved in
       let others_fit = solutions_fit profile tree settled (file_assignment tree reads.meanings) fits others reads.gives.solves in (
@@ -86,46 +87,46 @@ module _ (prefix : List ℕ) (valid : is_prefix prefix ≡ true) (profile : Prof
         λ files. (let e = equal.1 files in λ s. ap (λ v. value_of_symbol tree v s) e),
       )
 
-  short_file : (file : List ℕ) → Loads prefix profile tree file values → has_short_lines (minimal_file prefix profile tree values) ≡ true
+  short_file : (file : List ℕ) → Loads format profile tree file values → has_short_lines (minimal_file format profile tree values) ≡ true
   short_file file loads =
-      file_of_shorts prefix valid profile tree settled.consistent users values fitting solved (minimal_symbols profile tree values)
+      file_of_shorts format valid profile tree settled.consistent users values fitting solved (minimal_symbols profile tree values)
       (passes_filter (has_line profile tree values) (symbol_numbers tree))
-      (lines_are_short prefix profile tree file values valid settled loads.accepted loads.reads)
+      (lines_are_short format profile tree file values valid settled loads.accepted loads.reads)
 
-  kept_accepted : length (minimal_file prefix profile tree values) ≤ MAX_CONFIG_BYTES → has_short_lines (minimal_file prefix profile tree values) ≡ true
+  kept_accepted : length (minimal_file format profile tree values) ≤ MAX_CONFIG_BYTES → has_short_lines (minimal_file format profile tree values) ≡ true
       → (keeps : ℕ → Bool)
-      → IsAccepted prefix tree (with_lines keeps (minimal_file prefix profile tree values))
+      → IsAccepted format tree (with_lines keeps (minimal_file format profile tree values))
   kept_accepted small short keeps =
-      subst (IsAccepted prefix tree) (sym (lines_kept prefix valid profile tree settled.consistent users values fitting solved keeps))
-      (part_accepted (keeps_symbol prefix valid profile tree settled.consistent users values fitting solved keeps) small (shorts short))
+      subst (IsAccepted format tree) (sym (lines_kept format valid profile tree settled.consistent users values fitting solved keeps))
+      (part_accepted (keeps_symbol format valid profile tree settled.consistent users values fitting solved keeps) small (shorts short))
 
-  line_needed : (keeps : ℕ → Bool) (k : ℕ) → k < length (file_lines (minimal_file prefix profile tree values)) → keeps k ≡ false
-      → (others : List UnitValue) × ReadsTo prefix profile tree (with_lines keeps (minimal_file prefix profile tree values)) others × DifferAtASymbol tree
+  line_needed : (keeps : ℕ → Bool) (k : ℕ) → k < length (file_lines (minimal_file format profile tree values)) → keeps k ≡ false
+      → (others : List UnitValue) × ReadsTo format profile tree (with_lines keeps (minimal_file format profile tree values)) others × DifferAtASymbol tree
       others values
   line_needed keeps k below dropped =
-      let lost = symbol_dropped prefix valid profile tree settled.consistent users values fitting solved keeps k below dropped in
-      let found = differing (keeps_symbol prefix valid profile tree settled.consistent users values fitting solved keeps) lost.0 lost.1 lost.2 in (
+      let lost = symbol_dropped format valid profile tree settled.consistent users values fitting solved keeps k below dropped in
+      let found = differing (keeps_symbol format valid profile tree settled.consistent users values fitting solved keeps) lost.0 lost.1 lost.2 in (
         found.0,
-        subst (λ t. ReadsTo prefix profile tree t found.0) (sym
-            (lines_kept prefix valid profile tree settled.consistent users values fitting solved keeps)) found.1,
+        subst (λ t. ReadsTo format profile tree t found.0) (sym
+            (lines_kept format valid profile tree settled.consistent users values fitting solved keeps)) found.1,
         found.2,
       )
 
-  pub canonical_text : IsCanonicalText prefix profile tree values (minimal_file prefix profile tree values)
+  pub canonical_text : IsCanonicalText format profile tree values (minimal_file format profile tree values)
   canonical_text = record {
     is = refl;
     same = compared;
-    back = reads_back prefix valid profile tree settled users values fitting solved;
-    once = λ again reads. ap (minimal_file prefix profile tree) (one prefix valid profile tree settled (minimal_file prefix profile tree values) again values
-        reads (reads_back prefix valid profile tree settled users values fitting solved));
+    back = reads_back format valid profile tree settled users values fitting solved;
+    once = λ again reads. ap (minimal_file format profile tree) (one format valid profile tree settled (minimal_file format profile tree values) again values
+        reads (reads_back format valid profile tree settled users values fitting solved));
     needed = line_needed;
     least = λ any fewer keeps fits solves cut. needs_units profile tree any values settled fits solves fewer keeps cut;
     least_values = λ any fits solves. needs_values profile tree any values settled fits solves;
-    assigns_each = λ file reads. assigns_each prefix profile tree settled file values reads;
-    assigns_values = λ file reads. assigns_values prefix profile tree settled file values reads;
+    assigns_each = λ file reads. assigns_each format profile tree settled file values reads;
+    assigns_values = λ file reads. assigns_values format profile tree settled file values reads;
     assigns_as_many = λ file reads.
-        let count = line_count prefix valid profile tree settled.consistent users values fitting solved in
-        let many = assigns_as_many prefix profile tree settled file values reads in
+        let count = line_count format valid profile tree settled.consistent users values fitting solved in
+        let many = assigns_as_many format profile tree settled file values reads in
         omega (arith, count, many);
     accepted = λ small short. whole_accepted small (shorts short);
     part_accepted = kept_accepted;
@@ -133,5 +134,5 @@ module _ (prefix : List ℕ) (valid : is_prefix prefix ≡ true) (profile : Prof
   }
 
 pub minimal_texts : MinimalTextsAreCanonical
-minimal_texts prefix profile tree users values valid settled fitting solved =
-    canonical_text prefix valid profile tree (ordered_tree tree settled) users values fitting solved
+minimal_texts format profile tree users values valid settled fitting solved =
+    canonical_text format valid profile tree (ordered_tree tree settled) users values fitting solved

@@ -19,6 +19,8 @@ use Rattle.kc_rules_model.specs.Reports.{symbol_numbers}
 use Rattle.kc_rules_model.specs.RuleLaws.{is_tri_value}
 use Rattle.kc_rules_model.specs.checker.FrameLaw.{rules_frame}
 use Rattle.kc_rules_model.proofs.AssignedTexts.{texts_assigned}
+use Rattle.kc_dotconfig_model.specs.declared.format.Strings.TheVariants.{Escaped}
+use Rattle.kc_dotconfig_model.specs.Formats.{FileFormat}
 use Rattle.kc_dotconfig_model.specs.PrefixGrammar.{is_prefix}
 use Rattle.kc_minimal_model.specs.MinimalFile.{is_kept, has_line, may_have_line}
 use Rattle.kc_rules_model.proofs.OrderedTrees.{IsOrderedTree}
@@ -36,11 +38,11 @@ any_found p q (x ∷ xs) any = go (q x) refl any (any_found p q xs) where
   go true e any next = elim (or_cases (p x) (list_any p (filter q xs)) any) [ inl here ↦ (x, e, here) | inr later ↦ next later ]
   go false e any next = next any
 
--- no line is of interest here, so any prefix serves
-plain : List ℕ
-plain = 67 ∷ []
+-- no line is of interest here, so any format serves
+plain : FileFormat
+plain = record { prefix = 67 ∷ []; strings = Escaped }
 
-valid : is_prefix plain ≡ true
+valid : is_prefix plain.prefix ≡ true
 unfolding plain
 valid = refl
 

@@ -24,6 +24,7 @@ use Rattle.kc_rules_model.specs.SymbolValues.{value_in_unit, tri_symbol_value, t
 use Rattle.kc_rules_model.specs.Rule.{as_user}
 use Rattle.kc_rules_model.specs.Shapes.{value_fits, unit_value_fits, symbol_value_fits, text_fits, user_text_fits}
 use Rattle.kc_tree_model.proofs.Lookups.{inside, found_by_name, place_is, unit_is}
+use Rattle.kc_dotconfig_model.specs.Formats.{FileFormat}
 use Rattle.kc_dotconfig_model.specs.PrefixGrammar.{is_prefix}
 use Rattle.kc_dotconfig_model.specs.ConfigLines.{LineMeaning, assigns, notice, silent, value, unset_meaning, ValueMeans, no_int, no_hex, without_white_end}
 use Rattle.kc_minimal_model.specs.Spelling.{symbol_line, line_of_value, line_with, value_line, unset_line}
@@ -39,30 +40,30 @@ IsOwn values (notice kind) = ⊥
 IsOwn values silent = Unit {0}
 
 -- a written line that is such an assignment
-pub record IsOwnLine (prefix : List ℕ) (tree : Tree) (values : List UnitValue) (line : List ℕ) : Type 0 where
+pub record IsOwnLine (format : FileFormat) (tree : Tree) (values : List UnitValue) (line : List ℕ) : Type 0 where
   pub meaning : LineMeaning
-  pub reads : IsLine prefix tree line meaning
+  pub reads : IsLine format tree line meaning
   pub own : IsOwn values meaning
 
 no_bytes : (text : List ℕ) → (length text == 0) ≡ true → text ≡ []
 no_bytes [] e = refl
 no_bytes (b ∷ text) e = let zero_long = eqb-true (length (b ∷ text)) 0 e in absurd (omega (arith, zero_long))
 
-module _ (prefix : List ℕ) (valid : is_prefix prefix ≡ true) (tree : Tree) (sound : IsConsistent tree) (values : List UnitValue) (fits : FitsValues (length tree.units) (λ u v. IsTrue (value_fits tree u v)) values) where
+module _ (format : FileFormat) (valid : is_prefix format.prefix ≡ true) (tree : Tree) (sound : IsConsistent tree) (values : List UnitValue) (fits : FitsValues (length tree.units) (λ u v. IsTrue (value_fits tree u v)) values) where
   -- the line of an int or hex without a number
-  empty_line : (s : ℕ) (symbol : Symbol) → slice_get tree.symbols s ≡ Some symbol → ValueMeans tree s symbol [] silent
-      → IsLine prefix tree (value_line prefix symbol.name []) silent
+  empty_line : (s : ℕ) (symbol : Symbol) → slice_get tree.symbols s ≡ Some symbol → ValueMeans format.strings tree s symbol [] silent
+      → IsLine format tree (value_line format.prefix symbol.name []) silent
   empty_line s symbol at says =
       let words = sound.words s symbol at in
-      let bytes = (and_parts _ (list_all is_name_byte prefix) valid).1 in
-      let same : value_line prefix symbol.name [] ≡ (prefix ++ symbol.name) ++ 61 ∷ [] = sym (append_assoc prefix symbol.name (61 ∷ [])) in
+      let bytes = (and_parts _ (list_all is_name_byte format.prefix) valid).1 in
+      let same : value_line format.prefix symbol.name [] ≡ (format.prefix ++ symbol.name) ++ 61 ∷ [] = sym (append_assoc format.prefix symbol.name (61 ∷ [])) in
       record {
-        says = value (value_line prefix symbol.name []) symbol.name [] s symbol silent (words.0, name_lacks 61 refl symbol.name words.1, refl)
+        says = value (value_line format.prefix symbol.name []) symbol.name [] s symbol silent (words.0, name_lacks 61 refl symbol.name words.1, refl)
             (found_by_name tree sound s symbol at) at says;
-        whole = ap without_white_end same ∙ ends_in_ink (prefix ++ symbol.name) 61 refl ∙ sym same;
-        one = all_of_both (λ c. not (c == 10)) prefix (symbol.name ++ (61 ∷ [])) (name_lacks 10 refl prefix bytes)
+        whole = ap without_white_end same ∙ ends_in_ink (format.prefix ++ symbol.name) 61 refl ∙ sym same;
+        one = all_of_both (λ c. not (c == 10)) format.prefix (symbol.name ++ (61 ∷ [])) (name_lacks 10 refl format.prefix bytes)
             (all_of_both (λ c. not (c == 10)) symbol.name (61 ∷ []) (name_lacks 10 refl symbol.name words.1) refl);
-        utf8 = utf8_value_line prefix valid tree sound s symbol at [] IsUtf8-nil;
+        utf8 = utf8_value_line format valid tree sound s symbol at [] IsUtf8-nil;
       }
 
   abbrev of_text : Kind → List ℕ → SymbolValue
@@ -70,32 +71,32 @@ module _ (prefix : List ℕ) (valid : is_prefix prefix ≡ true) (tree : Tree) (
 
   text_says : (s : ℕ) (symbol : Symbol) → slice_get tree.symbols s ≡ Some symbol → (text : List ℕ) → user_meant values (unit_of tree s) ≡ Some (TextUser text)
       → user_text_fits symbol.kind text ≡ true
-      → IsOwnLine prefix tree values (line_with prefix symbol.name (of_text symbol.kind text))
+      → IsOwnLine format tree values (line_with format symbol.name (of_text symbol.kind text))
   text_says s symbol at text held good =
       record {
         meaning = assigns (unit_of tree s) (TextUser text);
-        reads = text_line prefix valid tree sound s symbol at symbol.kind text refl good;
+        reads = text_line format valid tree sound s symbol at symbol.kind text refl good;
         own = held;
       }
 
   number_says : (s : ℕ) (symbol : Symbol) → slice_get tree.symbols s ≡ Some symbol → (text : List ℕ) → user_meant values (unit_of tree s) ≡ Some (TextUser text)
       → (kind : Kind) → symbol.kind ≡ kind
       → ((length text == 0) || is_some (number_of_text kind text)) ≡ true → (is_some (number_of_text kind text) ≡ true → user_text_fits kind text ≡ true)
-      → (value_line prefix symbol.name [] ≡ line_with prefix symbol.name (of_text kind [])) → ValueMeans tree s symbol [] silent
-      → IsOwnLine prefix tree values (line_with prefix symbol.name (of_text symbol.kind text))
+      → (value_line format.prefix symbol.name [] ≡ line_with format symbol.name (of_text kind [])) → ValueMeans format.strings tree s symbol [] silent
+      → IsOwnLine format tree values (line_with format symbol.name (of_text symbol.kind text))
   number_says s symbol at text held kind is good number form says = elim (or_cases (length text == 0) (is_some (number_of_text kind text)) good) [
     | inl none ↦
-        let line : IsLine prefix tree (line_with prefix symbol.name (of_text kind [])) silent = subst (λ l. IsLine prefix tree l silent) form
+        let line : IsLine format tree (line_with format symbol.name (of_text kind [])) silent = subst (λ l. IsLine format tree l silent) form
         (empty_line s symbol at says) in
-        let at_kind : IsLine prefix tree (line_with prefix symbol.name (of_text symbol.kind [])) silent = subst
-        (λ k. IsLine prefix tree (line_with prefix symbol.name (of_text k [])) silent) (sym is) line in
-        record { meaning = silent; reads = subst (λ t. IsLine prefix tree (line_with prefix symbol.name (of_text symbol.kind t)) silent) (sym (no_bytes text none)) at_kind; own = tt }
+        let at_kind : IsLine format tree (line_with format symbol.name (of_text symbol.kind [])) silent = subst
+        (λ k. IsLine format tree (line_with format symbol.name (of_text k [])) silent) (sym is) line in
+        record { meaning = silent; reads = subst (λ t. IsLine format tree (line_with format symbol.name (of_text symbol.kind t)) silent) (sym (no_bytes text none)) at_kind; own = tt }
     | inr some ↦ text_says s symbol at text held (ap (λ k. user_text_fits k text) is ∙ number some)
   ]
 
   text_of_kind : (s : ℕ) (symbol : Symbol) → slice_get tree.symbols s ≡ Some symbol → (text : List ℕ) → user_meant values (unit_of tree s) ≡ Some (TextUser text)
       → (kind : Kind) → symbol.kind ≡ kind → text_fits kind text ≡ true
-      → IsOwnLine prefix tree values (line_with prefix symbol.name (of_text symbol.kind text))
+      → IsOwnLine format tree values (line_with format symbol.name (of_text symbol.kind text))
   text_of_kind s symbol at text held Boolean is good = absurd (false≢true good)
   text_of_kind s symbol at text held Tristate is good = absurd (false≢true good)
   text_of_kind s symbol at text held Text is good = text_says s symbol at text held (ap (λ k. user_text_fits k text) is ∙ good)
@@ -104,16 +105,16 @@ module _ (prefix : List ℕ) (valid : is_prefix prefix ≡ true) (tree : Tree) (
 
   by_held : (s : ℕ) (symbol : Symbol) → slice_get tree.symbols s ≡ Some symbol → symbol.choice ≡ None → (held : UnitValue)
       → slice_get values (unit_of tree s) ≡ Some held → symbol_value_fits (Some symbol) held ≡ true
-      → IsOwnLine prefix tree values (line_with prefix symbol.name (value_in_unit tree values s symbol None))
+      → IsOwnLine format tree values (line_with format symbol.name (value_in_unit tree values s symbol None))
   by_held s symbol at out (TriValue t) has good =
       let F : Option UnitValue → Bool → SymbolValue = λ h b. cond b (tri_symbol_value symbol.kind (tri_of h))
       (record { kind = symbol.kind; tri = N; text = text_of h }) in
       let seen : value_in_unit tree values s symbol None ≡ tri_symbol_value symbol.kind t = ap (λ h. F h (is_tri_kind symbol.kind)) has
       ∙ ap (F (Some (TriValue t))) (tri_kind symbol.kind t good) in
-      subst (λ e. IsOwnLine prefix tree values (line_with prefix symbol.name e)) (sym seen)
+      subst (λ e. IsOwnLine format tree values (line_with format symbol.name e)) (sym seen)
       (record {
         meaning = assigns (unit_of tree s) (TriUser t);
-        reads = tri_line prefix valid tree sound s symbol at symbol.kind t refl out good;
+        reads = tri_line format valid tree sound s symbol at symbol.kind t refl out good;
         own = ap
             (option_and_then as_user) has;
       })
@@ -122,12 +123,12 @@ module _ (prefix : List ℕ) (valid : is_prefix prefix ≡ true) (tree : Tree) (
       (record { kind = symbol.kind; tri = N; text = text_of h }) in
       let seen : value_in_unit tree values s symbol None ≡ record { kind = symbol.kind; tri = N; text = text } = ap (λ h. F h (is_tri_kind symbol.kind)) has
       ∙ ap (F (Some (TextValue text))) (text_kind symbol.kind text good) in
-      subst (λ e. IsOwnLine prefix tree values (line_with prefix symbol.name e)) (sym seen)
+      subst (λ e. IsOwnLine format tree values (line_with format symbol.name e)) (sym seen)
       (text_of_kind s symbol at text (ap (option_and_then as_user) has) symbol.kind refl good)
   by_held s symbol at out (MemberValue m) has good = absurd (false≢true good)
 
   outside : (s : ℕ) (symbol : Symbol) → slice_get tree.symbols s ≡ Some symbol → symbol.choice ≡ None
-      → IsOwnLine prefix tree values (line_with prefix symbol.name (value_in_unit tree values s symbol None))
+      → IsOwnLine format tree values (line_with format symbol.name (value_in_unit tree values s symbol None))
   unfolding value_fits
   outside s symbol at out =
       let own = sound.own_units s symbol at out in
@@ -142,16 +143,16 @@ module _ (prefix : List ℕ) (valid : is_prefix prefix ≡ true) (tree : Tree) (
 
   -- a member that isn't selected
   n_line : (s c : ℕ) (symbol : Symbol) → slice_get tree.symbols s ≡ Some symbol → symbol.choice ≡ Some c → (t : Tri) → t ≡ N
-      → IsOwnLine prefix tree values (line_with prefix symbol.name (tri_symbol_value symbol.kind t))
+      → IsOwnLine format tree values (line_with format symbol.name (tri_symbol_value symbol.kind t))
   n_line s c symbol at within t is =
       let kind = sound.bool_members s c symbol at within in
-      let line : IsLine prefix tree (line_with prefix symbol.name (tri_symbol_value Boolean N)) silent = subst
-      (IsLine prefix tree (unset_line prefix symbol.name)) (ap (unset_meaning tree s symbol) within) (not_set_line prefix valid tree sound s symbol at) in
-      record { meaning = silent; own = tt; reads = subst (λ k. IsLine prefix tree (line_with prefix symbol.name (tri_symbol_value k t)) silent) (sym kind) (subst (λ x. IsLine prefix tree (line_with prefix symbol.name (tri_symbol_value Boolean x)) silent) (sym is) line) }
+      let line : IsLine format tree (line_with format symbol.name (tri_symbol_value Boolean N)) silent = subst
+      (IsLine format tree (unset_line format.prefix symbol.name)) (ap (unset_meaning tree s symbol) within) (not_set_line format valid tree sound s symbol at) in
+      record { meaning = silent; own = tt; reads = subst (λ k. IsLine format tree (line_with format symbol.name (tri_symbol_value k t)) silent) (sym kind) (subst (λ x. IsLine format tree (line_with format symbol.name (tri_symbol_value Boolean x)) silent) (sym is) line) }
 
   member_by_held : (s c : ℕ) (symbol : Symbol) → slice_get tree.symbols s ≡ Some symbol → symbol.choice ≡ Some c → (o : Option UnitValue)
       → slice_get values (unit_of tree s) ≡ o
-      → IsOwnLine prefix tree values (line_with prefix symbol.name (tri_symbol_value symbol.kind (tri_if_selected s (member_of o))))
+      → IsOwnLine format tree values (line_with format symbol.name (tri_symbol_value symbol.kind (tri_if_selected s (member_of o))))
   member_by_held s c symbol at within None has = n_line s c symbol at within N refl
   member_by_held s c symbol at within (Some (TriValue t)) has = n_line s c symbol at within N refl
   member_by_held s c symbol at within (Some (TextValue t)) has = n_line s c symbol at within N refl
@@ -159,13 +160,13 @@ module _ (prefix : List ℕ) (valid : is_prefix prefix ≡ true) (tree : Tree) (
   member_by_held s c symbol at within (Some (MemberValue (Some m))) has = elim (cases_Bool (m == s)) [
     | inl same ↦
         let kind = sound.bool_members s c symbol at within in
-        let line = member_line prefix valid tree sound s symbol at c within kind in
+        let line = member_line format valid tree sound s symbol at c within kind in
         let tri : cond (m == s) Y N ≡ Y = ap (λ b. cond b Y N) same in
         record {
           meaning = assigns (unit_of tree s) (MemberUser s);
-          reads = subst (λ k. IsLine prefix tree (line_with prefix symbol.name (tri_symbol_value k (cond (m == s) Y N)))
+          reads = subst (λ k. IsLine format tree (line_with format symbol.name (tri_symbol_value k (cond (m == s) Y N)))
               (assigns (unit_of tree s) (MemberUser s))) (sym kind)
-              (subst (λ t. IsLine prefix tree (line_with prefix symbol.name (tri_symbol_value Boolean t)) (assigns (unit_of tree s) (MemberUser s))) (sym tri)
+              (subst (λ t. IsLine format tree (line_with format symbol.name (tri_symbol_value Boolean t)) (assigns (unit_of tree s) (MemberUser s))) (sym tri)
               line);
           own = ap (option_and_then as_user) has ∙ ap (λ n. Some (MemberUser n)) (eqb-true m s same);
         }
@@ -173,7 +174,7 @@ module _ (prefix : List ℕ) (valid : is_prefix prefix ≡ true) (tree : Tree) (
   ]
 
   within_choice : (s c : ℕ) (symbol : Symbol) → slice_get tree.symbols s ≡ Some symbol → symbol.choice ≡ Some c
-      → IsOwnLine prefix tree values (line_with prefix symbol.name (value_in_unit tree values s symbol (Some c)))
+      → IsOwnLine format tree values (line_with format symbol.name (value_in_unit tree values s symbol (Some c)))
   within_choice s c symbol at within =
       let own = sound.units_of_members s c symbol at within in
       let here : slice_get tree.units (unit_of tree s) ≡ Some (of_choice c) = ap (slice_get tree.units)
@@ -182,16 +183,16 @@ module _ (prefix : List ℕ) (valid : is_prefix prefix ≡ true) (tree : Tree) (
       member_by_held s c symbol at within (slice_get values (index_of_unit tree (of_choice c))) (ap (slice_get values) (sym place))
 
   at_choice : (s : ℕ) (symbol : Symbol) → slice_get tree.symbols s ≡ Some symbol → (c : Option ℕ) → symbol.choice ≡ c
-      → IsOwnLine prefix tree values (line_with prefix symbol.name (value_in_unit tree values s symbol c))
+      → IsOwnLine format tree values (line_with format symbol.name (value_in_unit tree values s symbol c))
   at_choice s symbol at None out = outside s symbol at out
   at_choice s symbol at (Some c) within = within_choice s c symbol at within
 
   at_symbol : (s : ℕ) (symbol : Symbol) (o : Option Symbol) → slice_get tree.symbols s ≡ o → o ≡ Some symbol
-      → IsOwnLine prefix tree values (line_of_value prefix o (option_map (λ (x : Symbol). value_in_unit tree values s x x.choice) o))
+      → IsOwnLine format tree values (line_of_value format o (option_map (λ (x : Symbol). value_in_unit tree values s x x.choice) o))
   at_symbol s symbol None at is = cc
   at_symbol s symbol (Some x) at is = at_choice s x at x.choice refl
 
   -- the line of each symbol
-  pub own_line : (s : ℕ) (symbol : Symbol) → slice_get tree.symbols s ≡ Some symbol → IsOwnLine prefix tree values (symbol_line prefix tree values s)
+  pub own_line : (s : ℕ) (symbol : Symbol) → slice_get tree.symbols s ≡ Some symbol → IsOwnLine format tree values (symbol_line format tree values s)
   unfolding symbol_line
   own_line s symbol at = at_symbol s symbol (slice_get tree.symbols s) refl at

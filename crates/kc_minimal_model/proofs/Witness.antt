@@ -19,6 +19,8 @@ use Rattle.kc_rules_model.specs.SettledTrees.{IsSettledTree}
 use Rattle.kc_rules_model.specs.declared.profile.Profile.TheVariants.{Present}
 use Rattle.kc_rules_model.specs.declared.values.UserValue.TheVariants.{Tri as TriUser}
 use Rattle.kc_value.specs.declared.tri.Tri.TheVariants.{Y}
+use Rattle.kc_dotconfig_model.specs.declared.format.Strings.TheVariants.{Escaped}
+use Rattle.kc_dotconfig_model.specs.Formats.{FileFormat}
 use Rattle.kc_dotconfig_model.specs.ConfigLines.{assigns}
 use Rattle.kc_dotconfig_model.specs.ConfigFiles.{file_lines, has_utf8_lines}
 use Rattle.kc_dotconfig_model.specs.LoadFaults.{IsAccepted}
@@ -64,8 +66,8 @@ settled : IsSettledTree tree
 settled = record { consistent = tree_is_consistent files (codes "K") no_fault; acyclic = no_cycle }
 
 -- a file, and its meaning
-abbrev plain : List ℕ
-plain = codes "CONFIG_"
+abbrev plain : FileFormat
+plain = record { prefix = codes "CONFIG_"; strings = Escaped }
 
 abbrev file : List ℕ
 file = codes "CONFIG_A=y\n"

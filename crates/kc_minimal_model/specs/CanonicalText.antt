@@ -12,6 +12,7 @@ use Rattle.kc_rules_model.specs.Rule.{rule, as_user}
 use Rattle.kc_rules_model.specs.Shapes.{user_fits}
 use Rattle.kc_rules_model.specs.RuleLaws.{is_tri_value}
 use Rattle.kc_rules_model.specs.SettledTrees.{IsSettledTree}
+use Rattle.kc_dotconfig_model.specs.Formats.{FileFormat}
 use Rattle.kc_dotconfig_model.specs.PrefixGrammar.{is_prefix}
 use Rattle.kc_dotconfig_model.specs.ConfigLines.{LineMeaning, assigns, notice, silent}
 use Rattle.kc_dotconfig_model.specs.ConfigFiles.{file_lines, file_assignment}
@@ -53,25 +54,25 @@ pub record AssignsTheLines (profile : Profile) (tree : Tree) (values : List Unit
   pub each_value : HasValuesOfLines profile tree values (file_assignment tree meanings)
   pub as_many : length (minimal_symbols profile tree values) ≤ length (assigned_units meanings)
 
--- every file that gives values assigns no less than their minimal file, whatever bytes are before the names
+-- every file that gives values assigns no less than their minimal file, whatever bytes are before the names and in each form of strings
 abbrev pub FilesAssignTheLines : Type 0
-FilesAssignTheLines = (prefix : List ℕ) (profile : Profile) (tree : Tree) (file : List ℕ) (values : List UnitValue)
-    → IsSettledTree tree → (reads : ReadsTo prefix profile tree file values) → AssignsTheLines profile tree values reads.meanings
+FilesAssignTheLines = (format : FileFormat) (profile : Profile) (tree : Tree) (file : List ℕ) (values : List UnitValue)
+    → IsSettledTree tree → (reads : ReadsTo format profile tree file values) → AssignsTheLines profile tree values reads.meanings
 
--- A text is the canonical file of values, over one tree, in one profile and with one prefix.
-pub record IsCanonicalText (prefix : List ℕ) (profile : Profile) (tree : Tree) (values : List UnitValue) (text : List ℕ) : Type 0 where
+-- A text is the canonical file of values, over one tree, in one profile and one format.
+pub record IsCanonicalText (format : FileFormat) (profile : Profile) (tree : Tree) (values : List UnitValue) (text : List ℕ) : Type 0 where
   -- it is their minimal file
-  pub is : text ≡ minimal_file prefix profile tree values
+  pub is : text ≡ minimal_file format profile tree values
   -- a file gives every symbol the same value exactly if its minimal file is this text byte for byte
-  pub same : (file : List ℕ) (others : List UnitValue) → ReadsTo prefix profile tree file others
-      → HaveSameValues tree values others ↔ (text ≡ minimal_file prefix profile tree others)
+  pub same : (file : List ℕ) (others : List UnitValue) → ReadsTo format profile tree file others
+      → HaveSameValues tree values others ↔ (text ≡ minimal_file format profile tree others)
   -- the text gives these values and no others
-  pub back : ReadsTo prefix profile tree text values
+  pub back : ReadsTo format profile tree text values
   -- minimising twice is minimising once
-  pub once : (again : List UnitValue) → ReadsTo prefix profile tree text again → minimal_file prefix profile tree again ≡ text
+  pub once : (again : List UnitValue) → ReadsTo format profile tree text again → minimal_file format profile tree again ≡ text
   -- without one of its lines, and with some of the others or all, it gives some symbol another value
   pub needed : (keeps : ℕ → Bool) (k : ℕ) → k < length (file_lines text) → keeps k ≡ false
-      → (others : List UnitValue) × ReadsTo prefix profile tree (with_lines keeps text) others
+      → (others : List UnitValue) × ReadsTo format profile tree (with_lines keeps text) others
       × DifferAtASymbol tree others values
   -- an assignment of the values, cut down to some units, gives them exactly if these are all that have a line, or more
   pub least : (users fewer : List (Option UserValue)) (keeps : ℕ → Bool)
@@ -83,23 +84,23 @@ pub record IsCanonicalText (prefix : List ℕ) (profile : Profile) (tree : Tree)
       → FitsUsers (length tree.units) (λ u x. IsTrue (user_fits tree u x)) users
       → Solves (length tree.units) (rule profile tree) users values → HasValuesOfLines profile tree values users
   -- a file that gives the values assigns to the unit of each line, the values of the lines, by at least as many lines
-  pub assigns_each : (file : List ℕ) → (reads : ReadsTo prefix profile tree file values)
+  pub assigns_each : (file : List ℕ) → (reads : ReadsTo format profile tree file values)
       → HasUnitsOfLines profile tree values (λ u. list_any (eqb u) (assigned_units reads.meanings))
-  pub assigns_values : (file : List ℕ) → (reads : ReadsTo prefix profile tree file values)
+  pub assigns_values : (file : List ℕ) → (reads : ReadsTo format profile tree file values)
       → HasValuesOfLines profile tree values (file_assignment tree reads.meanings)
-  pub assigns_as_many : (file : List ℕ) → (reads : ReadsTo prefix profile tree file values)
+  pub assigns_as_many : (file : List ℕ) → (reads : ReadsTo format profile tree file values)
       → length (file_lines text) ≤ length (assigned_units reads.meanings)
   -- within the limits the text is accepted, and so are some of its lines alone
-  pub accepted : length text ≤ MAX_CONFIG_BYTES → has_short_lines text ≡ true → IsAccepted prefix tree text
+  pub accepted : length text ≤ MAX_CONFIG_BYTES → has_short_lines text ≡ true → IsAccepted format tree text
   pub part_accepted : length text ≤ MAX_CONFIG_BYTES → has_short_lines text ≡ true → (keeps : ℕ → Bool)
-      → IsAccepted prefix tree (with_lines keeps text)
+      → IsAccepted format tree (with_lines keeps text)
   -- where an accepted file gives the values, no line of the text is too long
-  pub short : (file : List ℕ) → Loads prefix profile tree file values → has_short_lines text ≡ true
+  pub short : (file : List ℕ) → Loads format profile tree file values → has_short_lines text ≡ true
 
 -- the minimal file of the values of a fitting assignment is canonical
 abbrev pub MinimalTextsAreCanonical : Type 0
-MinimalTextsAreCanonical = (prefix : List ℕ) (profile : Profile) (tree : Tree) (users : List (Option UserValue)) (values : List UnitValue)
-    → is_prefix prefix ≡ true → IsSettledTree tree
+MinimalTextsAreCanonical = (format : FileFormat) (profile : Profile) (tree : Tree) (users : List (Option UserValue)) (values : List UnitValue)
+    → is_prefix format.prefix ≡ true → IsSettledTree tree
     → FitsUsers (length tree.units) (λ u x. IsTrue (user_fits tree u x)) users
     → Solves (length tree.units) (rule profile tree) users values
-    → IsCanonicalText prefix profile tree values (minimal_file prefix profile tree values)
+    → IsCanonicalText format profile tree values (minimal_file format profile tree values)

@@ -4,6 +4,7 @@ use Rattle.kc_tree_model.specs.Trees.{Tree}
 use Rattle.kc_rules_model.specs.declared.profile.Profile.{Profile}
 use Rattle.kc_rules_model.specs.declared.values.UnitValue.{UnitValue}
 use Rattle.kc_rules_model.specs.SettledTrees.{IsSettledTree}
+use Rattle.kc_dotconfig_model.specs.Formats.{FileFormat}
 use Rattle.kc_dotconfig_model.specs.PrefixGrammar.{is_prefix}
 use Rattle.kc_value.specs.declared.limits.TheConstants.{MAX_CONFIG_BYTES, MAX_CONFIG_LINES}
 use Rattle.kc_dotconfig_model.specs.LoadFaults.{IsAccepted}
@@ -15,19 +16,19 @@ use Rattle.kc_minimal_model.specs.Loading.{ReadsTo, Loads, has_short_lines}
 
 -- the lines of a minimal file are its symbols' lines, in order
 abbrev pub MinimalFileLines : Type 0
-MinimalFileLines = (prefix : List ℕ) → is_prefix prefix ≡ true
-    → ForSolutions (λ profile tree values. file_lines (minimal_file prefix profile tree values)
-    ≡ map (symbol_line prefix tree values) (minimal_symbols profile tree values))
+MinimalFileLines = (format : FileFormat) → is_prefix format.prefix ≡ true
+    → ForSolutions (λ profile tree values. file_lines (minimal_file format profile tree values)
+    ≡ map (symbol_line format tree values) (minimal_symbols profile tree values))
 
 -- a file that can be read is accepted if it is within the limits
 abbrev pub ReadFilesAreAccepted : Type 0
-ReadFilesAreAccepted = (prefix : List ℕ) (profile : Profile) (tree : Tree) (bytes : List ℕ) (values : List UnitValue)
-    → ReadsTo prefix profile tree bytes values → length bytes ≤ MAX_CONFIG_BYTES → length (file_lines bytes) ≤ MAX_CONFIG_LINES
-    → has_short_lines bytes ≡ true → IsAccepted prefix tree bytes
+ReadFilesAreAccepted = (format : FileFormat) (profile : Profile) (tree : Tree) (bytes : List ℕ) (values : List UnitValue)
+    → ReadsTo format profile tree bytes values → length bytes ≤ MAX_CONFIG_BYTES → length (file_lines bytes) ≤ MAX_CONFIG_LINES
+    → has_short_lines bytes ≡ true → IsAccepted format tree bytes
 
 -- a minimal file of an accepted file passes no limit but the size
 abbrev pub MinimalFilesAreAccepted : Type 0
-MinimalFilesAreAccepted = (prefix : List ℕ) (profile : Profile) (tree : Tree) (bytes : List ℕ) (values : List UnitValue)
-    → is_prefix prefix ≡ true → IsSettledTree tree → Loads prefix profile tree bytes values
-    → length (minimal_file prefix profile tree values) ≤ MAX_CONFIG_BYTES
-    → Loads prefix profile tree (minimal_file prefix profile tree values) values
+MinimalFilesAreAccepted = (format : FileFormat) (profile : Profile) (tree : Tree) (bytes : List ℕ) (values : List UnitValue)
+    → is_prefix format.prefix ≡ true → IsSettledTree tree → Loads format profile tree bytes values
+    → length (minimal_file format profile tree values) ≤ MAX_CONFIG_BYTES
+    → Loads format profile tree (minimal_file format profile tree values) values

@@ -7,6 +7,7 @@ use Rattle.kc_rules_model.specs.declared.values.UnitValue.{UnitValue}
 use Rattle.kc_rules_model.specs.Kinds.{is_n}
 use Rattle.kc_rules_model.specs.SymbolValues.{condition}
 use Rattle.kc_rules_model.specs.Reports.{is_written}
+use Rattle.kc_dotconfig_model.specs.Formats.{FileFormat}
 use Rattle.kc_minimal_model.specs.Spelling.{ended_line}
 
 -- a title that begins with the prefix comes after two spaces, so that it is never read as an unset line
@@ -40,12 +41,12 @@ is_entry_written tree values before (menu_ends title dependency visible) = appli
 is_entry_written tree values before (comment title dependency) = applies tree values dependency
 
 -- the text of an entry that is written
-abbrev pub entry_text : List ℕ → Tree → List UnitValue → Entry → List ℕ
-entry_text prefix tree values (definition s) = ended_line prefix tree values s
-entry_text prefix tree values (choice_begins c) = []
-entry_text prefix tree values (menu_begins title dependency visible) = heading prefix title
-entry_text prefix tree values (menu_ends title dependency visible) = end_line title
-entry_text prefix tree values (comment title dependency) = heading prefix title
+abbrev pub entry_text : FileFormat → Tree → List UnitValue → Entry → List ℕ
+entry_text format tree values (definition s) = ended_line format tree values s
+entry_text format tree values (choice_begins c) = []
+entry_text format tree values (menu_begins title dependency visible) = heading format.prefix title
+entry_text format tree values (menu_ends title dependency visible) = end_line title
+entry_text format tree values (comment title dependency) = heading format.prefix title
 
 abbrev pub is_symbol : Entry → Bool
 is_symbol (definition s) = true
@@ -65,14 +66,14 @@ abbrev pub empty_line_before : Tree → List UnitValue → (before : List Entry)
 empty_line_before tree values before e = if is_symbol e && ends_with_menu tree values before then 10 ∷ [] else []
 
 -- what an entry adds, with the entries before it
-abbrev pub text_added : List ℕ → Tree → List UnitValue → (before : List Entry) → Entry → List ℕ
-text_added prefix tree values before e = if is_entry_written tree values before e then empty_line_before tree values before e ++ entry_text prefix tree values e else []
+abbrev pub text_added : FileFormat → Tree → List UnitValue → (before : List Entry) → Entry → List ℕ
+text_added format tree values before e = if is_entry_written tree values before e then empty_line_before tree values before e ++ entry_text format tree values e else []
 
 -- what entries add, in their order, with the entries before them
-abbrev pub texts_added : List ℕ → Tree → List UnitValue → (before : List Entry) → List Entry → List ℕ
-texts_added prefix tree values before [] = []
-texts_added prefix tree values before (e ∷ entries) = text_added prefix tree values before e ++ texts_added prefix tree values (e ∷ before) entries
+abbrev pub texts_added : FileFormat → Tree → List UnitValue → (before : List Entry) → List Entry → List ℕ
+texts_added format tree values before [] = []
+texts_added format tree values before (e ∷ entries) = text_added format tree values before e ++ texts_added format tree values (e ∷ before) entries
 
 -- the full file (Kconfiglib's `write_config`)
-abbrev pub full_file : List ℕ → Tree → List UnitValue → List ℕ
-full_file prefix tree values = texts_added prefix tree values [] tree.entries
+abbrev pub full_file : FileFormat → Tree → List UnitValue → List ℕ
+full_file format tree values = texts_added format tree values [] tree.entries

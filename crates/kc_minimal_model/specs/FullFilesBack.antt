@@ -9,6 +9,7 @@ use Rattle.kc_rules_model.specs.Rule.{rule}
 use Rattle.kc_rules_model.specs.Shapes.{user_fits}
 use Rattle.kc_rules_model.specs.SettledTrees.{IsSettledTree}
 use Rattle.kc_rules_model.specs.Reports.{IsLifted}
+use Rattle.kc_dotconfig_model.specs.Formats.{FileFormat}
 use Rattle.kc_dotconfig_model.specs.PrefixGrammar.{is_prefix}
 use Rattle.kc_minimal_model.specs.FullFile.{full_file}
 use Rattle.kc_minimal_model.specs.Loading.{ReadsTo}
@@ -19,8 +20,8 @@ IsUnlifted profile tree values = (u : ℕ) → IsLifted profile tree values u �
 
 -- where nothing is lifted, the full file gives the values of each fitting assignment back
 abbrev pub FullFilesLeadBack : Type 0
-FullFilesLeadBack = (prefix : List ℕ) (profile : Profile) (tree : Tree) (users : List (Option UserValue)) (values : List UnitValue)
-    → is_prefix prefix ≡ true → IsSettledTree tree
+FullFilesLeadBack = (format : FileFormat) (profile : Profile) (tree : Tree) (users : List (Option UserValue)) (values : List UnitValue)
+    → is_prefix format.prefix ≡ true → IsSettledTree tree
     → FitsUsers (length tree.units) (λ u x. IsTrue (user_fits tree u x)) users
     → UniquelySolves (length tree.units) (rule profile tree) users values → IsUnlifted profile tree values
-    → ReadsTo prefix profile tree (full_file prefix tree values) values
+    → ReadsTo format profile tree (full_file format tree values) values

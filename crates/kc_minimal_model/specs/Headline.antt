@@ -13,6 +13,7 @@ use Rattle.kc_rules_model.specs.Rule.{rule}
 use Rattle.kc_rules_model.specs.Shapes.{user_fits}
 use Rattle.kc_rules_model.specs.Dependencies.{dependencies}
 use Rattle.kc_rules_model.specs.SettledTrees.{IsSettledTree}
+use Rattle.kc_dotconfig_model.specs.Formats.{FileFormat}
 use Rattle.kc_dotconfig_model.specs.PrefixGrammar.{is_prefix}
 use Rattle.kc_dotconfig_model.specs.LoadFaults.{IsAccepted}
 use Rattle.kc_minimal_model.specs.MinimalFile.{minimal_file}
@@ -21,38 +22,38 @@ use Rattle.kc_minimal_model.specs.Loading.{Loads, HaveSameValues}
 use Rattle.kc_minimal_model.specs.CanonicalText.{IsCanonicalText}
 
 -- a file gives these values and no others, and their minimal file is canonical
-pub record HasCanonicalFile (prefix : List ℕ) (profile : Profile) (tree : Tree) (bytes : List ℕ) : Type 0 where
+pub record HasCanonicalFile (format : FileFormat) (profile : Profile) (tree : Tree) (bytes : List ℕ) : Type 0 where
   pub values : List UnitValue
-  pub loads : Loads prefix profile tree bytes values
-  pub canonical : IsCanonicalText prefix profile tree values (minimal_file prefix profile tree values)
+  pub loads : Loads format profile tree bytes values
+  pub canonical : IsCanonicalText format profile tree values (minimal_file format profile tree values)
 
 -- so it is of every accepted file, over every settled tree
 abbrev pub MinimalFilesAreCanonical : Type 0
-MinimalFilesAreCanonical = (prefix : List ℕ) (profile : Profile) (tree : Tree) (bytes : List ℕ) → is_prefix prefix ≡ true
-    → IsSettledTree tree → IsAccepted prefix tree bytes → HasCanonicalFile prefix profile tree bytes
+MinimalFilesAreCanonical = (format : FileFormat) (profile : Profile) (tree : Tree) (bytes : List ℕ) → is_prefix format.prefix ≡ true
+    → IsSettledTree tree → IsAccepted format tree bytes → HasCanonicalFile format profile tree bytes
 
 -- two files have canonical minimal files, and give every symbol the same value exactly if these are equal byte for byte
-pub record AreComparedByMinimalFiles (prefix : List ℕ) (profile : Profile) (tree : Tree) (a b : List ℕ) : Type 0 where
-  pub left : HasCanonicalFile prefix profile tree a
-  pub right : HasCanonicalFile prefix profile tree b
+pub record AreComparedByMinimalFiles (format : FileFormat) (profile : Profile) (tree : Tree) (a b : List ℕ) : Type 0 where
+  pub left : HasCanonicalFile format profile tree a
+  pub right : HasCanonicalFile format profile tree b
   pub same : HaveSameValues tree left.values right.values
-      ↔ (minimal_file prefix profile tree left.values ≡ minimal_file prefix profile tree right.values)
+      ↔ (minimal_file format profile tree left.values ≡ minimal_file format profile tree right.values)
 
 -- The headline: for all Kconfig files that are read without a fault, and whose units have no cycle, and for every two
 -- configuration files that are accepted over them.
 abbrev pub Headline : Type 0
-Headline = (files : Files) (root prefix : List ℕ) (profile : Profile) (a b : List ℕ) → is_prefix prefix ≡ true
+Headline = (files : Files) (root : List ℕ) (format : FileFormat) (profile : Profile) (a b : List ℕ) → is_prefix format.prefix ≡ true
     → first_tree_fault files root ≡ None
     → HasNoCycle (length (tree_of_files files root).units) (dependencies (tree_of_files files root))
-    → IsAccepted prefix (tree_of_files files root) a → IsAccepted prefix (tree_of_files files root) b
-    → AreComparedByMinimalFiles prefix profile (tree_of_files files root) a b
+    → IsAccepted format (tree_of_files files root) a → IsAccepted format (tree_of_files files root) b
+    → AreComparedByMinimalFiles format profile (tree_of_files files root) a b
 
 -- two fitting assignments differ at no symbol exactly if their minimal files are equal byte for byte
 abbrev pub DifferencesDecideMinimalFiles : Type 0
-DifferencesDecideMinimalFiles = (prefix : List ℕ) (profile : Profile) (tree : Tree) (a b : List (Option UserValue)) (left right : List UnitValue)
-    → is_prefix prefix ≡ true → IsSettledTree tree
+DifferencesDecideMinimalFiles = (format : FileFormat) (profile : Profile) (tree : Tree) (a b : List (Option UserValue)) (left right : List UnitValue)
+    → is_prefix format.prefix ≡ true → IsSettledTree tree
     → FitsUsers (length tree.units) (λ u x. IsTrue (user_fits tree u x)) a
     → FitsUsers (length tree.units) (λ u x. IsTrue (user_fits tree u x)) b
     → UniquelySolves (length tree.units) (rule profile tree) a left → UniquelySolves (length tree.units) (rule profile tree) b right
     → (differences tree left right ≡ [])
-    ↔ (minimal_file prefix profile tree left ≡ minimal_file prefix profile tree right)
+    ↔ (minimal_file format profile tree left ≡ minimal_file format profile tree right)

@@ -7,22 +7,23 @@ use Rattle.kc_rules_model.specs.declared.profile.Profile.{Profile}
 use Rattle.kc_rules_model.specs.declared.values.UnitValue.{UnitValue}
 use Rattle.kc_rules_model.specs.SymbolValues.{value_of_symbol}
 use Rattle.kc_rules_model.specs.Rule.{rule}
+use Rattle.kc_dotconfig_model.specs.Formats.{FileFormat}
 use Rattle.kc_dotconfig_model.specs.ConfigLines.{LineMeaning}
 use Rattle.kc_dotconfig_model.specs.ConfigFiles.{FileMeans, file_lines, file_assignment, has_utf8_lines}
 use Rattle.kc_value.specs.declared.limits.TheConstants.{MAX_LINE_BYTES}
 use Rattle.kc_dotconfig_model.specs.LoadFaults.{IsAccepted}
 
 -- each line of the file is UTF-8 and not malformed, and its assignment gives these values and no others
-pub record ReadsTo (prefix : List ℕ) (profile : Profile) (tree : Tree) (bytes : List ℕ) (values : List UnitValue) : Type 0 where
+pub record ReadsTo (format : FileFormat) (profile : Profile) (tree : Tree) (bytes : List ℕ) (values : List UnitValue) : Type 0 where
   pub utf8 : has_utf8_lines bytes ≡ true
   pub meanings : List LineMeaning
-  pub says : FileMeans prefix tree bytes meanings
+  pub says : FileMeans format tree bytes meanings
   pub gives : UniquelySolves (length tree.units) (rule profile tree) (file_assignment tree meanings) values
 
 -- an accepted file that gives these values and no others
-pub record Loads (prefix : List ℕ) (profile : Profile) (tree : Tree) (bytes : List ℕ) (values : List UnitValue) : Type 0 where
-  pub accepted : IsAccepted prefix tree bytes
-  pub reads : ReadsTo prefix profile tree bytes values
+pub record Loads (format : FileFormat) (profile : Profile) (tree : Tree) (bytes : List ℕ) (values : List UnitValue) : Type 0 where
+  pub accepted : IsAccepted format tree bytes
+  pub reads : ReadsTo format profile tree bytes values
 
 -- whether no line is longer than a line of a file may be
 abbrev pub has_short_lines : List ℕ → Bool

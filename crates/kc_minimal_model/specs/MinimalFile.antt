@@ -11,6 +11,7 @@ use Rattle.kc_rules_model.specs.SymbolValues.{value_of_symbol}
 use Rattle.kc_rules_model.specs.Equality.{value_is}
 use Rattle.kc_rules_model.specs.Rule.{rule}
 use Rattle.kc_rules_model.specs.Reports.{symbol_numbers}
+use Rattle.kc_dotconfig_model.specs.Formats.{FileFormat}
 use Rattle.kc_minimal_model.specs.Spelling.{ended_line}
 
 -- a unit's value isn't what its rule gives without a user value, all other values as they are
@@ -37,6 +38,6 @@ abbrev pub minimal_symbols : Profile → Tree → List UnitValue → List ℕ
 minimal_symbols profile tree values = filter (has_line profile tree values) (symbol_numbers tree)
 
 -- the minimal file (`make savedefconfig`; Kconfiglib's `write_min_config`)
-abbrev pub minimal_file : List ℕ → Profile → Tree → List UnitValue → List ℕ
-minimal_file prefix profile tree values =
-    flat_map (ended_line prefix tree values) (minimal_symbols profile tree values)
+abbrev pub minimal_file : FileFormat → Profile → Tree → List UnitValue → List ℕ
+minimal_file format profile tree values =
+    flat_map (ended_line format tree values) (minimal_symbols profile tree values)

@@ -1,35 +1,38 @@
 -- The minimal file is read as the least assignment of its values.
-use Rattle.std.specs.Prelude.{◌≡◌, ◌↔◌, [], ℕ, true, List, Option, Some, length, slice_get, IsTrue}
-use Rattle.kc_tree_model.specs.Trees.{Tree}
-use Rattle.kc_tree_model.specs.TreeLookup.{IsConsistent, unit_of}
+use Rattle.std.specs.Prelude.{◌≡◌, ◌↔◌, [], ◌∷◌, ◌++◌, ℕ, true, false, List, Option, Some, length, slice_get, IsTrue}
+use Rattle.kc_value.specs.declared.value.Kind.TheVariants.{Text}
+use Rattle.kc_tree_model.specs.Trees.{Tree, Symbol}
+use Rattle.kc_tree_model.specs.TreeLookup.{has_newline, IsConsistent, unit_of}
 use Rattle.kc_system.specs.Solutions.{Solves, FitsUsers, FitsValues}
 use Rattle.kc_system.specs.LeastAssignments.{IsLeastAssignment}
 use Rattle.kc_rules_model.specs.declared.profile.Profile.{Profile}
 use Rattle.kc_rules_model.specs.declared.values.UnitValue.{UnitValue}
 use Rattle.kc_rules_model.specs.declared.values.UserValue.{UserValue}
+use Rattle.kc_rules_model.specs.declared.values.UserValue.TheVariants.{Text as TextUser}
 use Rattle.kc_rules_model.specs.Rule.{rule, as_user}
 use Rattle.kc_rules_model.specs.Shapes.{user_fits, value_fits}
+use Rattle.kc_dotconfig_model.specs.Formats.{FileFormat, string_spelling}
 use Rattle.kc_dotconfig_model.specs.PrefixGrammar.{is_prefix}
 use Rattle.kc_dotconfig_model.specs.ConfigLines.{LineMeaning, assigns, Means, without_white_end}
 use Rattle.kc_dotconfig_model.specs.ConfigFiles.{FileMeans, file_assignment}
-use Rattle.kc_minimal_model.specs.Spelling.{symbol_line}
+use Rattle.kc_minimal_model.specs.Spelling.{value_line, symbol_line}
 use Rattle.kc_minimal_model.specs.Differences.{differences}
 use Rattle.kc_minimal_model.specs.MinimalFile.{minimal_file, has_line}
 
 -- each line of the file is read, and what the lines assign is the least assignment of the values
-pub record IsReadAsLeast (prefix : List ℕ) (profile : Profile) (tree : Tree) (values : List UnitValue) : Type 0 where
+pub record IsReadAsLeast (format : FileFormat) (profile : Profile) (tree : Tree) (values : List UnitValue) : Type 0 where
   pub meanings : List LineMeaning
-  pub says : FileMeans prefix tree (minimal_file prefix profile tree values) meanings
+  pub says : FileMeans format tree (minimal_file format profile tree values) meanings
   pub least : IsLeastAssignment (length tree.units) (rule profile tree) as_user values (file_assignment tree meanings)
 
 -- a symbol's line is read as the assignment of its unit's value to its unit
-pub record IsReadAsItsAssignment (prefix : List ℕ) (tree : Tree) (values : List UnitValue) (s : ℕ) : Type 0 where
+pub record IsReadAsItsAssignment (format : FileFormat) (tree : Tree) (values : List UnitValue) (s : ℕ) : Type 0 where
   pub value : UnitValue
   pub user : UserValue
   pub has : slice_get values (unit_of tree s) ≡ Some value
   pub meant : as_user value ≡ Some user
-  pub trimmed : without_white_end (symbol_line prefix tree values s) ≡ symbol_line prefix tree values s
-  pub says : Means prefix tree (symbol_line prefix tree values s) (assigns (unit_of tree s) user)
+  pub trimmed : without_white_end (symbol_line format tree values s) ≡ symbol_line format tree values s
+  pub says : Means format tree (symbol_line format tree values s) (assigns (unit_of tree s) user)
 
 -- where the values are those of a fitting assignment, over a consistent tree
 abbrev pub ForSolutions : (Profile → Tree → List UnitValue → Type 0) → Type 0
@@ -40,9 +43,9 @@ ForSolutions P =
 
 -- each line of a minimal file is read as the assignment that it spells
 abbrev pub MinimalLinesAreRead : Type 0
-MinimalLinesAreRead = (prefix : List ℕ) → is_prefix prefix ≡ true
+MinimalLinesAreRead = (format : FileFormat) → is_prefix format.prefix ≡ true
     → ForSolutions (λ profile tree values. (s : ℕ) → has_line profile tree values s ≡ true
-    → IsReadAsItsAssignment prefix tree values s)
+    → IsReadAsItsAssignment format tree values s)
 
 -- no two lines speak of one unit
 abbrev pub MinimalLinesDiffer : Type 0
@@ -52,8 +55,15 @@ MinimalLinesDiffer =
 
 -- a minimal file is read as the least assignment of its values
 abbrev pub MinimalFilesAssignLeast : Type 0
-MinimalFilesAssignLeast = (prefix : List ℕ) → is_prefix prefix ≡ true
-    → ForSolutions (λ profile tree values. IsReadAsLeast prefix profile tree values)
+MinimalFilesAssignLeast = (format : FileFormat) → is_prefix format.prefix ≡ true
+    → ForSolutions (λ profile tree values. IsReadAsLeast format profile tree values)
+
+-- in each format the line of a string and a text without a newline is read back as the assignment of this text
+abbrev pub StringsAreReadBack : Type 0
+StringsAreReadBack = (format : FileFormat) (tree : Tree) (s : ℕ) (symbol : Symbol) (text : List ℕ) → is_prefix format.prefix ≡ true
+    → IsConsistent tree → slice_get tree.symbols s ≡ Some symbol → symbol.kind ≡ Text → has_newline text ≡ false
+    → FileMeans format tree (value_line format.prefix symbol.name (string_spelling format.strings text) ++ 10 ∷ [])
+    (assigns (unit_of tree s) (TextUser text) ∷ [])
 
 -- nothing differs between two valuations exactly if they are the same
 abbrev pub DifferencesAreExact : Type 0

@@ -3,11 +3,17 @@ ghost use Rattle.kc_minimal_model.specs.CanonicalText.{FilesAssignTheLines, Mini
 ghost use Rattle.kc_minimal_model.specs.FileLimits.{MinimalFileLines, MinimalFilesAreAccepted, ReadFilesAreAccepted};
 ghost use Rattle.kc_minimal_model.specs.FullFilesBack.{FullFilesLeadBack};
 ghost use Rattle.kc_minimal_model.specs.Headline.{DifferencesDecideMinimalFiles, Headline, MinimalFilesAreCanonical};
-ghost use Rattle.kc_minimal_model.specs.MinimalFileLaws.{DifferencesAreExact, MinimalFilesAssignLeast, MinimalLinesAreRead, MinimalLinesDiffer};
+ghost use Rattle.kc_minimal_model.specs.MinimalFileLaws.{DifferencesAreExact, MinimalFilesAssignLeast, MinimalLinesAreRead, MinimalLinesDiffer, StringsAreReadBack};
 
 /// Each line of a minimal file is read as the assignment that it represents.
 pub fn minimal_lines_are_read()
     ensures { MinimalLinesAreRead }
+{}
+
+/// Each text without a newline is read back: in each format, the line that is written for a string
+/// symbol with this text assigns it this text again.
+pub fn strings_are_read_back()
+    ensures { StringsAreReadBack }
 {}
 
 /// No two lines of a minimal file speak of one unit.
@@ -27,7 +33,7 @@ pub fn minimal_files_assign_least()
 
 /// Every file that gives the values of a minimal file assigns to each of its units, the same member
 /// to choices and the same text to strings and numbers, by at least as many lines. The prefix may
-/// be any bytes.
+/// be any bytes, and strings may be in each form.
 pub fn files_assign_the_lines()
     ensures { FilesAssignTheLines }
 {}

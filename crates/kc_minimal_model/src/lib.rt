@@ -8,4 +8,5 @@ pub use laws::{
     full_files_lead_back, headline, minimal_file_has_its_lines, minimal_files_are_accepted,
     minimal_files_are_canonical, minimal_files_assign_least, minimal_lines_are_read,
     minimal_lines_differ, minimal_texts_are_canonical, read_files_are_accepted,
+    strings_are_read_back,
 };

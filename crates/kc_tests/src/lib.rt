@@ -75,3 +75,5 @@ mod tidied_files;
 mod tree_sessions;
 #[cfg(test)]
 mod trees;
+#[cfg(test)]
+mod updated_files;

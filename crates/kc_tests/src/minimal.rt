@@ -1,7 +1,7 @@
 //! Files that are minimised from a reader to a writer, which the program doesn't do, and the texts of faults.
 use super::printing::is_printed;
 use super::settling::settled;
-use kc_dotconfig::Prefix;
+use kc_dotconfig::Format;
 use kc_dotconfig_model::{LoadFault, LoadKind};
 use kc_minimal::{RunFault, WriteFault, minimise};
 use kc_rules::{Profile, Settled};
@@ -56,7 +56,7 @@ fn is_written(
     sink: &mut Bounded,
 ) -> Result<bool, AllocError> {
     let mut source = FromRead::new(file.as_bytes());
-    match minimise(alloc, tree, &Prefix::plain(), &mut source, sink) {
+    match minimise(alloc, tree, &Format::plain(), &mut source, sink) {
         Ok(notices) => Ok(notices.is_empty()),
         Err(_) => Err(AllocError),
     }

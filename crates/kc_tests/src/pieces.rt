@@ -2,7 +2,7 @@
 ghost use Rattle.std.specs.Prelude.{◌<◌};
 
 use super::settling::settled;
-use kc_dotconfig::Prefix;
+use kc_dotconfig::Format;
 use kc_dotconfig_model::{LoadFault, LoadKind};
 use kc_minimal::{RunFault, WriteFault, minimise};
 use kc_rules::{Profile, Settled};
@@ -73,7 +73,7 @@ fn answer(
 {
     let bytes = Vec::from_slice(alloc, case.file)?;
     let mut source = Script::new(bytes, most, case.then);
-    match minimise(alloc, tree, &Prefix::plain(), &mut source, sink) {
+    match minimise(alloc, tree, &Format::plain(), &mut source, sink) {
         Ok(notices) => Ok(Ok(notices.len())),
         Err(fault) => if is_memory(fault) {
             Err(AllocError)

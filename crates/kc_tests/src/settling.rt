@@ -4,7 +4,7 @@ ghost use Rattle.kc_dotconfig.specs.Configured.{tree_in};
 ghost use Rattle.kc_dotconfig.specs.Fragments.{FitsTree};
 ghost use Rattle.kc_rules.specs.between.SettledViews.{tree_of_settled};
 
-use kc_dotconfig::{Config, Fragment, Prefix, read_config};
+use kc_dotconfig::{Config, Format, Fragment, read_config};
 use kc_rules::{Profile, Settled, UnitValue, UserValue, settle};
 use kc_system::{Report, System};
 use kc_tree::{Texts, Tree, read_tree};
@@ -148,7 +148,7 @@ fn fragment_of(alloc: Global, settled: &Settled, file: &str) -> Result<Fragment,
     ensures { IfOk result (λ fragment. FitsTree (tree_of_settled settled.now) fragment.assigns.items) }
 {
     let mut source = FromRead::new(file.as_bytes());
-    match read_config(alloc, settled, &Prefix::plain(), &mut source) {
+    match read_config(alloc, settled, &Format::plain(), &mut source) {
         Ok(fragment) => Ok(fragment),
         Err(_) => Err(AllocError),
     }

@@ -1,6 +1,6 @@
 //! Configuration files that are each replaced by their minimal file, over a disk in memory.
 use super::settling::settled;
-use kc_dotconfig::Prefix;
+use kc_dotconfig::Format;
 use kc_rules::Profile;
 use kc_value::Bounded;
 use kmin_disk::MemoryDisk;
@@ -80,7 +80,7 @@ fn ends_as(
     let ended = tidy_files(
         rt.alloc(),
         &tree,
-        &Prefix::plain(),
+        &Format::plain(),
         options,
         paths,
         disk,
@@ -216,7 +216,7 @@ fn ends_at_a_left_file(rt: &HostRuntime) -> Result<bool, Fail> {
     let ended = tidy_files(
         rt.alloc(),
         &tree,
-        &Prefix::plain(),
+        &Format::plain(),
         WRITE,
         &["longer", "ends"],
         &mut disk,
@@ -245,7 +245,7 @@ fn ends_at_a_failed_write(rt: &HostRuntime) -> Result<bool, Fail> {
     let ended = tidy_files(
         rt.alloc(),
         &tree,
-        &Prefix::plain(),
+        &Format::plain(),
         WRITE,
         &["longer"],
         &mut disk,

@@ -28,7 +28,7 @@ impl<'a> Disk<'a> {
 }
 
 /// A seed of random bytes, and the fixed one where the system gives none.
-fn new_seed(runtime: &HostRuntime) -> Seed {
+pub(crate) fn new_seed(runtime: &HostRuntime) -> Seed {
     let mut first = [0; 8];
     let mut second = [0; 8];
     if runtime.fill_bytes(&mut first).is_err() || runtime.fill_bytes(&mut second).is_err() {

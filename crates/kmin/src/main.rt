@@ -3,9 +3,11 @@
 
 mod files;
 
-use files::Disk;
+use files::{Disk, new_seed};
 use kc_value::{FromRead, ToWrite};
+use kmin_disk::SystemDisk;
 use kmin_jobs::run;
+use std::io::IsTerminal;
 use std::process::ExitCode;
 use std::{env, io};
 
@@ -20,18 +22,30 @@ fn main(rt: HostRuntime) -> ExitCode {
 fn run_words(rt: &HostRuntime) -> io::Result<u8> {
     let words: Vec<String> = env::args(rt)?.skip(1).collect(rt.alloc())?;
     let words: Vec<&str> = words.iter().map(|word| word.as_str()).collect(rt.alloc())?;
+    tell_waiting(rt, &words);
     let mut input = FromRead::new(rt.stdin());
     let mut out = ToWrite::new(rt.stdout());
     let mut err = ToWrite::new(rt.stderr());
     let mut files = Disk::new(rt);
+    let mut disk = SystemDisk::new(rt, new_seed(rt));
     Ok(run(
         rt.alloc(),
         &words,
         &mut files,
+        &mut disk,
         &mut input,
         &mut out,
         &mut err,
     ))
+}
+
+/// A line that a bundle is waited for, where there are no words and standard input is a terminal.
+fn tell_waiting(rt: &HostRuntime, words: &[&str]) {
+    if words.is_empty() && rt.stdin().is_terminal() {
+        let _ = eprintln!(rt;
+            "kmin: waits for a bundle at the terminal; `kmin --help` has the commands"
+        );
+    }
 }
 
 /// Words that can't be read: 6 for lack of memory, and else 2, since some word isn't UTF-8.

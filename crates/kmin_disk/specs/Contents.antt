@@ -29,3 +29,7 @@ abbrev pub OpensAs : Option (Option (List ℕ)) → Option (Option (List ℕ)) �
 OpensAs None reader = Unit {0}
 OpensAs (Some None) reader = reader ≡ None
 OpensAs (Some (Some bytes)) reader = reader ≡ Some (Some bytes)
+
+-- a reader may find just these bytes, by what is known of the file
+abbrev pub MayRead : Option Content → List ℕ → Type 0
+MayRead content bytes = OpensAs (readable content) (Some (Some bytes))

@@ -3,5 +3,6 @@ pub mod Disks
 pub mod NewFiles
 pub mod Failures
 pub mod Replacements
+pub mod Updates
 pub mod MemoryDisks
 pub mod SystemDisks

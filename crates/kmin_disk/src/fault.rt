@@ -34,3 +34,14 @@ pub enum ReplaceFault {
     #[error("OutOfMemory")]
     OutOfMemory,
 }
+
+/// A file wasn't given its bytes, or not for good.
+#[derive(Debug, Drop, PartialEq, Eq, Error)]
+pub enum UpdateFault {
+    /// A read of the file that is there failed, before it was known whether it has these bytes. All is as it was.
+    #[error("Write")]
+    Unread,
+    /// It has other bytes or none, and wasn't replaced, or not for good.
+    #[error("{0}")]
+    Replace(ReplaceFault),
+}

@@ -67,6 +67,7 @@ pub struct MemoryDisk<'a> {
     texts: &'a [&'a [u8]],
     most: usize,
     log: Vec<Event<'a>>,
+    reads_before_failing: u64,
     calls_before_failing: u64,
     failing_calls: u64,
     failed: u64,
@@ -88,14 +89,21 @@ pub struct MemoryRename {}
 #[derive(Drop)]
 pub struct MemoryFile<'a> {
     left: &'a [u8],
+    reads_before_failing: u64,
+    failed: u64,
 }
 
 impl Source for MemoryFile<'_> {
     ghost left = { λ file. Some file.left.now };
 
-    ghost failures = { λ _. 0 };
+    ghost failures = { λ file. file.failed };
 
     fn read_some(&mut self, buf: &mut [u8]) -> Result<usize, Failed> {
+        if self.reads_before_failing == 0 {
+            self.failed = self.failed.saturating_add(1);
+            return Err(Failed);
+        }
+        self.reads_before_failing -= 1;
         let count = self.left.len().min(buf.len());
         let (front, rest) = self.left.split_at(count);
         buf[..count].copy_from_slice(front);
@@ -115,6 +123,7 @@ impl<'a> MemoryDisk<'a> {
             texts,
             most,
             log: Vec::new(alloc),
+            reads_before_failing: u64::MAX,
             calls_before_failing: 0,
             failing_calls: 0,
             failed: 0,
@@ -145,6 +154,11 @@ impl<'a> MemoryDisk<'a> {
     pub fn fail_after(&mut self, calls: u64, failing: u64) {
         self.calls_before_failing = calls;
         self.failing_calls = failing;
+    }
+
+    /// Of each file that is opened from now on the reads after so many fail.
+    pub fn fail_reads_after(&mut self, reads: u64) {
+        self.reads_before_failing = reads;
     }
 
     /// The bytes of the regular file at a path.
@@ -275,7 +289,11 @@ impl<'a> ReadDisk for MemoryDisk<'a> {
 
     fn open(&self, path: &str) -> Option<MemoryFile<'a>> {
         match self.content(path) {
-            MemoryContent::File(left) => Some(MemoryFile { left }),
+            MemoryContent::File(left) => Some(MemoryFile {
+                left,
+                reads_before_failing: self.reads_before_failing,
+                failed: 0,
+            }),
             _ => None,
         }
     }

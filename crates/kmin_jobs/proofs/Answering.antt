@@ -1,5 +1,5 @@
 -- The answers of commands.
-use Rattle.std.proofs.Common.{◌≡◌, ◌≢◌, ℕ, zero, suc, ◌≤◌, ◌⊎◌, inl, inr, append-nil, List, [], ◌∷◌, ◌++◌, Option, Some, Result, Ok, Err, Vec, IfOk, IfErr, refl, sym, ap, ◌∙◌, subst, arith}
+use Rattle.std.proofs.Common.{◌≡◌, ◌≢◌, ℕ, Bool, true, false, zero, suc, ◌≤◌, ◌⊎◌, inl, inr, append-nil, List, [], ◌∷◌, ◌++◌, Option, Some, Result, Ok, Err, Vec, IfOk, IfErr, refl, sym, ap, ◌∙◌, subst, arith}
 use Rattle.std.specs.declared.alloc.AllocError.{AllocError}
 use Rattle.std.specs.declared.alloc.Global.{Global}
 use Rattle.std.specs.List.{flat_map}
@@ -9,11 +9,12 @@ use Rattle.kc_tree_model.specs.Trees.{Tree}
 use Rattle.kc_rules_model.specs.declared.profile.Profile.{Profile}
 use Rattle.kc_rules.specs.declared.rules.Settled.{Settled}
 use Rattle.kc_rules.specs.between.SettledViews.{tree_of_settled, profile_of}
+use Rattle.kc_dotconfig_model.specs.Formats.{FileFormat}
 use Rattle.kc_dotconfig_model.specs.ConfigLines.{LineMeaning}
 use Rattle.kc_dotconfig_model.specs.ConfigFiles.{empty_assignment}
 use Rattle.kc_rules_model.specs.declared.values.UnitValue.{UnitValue}
 use Rattle.kc_dotconfig.specs.Configured.{Configured, IsSolved, tree_in}
-use Rattle.kc_minimal_model.specs.Differences.{Difference, differences}
+use Rattle.kc_minimal_model.specs.Differences.{differences}
 use Rattle.kmin_words.specs.Jobs.{Settings, Task, over, compare, paths_of}
 use Rattle.kmin_words.specs.declared.job.Verb.{Verb}
 use Rattle.kmin_words.specs.declared.job.Verb.TheVariants.{Min}
@@ -25,8 +26,9 @@ use Rattle.kmin_jobs.specs.FileContents.{FileContent, Known, AreTextsBelow}
 use Rattle.kmin_jobs.specs.JobTexts.{TreeTexts, AreTextsOfJob}
 use Rattle.kmin_jobs.specs.Reports.{notice_lines, output_line, last_lines}
 use Rattle.kmin_jobs.specs.StandardError.{TakesLines}
-use Rattle.kmin_jobs.specs.Answers.{AreAccepted, Resolve, Answer, files_assignment, of_files, of_comparison, IsTextOfVerb, difference_line, status_of_differences}
-use Rattle.kmin_jobs.specs.Stops.{Stops, StopsAmongFiles, among_files}
+use Rattle.kmin_jobs.specs.Answers.{AreAccepted, Resolve, Answer, files_assignment, of_files, of_comparison, IsTextOfVerb, difference_line}
+use Rattle.kmin_jobs.specs.Statuses.{status_of_list, listed}
+use Rattle.kmin_jobs.specs.Stops.{Stops, StopsAmongFiles, StopsBefore, among_files}
 use Rattle.kmin_jobs.specs.Stops as stops
 use Rattle.kmin_jobs.specs.between.Loaded.{AreLoaded}
 use Rattle.kmin_jobs.specs.between.RunErrors.{status_of}
@@ -36,58 +38,64 @@ use Rattle.kmin_jobs.proofs.Sequences.{mean_again}
 -- the solution that a configuration of a known tree has
 pub resolved : (content_of : List ℕ → FileContent) (settings : Settings) (config : Configured) (settled : Settled) (paths : List (List ℕ)) (taken taken_after : Option (List ℕ)) (failed failed_after : ℕ)
     → config.system ≡ settled → profile_of settled ≡ settings.profile → IsSolved config
-    → (l : AreLoaded content_of settings.prefix (tree_of_settled settled) paths (empty_assignment (tree_of_settled settled)) config.users taken failed
+    → (l : AreLoaded content_of settings.format settings.strict (tree_of_settled settled) paths (empty_assignment (tree_of_settled settled)) config.users taken failed
     taken_after failed_after)
     → Resolve content_of settings (tree_of_settled settled) paths l.meanings config.values
 resolved content_of settings config settled paths taken taken_after failed failed_after e p s l =
     let gives = rw e at s.gives in
     record { mean = l.mean; gives = rw (← p, ← l.users_are) gives }
 
-pub answers_files : (content_of : List ℕ → FileContent) (settings : Settings) (verb : Verb) (config : Configured) (settled : Settled) (paths : List (List ℕ)) (text : List ℕ) (taken taken_after : Option (List ℕ)) (failed failed_after : ℕ)
+pub answers_files : (content_of : List ℕ → FileContent) (settings : Settings) (verb : Verb) (exit_code : Bool) (config : Configured) (settled : Settled) (paths : List (List ℕ)) (text : List ℕ) (status : ℕ) (taken taken_after : Option (List ℕ)) (failed failed_after : ℕ)
     → config.system ≡ settled → profile_of settled ≡ settings.profile → IsSolved config
-    → AreLoaded content_of settings.prefix (tree_of_settled settled) paths (empty_assignment (tree_of_settled settled)) config.users taken failed taken_after
+    → AreLoaded content_of settings.format settings.strict (tree_of_settled settled) paths (empty_assignment (tree_of_settled settled)) config.users taken failed taken_after
     failed_after
     → IsTextOfVerb settings (tree_in config) config.users config.values verb text
+    → status ≡ status_of_list exit_code (listed (tree_in config) config.users config.values verb)
     → (notices : List (List ℕ)) × ((texts : Files) → AreAccepted texts settings.tree (tree_of_settled settled)
-    → Answer content_of settings texts (over verb paths) text 0 notices)
+    → Answer content_of settings texts (over verb paths exit_code) text status notices)
     × TakesLines taken failed notices taken_after failed_after
-answers_files content_of settings verb config settled paths text taken taken_after failed failed_after e p s l t =
+answers_files content_of settings verb exit_code config settled paths text status taken taken_after failed failed_after e p s l t n =
     let same : IsTextOfVerb settings (tree_of_settled settled) (files_assignment (tree_of_settled settled) l.meanings) config.values verb text =
-    rw (← l.users_are, ← e) t in (
+    rw (← l.users_are, ← e) t in
+    let number : status ≡ status_of_list exit_code (listed (tree_of_settled settled) (files_assignment (tree_of_settled settled) l.meanings) config.values verb) =
+    rw (← l.users_are, ← e) n in (
       notice_lines paths l.meanings,
-      (λ texts accepted. of_files (tree_of_settled settled) verb paths l.meanings config.values refl accepted
-          (resolved content_of settings config settled paths taken taken_after failed failed_after e p s l) same refl refl),
+      (λ texts accepted. of_files (tree_of_settled settled) verb paths exit_code l.meanings config.values refl accepted
+          (resolved content_of settings config settled paths taken taken_after failed failed_after e p s l) same number refl),
       l.reported,
     )
 
 -- the text of `min`, if it is made
-pub canonical_text : (prefix : List ℕ) (profile : Profile) (tree : Tree) (users : List (Option UserValue)) (values : List UnitValue) (verb : Verb) (r : Result (Vec ℕ Global) AllocError)
+pub canonical_text : (format : FileFormat) (profile : Profile) (tree : Tree) (users : List (Option UserValue)) (values : List UnitValue) (verb : Verb) (r : Result (Vec ℕ Global) AllocError) (a : Result AnswerText AllocError)
     → verb ≡ Min
-    → IfOk r (λ text. IsCanonicalText prefix profile tree values text.items)
-    → IfOk r (λ text. (settings : Settings) → settings.prefix ≡ prefix → settings.profile ≡ profile → IsTextOfVerb settings tree users values verb text.items)
-canonical_text prefix profile tree users values verb (Err e) m h = tt
-canonical_text prefix profile tree users values verb (Ok text) m h = λ settings p q. rw (m, p, q) h
+    → IfOk r (λ text. IsCanonicalText format profile tree values text.items)
+    → IfOk a (λ answer. r ≡ Ok answer.text)
+    → IfOk a (λ answer. (settings : Settings) → settings.format ≡ format → settings.profile ≡ profile → IsTextOfVerb settings tree users values verb answer.text.items)
+canonical_text format profile tree users values verb r (Err e) m h k = tt
+canonical_text format profile tree users values verb r (Ok answer) m h k =
+    let made : IsCanonicalText format profile tree values answer.text.items = rw k at h in λ settings p q. rw (m, p, q) made
 
--- the status of a comparison is 0 or 1
-pub status_at_most_one : (ds : List Difference) → status_of_differences ds ≤ 1
-status_at_most_one [] = omega arith
-status_at_most_one (d ∷ ds) = omega arith
+-- the status that says whether something is listed is 0 or 1
+pub status_at_most_one : {A : Type 0} (says_so : Bool) (listed : List A) → status_of_list says_so listed ≤ 1
+status_at_most_one false listed = omega arith
+status_at_most_one true [] = omega arith
+status_at_most_one true (x ∷ xs) = omega arith
 
 resolve_again : (content_of others : List ℕ → FileContent) (settings : Settings) (tree : Tree) (paths : List (List ℕ)) (meanings : List (List LineMeaning)) (values : List UnitValue)
     → ((path : List ℕ) → others path ≡ content_of path) → Resolve others settings tree paths meanings values
     → Resolve content_of settings tree paths meanings values
 resolve_again content_of others settings tree paths meanings values same r =
-    record { mean = mean_again content_of others settings.prefix tree paths meanings same r.mean; gives = r.gives }
+    record { mean = mean_again content_of others settings.format settings.strict tree paths meanings same r.mean; gives = r.gives }
 
 pub answers_comparison : (content_of others : List ℕ → FileContent) (settings : Settings) (left right : Configured) (settled : Settled) (a b : List ℕ) (text : List ℕ) (status : ℕ) (taken middle taken_after : Option (List ℕ)) (failed failed_middle failed_after : ℕ)
     → ((path : List ℕ) → others path ≡ content_of path)
     → left.system ≡ settled → right.system ≡ settled → profile_of settled ≡ settings.profile → IsSolved left → IsSolved right
-    → AreLoaded content_of settings.prefix (tree_of_settled settled) (a ∷ []) (empty_assignment (tree_of_settled settled)) left.users taken failed middle
+    → AreLoaded content_of settings.format settings.strict (tree_of_settled settled) (a ∷ []) (empty_assignment (tree_of_settled settled)) left.users taken failed middle
     failed_middle
-    → AreLoaded others settings.prefix (tree_of_settled settled) (b ∷ []) (empty_assignment (tree_of_settled settled)) right.users middle failed_middle
+    → AreLoaded others settings.format settings.strict (tree_of_settled settled) (b ∷ []) (empty_assignment (tree_of_settled settled)) right.users middle failed_middle
     taken_after failed_after
-    → text ≡ flat_map (difference_line (tree_in left)) (differences (tree_in left) left.values right.values)
-    → status ≡ status_of_differences (differences (tree_in left) left.values right.values)
+    → text ≡ flat_map (difference_line settings.format.strings (tree_in left)) (differences (tree_in left) left.values right.values)
+    → status ≡ status_of_list true (differences (tree_in left) left.values right.values)
     → (notices : List (List ℕ)) × ((texts : Files) → AreAccepted texts settings.tree (tree_of_settled settled)
     → Answer content_of settings texts (compare a b) text status notices)
     × TakesLines taken failed notices taken_after failed_after
@@ -107,20 +115,20 @@ pub below_none : (content_of : List ℕ → FileContent) (root : List ℕ) (lang
 below_none content_of root language texts e f = record { in_language = e; content = λ path bytes h. (let z : file_at (record { language = texts.language; list = [] }) path ≡ Some bytes = ap (λ (fs : List (List ℕ × List ℕ)). file_at (record { language = texts.language; list = fs }) path) (sym f) ∙ h in cc) }
 
 -- what is known of files stays
-among_again : (content_of others : List ℕ → FileContent) (prefix : List ℕ) (tree : Tree) (paths : List (List ℕ)) (status : ℕ) (lines : List (List ℕ))
-    → ((path : List ℕ) → others path ≡ content_of path) → StopsAmongFiles others prefix tree paths status lines
-    → StopsAmongFiles content_of prefix tree paths status lines
-among_again content_of others prefix tree paths status lines same (stops.at_file front back path line meanings p m s e) =
-    stops.at_file front back path line meanings p (mean_again content_of others prefix tree front meanings same m)
-    (subst (λ content. stops.StopsAtFile content prefix tree path status line) (same path) s) e
-among_again content_of others prefix tree paths status lines same (stops.for_memory front back meanings p m s e) =
-    stops.for_memory front back meanings p (mean_again content_of others prefix tree front meanings same m) s e
+among_again : (content_of others : List ℕ → FileContent) (format : FileFormat) (strict : Bool) (tree : Tree) (paths : List (List ℕ)) (status : ℕ) (lines : List (List ℕ))
+    → ((path : List ℕ) → others path ≡ content_of path) → StopsAmongFiles others format strict tree paths status lines
+    → StopsAmongFiles content_of format strict tree paths status lines
+among_again content_of others format strict tree paths status lines same (stops.at_file front back path own meanings p m s e) =
+    stops.at_file front back path own meanings p (mean_again content_of others format strict tree front meanings same m)
+    (subst (λ content. stops.StopsAtFile content format strict tree path status own) (same path) s) e
+among_again content_of others format strict tree paths status lines same (stops.for_memory front back meanings p m s e) =
+    stops.for_memory front back meanings p (mean_again content_of others format strict tree front meanings same m) s e
 
 answer_again : (content_of others : List ℕ → FileContent) (settings : Settings) (texts : Files) (task : Task) (text : List ℕ) (status : ℕ) (notices : List (List ℕ))
     → ((path : List ℕ) → others path ≡ content_of path) → Answer others settings texts task text status notices
     → Answer content_of settings texts task text status notices
-answer_again content_of others settings texts task text status notices same (of_files tree verb paths meanings values k a r t s n) =
-    of_files tree verb paths meanings values k a (resolve_again content_of others settings tree paths meanings values same r) t s n
+answer_again content_of others settings texts task text status notices same (of_files tree verb paths exit_code meanings values k a r t s n) =
+    of_files tree verb paths exit_code meanings values k a (resolve_again content_of others settings tree paths meanings values same r) t s n
 answer_again content_of others settings texts task text status notices same (of_comparison tree left right lm rm v w k a r q t s n) =
     of_comparison tree left right lm rm v w k a (resolve_again content_of others settings tree (left ∷ []) lm v same r)
     (resolve_again content_of others settings tree (right ∷ []) rm w same q) t s n
@@ -144,14 +152,14 @@ module _ (known : Known) (others : List ℕ → FileContent) (settings : Setting
   )
 
   pub job_stops : (r : Result AnswerText RunError)
-      → IfErr r (λ stop. (lines : List (List ℕ)) × StopsAmongFiles others settings.prefix tree (paths_of task) (status_of stop) lines × TakesLines middle
+      → IfErr r (λ stop. (lines : List (List ℕ)) × StopsAmongFiles others settings.format settings.strict tree (paths_of task) (status_of stop) lines × TakesLines middle
       failed_middle lines taken_after failed_after)
-      → IfErr r (λ stop. (lines : List (List ℕ)) × Stops known settings task (status_of stop) lines × TakesLines taken failed lines taken_after
+      → IfErr r (λ stop. (lines : List (List ℕ)) × StopsBefore known settings task (status_of stop) lines × TakesLines taken failed lines taken_after
       failed_after)
   job_stops (Ok answer) h = tt
   job_stops (Err stop) h = (
     t.lines ++ h.0,
-    among_files t tree h.0 are accepted (among_again known.content others settings.prefix tree (paths_of task) (status_of stop) h.0 same h.1) refl,
+    among_files t tree h.0 are accepted (among_again known.content others settings.format settings.strict tree (paths_of task) (status_of stop) h.0 same h.1) refl,
     lines_append taken middle failed failed_middle t.lines h.0 taken_after failed_after before h.2,
   )
 
@@ -189,12 +197,12 @@ write_stops known settings task text made status taken middle taken_after failed
 -- a job ended, and its last line is reported
 pub job_ends : (known : Known) (settings : Settings) (task : Task) (stop : RunError) (status : ℕ) (taken middle taken_after : Option (List ℕ)) (failed failed_middle failed_after : ℕ)
     → status ≡ status_of stop
-    → (lines : List (List ℕ)) × Stops known settings task (status_of stop) lines × TakesLines taken failed lines middle failed_middle
+    → (lines : List (List ℕ)) × StopsBefore known settings task (status_of stop) lines × TakesLines taken failed lines middle failed_middle
     → TakesLines middle failed_middle (last_lines status) taken_after failed_after
     → (lines : List (List ℕ)) × Stops known settings task status lines × TakesLines taken failed (lines ++ last_lines status) taken_after failed_after
 job_ends known settings task stop status taken middle taken_after failed failed_middle failed_after e w h = (
   w.0,
-  subst (λ n. Stops known settings task n w.0) (sym e) w.1,
+  stops.before_answer (subst (λ n. StopsBefore known settings task n w.0) (sym e) w.1),
   lines_append taken middle failed failed_middle w.0 (last_lines status) taken_after
       failed_after w.2 h,
 )

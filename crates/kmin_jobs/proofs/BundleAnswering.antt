@@ -1,5 +1,5 @@
 -- The answers of bundles.
-use Rattle.std.proofs.Common.{◌≡◌, ℕ, List, [], ◌∷◌, ◌++◌, Option, Some, Result, Ok, Err, Vec, IfOk, IfErr, codes, refl, sym, subst}
+use Rattle.std.proofs.Common.{◌≡◌, ℕ, false, List, [], ◌∷◌, ◌++◌, Option, Some, Result, Ok, Err, Vec, IfOk, IfErr, codes, refl, sym, subst}
 use Rattle.std.specs.declared.alloc.Global.{Global}
 use Rattle.kc_tree_model.specs.Trees.{Tree}
 use Rattle.kc_rules_model.specs.declared.profile.Profile.TheVariants.{Present}
@@ -7,6 +7,7 @@ use Rattle.kc_rules_model.specs.declared.values.UnitValue.{UnitValue}
 use Rattle.kc_rules_model.specs.declared.values.UserValue.{UserValue}
 use Rattle.kc_rules.specs.declared.rules.Settled.{Settled}
 use Rattle.kc_rules.specs.between.SettledViews.{tree_of_settled, profile_of}
+use Rattle.kc_dotconfig_model.specs.Formats.{FileFormat, plain_format}
 use Rattle.kc_dotconfig_model.specs.ConfigLines.{LineMeaning}
 use Rattle.kc_dotconfig_model.specs.ConfigFiles.{overlay, empty_assignment}
 use Rattle.kc_dotconfig.specs.declared.fragment.Fragment.{Fragment}
@@ -32,37 +33,37 @@ use Rattle.kmin_jobs.proofs.Sequences.{stopped_at, stopped_path, loaded_from, lo
 use Rattle.kmin_jobs.proofs.Answering.{resolved}
 
 -- a configuration in memory that wasn't read
-pub memory_stops : (text rest prefix plain : List ℕ) (tree : Tree) (path : List ℕ) (after : Option (List ℕ)) (read_failed read_failed_after status : ℕ) (taken taken_after : Option (List ℕ)) (failed failed_after : ℕ)
-    → prefix ≡ plain → rest ≡ text → StopsLoad prefix tree path (Some rest) after read_failed read_failed_after status taken failed taken_after failed_after
-    → (lines : List (List ℕ)) × StopsAmongFiles (bundle_content text) plain tree (path ∷ []) status lines × TakesLines taken failed lines taken_after
+pub memory_stops : (text rest : List ℕ) (format plain : FileFormat) (tree : Tree) (path : List ℕ) (after : Option (List ℕ)) (read_failed read_failed_after status : ℕ) (taken taken_after : Option (List ℕ)) (failed failed_after : ℕ)
+    → format ≡ plain → rest ≡ text → StopsLoad format tree path (Some rest) after read_failed read_failed_after status taken failed taken_after failed_after
+    → (lines : List (List ℕ)) × StopsAmongFiles (bundle_content text) plain false tree (path ∷ []) status lines × TakesLines taken failed lines taken_after
     failed_after
-memory_stops text rest prefix plain tree path after f g status taken taken_after failed failed_after p e h =
+memory_stops text rest format plain tree path after f g status taken taken_after failed failed_after p e h =
     let k : StopsLoad plain tree path (Some text) after f g status taken failed taken_after failed_after = rw (p, e) at h in
-    stopped_path (bundle_content text) (bundle_content text) plain tree status taken failed taken_after failed_after path refl
-    (stopped_at (Some (Some text)) plain tree path (Some text) after refl f g status taken taken_after failed failed_after k)
+    stopped_path (bundle_content text) (bundle_content text) plain false tree status taken failed taken_after failed_after path refl
+    (stopped_at (Some (Some text)) plain tree path (Some text) after refl false f g status taken taken_after failed failed_after k)
 
 -- a configuration in memory that was read
-pub memory_loaded : (text rest prefix plain : List ℕ) (tree : Tree) (path : List ℕ) (after : Option (List ℕ)) (before users : List (Option UserValue)) (fragment : Fragment) (taken taken_after : Option (List ℕ)) (failed failed_after : ℕ)
-    → prefix ≡ plain → rest ≡ text → IsReadAs prefix tree (Some rest) after fragment
+pub memory_loaded : (text rest : List ℕ) (format plain : FileFormat) (tree : Tree) (path : List ℕ) (after : Option (List ℕ)) (before users : List (Option UserValue)) (fragment : Fragment) (taken taken_after : Option (List ℕ)) (failed failed_after : ℕ)
+    → format ≡ plain → rest ≡ text → IsReadAs format tree (Some rest) after fragment
     → TakesLines taken failed (fragment_notices path fragment) taken_after failed_after
     → users ≡ overlay (users_of tree fragment.assigns.items) before
-    → AreLoaded (bundle_content text) plain tree (path ∷ []) before users taken failed taken_after failed_after
-memory_loaded text rest prefix plain tree path after before users fragment taken taken_after failed failed_after p e h t u =
+    → AreLoaded (bundle_content text) plain false tree (path ∷ []) before users taken failed taken_after failed_after
+memory_loaded text rest format plain tree path after before users fragment taken taken_after failed failed_after p e h t u =
     let k : IsReadAs plain tree (Some text) after fragment = rw (p, e) at h in
-    loaded_one (bundle_content text) (bundle_content text) plain tree path before users fragment taken taken_after failed failed_after refl
-    (loaded_from (Some (Some text)) plain tree path (Some text) after refl taken taken_after failed failed_after fragment k t) u
+    loaded_one (bundle_content text) (bundle_content text) plain false tree path before users fragment taken taken_after failed failed_after refl
+    (loaded_from (Some (Some text)) plain tree path (Some text) after refl taken taken_after failed failed_after fragment k t) (λ s. cc) u
 
 -- the full file of a configuration
-pub full_answers : (text prefix bytes : List ℕ) (config : Configured) (settled : Settled) (taken taken_after : Option (List ℕ)) (failed failed_after : ℕ)
-    → config.system ≡ settled → prefix ≡ codes "CONFIG_" → IsSolved config
-    → AreLoaded (bundle_content text) (codes "CONFIG_") (tree_of_settled settled) (codes "config" ∷ []) (empty_assignment (tree_of_settled settled))
+pub full_answers : (text : List ℕ) (format : FileFormat) (bytes : List ℕ) (config : Configured) (settled : Settled) (taken taken_after : Option (List ℕ)) (failed failed_after : ℕ)
+    → config.system ≡ settled → format ≡ plain_format → IsSolved config
+    → AreLoaded (bundle_content text) plain_format false (tree_of_settled settled) (codes "config" ∷ []) (empty_assignment (tree_of_settled settled))
     config.users taken failed taken_after failed_after
-    → bytes ≡ full_file prefix (tree_in config) config.values
+    → bytes ≡ full_file format (tree_in config) config.values
     → (meanings : List (List LineMeaning)) × (values : List UnitValue) × Resolve (bundle_content text) (record bundle_settings { profile = profile_of settled })
     (tree_of_settled settled) (codes "config" ∷ []) meanings values
-    × (bytes ≡ full_file (codes "CONFIG_") (tree_of_settled settled) values) × TakesLines taken failed (notice_lines (codes "config" ∷ []) meanings) taken_after
+    × (bytes ≡ full_file plain_format (tree_of_settled settled) values) × TakesLines taken failed (notice_lines (codes "config" ∷ []) meanings) taken_after
     failed_after
-full_answers text prefix bytes config settled taken taken_after failed failed_after e p s l b = (
+full_answers text format bytes config settled taken taken_after failed failed_after e p s l b = (
   l.meanings,
   config.values,
   resolved (bundle_content text) (record bundle_settings { profile = profile_of settled }) config settled (codes "config" ∷ []) taken taken_after failed
@@ -88,19 +89,19 @@ module _ (bundle tree configuration : List ℕ) (parts : IsBundle bundle tree co
     pub bundle_answers : (r : Result (Vec ℕ Global) RunError)
         → IfOk r (λ text. (meanings : List (List LineMeaning)) × (values : List UnitValue) × Resolve (bundle_content configuration)
         (record bundle_settings { profile = profile_of rules }) (tree_of_settled rules) (codes "config" ∷ []) meanings values
-        × (text.items ≡ full_file (codes "CONFIG_") (tree_of_settled rules) values) × TakesLines middle failed_middle
+        × (text.items ≡ full_file plain_format (tree_of_settled rules) values) × TakesLines middle failed_middle
         (notice_lines (codes "config" ∷ []) meanings) taken_after failed_after)
         → IfOk r (λ text. (notices : List (List ℕ)) × AnswersBundle bundle text.items notices × TakesLines taken failed notices taken_after failed_after)
     bundle_answers (Err stop) h = tt
     bundle_answers (Ok text) h =
         let resolve : Resolve (bundle_content configuration) bundle_settings (tree_of_settled rules) (codes "config" ∷ []) h.0 h.1 = rw profile at h.2 in (
           notice_lines (codes "config" ∷ []) h.0,
-          record { tree = tree; configuration = configuration; parts = parts; answers = of_files (tree_of_settled rules) Full (codes "config" ∷ []) h.0 h.1 refl accepted resolve h.3 refl refl },
+          record { tree = tree; configuration = configuration; parts = parts; answers = of_files (tree_of_settled rules) Full (codes "config" ∷ []) false h.0 h.1 refl accepted resolve h.3 refl refl },
           lines_append taken middle failed failed_middle [] _ taken_after failed_after before h.4,
         )
 
     pub configuration_stopped : (r : Result (Vec ℕ Global) RunError)
-        → IfErr r (λ stop. (lines : List (List ℕ)) × StopsAmongFiles (bundle_content configuration) (codes "CONFIG_") (tree_of_settled rules)
+        → IfErr r (λ stop. (lines : List (List ℕ)) × StopsAmongFiles (bundle_content configuration) plain_format false (tree_of_settled rules)
         (codes "config" ∷ []) (status_of stop) lines × TakesLines middle failed_middle lines taken_after failed_after)
         → IfErr r (λ stop. (lines : List (List ℕ)) × StopsInBundle bundle (status_of stop) lines × TakesLines taken failed lines taken_after failed_after)
     configuration_stopped (Ok text) h = tt

@@ -17,4 +17,6 @@ pub mod JobTrees
 pub mod QuestionEnds
 pub mod Answering
 pub mod BundleAnswering
+pub mod TidyEnding
+pub mod SaveEnding
 pub mod EndingLines

@@ -1,5 +1,5 @@
 -- Configuration files, one after another: what they mean, and where a run ends among them.
-use Rattle.std.proofs.Common.{◌≡◌, ℕ, List, [], ◌∷◌, ◌++◌, Option, Some, None, Result, Ok, Err, IfOk, IfErr, map, length, refl, sym, ap, ◌∙◌, subst, append-nil, append_assoc, ◌⊎◌, inl, inr, suc, ◌+◌, ◌<◌, get_or, take, drop, drop-cons, take-append-drop, arith}
+use Rattle.std.proofs.Common.{◌≡◌, ◌≢◌, ℕ, Bool, true, List, [], ◌∷◌, ◌++◌, Option, Some, None, Result, Ok, Err, IfOk, IfErr, map, length, refl, sym, ap, ◌∙◌, subst, append-nil, append_assoc, ◌⊎◌, inl, inr, suc, ◌+◌, ◌<◌, get_or, take, drop, drop-cons, take-append-drop, arith}
 use Rattle.std.specs.Borrow.{Bor}
 use Rattle.std.specs.Io.KnownBytes.{Consumes, IsAtEnd}
 use Rattle.std.proofs.lemmas.List.{nil_from_length, map-append}
@@ -7,6 +7,7 @@ use Rattle.std.proofs.Math.Seq.{take-suc}
 use Rattle.std.specs.Result.{IsErr, IsErrAnd}
 use Rattle.kc_tree_model.specs.Trees.{Tree}
 use Rattle.kc_rules_model.specs.declared.values.UserValue.{UserValue}
+use Rattle.kc_dotconfig_model.specs.Formats.{FileFormat}
 use Rattle.kc_dotconfig_model.specs.declared.fault.LoadKind.{LoadKind}
 use Rattle.kc_dotconfig_model.specs.declared.fault.LoadKind.TheVariants.{Malformed, NotUtf8, LineTooLong, TooManyLines, Read, OutOfMemory, TooLarge}
 use Rattle.kc_dotconfig_model.specs.ConfigLines.{LineMeaning}
@@ -24,7 +25,8 @@ use Rattle.kmin_jobs.specs.StandardError.{TakesLines, TakesLine}
 use Rattle.kmin_jobs.specs.StandardError as taking
 use Rattle.kmin_jobs.specs.Answers.{FilesMean, none, file, overlaid_by}
 use Rattle.kmin_jobs.specs.Stops as stops
-use Rattle.kmin_jobs.specs.Stops.{StopsAtFile, StopsAmongFiles, refused, unread}
+use Rattle.kmin_jobs.specs.Stops.{StopsAtFile, StopsAmongFiles, refused, unread, noticed}
+use Rattle.kmin_jobs.specs.Strictness.{AllowsNotices}
 use Rattle.kmin_jobs.specs.between.Loaded.{IsLoaded, AreLoaded}
 use Rattle.kmin_jobs.specs.between.LoadStops.{StopsLoad, StopsAtPath, at_file, for_memory, fragment_notices, load_lines, load_status}
 use Rattle.kmin_jobs.specs.between.RunErrors.{status_of}
@@ -61,11 +63,11 @@ notices_are : (path : List ℕ) (fragment : Fragment) (meanings : List LineMeani
     → fragment_notices path fragment ≡ file_notices path meanings
 notices_are path fragment meanings e = map_twice (notice_line path) notice_pair fragment.notices.items ∙ ap (map (notice_line path)) e
 
-module _ (content : FileContent) (prefix : List ℕ) (tree : Tree) (path : List ℕ) (before after : Option (List ℕ)) (opens : OpensAs content (Some before)) where
+module _ (content : FileContent) (format : FileFormat) (tree : Tree) (path : List ℕ) (before after : Option (List ℕ)) (opens : OpensAs content (Some before)) where
   -- a file that was opened and read
-  pub loaded_from : (taken taken_after : Option (List ℕ)) (failed failed_after : ℕ) (fragment : Fragment) → IsReadAs prefix tree before after fragment
+  pub loaded_from : (taken taken_after : Option (List ℕ)) (failed failed_after : ℕ) (fragment : Fragment) → IsReadAs format tree before after fragment
       → TakesLines taken failed (fragment_notices path fragment) taken_after failed_after
-      → IsLoaded content prefix tree path fragment taken failed taken_after failed_after
+      → IsLoaded content format tree path fragment taken failed taken_after failed_after
   loaded_from taken taken_after failed failed_after fragment r t = record {
     bytes = r.known;
     meanings = r.meanings;
@@ -73,168 +75,188 @@ module _ (content : FileContent) (prefix : List ℕ) (tree : Tree) (path : List 
     accepted = r.accepted;
     means = r.says;
     users = r.users;
+    noted = r.noted;
     reported = subst (λ lines. TakesLines taken failed lines taken_after failed_after) (notices_are path fragment r.meanings r.noted) t;
   }
 
-  refused_sides : (bytes : List ℕ) (kind : LoadKind) (number : ℕ) → Consumes before after bytes
-      → (IsAtEnd after × IsFirstFault prefix tree complete bytes kind number)
-      ⊎ ((rest : List ℕ) → IsFirstFault prefix tree complete (bytes ++ rest) kind number)
+  refused_sides : (strict : Bool) (bytes : List ℕ) (kind : LoadKind) (number : ℕ) → Consumes before after bytes
+      → (IsAtEnd after × IsFirstFault format tree complete bytes kind number)
+      ⊎ ((rest : List ℕ) → IsFirstFault format tree complete (bytes ++ rest) kind number)
       → 4 ≡ load_status kind → load_lines path number kind ≡ fault_line path number kind ∷ []
-      → StopsAtPath content prefix tree path (load_status kind) (load_lines path number kind)
-  refused_sides bytes kind number h (inl k) s l =
-      at_file (fault_line path number kind) (refused bytes kind number (whole_content content before after bytes opens h k.0) k.1 (sym s) refl) l
-  refused_sides bytes kind number h (inr k) s l =
+      → StopsAtPath content format strict tree path (load_status kind) (load_lines path number kind)
+  refused_sides strict bytes kind number h (inl k) s l =
+      at_file (refused bytes kind number (whole_content content before after bytes opens h k.0) k.1 (sym s) l)
+  refused_sides strict bytes kind number h (inr k) s l =
       let w = rest_of content before after bytes opens h in
-      at_file (fault_line path number kind) (refused (bytes ++ w.0) kind number w.1 (k w.0) (sym s) refl) l
+      at_file (refused (bytes ++ w.0) kind number w.1 (k w.0) (sym s) l)
 
-  refused_file : (kind : LoadKind) (number : ℕ) → IsRefused prefix tree before after kind number
+  refused_file : (strict : Bool) (kind : LoadKind) (number : ℕ) → IsRefused format tree before after kind number
       → 4 ≡ load_status kind → load_lines path number kind ≡ fault_line path number kind ∷ []
-      → StopsAtPath content prefix tree path (load_status kind) (load_lines path number kind)
-  refused_file kind number r s l = refused_sides r.known kind number r.consumed r.first s l
+      → StopsAtPath content format strict tree path (load_status kind) (load_lines path number kind)
+  refused_file strict kind number r s l = refused_sides strict r.known kind number r.consumed r.first s l
 
-  by_kind : (read_failed read_failed_after : ℕ) (kind : LoadKind) (number : ℕ) → ReportsFault prefix tree before after read_failed read_failed_after kind number
-      → StopsAtPath content prefix tree path (load_status kind) (load_lines path number kind)
-  by_kind f g OutOfMemory number t = for_memory refl refl
-  by_kind f g Read number t =
+  by_kind : (strict : Bool) (read_failed read_failed_after : ℕ) (kind : LoadKind) (number : ℕ) → ReportsFault format tree before after read_failed read_failed_after kind number
+      → StopsAtPath content format strict tree path (load_status kind) (load_lines path number kind)
+  by_kind strict f g OutOfMemory number t = for_memory refl refl
+  by_kind strict f g Read number t =
       let w = rest_of content before after t.0.known opens t.0.consumed in
-      at_file (fault_line path number Read) (unread t.0.known w.0 number w.1 t.0.first refl refl) refl
-  by_kind f g Malformed number t = refused_file Malformed number t refl refl
-  by_kind f g NotUtf8 number t = refused_file NotUtf8 number t refl refl
-  by_kind f g LineTooLong number t = refused_file LineTooLong number t refl refl
-  by_kind f g TooManyLines number t = refused_file TooManyLines number t refl refl
-  by_kind f g TooLarge number t = refused_file TooLarge number t refl refl
+      at_file (unread t.0.known w.0 number w.1 t.0.first refl refl)
+  by_kind strict f g Malformed number t = refused_file strict Malformed number t refl refl
+  by_kind strict f g NotUtf8 number t = refused_file strict NotUtf8 number t refl refl
+  by_kind strict f g LineTooLong number t = refused_file strict LineTooLong number t refl refl
+  by_kind strict f g TooManyLines number t = refused_file strict TooManyLines number t refl refl
+  by_kind strict f g TooLarge number t = refused_file strict TooLarge number t refl refl
 
   -- a file that was opened and not read
-  pub stopped_at : (read_failed read_failed_after status : ℕ) (taken taken_after : Option (List ℕ)) (failed failed_after : ℕ)
-      → StopsLoad prefix tree path before after read_failed read_failed_after status taken failed taken_after failed_after
-      → (lines : List (List ℕ)) × StopsAtPath content prefix tree path status lines × TakesLines taken failed lines taken_after failed_after
-  stopped_at f g status taken taken_after failed failed_after s = (
+  pub stopped_at : (strict : Bool) (read_failed read_failed_after status : ℕ) (taken taken_after : Option (List ℕ)) (failed failed_after : ℕ)
+      → StopsLoad format tree path before after read_failed read_failed_after status taken failed taken_after failed_after
+      → (lines : List (List ℕ)) × StopsAtPath content format strict tree path status lines × TakesLines taken failed lines taken_after failed_after
+  stopped_at strict f g status taken taken_after failed failed_after s = (
     load_lines path s.number s.kind,
-    subst (λ n. StopsAtPath content prefix tree path n (load_lines path s.number s.kind)) (sym s.status_is)
-        (by_kind f g s.kind s.number s.fault),
+    subst (λ n. StopsAtPath content format strict tree path n (load_lines path s.number s.kind)) (sym s.status_is)
+        (by_kind strict f g s.kind s.number s.fault),
     s.reported,
   )
 
+map_nil : {A B : Type 0} (f : A → B) (xs : List A) → map f xs ≡ [] → xs ≡ []
+map_nil f [] e = refl
+map_nil f (x ∷ xs) e = cc
+
+-- a file that was read and is refused for its notices
+notices_there : (fragment : Fragment) (meanings : List LineMeaning) → map notice_pair fragment.notices.items ≡ notices_from 1 meanings
+    → fragment.notices.items ≢ [] → notices_from 1 meanings ≢ []
+notices_there fragment meanings e h n = h (map_nil notice_pair fragment.notices.items (e ∙ n))
+
+pub stopped_noticed : (content : FileContent) (format : FileFormat) (strict : Bool) (tree : Tree) (path : List ℕ) (fragment : Fragment) (status : ℕ) (taken taken_after : Option (List ℕ)) (failed failed_after : ℕ)
+    → IsLoaded content format tree path fragment taken failed taken_after failed_after → strict ≡ true → fragment.notices.items ≢ [] → status ≡ 4
+    → (lines : List (List ℕ)) × StopsAtPath content format strict tree path status lines × TakesLines taken failed lines taken_after failed_after
+stopped_noticed content format strict tree path fragment status taken taken_after failed failed_after l s h e = (
+  file_notices path l.meanings,
+  at_file (noticed l.bytes l.meanings l.matches l.accepted l.means (s, notices_there fragment l.meanings l.noted h) e refl),
+  l.reported,
+)
+
 -- meanings by what is known of the same files
-pub mean_again : (content_of others : List ℕ → FileContent) (prefix : List ℕ) (tree : Tree) (paths : List (List ℕ)) (meanings : List (List LineMeaning))
-    → ((path : List ℕ) → others path ≡ content_of path) → FilesMean others prefix tree paths meanings → FilesMean content_of prefix tree paths meanings
-mean_again content_of others prefix tree paths meanings same none = none
-mean_again content_of others prefix tree paths meanings same (file path bytes more own rest matches accepted means h) =
-    file path bytes more own rest (subst (λ content. MatchContent content bytes) (same path) matches) accepted means
-    (mean_again content_of others prefix tree more rest same h)
+pub mean_again : (content_of others : List ℕ → FileContent) (format : FileFormat) (strict : Bool) (tree : Tree) (paths : List (List ℕ)) (meanings : List (List LineMeaning))
+    → ((path : List ℕ) → others path ≡ content_of path) → FilesMean others format strict tree paths meanings → FilesMean content_of format strict tree paths meanings
+mean_again content_of others format strict tree paths meanings same none = none
+mean_again content_of others format strict tree paths meanings same (file path bytes more own rest matches accepted means allowed h) =
+    file path bytes more own rest (subst (λ content. MatchContent content bytes) (same path) matches) accepted means allowed
+    (mean_again content_of others format strict tree more rest same h)
 
 -- files after files
-mean_append : (content_of : List ℕ → FileContent) (prefix : List ℕ) (tree : Tree) (ys : List (List ℕ)) (ns : List (List LineMeaning)) (xs : List (List ℕ)) (ms : List (List LineMeaning))
-    → FilesMean content_of prefix tree ys ns → FilesMean content_of prefix tree xs ms → FilesMean content_of prefix tree (xs ++ ys) (ms ++ ns)
-mean_append content_of prefix tree ys ns xs ms k none = k
-mean_append content_of prefix tree ys ns xs ms k (file path bytes more own rest matches accepted means h) =
-    file path bytes (more ++ ys) own (rest ++ ns) matches accepted means (mean_append content_of prefix tree ys ns more rest k h)
+mean_append : (content_of : List ℕ → FileContent) (format : FileFormat) (strict : Bool) (tree : Tree) (ys : List (List ℕ)) (ns : List (List LineMeaning)) (xs : List (List ℕ)) (ms : List (List LineMeaning))
+    → FilesMean content_of format strict tree ys ns → FilesMean content_of format strict tree xs ms → FilesMean content_of format strict tree (xs ++ ys) (ms ++ ns)
+mean_append content_of format strict tree ys ns xs ms k none = k
+mean_append content_of format strict tree ys ns xs ms k (file path bytes more own rest matches accepted means allowed h) =
+    file path bytes (more ++ ys) own (rest ++ ns) matches accepted means allowed (mean_append content_of format strict tree ys ns more rest k h)
 
 overlaid_append : (tree : Tree) (users : List (Option UserValue)) (ms ns : List (List LineMeaning))
     → overlaid_by tree users (ms ++ ns) ≡ overlaid_by tree (overlaid_by tree users ms) ns
 overlaid_append tree users [] ns = refl
 overlaid_append tree users (m ∷ ms) ns = overlaid_append tree (overlay (file_assignment tree m) users) ms ns
 
-notices_append : (content_of : List ℕ → FileContent) (prefix : List ℕ) (tree : Tree) (ys : List (List ℕ)) (ns : List (List LineMeaning)) (xs : List (List ℕ)) (ms : List (List LineMeaning))
-    → FilesMean content_of prefix tree xs ms → notice_lines (xs ++ ys) (ms ++ ns) ≡ notice_lines xs ms ++ notice_lines ys ns
-notices_append content_of prefix tree ys ns xs ms none = refl
-notices_append content_of prefix tree ys ns xs ms (file path bytes more own rest matches accepted means h) =
-    ap (λ lines. file_notices path own ++ lines) (notices_append content_of prefix tree ys ns more rest h)
+notices_append : (content_of : List ℕ → FileContent) (format : FileFormat) (strict : Bool) (tree : Tree) (ys : List (List ℕ)) (ns : List (List LineMeaning)) (xs : List (List ℕ)) (ms : List (List LineMeaning))
+    → FilesMean content_of format strict tree xs ms → notice_lines (xs ++ ys) (ms ++ ns) ≡ notice_lines xs ms ++ notice_lines ys ns
+notices_append content_of format strict tree ys ns xs ms none = refl
+notices_append content_of format strict tree ys ns xs ms (file path bytes more own rest matches accepted means allowed h) =
+    ap (λ lines. file_notices path own ++ lines) (notices_append content_of format strict tree ys ns more rest h)
     ∙ sym (append_assoc (file_notices path own) (notice_lines more rest) (notice_lines ys ns))
 
-pub loaded_one : (content_of others : List ℕ → FileContent) (prefix : List ℕ) (tree : Tree) (path : List ℕ) (before after : List (Option UserValue)) (fragment : Fragment) (taken taken_after : Option (List ℕ)) (failed failed_after : ℕ)
-    → others path ≡ content_of path → IsLoaded (others path) prefix tree path fragment taken failed taken_after failed_after
+pub loaded_one : (content_of others : List ℕ → FileContent) (format : FileFormat) (strict : Bool) (tree : Tree) (path : List ℕ) (before after : List (Option UserValue)) (fragment : Fragment) (taken taken_after : Option (List ℕ)) (failed failed_after : ℕ)
+    → others path ≡ content_of path → IsLoaded (others path) format tree path fragment taken failed taken_after failed_after
+    → AllowsNotices strict (map notice_pair fragment.notices.items)
     → after ≡ overlay (users_of tree fragment.assigns.items) before
-    → AreLoaded content_of prefix tree (path ∷ []) before after taken failed taken_after failed_after
-loaded_one content_of others prefix tree path before after fragment taken taken_after failed failed_after same l e = record {
+    → AreLoaded content_of format strict tree (path ∷ []) before after taken failed taken_after failed_after
+loaded_one content_of others format strict tree path before after fragment taken taken_after failed failed_after same l a e = record {
   meanings = l.meanings ∷ [];
-  mean = file path l.bytes [] l.meanings [] (subst (λ content. MatchContent content l.bytes) same l.matches) l.accepted l.means none;
+  mean = file path l.bytes [] l.meanings [] (subst (λ content. MatchContent content l.bytes) same l.matches) l.accepted l.means (λ s. sym l.noted ∙ a s) none;
   users_are = e ∙ ap (λ users. overlay users before) l.users;
   reported = subst (λ lines. TakesLines taken failed lines taken_after failed_after) (sym (append-nil (file_notices path l.meanings))) l.reported;
 }
 
-pub loaded_none : (content_of : List ℕ → FileContent) (prefix : List ℕ) (tree : Tree) (paths : List (Bor (List ℕ))) (before users : List (Option UserValue)) (taken : Option (List ℕ)) (failed : ℕ)
-    → length paths ≡ 0 → users ≡ before → AreLoaded content_of prefix tree (map (λ (path : Bor (List ℕ)). path.now) paths) before users taken failed taken
+pub loaded_none : (content_of : List ℕ → FileContent) (format : FileFormat) (strict : Bool) (tree : Tree) (paths : List (Bor (List ℕ))) (before users : List (Option UserValue)) (taken : Option (List ℕ)) (failed : ℕ)
+    → length paths ≡ 0 → users ≡ before → AreLoaded content_of format strict tree (map (λ (path : Bor (List ℕ)). path.now) paths) before users taken failed taken
     failed
-loaded_none content_of prefix tree paths before users taken failed n e =
+loaded_none content_of format strict tree paths before users taken failed n e =
     rw (nil_from_length paths n) (record { meanings = []; mean = none; users_are = e; reported = taking.none })
 
-pub loaded_append : (content_of others : List ℕ → FileContent) (prefix : List ℕ) (tree : Tree) (xs ys : List (List ℕ)) (before between after : List (Option UserValue)) (taken middle taken_after : Option (List ℕ)) (failed failed_middle failed_after : ℕ)
-    → ((path : List ℕ) → others path ≡ content_of path) → AreLoaded content_of prefix tree xs before between taken failed middle failed_middle
-    → AreLoaded others prefix tree ys between after middle failed_middle taken_after failed_after
-    → AreLoaded content_of prefix tree (xs ++ ys) before after taken failed taken_after failed_after
-loaded_append content_of others prefix tree xs ys before between after taken middle taken_after failed failed_middle failed_after same h k = record {
+pub loaded_append : (content_of others : List ℕ → FileContent) (format : FileFormat) (strict : Bool) (tree : Tree) (xs ys : List (List ℕ)) (before between after : List (Option UserValue)) (taken middle taken_after : Option (List ℕ)) (failed failed_middle failed_after : ℕ)
+    → ((path : List ℕ) → others path ≡ content_of path) → AreLoaded content_of format strict tree xs before between taken failed middle failed_middle
+    → AreLoaded others format strict tree ys between after middle failed_middle taken_after failed_after
+    → AreLoaded content_of format strict tree (xs ++ ys) before after taken failed taken_after failed_after
+loaded_append content_of others format strict tree xs ys before between after taken middle taken_after failed failed_middle failed_after same h k = record {
   meanings = h.meanings ++ k.meanings;
-  mean = mean_append content_of prefix tree ys k.meanings xs h.meanings (mean_again content_of others prefix tree ys k.meanings same k.mean) h.mean;
+  mean = mean_append content_of format strict tree ys k.meanings xs h.meanings (mean_again content_of others format strict tree ys k.meanings same k.mean) h.mean;
   users_are = k.users_are ∙ ap (λ users. overlaid_by tree users k.meanings) h.users_are ∙ sym (overlaid_append tree before h.meanings k.meanings);
   reported =
-      subst (λ lines. TakesLines taken failed lines taken_after failed_after) (sym (notices_append content_of prefix tree ys k.meanings xs h.meanings h.mean))
+      subst (λ lines. TakesLines taken failed lines taken_after failed_after) (sym (notices_append content_of format strict tree ys k.meanings xs h.meanings h.mean))
       (lines_append taken middle failed failed_middle _ _ taken_after failed_after h.reported k.reported);
 }
 
-pub loaded_rest : (content_of others : List ℕ → FileContent) (prefix : List ℕ) (tree : Tree) (xs ys all : List (List ℕ)) (before between : List (Option UserValue)) (taken middle taken_after : Option (List ℕ)) (failed failed_middle failed_after : ℕ) (r : Result Configured RunError)
-    → ((path : List ℕ) → others path ≡ content_of path) → all ≡ xs ++ ys → AreLoaded content_of prefix tree xs before between taken failed middle failed_middle
-    → IfOk r (λ config. AreLoaded others prefix tree ys between config.users middle failed_middle taken_after failed_after)
-    → IfOk r (λ config. AreLoaded content_of prefix tree all before config.users taken failed taken_after failed_after)
-loaded_rest content_of others prefix tree xs ys all before between taken middle taken_after failed failed_middle failed_after (Err e) same s h k = tt
-loaded_rest content_of others prefix tree xs ys all before between taken middle taken_after failed failed_middle failed_after (Ok config) same s h k =
-    rw s (loaded_append content_of others prefix tree xs ys before between config.users taken middle taken_after failed failed_middle failed_after same h k)
+pub loaded_rest : (content_of others : List ℕ → FileContent) (format : FileFormat) (strict : Bool) (tree : Tree) (xs ys all : List (List ℕ)) (before between : List (Option UserValue)) (taken middle taken_after : Option (List ℕ)) (failed failed_middle failed_after : ℕ) (r : Result Configured RunError)
+    → ((path : List ℕ) → others path ≡ content_of path) → all ≡ xs ++ ys → AreLoaded content_of format strict tree xs before between taken failed middle failed_middle
+    → IfOk r (λ config. AreLoaded others format strict tree ys between config.users middle failed_middle taken_after failed_after)
+    → IfOk r (λ config. AreLoaded content_of format strict tree all before config.users taken failed taken_after failed_after)
+loaded_rest content_of others format strict tree xs ys all before between taken middle taken_after failed failed_middle failed_after (Err e) same s h k = tt
+loaded_rest content_of others format strict tree xs ys all before between taken middle taken_after failed failed_middle failed_after (Ok config) same s h k =
+    rw s (loaded_append content_of others format strict tree xs ys before between config.users taken middle taken_after failed failed_middle failed_after same h k)
 
 -- at the one file of these
-path_stops : (content_of others : List ℕ → FileContent) (prefix : List ℕ) (tree : Tree) (path : List ℕ) (status : ℕ) (lines : List (List ℕ))
+path_stops : (content_of others : List ℕ → FileContent) (format : FileFormat) (strict : Bool) (tree : Tree) (path : List ℕ) (status : ℕ) (lines : List (List ℕ))
     → others path ≡ content_of path
-    → StopsAtPath (others path) prefix tree path status lines → StopsAmongFiles content_of prefix tree (path ∷ []) status lines
-path_stops content_of others prefix tree path status lines same (at_file line s e) =
-    stops.at_file [] [] path line [] refl none (subst (λ content. StopsAtFile content prefix tree path status line) same s) e
-path_stops content_of others prefix tree path status lines same (for_memory s e) = stops.for_memory [] (path ∷ []) [] refl none s e
+    → StopsAtPath (others path) format strict tree path status lines → StopsAmongFiles content_of format strict tree (path ∷ []) status lines
+path_stops content_of others format strict tree path status lines same (at_file s) =
+    stops.at_file [] [] path lines [] refl none (subst (λ content. StopsAtFile content format strict tree path status lines) same s) refl
+path_stops content_of others format strict tree path status lines same (for_memory s e) = stops.for_memory [] (path ∷ []) [] refl none s e
 
 -- with more files after these
-more_stops : (content_of : List ℕ → FileContent) (prefix : List ℕ) (tree : Tree) (xs more : List (List ℕ)) (status : ℕ) (lines : List (List ℕ))
-    → StopsAmongFiles content_of prefix tree xs status lines → StopsAmongFiles content_of prefix tree (xs ++ more) status lines
-more_stops content_of prefix tree xs more status lines (stops.at_file front back path line meanings p m s e) =
-    stops.at_file front (back ++ more) path line meanings (ap (λ ps. ps ++ more) p ∙ append_assoc front (path ∷ back) more) m s e
-more_stops content_of prefix tree xs more status lines (stops.for_memory front back meanings p m s e) =
+more_stops : (content_of : List ℕ → FileContent) (format : FileFormat) (strict : Bool) (tree : Tree) (xs more : List (List ℕ)) (status : ℕ) (lines : List (List ℕ))
+    → StopsAmongFiles content_of format strict tree xs status lines → StopsAmongFiles content_of format strict tree (xs ++ more) status lines
+more_stops content_of format strict tree xs more status lines (stops.at_file front back path own meanings p m s e) =
+    stops.at_file front (back ++ more) path own meanings (ap (λ ps. ps ++ more) p ∙ append_assoc front (path ∷ back) more) m s e
+more_stops content_of format strict tree xs more status lines (stops.for_memory front back meanings p m s e) =
     stops.for_memory front (back ++ more) meanings (ap (λ ps. ps ++ more) p ∙ append_assoc front back more) m s e
 
 -- after files that were accepted
-later_stops : (content_of others : List ℕ → FileContent) (prefix : List ℕ) (tree : Tree) (xs ys : List (List ℕ)) (ms : List (List LineMeaning)) (status : ℕ) (lines : List (List ℕ))
-    → ((path : List ℕ) → others path ≡ content_of path) → FilesMean content_of prefix tree xs ms
-    → StopsAmongFiles others prefix tree ys status lines → StopsAmongFiles content_of prefix tree (xs ++ ys) status (notice_lines xs ms ++ lines)
-later_stops content_of others prefix tree xs ys ms status lines same h (stops.at_file front back path line meanings p m s e) =
-    stops.at_file (xs ++ front) back path line (ms ++ meanings) (ap (λ ps. xs ++ ps) p ∙ sym (append_assoc xs front (path ∷ back)))
-    (mean_append content_of prefix tree front meanings xs ms (mean_again content_of others prefix tree front meanings same m) h)
-    (subst (λ content. StopsAtFile content prefix tree path status line) (same path) s)
-    (ap (λ ls. notice_lines xs ms ++ ls) e ∙ sym (append_assoc (notice_lines xs ms) (notice_lines front meanings) (line ∷ []))
-    ∙ ap (λ ls. ls ++ line ∷ []) (sym (notices_append content_of prefix tree front meanings xs ms h)))
-later_stops content_of others prefix tree xs ys ms status lines same h (stops.for_memory front back meanings p m s e) =
+later_stops : (content_of others : List ℕ → FileContent) (format : FileFormat) (strict : Bool) (tree : Tree) (xs ys : List (List ℕ)) (ms : List (List LineMeaning)) (status : ℕ) (lines : List (List ℕ))
+    → ((path : List ℕ) → others path ≡ content_of path) → FilesMean content_of format strict tree xs ms
+    → StopsAmongFiles others format strict tree ys status lines → StopsAmongFiles content_of format strict tree (xs ++ ys) status (notice_lines xs ms ++ lines)
+later_stops content_of others format strict tree xs ys ms status lines same h (stops.at_file front back path own meanings p m s e) =
+    stops.at_file (xs ++ front) back path own (ms ++ meanings) (ap (λ ps. xs ++ ps) p ∙ sym (append_assoc xs front (path ∷ back)))
+    (mean_append content_of format strict tree front meanings xs ms (mean_again content_of others format strict tree front meanings same m) h)
+    (subst (λ content. StopsAtFile content format strict tree path status own) (same path) s)
+    (ap (λ ls. notice_lines xs ms ++ ls) e ∙ sym (append_assoc (notice_lines xs ms) (notice_lines front meanings) own)
+    ∙ ap (λ ls. ls ++ own) (sym (notices_append content_of format strict tree front meanings xs ms h)))
+later_stops content_of others format strict tree xs ys ms status lines same h (stops.for_memory front back meanings p m s e) =
     stops.for_memory (xs ++ front) back (ms ++ meanings) (ap (λ ps. xs ++ ps) p ∙ sym (append_assoc xs front back))
-    (mean_append content_of prefix tree front meanings xs ms (mean_again content_of others prefix tree front meanings same m) h) s
-    (ap (λ ls. notice_lines xs ms ++ ls) e ∙ sym (notices_append content_of prefix tree front meanings xs ms h))
+    (mean_append content_of format strict tree front meanings xs ms (mean_again content_of others format strict tree front meanings same m) h) s
+    (ap (λ ls. notice_lines xs ms ++ ls) e ∙ sym (notices_append content_of format strict tree front meanings xs ms h))
 
-module _ (content_of others : List ℕ → FileContent) (prefix : List ℕ) (tree : Tree) (status : ℕ) (taken : Option (List ℕ)) (failed : ℕ) (taken_after : Option (List ℕ)) (failed_after : ℕ) where
+module _ (content_of others : List ℕ → FileContent) (format : FileFormat) (strict : Bool) (tree : Tree) (status : ℕ) (taken : Option (List ℕ)) (failed : ℕ) (taken_after : Option (List ℕ)) (failed_after : ℕ) where
   pub stopped_path : (path : List ℕ) → others path ≡ content_of path
-      → (lines : List (List ℕ)) × StopsAtPath (others path) prefix tree path status lines × TakesLines taken failed lines taken_after failed_after
-      → (lines : List (List ℕ)) × StopsAmongFiles content_of prefix tree (path ∷ []) status lines × TakesLines taken failed lines taken_after failed_after
-  stopped_path path same h = (h.0, path_stops content_of others prefix tree path status h.0 same h.1, h.2)
+      → (lines : List (List ℕ)) × StopsAtPath (others path) format strict tree path status lines × TakesLines taken failed lines taken_after failed_after
+      → (lines : List (List ℕ)) × StopsAmongFiles content_of format strict tree (path ∷ []) status lines × TakesLines taken failed lines taken_after failed_after
+  stopped_path path same h = (h.0, path_stops content_of others format strict tree path status h.0 same h.1, h.2)
 
   pub stopped_more : (xs more all : List (List ℕ)) → all ≡ xs ++ more
-      → (lines : List (List ℕ)) × StopsAmongFiles content_of prefix tree xs status lines × TakesLines taken failed lines taken_after failed_after
-      → (lines : List (List ℕ)) × StopsAmongFiles content_of prefix tree all status lines × TakesLines taken failed lines taken_after failed_after
-  stopped_more xs more all e h = (h.0, rw e (more_stops content_of prefix tree xs more status h.0 h.1), h.2)
+      → (lines : List (List ℕ)) × StopsAmongFiles content_of format strict tree xs status lines × TakesLines taken failed lines taken_after failed_after
+      → (lines : List (List ℕ)) × StopsAmongFiles content_of format strict tree all status lines × TakesLines taken failed lines taken_after failed_after
+  stopped_more xs more all e h = (h.0, rw e (more_stops content_of format strict tree xs more status h.0 h.1), h.2)
 
   pub stopped_later : (xs ys all : List (List ℕ)) (before users : List (Option UserValue)) (middle : Option (List ℕ)) (failed_middle : ℕ) → all ≡ xs ++ ys
-      → ((path : List ℕ) → others path ≡ content_of path) → AreLoaded content_of prefix tree xs before users taken failed middle failed_middle
-      → (lines : List (List ℕ)) × StopsAmongFiles others prefix tree ys status lines × TakesLines middle failed_middle lines taken_after failed_after
-      → (lines : List (List ℕ)) × StopsAmongFiles content_of prefix tree all status lines × TakesLines taken failed lines taken_after failed_after
+      → ((path : List ℕ) → others path ≡ content_of path) → AreLoaded content_of format strict tree xs before users taken failed middle failed_middle
+      → (lines : List (List ℕ)) × StopsAmongFiles others format strict tree ys status lines × TakesLines middle failed_middle lines taken_after failed_after
+      → (lines : List (List ℕ)) × StopsAmongFiles content_of format strict tree all status lines × TakesLines taken failed lines taken_after failed_after
   stopped_later xs ys all before users middle failed_middle e same l h = (
     notice_lines xs l.meanings ++ h.0,
-    rw e (later_stops content_of others prefix tree xs ys l.meanings status h.0 same l.mean h.1),
+    rw e (later_stops content_of others format strict tree xs ys l.meanings status h.0 same l.mean h.1),
     lines_append taken middle failed failed_middle _ _ taken_after failed_after l.reported h.2,
   )
 
   pub stopped_for_memory : (xs more all : List (List ℕ)) (before users : List (Option UserValue)) → all ≡ xs ++ more → status ≡ 6
-      → AreLoaded content_of prefix tree xs before users taken failed taken_after failed_after
-      → (lines : List (List ℕ)) × StopsAmongFiles content_of prefix tree all status lines × TakesLines taken failed lines taken_after failed_after
+      → AreLoaded content_of format strict tree xs before users taken failed taken_after failed_after
+      → (lines : List (List ℕ)) × StopsAmongFiles content_of format strict tree all status lines × TakesLines taken failed lines taken_after failed_after
   stopped_for_memory xs more all before users e s l = (notice_lines xs l.meanings, stops.for_memory xs more l.meanings e l.mean s refl, l.reported)
 
 -- an error that is known, or that has a property

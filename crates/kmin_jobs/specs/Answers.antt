@@ -1,5 +1,5 @@
 -- The answer to a job.
-use Rattle.std.specs.Prelude.{◌≡◌, ℕ, List, [], ◌∷◌, ◌++◌, Option, None, length, codes}
+use Rattle.std.specs.Prelude.{◌≡◌, ℕ, Bool, true, List, [], ◌∷◌, ◌++◌, Option, None, length, codes}
 use Rattle.std.specs.List.{flat_map}
 use Rattle.kc_tree_model.specs.TreeFiles.{Files}
 use Rattle.kc_tree_model.specs.Trees.{Tree}
@@ -11,19 +11,23 @@ use Rattle.kc_rules_model.specs.Reports.{unmet}
 use Rattle.kc_rules_model.specs.SettledTrees.{IsSettledTree}
 use Rattle.kc_rules_model.specs.declared.values.UnitValue.{UnitValue}
 use Rattle.kc_rules_model.specs.declared.values.UserValue.{UserValue}
-use Rattle.kc_dotconfig_model.specs.ConfigFiles.{FileMeans, file_assignment, overlay, empty_assignment}
+use Rattle.kc_dotconfig_model.specs.Formats.{FileFormat}
+use Rattle.kc_dotconfig_model.specs.ConfigFiles.{FileMeans, notices_from, file_assignment, overlay, empty_assignment}
 use Rattle.kc_dotconfig_model.specs.ConfigLines.{LineMeaning}
 use Rattle.kc_dotconfig_model.specs.LoadFaults.{IsAccepted}
 use Rattle.kc_dotconfig_model.specs.Missed.{missed}
 use Rattle.kc_minimal_model.specs.CanonicalText.{IsCanonicalText}
 use Rattle.kc_minimal_model.specs.FullFile.{full_file}
 use Rattle.kc_minimal_model.specs.Differences.{Difference, differences}
+use Rattle.kc_dotconfig_model.specs.declared.format.Strings.{Strings}
 use Rattle.kc_minimal_model.specs.Spelling.{spelled}
 use Rattle.kmin_words.specs.Jobs.{Settings, Task, over, compare}
 use Rattle.kmin_words.specs.declared.job.Verb.{Verb}
 use Rattle.kmin_words.specs.declared.job.Verb.TheVariants.{Min, Full, Missed, Check}
 use Rattle.kmin_jobs.specs.FileContents.{FileContent, MatchContent}
 use Rattle.kmin_jobs.specs.Reports.{name_at, notice_lines}
+use Rattle.kmin_jobs.specs.Strictness.{AllowsNotices}
+use Rattle.kmin_jobs.specs.Statuses.{status_of_list, listed}
 
 -- Texts are accepted as this tree: reading them has no fault, and no unit depends on itself.
 pub record AreAccepted (texts : Files) (first : List ℕ) (tree : Tree) : Type 0 where
@@ -31,12 +35,14 @@ pub record AreAccepted (texts : Files) (first : List ℕ) (tree : Tree) : Type 0
   pub tree_is : tree ≡ tree_of_files texts first
   pub settled : IsSettledTree tree
 
--- Configuration files are accepted, and this is the meaning of each line of each. Their bytes match their known content.
-pub data FilesMean (content_of : List ℕ → FileContent) (prefix : List ℕ) (tree : Tree) : List (List ℕ) → List (List LineMeaning) → Type 0 where
-  none : FilesMean content_of prefix tree [] []
+-- Configuration files are accepted, and none is refused for its notices; this is the meaning of each line of each. Their
+-- bytes match their known content.
+pub data FilesMean (content_of : List ℕ → FileContent) (format : FileFormat) (strict : Bool) (tree : Tree) : List (List ℕ) → List (List LineMeaning) → Type 0 where
+  none : FilesMean content_of format strict tree [] []
   file : (path bytes : List ℕ) (paths : List (List ℕ)) (meanings : List LineMeaning) (others : List (List LineMeaning))
-      → MatchContent (content_of path) bytes → IsAccepted prefix tree bytes → FileMeans prefix tree bytes meanings
-      → FilesMean content_of prefix tree paths others → FilesMean content_of prefix tree (path ∷ paths) (meanings ∷ others)
+      → MatchContent (content_of path) bytes → IsAccepted format tree bytes → FileMeans format tree bytes meanings
+      → AllowsNotices strict (notices_from 1 meanings)
+      → FilesMean content_of format strict tree paths others → FilesMean content_of format strict tree (path ∷ paths) (meanings ∷ others)
 
 -- an assignment with those of files laid over it, one after another
 abbrev pub overlaid_by : Tree → List (Option UserValue) → List (List LineMeaning) → List (Option UserValue)
@@ -49,7 +55,7 @@ files_assignment tree meanings = overlaid_by tree (empty_assignment tree) meanin
 
 -- The files are accepted with these meanings, and their assignment has this one solution.
 pub record Resolve (content_of : List ℕ → FileContent) (settings : Settings) (tree : Tree) (paths : List (List ℕ)) (meanings : List (List LineMeaning)) (values : List UnitValue) : Type 0 where
-  pub mean : FilesMean content_of settings.prefix tree paths meanings
+  pub mean : FilesMean content_of settings.format settings.strict tree paths meanings
   pub gives : UniquelySolves (length tree.units) (rule settings.profile tree) (files_assignment tree meanings) values
 
 -- a line of some text and the name of a symbol
@@ -57,33 +63,29 @@ abbrev pub name_line : List ℕ → Tree → ℕ → List ℕ
 name_line front tree s = front ++ (name_at tree s ++ 10 ∷ [])
 
 -- `NAME: LEFT -> RIGHT`, with values spelled as in a file
-abbrev pub difference_line : Tree → Difference → List ℕ
-difference_line tree d = name_at tree d.symbol ++ (codes ": " ++ (spelled d.left.kind d.left.text
-    ++ (codes " -> " ++ (spelled d.right.kind d.right.text ++ 10 ∷ []))))
+abbrev pub difference_line : Strings → Tree → Difference → List ℕ
+difference_line strings tree d = name_at tree d.symbol ++ (codes ": " ++ (spelled strings d.left.kind d.left.text
+    ++ (codes " -> " ++ (spelled strings d.right.kind d.right.text ++ 10 ∷ []))))
 
 -- A text is that of a verb, over a tree, its assignment and its values: for `min` the canonical file of the values.
 abbrev pub IsTextOfVerb : Settings → Tree → List (Option UserValue) → List UnitValue → Verb → (text : List ℕ) → Type 0
-IsTextOfVerb settings tree users values Min text = IsCanonicalText settings.prefix settings.profile tree values text
-IsTextOfVerb settings tree users values Full text = text ≡ full_file settings.prefix tree values
+IsTextOfVerb settings tree users values Min text = IsCanonicalText settings.format settings.profile tree values text
+IsTextOfVerb settings tree users values Full text = text ≡ full_file settings.format tree values
 IsTextOfVerb settings tree users values Missed text = text ≡ flat_map (name_line [] tree) (missed tree users values)
 IsTextOfVerb settings tree users values Check text = text ≡ flat_map (name_line (codes "unmet ") tree) (unmet tree values)
-
--- 1 where there are differences
-abbrev pub status_of_differences : List Difference → ℕ
-status_of_differences [] = 0
-status_of_differences (d ∷ ds) = 1
 
 -- The text, the exit status and the lines of the notices that answer a command over the texts of a tree: of all files, each
 -- over those before it, or for a comparison of two files, each by itself.
 pub data Answer (content_of : List ℕ → FileContent) (settings : Settings) (texts : Files) (task : Task) (text : List ℕ) (status : ℕ) (notices : List (List ℕ)) : Type 0 where
-  of_files : (tree : Tree) (verb : Verb) (paths : List (List ℕ)) (meanings : List (List LineMeaning)) (values : List UnitValue)
-      → task ≡ over verb paths → AreAccepted texts settings.tree tree → Resolve content_of settings tree paths meanings values
-      → IsTextOfVerb settings tree (files_assignment tree meanings) values verb text → status ≡ 0
+  of_files : (tree : Tree) (verb : Verb) (paths : List (List ℕ)) (exit_code : Bool) (meanings : List (List LineMeaning)) (values : List UnitValue)
+      → task ≡ over verb paths exit_code → AreAccepted texts settings.tree tree → Resolve content_of settings tree paths meanings values
+      → IsTextOfVerb settings tree (files_assignment tree meanings) values verb text
+      → status ≡ status_of_list exit_code (listed tree (files_assignment tree meanings) values verb)
       → notices ≡ notice_lines paths meanings → Answer content_of settings texts task text status notices
   of_comparison : (tree : Tree) (left right : List ℕ) (left_meanings right_meanings : List (List LineMeaning)) (v w : List UnitValue)
       → task ≡ compare left right → AreAccepted texts settings.tree tree
       → Resolve content_of settings tree (left ∷ []) left_meanings v → Resolve content_of settings tree (right ∷ []) right_meanings w
-      → text ≡ flat_map (difference_line tree) (differences tree v w)
-      → status ≡ status_of_differences (differences tree v w)
+      → text ≡ flat_map (difference_line settings.format.strings tree) (differences tree v w)
+      → status ≡ status_of_list true (differences tree v w)
       → notices ≡ notice_lines (left ∷ []) left_meanings ++ notice_lines (right ∷ []) right_meanings
       → Answer content_of settings texts task text status notices

@@ -1,11 +1,12 @@
 -- The answer to a bundle, and when a bundle is refused.
-use Rattle.std.specs.Prelude.{◌≡◌, ℕ, ◌<◌, List, [], ◌∷◌, ◌++◌, Option, Some, None, take, length, codes}
+use Rattle.std.specs.Prelude.{◌≡◌, ℕ, false, ◌<◌, List, [], ◌∷◌, ◌++◌, Option, Some, None, take, length, codes}
 use Rattle.std.specs.Io.KnownBytes.{Appends, Consumes}
 use Rattle.kc_value.specs.declared.limits.TheConstants.{MAX_BUNDLE_BYTES}
 use Rattle.kc_expr.specs.declared.language.Language.TheVariants.{Strict}
 use Rattle.kc_tree_model.specs.Trees.{Tree}
 use Rattle.kc_tree_model.specs.TreeFiles.{Files, strict_files}
 use Rattle.kc_rules_model.specs.declared.profile.Profile.TheVariants.{Present}
+use Rattle.kc_dotconfig_model.specs.Formats.{plain_format}
 use Rattle.kc_dotconfig_model.specs.declared.fault.LoadKind.{LoadKind}
 use Rattle.kc_dotconfig_model.specs.declared.fault.LoadKind.TheVariants.{Read, TooLarge}
 use Rattle.kmin_words.specs.Jobs.{Settings, Task, over}
@@ -18,11 +19,11 @@ use Rattle.kmin_jobs.specs.Stops.{RefusesTexts, StopsAmongFiles}
 
 -- the options of a bundle
 abbrev pub bundle_settings : Settings
-bundle_settings = record { root = []; tree = codes "Kconfig"; language = Strict; prefix = codes "CONFIG_"; profile = Present; expansion = None }
+bundle_settings = record { root = []; tree = codes "Kconfig"; language = Strict; format = plain_format; profile = Present; strict = false; expansion = None }
 
 -- the command of a bundle: the full file of its configuration
 abbrev pub bundle_task : Task
-bundle_task = over Full (codes "config" ∷ [])
+bundle_task = over Full (codes "config" ∷ []) false
 
 -- the one file of a bundle's tree
 abbrev pub bundle_files : List ℕ → Files
@@ -58,7 +59,7 @@ pub data StopsInBundle (bundle : List ℕ) (status : ℕ) (lines : List (List �
       → RefusesTexts (bundle_files tree) (bundle_files tree) (codes "Kconfig") line → status ≡ 3 → lines ≡ line ∷ [] → StopsInBundle bundle status lines
   in_configuration : (tree configuration : List ℕ) (whole : Tree) → IsBundle bundle tree configuration
       → AreAccepted (bundle_files tree) (codes "Kconfig") whole
-      → StopsAmongFiles (bundle_content configuration) (codes "CONFIG_") whole (codes "config" ∷ []) status lines
+      → StopsAmongFiles (bundle_content configuration) plain_format false whole (codes "config" ∷ []) status lines
       → StopsInBundle bundle status lines
   for_memory : status ≡ 6 → lines ≡ [] → StopsInBundle bundle status lines
 

@@ -8,9 +8,13 @@ pub mod JobAnswers
 pub mod JobTexts
 pub mod AnswerStops
 pub mod WantedQuestions
+pub mod Statuses
+pub mod Strictness
 pub mod Answers
 pub mod KnownTrees
 pub mod Stops
 pub mod BundleAnswers
 pub mod PartialAnswers
+pub mod TidyRuns
+pub mod Saves
 pub mod between

@@ -1,5 +1,5 @@
 -- Jobs that end without an answer: the exit status, and the lines of standard error before those of `last_lines`.
-use Rattle.std.specs.Prelude.{◌≡◌, ℕ, List, [], ◌∷◌, ◌++◌, Some, None, Err, length, map}
+use Rattle.std.specs.Prelude.{◌≡◌, ℕ, Bool, List, [], ◌∷◌, ◌++◌, Some, None, Err, length, map}
 use Rattle.kc_tree_model.specs.TreeFiles.{Files}
 use Rattle.kc_tree_model.specs.Trees.{Tree}
 use Rattle.kc_tree_model.specs.TreeFaults.{first_tree_fault}
@@ -7,10 +7,12 @@ use Rattle.kc_tree_model.specs.Contents.{tree_of_files}
 use Rattle.kc_tree_model.specs.declared.fault.TreeFault.{TreeFault}
 use Rattle.kc_system.specs.Dependencies.{IsCycle, IsNamedCycle}
 use Rattle.kc_rules_model.specs.Dependencies.{dependencies}
+use Rattle.kc_dotconfig_model.specs.Formats.{FileFormat}
 use Rattle.kc_dotconfig_model.specs.declared.fault.LoadKind.{LoadKind}
 use Rattle.kc_dotconfig_model.specs.declared.fault.LoadKind.TheVariants.{Read}
 use Rattle.kc_dotconfig_model.specs.ConfigLines.{LineMeaning}
-use Rattle.kc_dotconfig_model.specs.LoadFaults.{IsFirstFault, complete, cut_short}
+use Rattle.kc_dotconfig_model.specs.LoadFaults.{IsAccepted, IsFirstFault, complete, cut_short}
+use Rattle.kc_dotconfig_model.specs.ConfigFiles.{FileMeans, notices_from}
 use Rattle.kc_macros_model.specs.Programs.{Fault, Notice}
 use Rattle.kc_macros_model.specs.AnswerFiles.{Recorded}
 use Rattle.kc_expansion.specs.Expansions.{IsExpansion}
@@ -21,7 +23,8 @@ use Rattle.kmin_jobs.specs.JobTexts.{TreeTexts, AreTextsOfJob}
 use Rattle.kmin_jobs.specs.TreesBelow.{contents_below}
 use Rattle.kmin_jobs.specs.AnswerStops.{StopsAmongAnswers}
 use Rattle.kmin_jobs.specs.MacroReports.{macro_fault_line, macro_notice_line}
-use Rattle.kmin_jobs.specs.Reports.{tree_fault_line, cycle_line, fault_line, notice_lines, output_line}
+use Rattle.kmin_jobs.specs.Reports.{tree_fault_line, cycle_line, fault_line, file_notices, notice_lines, output_line}
+use Rattle.kmin_jobs.specs.Strictness.{RefusesNotices}
 use Rattle.kmin_jobs.specs.Answers.{AreAccepted, FilesMean, Answer}
 
 -- Texts are refused as a tree, with this line: by their first fault, or by the cycle that their units have. The line names
@@ -33,27 +36,30 @@ pub data RefusesTexts (texts names : Files) (first line : List ℕ) : Type 0 whe
       → IsNamedCycle (length tree.units) (dependencies tree) units → IsCycle (length tree.units) (dependencies tree) units
       → line ≡ cycle_line names first tree units → RefusesTexts texts names first line
 
--- A configuration file ends a job with this status and this line: by its first fault, by a read that fails before one, or
--- since it can't be opened.
-pub data StopsAtFile (content : FileContent) (prefix : List ℕ) (tree : Tree) (path : List ℕ) (status : ℕ) (line : List ℕ) : Type 0 where
+-- A configuration file ends a job with this status and these lines: by its first fault, by a read that fails before one,
+-- since it can't be opened, or it is refused for its notices, which are all told.
+pub data StopsAtFile (content : FileContent) (format : FileFormat) (strict : Bool) (tree : Tree) (path : List ℕ) (status : ℕ) (lines : List (List ℕ)) : Type 0 where
   refused : (bytes : List ℕ) (kind : LoadKind) (number : ℕ) → MatchContent content bytes
-      → IsFirstFault prefix tree complete bytes kind number → status ≡ 4 → line ≡ fault_line path number kind
-      → StopsAtFile content prefix tree path status line
+      → IsFirstFault format tree complete bytes kind number → status ≡ 4 → lines ≡ fault_line path number kind ∷ []
+      → StopsAtFile content format strict tree path status lines
   unread : (front rest : List ℕ) (number : ℕ) → MatchContent content (front ++ rest)
-      → IsFirstFault prefix tree cut_short front Read number → status ≡ 5 → line ≡ fault_line path number Read
-      → StopsAtFile content prefix tree path status line
-  unopened : OpensAs content None → status ≡ 5 → line ≡ fault_line path 0 Read
-      → StopsAtFile content prefix tree path status line
+      → IsFirstFault format tree cut_short front Read number → status ≡ 5 → lines ≡ fault_line path number Read ∷ []
+      → StopsAtFile content format strict tree path status lines
+  unopened : OpensAs content None → status ≡ 5 → lines ≡ fault_line path 0 Read ∷ []
+      → StopsAtFile content format strict tree path status lines
+  noticed : (bytes : List ℕ) (meanings : List LineMeaning) → MatchContent content bytes → IsAccepted format tree bytes
+      → FileMeans format tree bytes meanings → RefusesNotices strict (notices_from 1 meanings) → status ≡ 4
+      → lines ≡ file_notices path meanings → StopsAtFile content format strict tree path status lines
 
 -- A job ends among its configuration files: at one of them or for lack of memory, after the notices of those before.
-pub data StopsAmongFiles (content_of : List ℕ → FileContent) (prefix : List ℕ) (tree : Tree) (paths : List (List ℕ)) (status : ℕ) (lines : List (List ℕ)) : Type 0 where
-  at_file : (front back : List (List ℕ)) (path line : List ℕ) (meanings : List (List LineMeaning)) → paths ≡ front ++ path ∷ back
-      → FilesMean content_of prefix tree front meanings → StopsAtFile (content_of path) prefix tree path status line
-      → lines ≡ notice_lines front meanings ++ line ∷ []
-      → StopsAmongFiles content_of prefix tree paths status lines
+pub data StopsAmongFiles (content_of : List ℕ → FileContent) (format : FileFormat) (strict : Bool) (tree : Tree) (paths : List (List ℕ)) (status : ℕ) (lines : List (List ℕ)) : Type 0 where
+  at_file : (front back : List (List ℕ)) (path : List ℕ) (own : List (List ℕ)) (meanings : List (List LineMeaning)) → paths ≡ front ++ path ∷ back
+      → FilesMean content_of format strict tree front meanings → StopsAtFile (content_of path) format strict tree path status own
+      → lines ≡ notice_lines front meanings ++ own
+      → StopsAmongFiles content_of format strict tree paths status lines
   for_memory : (front back : List (List ℕ)) (meanings : List (List LineMeaning)) → paths ≡ front ++ back
-      → FilesMean content_of prefix tree front meanings → status ≡ 6 → lines ≡ notice_lines front meanings
-      → StopsAmongFiles content_of prefix tree paths status lines
+      → FilesMean content_of format strict tree front meanings → status ≡ 6 → lines ≡ notice_lines front meanings
+      → StopsAmongFiles content_of format strict tree paths status lines
 
 -- A job ends at the expansion of its tree: among its files of answers, or by the expansion's fault after its notices.
 pub data StopsInExpansion (known : Known) (root first : List ℕ) (expansion : Expansion) (status : ℕ) (lines : List (List ℕ)) : Type 0 where
@@ -71,13 +77,17 @@ pub data StopsAtTree (known : Known) (settings : Settings) (status : ℕ) (lines
       → status ≡ 3 → lines ≡ t.lines ++ line ∷ [] → StopsAtTree known settings status lines
   for_memory : (t : TreeTexts) → AreTextsOfJob known settings t → status ≡ 6 → lines ≡ t.lines → StopsAtTree known settings status lines
 
--- A job ends at its tree, among its configuration files, at a write of its answer, or for lack of memory before.
-pub data Stops (known : Known) (settings : Settings) (task : Task) (status : ℕ) (lines : List (List ℕ)) : Type 0 where
-  at_tree : StopsAtTree known settings status lines → Stops known settings task status lines
+-- A job ends before it has an answer: at its tree, among its configuration files, or for lack of memory.
+pub data StopsBefore (known : Known) (settings : Settings) (task : Task) (status : ℕ) (lines : List (List ℕ)) : Type 0 where
+  at_tree : StopsAtTree known settings status lines → StopsBefore known settings task status lines
   among_files : (t : TreeTexts) (tree : Tree) (more : List (List ℕ)) → AreTextsOfJob known settings t → AreAccepted t.texts settings.tree tree
-      → StopsAmongFiles known.content settings.prefix tree (paths_of task) status more → lines ≡ t.lines ++ more
-      → Stops known settings task status lines
+      → StopsAmongFiles known.content settings.format settings.strict tree (paths_of task) status more → lines ≡ t.lines ++ more
+      → StopsBefore known settings task status lines
+  for_memory : status ≡ 6 → lines ≡ [] → StopsBefore known settings task status lines
+
+-- A job ends before it has an answer, or at a write of its answer.
+pub data Stops (known : Known) (settings : Settings) (task : Task) (status : ℕ) (lines : List (List ℕ)) : Type 0 where
+  before_answer : StopsBefore known settings task status lines → Stops known settings task status lines
   at_write : (t : TreeTexts) (text : List ℕ) (made : ℕ) (notices : List (List ℕ)) → AreTextsOfJob known settings t
       → Answer known.content settings t.texts task text made notices → status ≡ 5 → lines ≡ t.lines ++ notices ++ output_line ∷ []
       → Stops known settings task status lines
-  for_memory : status ≡ 6 → lines ≡ [] → Stops known settings task status lines

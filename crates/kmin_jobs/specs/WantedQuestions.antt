@@ -27,11 +27,6 @@ question_line question = question ++ 10 ∷ []
 abbrev pub questions_text : List (List ℕ) → List ℕ
 questions_text asked = flat_map question_line asked
 
--- 1 where there are questions
-abbrev pub status_of_questions : List (List ℕ) → ℕ
-status_of_questions [] = 0
-status_of_questions (q ∷ qs) = 1
-
 -- The listing of questions ends without its text: among the files of answers, at the fault of the reading where no question
 -- is open, at a write of the text, or for lack of memory.
 pub data StopsWanting (known : Known) (questions : Questions) (status : ℕ) (lines : List (List ℕ)) : Type 0 where

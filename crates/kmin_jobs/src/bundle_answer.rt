@@ -1,10 +1,11 @@
 //! The answer to a bundle.
-ghost use Rattle.std.specs.Prelude.{◌≡◌, ◌≢◌, ◌≤◌, ◌⊎◌, ◌∷◌, [], List, ℕ, codes, length, IfOk, IfErr, OnOk};
+ghost use Rattle.std.specs.Prelude.{◌≡◌, ◌≢◌, ◌≤◌, ◌⊎◌, ◌∷◌, [], List, ℕ, false, codes, length, IfOk, IfErr, OnOk};
 ghost use Rattle.std.specs.Io.KnownBytes.{Appends};
 ghost use Rattle.kc_value.specs.declared.limits.TheConstants.{MAX_BUNDLE_BYTES};
 ghost use Rattle.kc_rules.specs.between.SettledViews.{tree_of_settled, profile_of};
 ghost use Rattle.kc_rules_model.specs.declared.profile.Profile.TheVariants.{Present};
 ghost use Rattle.kc_rules_model.specs.declared.values.UnitValue.{UnitValue};
+ghost use Rattle.kc_dotconfig_model.specs.Formats.{plain_format};
 ghost use Rattle.kc_dotconfig_model.specs.ConfigLines.{LineMeaning};
 ghost use Rattle.kc_minimal_model.specs.FullFile.{full_file};
 ghost use Rattle.kmin_jobs.specs.Answers.{AreAccepted, Resolve};
@@ -23,7 +24,7 @@ use crate::memory_reader::MemoryReader;
 use crate::output::write_answer;
 use crate::run_error::RunError;
 use crate::trees::{read_texts, settled_tree};
-use kc_dotconfig::{Config, Prefix};
+use kc_dotconfig::{Config, Format};
 use kc_minimal::full_text;
 use kc_rules::{Profile, Settled};
 use kc_tree::Texts;
@@ -105,17 +106,17 @@ fn full_over<E: Sink>(
     configuration: &[u8],
     err: &mut E,
 ) -> Result<Vec<u8>, RunError>
-    ensures ok { IfOk result (λ text. (meanings : List (List LineMeaning)) × (values : List UnitValue) × Resolve (bundle_content configuration.now) (record bundle_settings { profile = profile_of settled.now }) (tree_of_settled settled.now) (codes "config" ∷ []) meanings values × (text.items ≡ full_file (codes "CONFIG_") (tree_of_settled settled.now) values) × TakesLines (E.taken err.old) (E.failures err.old) (notice_lines (codes "config" ∷ []) meanings) (E.taken err.new) (E.failures err.new)) }
+    ensures ok { IfOk result (λ text. (meanings : List (List LineMeaning)) × (values : List UnitValue) × Resolve (bundle_content configuration.now) (record bundle_settings { profile = profile_of settled.now }) (tree_of_settled settled.now) (codes "config" ∷ []) meanings values × (text.items ≡ full_file plain_format (tree_of_settled settled.now) values) × TakesLines (E.taken err.old) (E.failures err.old) (notice_lines (codes "config" ∷ []) meanings) (E.taken err.new) (E.failures err.new)) }
     ensures failed { result ≢ Err RunError.Failed }
-    ensures stopped { IfErr result (λ stop. (lines : List (List ℕ)) × StopsAmongFiles (bundle_content configuration.now) (codes "CONFIG_") (tree_of_settled settled.now) (codes "config" ∷ []) (status_of stop) lines × TakesLines (E.taken err.old) (E.failures err.old) lines (E.taken err.new) (E.failures err.new)) }
+    ensures stopped { IfErr result (λ stop. (lines : List (List ℕ)) × StopsAmongFiles (bundle_content configuration.now) plain_format false (tree_of_settled settled.now) (codes "config" ∷ []) (status_of stop) lines × TakesLines (E.taken err.old) (E.failures err.old) lines (E.taken err.new) (E.failures err.new)) }
 {
-    let prefix = Prefix::plain();
+    let format = Format::plain();
     let mut reader = MemoryReader::new(configuration);
-    let fragment = load(alloc, settled, &prefix, "config", &mut reader, err)?;
+    let fragment = load(alloc, settled, &format, "config", &mut reader, err)?;
     let config = Config::of(alloc, settled, &fragment);
     drop(fragment);
     let config = config?;
-    let text = full_text(alloc, &config, &prefix);
+    let text = full_text(alloc, &config, &format);
     drop(config);
     Ok(text?)
 }

@@ -3,13 +3,14 @@ ghost use Rattle.std.specs.Prelude.{◌≡◌, ◌∷◌, [], List, ℕ, map, If
 ghost use Rattle.std.specs.Borrow.{Bor};
 ghost use Rattle.kc_rules.specs.between.SettledViews.{tree_of_settled};
 ghost use Rattle.kc_dotconfig_model.specs.ConfigFiles.{empty_assignment};
-ghost use Rattle.kc_dotconfig_model.specs.between.Prefixes.{prefix_bytes};
+ghost use Rattle.kc_dotconfig_model.specs.between.Formats.{file_format};
 ghost use Rattle.kc_dotconfig.specs.Configured.{IsSolved};
 ghost use Rattle.kc_dotconfig.specs.Fragments.{FitsTree, notice_pair};
 ghost use Rattle.kc_dotconfig.specs.ReadResults.{IsReadAs};
 ghost use Rattle.kmin_jobs.specs.Reports.{notice_line};
 ghost use Rattle.kmin_jobs.specs.StandardError.{TakesLines};
 ghost use Rattle.kmin_jobs.specs.Stops.{StopsAmongFiles};
+ghost use Rattle.kmin_jobs.specs.Strictness.{AllowsNotices};
 ghost use Rattle.kmin_jobs.specs.between.Loaded.{IsLoaded, AreLoaded};
 ghost use Rattle.kmin_jobs.specs.between.LoadStops.{StopsLoad, StopsAtPath, fragment_notices, load_lines, load_status};
 ghost use Rattle.kmin_jobs.specs.between.RunErrors.{status_of};
@@ -17,26 +18,27 @@ ghost use Rattle.kmin_jobs.specs.between.RunErrors.{status_of};
 use crate::files::Files;
 use crate::report::{Report, write_report};
 use crate::run_error::RunError;
-use kc_dotconfig::{Config, Fragment, LoadFault, LoadKind, Notice, Prefix, read_config};
+use kc_dotconfig::{Config, Format, Fragment, LoadFault, LoadKind, Notice, read_config};
 use kc_rules::Settled;
 use kc_value::{Sink, Source};
+use kmin_words::Settings;
 use std::alloc::Global;
 
 /// Reads the assignments of a file. Reports its notices and its fault.
 pub(crate) fn load<S: Source, E: Sink>(
     alloc: Global,
     settled: &Settled,
-    prefix: &Prefix,
+    format: &Format,
     path: &str,
     source: &mut S,
     err: &mut E,
 ) -> Result<Fragment, RunError>
-    ensures ok { IfOk result (IsReadAs (prefix_bytes prefix.now) (tree_of_settled settled.now) (S.left source.old) (S.left source.new)) }
+    ensures ok { IfOk result (IsReadAs (file_format format.now) (tree_of_settled settled.now) (S.left source.old) (S.left source.new)) }
     ensures fits { IfOk result (λ f. FitsTree (tree_of_settled settled.now) f.assigns.items) }
     ensures notices { IfOk result (λ f. TakesLines (E.taken err.old) (E.failures err.old) (fragment_notices path.now f) (E.taken err.new) (E.failures err.new)) }
-    ensures stopped { IfErr result (λ stop. StopsLoad (prefix_bytes prefix.now) (tree_of_settled settled.now) path.now (S.left source.old) (S.left source.new) (S.failures source.old) (S.failures source.new) (status_of stop) (E.taken err.old) (E.failures err.old) (E.taken err.new) (E.failures err.new)) }
+    ensures stopped { IfErr result (λ stop. StopsLoad (file_format format.now) (tree_of_settled settled.now) path.now (S.left source.old) (S.left source.new) (S.failures source.old) (S.failures source.new) (status_of stop) (E.taken err.old) (E.failures err.old) (E.taken err.new) (E.failures err.new)) }
 {
-    match read_config(alloc, settled, prefix, source) {
+    match read_config(alloc, settled, format, source) {
         Ok(fragment) => {
             report_notices(path, &fragment.notices, err);
             Ok(fragment)
@@ -78,18 +80,18 @@ fn report_notices<E: Sink>(path: &str, notices: &[Notice], err: &mut E)
 fn load_path<F: Files, E: Sink>(
     alloc: Global,
     settled: &Settled,
-    prefix: &Prefix,
+    settings: &Settings<'_>,
     path: &str,
     files: &mut F,
     err: &mut E,
 ) -> Result<Fragment, RunError>
     ensures same { (other : List ℕ) → F.content_of files.new other ≡ F.content_of files.old other }
     ensures fits { IfOk result (λ f. FitsTree (tree_of_settled settled.now) f.assigns.items) }
-    ensures loaded { IfOk result (λ f. IsLoaded (F.content_of files.old path.now) (prefix_bytes prefix.now) (tree_of_settled settled.now) path.now f (E.taken err.old) (E.failures err.old) (E.taken err.new) (E.failures err.new)) }
-    ensures stopped { IfErr result (λ stop. (lines : List (List ℕ)) × StopsAtPath (F.content_of files.old path.now) (prefix_bytes prefix.now) (tree_of_settled settled.now) path.now (status_of stop) lines × TakesLines (E.taken err.old) (E.failures err.old) lines (E.taken err.new) (E.failures err.new)) }
+    ensures loaded { IfOk result (λ f. IsLoaded (F.content_of files.old path.now) (file_format settings.now.format) (tree_of_settled settled.now) path.now f (E.taken err.old) (E.failures err.old) (E.taken err.new) (E.failures err.new)) }
+    ensures stopped { IfErr result (λ stop. (lines : List (List ℕ)) × StopsAtPath (F.content_of files.old path.now) (file_format settings.now.format) settings.now.strict (tree_of_settled settled.now) path.now (status_of stop) lines × TakesLines (E.taken err.old) (E.failures err.old) lines (E.taken err.new) (E.failures err.new)) }
 {
     match files.reader_for(path) {
-        Some(mut reader) => load(alloc, settled, prefix, path, &mut reader, err),
+        Some(mut reader) => load(alloc, settled, &settings.format, path, &mut reader, err),
         None => {
             let kind = LoadKind::Read;
             write_report(
@@ -105,11 +107,33 @@ fn load_path<F: Files, E: Sink>(
     }
 }
 
+/// Reads the assignments of the file of a path, unless it is refused for its notices, which are reported.
+fn load_allowed<F: Files, E: Sink>(
+    alloc: Global,
+    settled: &Settled,
+    settings: &Settings<'_>,
+    path: &str,
+    files: &mut F,
+    err: &mut E,
+) -> Result<Fragment, RunError>
+    ensures same { (other : List ℕ) → F.content_of files.new other ≡ F.content_of files.old other }
+    ensures fits { IfOk result (λ f. FitsTree (tree_of_settled settled.now) f.assigns.items) }
+    ensures loaded { IfOk result (λ f. IsLoaded (F.content_of files.old path.now) (file_format settings.now.format) (tree_of_settled settled.now) path.now f (E.taken err.old) (E.failures err.old) (E.taken err.new) (E.failures err.new)) }
+    ensures allowed { IfOk result (λ f. AllowsNotices settings.now.strict (map notice_pair f.notices.items)) }
+    ensures stopped { IfErr result (λ stop. (lines : List (List ℕ)) × StopsAtPath (F.content_of files.old path.now) (file_format settings.now.format) settings.now.strict (tree_of_settled settled.now) path.now (status_of stop) lines × TakesLines (E.taken err.old) (E.failures err.old) lines (E.taken err.new) (E.failures err.new)) }
+{
+    let fragment = load_path(alloc, settled, settings, path, files, err)?;
+    if settings.strict && !fragment.notices.is_empty() {
+        return Err(RunError::Configuration);
+    }
+    Ok(fragment)
+}
+
 /// The configuration of one file.
 pub(crate) fn configured_by<'a, F: Files, E: Sink>(
     alloc: Global,
     settled: &'a Settled,
-    prefix: &Prefix,
+    settings: &Settings<'_>,
     path: &str,
     files: &mut F,
     err: &mut E,
@@ -117,10 +141,10 @@ pub(crate) fn configured_by<'a, F: Files, E: Sink>(
     ensures same { (other : List ℕ) → F.content_of files.new other ≡ F.content_of files.old other }
     ensures settled { IfOk result (λ config. config.system ≡ settled.now) }
     ensures solved { IfOk result (λ config. IsSolved config) }
-    ensures loaded { IfOk result (λ config. AreLoaded (F.content_of files.old) (prefix_bytes prefix.now) (tree_of_settled settled.now) (path.now ∷ []) (empty_assignment (tree_of_settled settled.now)) config.users (E.taken err.old) (E.failures err.old) (E.taken err.new) (E.failures err.new)) }
-    ensures stopped { IfErr result (λ stop. (lines : List (List ℕ)) × StopsAmongFiles (F.content_of files.old) (prefix_bytes prefix.now) (tree_of_settled settled.now) (path.now ∷ []) (status_of stop) lines × TakesLines (E.taken err.old) (E.failures err.old) lines (E.taken err.new) (E.failures err.new)) }
+    ensures loaded { IfOk result (λ config. AreLoaded (F.content_of files.old) (file_format settings.now.format) settings.now.strict (tree_of_settled settled.now) (path.now ∷ []) (empty_assignment (tree_of_settled settled.now)) config.users (E.taken err.old) (E.failures err.old) (E.taken err.new) (E.failures err.new)) }
+    ensures stopped { IfErr result (λ stop. (lines : List (List ℕ)) × StopsAmongFiles (F.content_of files.old) (file_format settings.now.format) settings.now.strict (tree_of_settled settled.now) (path.now ∷ []) (status_of stop) lines × TakesLines (E.taken err.old) (E.failures err.old) lines (E.taken err.new) (E.failures err.new)) }
 {
-    let fragment = load_path(alloc, settled, prefix, path, files, err)?;
+    let fragment = load_allowed(alloc, settled, settings, path, files, err)?;
     let config = Config::of(alloc, settled, &fragment);
     drop(fragment);
     Ok(config?)
@@ -131,7 +155,7 @@ fn overlaid<'a, F: Files, E: Sink>(
     alloc: Global,
     settled: &'a Settled,
     begun: Config<'a>,
-    prefix: &Prefix,
+    settings: &Settings<'_>,
     paths: &[&str],
     files: &mut F,
     err: &mut E,
@@ -141,12 +165,12 @@ fn overlaid<'a, F: Files, E: Sink>(
     ensures same { (other : List ℕ) → F.content_of files.new other ≡ F.content_of files.old other }
     ensures settled { IfOk result (λ config. config.system ≡ settled.now) }
     ensures solved { IfOk result (λ config. IsSolved config) }
-    ensures loaded { IfOk result (λ config. AreLoaded (F.content_of files.old) (prefix_bytes prefix.now) (tree_of_settled settled.now) (map (λ (path : Bor (List ℕ)). path.now) paths.now) begun.entry.users config.users (E.taken err.old) (E.failures err.old) (E.taken err.new) (E.failures err.new)) }
-    ensures stopped { IfErr result (λ stop. (lines : List (List ℕ)) × StopsAmongFiles (F.content_of files.old) (prefix_bytes prefix.now) (tree_of_settled settled.now) (map (λ (path : Bor (List ℕ)). path.now) paths.now) (status_of stop) lines × TakesLines (E.taken err.old) (E.failures err.old) lines (E.taken err.new) (E.failures err.new)) }
+    ensures loaded { IfOk result (λ config. AreLoaded (F.content_of files.old) (file_format settings.now.format) settings.now.strict (tree_of_settled settled.now) (map (λ (path : Bor (List ℕ)). path.now) paths.now) begun.entry.users config.users (E.taken err.old) (E.failures err.old) (E.taken err.new) (E.failures err.new)) }
+    ensures stopped { IfErr result (λ stop. (lines : List (List ℕ)) × StopsAmongFiles (F.content_of files.old) (file_format settings.now.format) settings.now.strict (tree_of_settled settled.now) (map (λ (path : Bor (List ℕ)). path.now) paths.now) (status_of stop) lines × TakesLines (E.taken err.old) (E.failures err.old) lines (E.taken err.new) (E.failures err.new)) }
 {
     let mut config = begun;
     for path in paths {
-        let fragment = load_path(alloc, settled, prefix, path, files, err)?;
+        let fragment = load_allowed(alloc, settled, settings, path, files, err)?;
         config.merge(&fragment)?;
     }
     Ok(config)
@@ -156,7 +180,7 @@ fn overlaid<'a, F: Files, E: Sink>(
 pub(crate) fn configured<'a, F: Files, E: Sink>(
     alloc: Global,
     settled: &'a Settled,
-    prefix: &Prefix,
+    settings: &Settings<'_>,
     paths: &[&str],
     files: &mut F,
     err: &mut E,
@@ -164,12 +188,12 @@ pub(crate) fn configured<'a, F: Files, E: Sink>(
     ensures same { (other : List ℕ) → F.content_of files.new other ≡ F.content_of files.old other }
     ensures settled { IfOk result (λ config. config.system ≡ settled.now) }
     ensures solved { IfOk result (λ config. IsSolved config) }
-    ensures loaded { IfOk result (λ config. AreLoaded (F.content_of files.old) (prefix_bytes prefix.now) (tree_of_settled settled.now) (map (λ (path : Bor (List ℕ)). path.now) paths.now) (empty_assignment (tree_of_settled settled.now)) config.users (E.taken err.old) (E.failures err.old) (E.taken err.new) (E.failures err.new)) }
-    ensures stopped { IfErr result (λ stop. (lines : List (List ℕ)) × StopsAmongFiles (F.content_of files.old) (prefix_bytes prefix.now) (tree_of_settled settled.now) (map (λ (path : Bor (List ℕ)). path.now) paths.now) (status_of stop) lines × TakesLines (E.taken err.old) (E.failures err.old) lines (E.taken err.new) (E.failures err.new)) }
+    ensures loaded { IfOk result (λ config. AreLoaded (F.content_of files.old) (file_format settings.now.format) settings.now.strict (tree_of_settled settled.now) (map (λ (path : Bor (List ℕ)). path.now) paths.now) (empty_assignment (tree_of_settled settled.now)) config.users (E.taken err.old) (E.failures err.old) (E.taken err.new) (E.failures err.new)) }
+    ensures stopped { IfErr result (λ stop. (lines : List (List ℕ)) × StopsAmongFiles (F.content_of files.old) (file_format settings.now.format) settings.now.strict (tree_of_settled settled.now) (map (λ (path : Bor (List ℕ)). path.now) paths.now) (status_of stop) lines × TakesLines (E.taken err.old) (E.failures err.old) lines (E.taken err.new) (E.failures err.new)) }
 {
     let Some((first, others)) = paths.split_first() else {
         return Ok(Config::new(alloc, settled)?);
     };
-    let config = configured_by(alloc, settled, prefix, first, files, err)?;
-    overlaid(alloc, settled, config, prefix, others, files, err)
+    let config = configured_by(alloc, settled, settings, first, files, err)?;
+    overlaid(alloc, settled, config, settings, others, files, err)
 }

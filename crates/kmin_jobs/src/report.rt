@@ -58,6 +58,12 @@ pub(crate) enum Report<'a> {
     MacroFault(&'a MacroFault),
     /// The answer can't be written.
     OutputFault,
+    /// The path leads to a link, a folder, a pipe or a device.
+    NotRegular(&'a str),
+    /// The file of this path can't be written, or not for good.
+    Unwritten(&'a str),
+    /// The new file of this path is left.
+    Left(&'a str),
     /// Memory was refused.
     OutOfMemory,
     /// The message for words that are no job.
@@ -96,6 +102,9 @@ fn write_line<W: Sink>(report: &Report<'_>, sink: &mut W) -> Result<(), WriteFau
         Report::MacroNotice(notice) => write_macro_notice(notice, sink),
         Report::MacroFault(fault) => write_macro_fault(fault, sink),
         Report::OutputFault => write_pieces(&[b"output: Write\n"], sink),
+        Report::NotRegular(path) => write_place(path.as_bytes(), 0, "NotRegular", sink),
+        Report::Unwritten(path) => write_pieces(&[path.as_bytes(), b": Write\n"], sink),
+        Report::Left(path) => write_pieces(&[path.as_bytes(), b": Left\n"], sink),
         Report::OutOfMemory => write_pieces(&[b"out of memory\n"], sink),
         Report::RefusedWords(message) => write_pieces(&[message.as_bytes()], sink),
     }

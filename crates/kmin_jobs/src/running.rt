@@ -4,30 +4,40 @@ ghost use Rattle.std.specs.Io.KnownBytes.{Appends};
 ghost use Rattle.kc_value.specs.declared.limits.TheConstants.{MAX_BUNDLE_BYTES};
 ghost use Rattle.kmin_jobs.specs.Bundles.{ReadsToEnd};
 ghost use Rattle.kmin_jobs.specs.BundleAnswers.{AnswersBundle, StopsOnBundle, WritesPart};
+ghost use Rattle.kmin_tidy.specs.Steps.{disk_of};
+ghost use Rattle.kmin_jobs.specs.FileContents.{known_by};
 ghost use Rattle.kmin_jobs.specs.Reports.{last_lines};
+ghost use Rattle.kmin_jobs.specs.Saves.{EndsChanging};
 ghost use Rattle.kmin_jobs.specs.StandardError.{Rises, TakesLines};
+ghost use Rattle.kmin_jobs.specs.TidyRuns.{EndsTidying, outside_of};
 
 use crate::bundle_answer::run_bundle;
 use crate::files::Files;
 use crate::output::{exit_status, write_answer};
 use crate::report::{Report, write_report};
 use crate::run_error::RunError;
+use crate::saving::save;
 use crate::serving::serve;
+use crate::tidying::tidy;
 use crate::wanting::list_questions;
 use kc_value::{Sink, Source};
+use kmin_disk::WriteDisk;
 use kmin_words::{ParsedWords, read_words};
 use std::alloc::Global;
 
-/// Runs the program on its words, the files, a reader and two writers, and returns the exit status.
+/// Runs the program on its words, the files, the disk, a reader and two writers, and returns the exit status.
 ///
 /// Without words it reads a bundle, a Kconfig tree, a line `%%` and a configuration file, and writes the full file. Else
-/// the words are a command. Statuses: 0 done, 1 a comparison found differences or a tree has questions without an answer, 2
-/// words refused, 3 tree refused, also by its expansion, 4 configuration or file of answers refused or bundle too large, 5 a
-/// read or write failed, 6 out of memory.
-pub fn run<F: Files, I: Source, O: Sink, E: Sink>(
+/// the words are a command. Statuses: 0 done, 1 a comparison found differences, symbols are listed with `--exit-code`, a file
+/// isn't minimal or a tree has questions without an answer, 2 words or a list of paths refused, 3 tree refused, also by its expansion, 4 configuration or file of
+/// answers refused, or bundle or list too large, 5 a read or write failed, 6 out of memory.
+///
+/// The disk is only lent to `tidy`, and to a job whose answer is put into a file; all else that is read is read from the files.
+pub fn run<F: Files, D: WriteDisk, I: Source, O: Sink, E: Sink>(
     alloc: Global,
     words: &[&str],
     files: &mut F,
+    disk: &mut D,
     input: &mut I,
     out: &mut O,
     err: &mut E,
@@ -44,7 +54,19 @@ pub fn run<F: Files, I: Source, O: Sink, E: Sink>(
     ensures failed { words.now ≡ [] → result ≡ 5 → Rises (I.failures input.old) (I.failures input.new) ⊎ Rises (O.failures out.old) (O.failures out.new) }
     // On status 5 the writer took the first bytes of the full file, or nothing.
     ensures part { words.now ≡ [] → result ≡ 5 → (O.taken out.new ≡ O.taken out.old) ⊎ WritesPart (I.left input.old) (I.left input.new) (O.taken out.old) (O.taken out.new) }
-    ensures unwritten { result ≢ 0 → result ≢ 1 → result ≢ 5 → O.taken out.new ≡ O.taken out.old }
+    ensures bundle_unwritten { words.now ≡ [] → result ≢ 0 → result ≢ 5 → O.taken out.new ≡ O.taken out.old }
+    ensures untouched { words.now ≡ [] → D.state disk.new ≡ D.state disk.old }
+    ensures unwritten { result ≢ 0 → result ≢ 1 → result ≢ 4 → result ≢ 5 → O.taken out.new ≡ O.taken out.old }
+
+    // On status 4 the output takes something only where `tidy` went over files, one of which is refused.
+    ensures refused { result ≡ 4 → (O.taken out.new ≡ O.taken out.old) ⊎ EndsTidying (known_by (F.content_of files.old) (F.regular_content_of files.old) (F.names_of files.old) (F.variable_of files.old)) (I.left input.old)
+        (outside_of (disk_of (D.state disk.old) (D.failures disk.old)) (O.taken out.old) (O.failures out.old))
+        (outside_of (disk_of (D.state disk.new) (D.failures disk.new)) (O.taken out.new) (O.failures out.new)) result }
+
+    // Only where words ask `tidy` to write files, or for an answer in a file, the disk changes.
+    ensures unasked { (D.state disk.new ≡ D.state disk.old) ⊎ EndsChanging (known_by (F.content_of files.old) (F.regular_content_of files.old) (F.names_of files.old) (F.variable_of files.old)) (I.left input.old)
+        (outside_of (disk_of (D.state disk.old) (D.failures disk.old)) (O.taken out.old) (O.failures out.old))
+        (outside_of (disk_of (D.state disk.new) (D.failures disk.new)) (O.taken out.new) (O.failures out.new)) result }
 {
     if words.is_empty() {
         return match run_bundle(alloc, files.seed(), input, out, err) {
@@ -52,23 +74,33 @@ pub fn run<F: Files, I: Source, O: Sink, E: Sink>(
             Err(stop) => exit_status(stop, err),
         };
     }
-    run_words(alloc, words, files, out, err)
+    run_words(alloc, words, files, disk, input, out, err)
 }
 
 /// Runs the program on words.
-fn run_words<F: Files, O: Sink, E: Sink>(
+fn run_words<F: Files, D: WriteDisk, I: Source, O: Sink, E: Sink>(
     alloc: Global,
     words: &[&str],
     files: &mut F,
+    disk: &mut D,
+    input: &mut I,
     out: &mut O,
     err: &mut E,
 ) -> u8
     ensures status { result ≤ 6 }
-    ensures unwritten { result ≢ 0 → result ≢ 1 → result ≢ 5 → O.taken out.new ≡ O.taken out.old }
+    ensures unwritten { result ≢ 0 → result ≢ 1 → result ≢ 4 → result ≢ 5 → O.taken out.new ≡ O.taken out.old }
+    ensures refused { result ≡ 4 → (O.taken out.new ≡ O.taken out.old) ⊎ EndsTidying (known_by (F.content_of files.old) (F.regular_content_of files.old) (F.names_of files.old) (F.variable_of files.old)) (I.left input.old)
+        (outside_of (disk_of (D.state disk.old) (D.failures disk.old)) (O.taken out.old) (O.failures out.old))
+        (outside_of (disk_of (D.state disk.new) (D.failures disk.new)) (O.taken out.new) (O.failures out.new)) result }
+    ensures unasked { (D.state disk.new ≡ D.state disk.old) ⊎ EndsChanging (known_by (F.content_of files.old) (F.regular_content_of files.old) (F.names_of files.old) (F.variable_of files.old)) (I.left input.old)
+        (outside_of (disk_of (D.state disk.old) (D.failures disk.old)) (O.taken out.old) (O.failures out.old))
+        (outside_of (disk_of (D.state disk.new) (D.failures disk.new)) (O.taken out.new) (O.failures out.new)) result }
 {
     match read_words(alloc, words) {
         Ok(ParsedWords::Job(job)) => serve(alloc, &job, files, out, err),
+        Ok(ParsedWords::Save(saving)) => save(alloc, &saving, files, disk, err),
         Ok(ParsedWords::Questions(questions)) => list_questions(alloc, &questions, files, out, err),
+        Ok(ParsedWords::Tidy(tidying)) => tidy(alloc, &tidying, files, disk, input, out, err),
         Ok(ParsedWords::Help(text)) => write_help(&text, out, err),
         Ok(ParsedWords::Refused(text)) => {
             write_report(Report::RefusedWords(text.as_str()), err);

@@ -11,7 +11,7 @@ ghost use Rattle.kmin_jobs.specs.JobTexts.{TreeTexts, AreTextsOfJob};
 ghost use Rattle.kmin_jobs.specs.PartialAnswers.{AnswersInPart};
 ghost use Rattle.kmin_jobs.specs.Reports.{last_lines};
 ghost use Rattle.kmin_jobs.specs.StandardError.{TakesLines};
-ghost use Rattle.kmin_jobs.specs.Stops.{Stops, StopsAmongFiles};
+ghost use Rattle.kmin_jobs.specs.Stops.{Stops, StopsAmongFiles, StopsBefore};
 ghost use Rattle.kmin_jobs.specs.between.RunErrors.{status_of};
 
 use crate::files::Files;
@@ -19,14 +19,15 @@ use crate::job_trees::job_tree;
 use crate::loading::{configured, configured_by};
 use crate::output::{exit_status, write_answer};
 use crate::run_error::RunError;
-use crate::verb_texts::{AnswerText, compared, text_of};
+use crate::verb_texts::{AnswerText, answer_of, compared};
 use kc_rules::Settled;
 use kc_value::Sink;
 use kmin_words::{Job, Settings, Task, Verb};
 use std::alloc::Global;
 
-/// Does a job over the files, and returns the exit status: 0 done or equal, 1 where a comparison found differences, 3
-/// tree refused, 4 configuration file refused, 5 a read or write failed, 6 out of memory.
+/// Does a job over the files, and returns the exit status: 0 done, 1 where a comparison found differences, or where
+/// symbols are listed and the status is to say so, 3 tree refused, 4 configuration file refused, 5 a read or write failed, 6
+/// out of memory.
 ///
 /// The output is made whole before the first write. Standard error gets a line `FILE:LINE: KIND` for each notice and for
 /// the fault that ended the job, as soon as it is known; that it fails changes nothing.
@@ -65,7 +66,7 @@ pub fn serve<F: Files, O: Sink, E: Sink>(
 }
 
 /// The complete answer to a job.
-fn answer_job<F: Files, E: Sink>(
+pub(crate) fn answer_job<F: Files, E: Sink>(
     alloc: Global,
     job: &Job<'_>,
     files: &mut F,
@@ -73,7 +74,7 @@ fn answer_job<F: Files, E: Sink>(
 ) -> Result<AnswerText, RunError>
     ensures status { IfOk result (λ answer. answer.status ≤ 1) }
     ensures answer { IfOk result (λ answer. (t : TreeTexts) × (notices : List (List ℕ)) × AreTextsOfJob (known_by (F.content_of files.old) (F.regular_content_of files.old) (F.names_of files.old) (F.variable_of files.old)) (settings_view job.now.settings) t × Answer (F.content_of files.old) (settings_view job.now.settings) t.texts (task_view job.now.task) answer.text.items answer.status notices × TakesLines (E.taken err.old) (E.failures err.old) (t.lines ++ notices) (E.taken err.new) (E.failures err.new)) }
-    ensures stopped { IfErr result (λ stop. (lines : List (List ℕ)) × Stops (known_by (F.content_of files.old) (F.regular_content_of files.old) (F.names_of files.old) (F.variable_of files.old)) (settings_view job.now.settings) (task_view job.now.task) (status_of stop) lines × TakesLines (E.taken err.old) (E.failures err.old) lines (E.taken err.new) (E.failures err.new)) }
+    ensures stopped { IfErr result (λ stop. (lines : List (List ℕ)) × StopsBefore (known_by (F.content_of files.old) (F.regular_content_of files.old) (F.names_of files.old) (F.variable_of files.old)) (settings_view job.now.settings) (task_view job.now.task) (status_of stop) lines × TakesLines (E.taken err.old) (E.failures err.old) lines (E.taken err.new) (E.failures err.new)) }
 {
     let settled = job_tree(alloc, &job.settings, files, err)?;
     let answer = answer_over(alloc, &job.settings, &job.task, &settled, files, err);
@@ -93,11 +94,15 @@ fn answer_over<F: Files, E: Sink>(
     requires profile { profile_of settled.now ≡ settings.now.profile }
     ensures status { IfOk result (λ answer. answer.status ≤ 1) }
     ensures answer { IfOk result (λ answer. (notices : List (List ℕ)) × ((texts : trees.Files) → AreAccepted texts settings.now.tree.now (tree_of_settled settled.now) → Answer (F.content_of files.old) (settings_view settings.now) texts (task_view task.now) answer.text.items answer.status notices) × TakesLines (E.taken err.old) (E.failures err.old) notices (E.taken err.new) (E.failures err.new)) }
-    ensures stopped { IfErr result (λ stop. (lines : List (List ℕ)) × StopsAmongFiles (F.content_of files.old) (settings_view settings.now).prefix (tree_of_settled settled.now) (paths_of (task_view task.now)) (status_of stop) lines × TakesLines (E.taken err.old) (E.failures err.old) lines (E.taken err.new) (E.failures err.new)) }
+    ensures stopped { IfErr result (λ stop. (lines : List (List ℕ)) × StopsAmongFiles (F.content_of files.old) (settings_view settings.now).format settings.now.strict (tree_of_settled settled.now) (paths_of (task_view task.now)) (status_of stop) lines × TakesLines (E.taken err.old) (E.failures err.old) lines (E.taken err.new) (E.failures err.new)) }
 {
     match task {
-        Task::Over { verb, files: paths } => answer_files(
-            alloc, settings, *verb, paths, settled, files, err,
+        Task::Over {
+            verb,
+            files: paths,
+            exit_code,
+        } => answer_files(
+            alloc, settings, *verb, *exit_code, paths, settled, files, err,
         ),
         Task::Compare { left, right } => {
             answer_comparison(alloc, settings, left, right, settled, files, err)
@@ -110,6 +115,7 @@ fn answer_files<F: Files, E: Sink>(
     alloc: Global,
     settings: &Settings<'_>,
     verb: Verb,
+    exit_code: bool,
     paths: &[&str],
     settled: &Settled,
     files: &mut F,
@@ -117,16 +123,13 @@ fn answer_files<F: Files, E: Sink>(
 ) -> Result<AnswerText, RunError>
     requires profile { profile_of settled.now ≡ settings.now.profile }
     ensures status { IfOk result (λ answer. answer.status ≤ 1) }
-    ensures answer { IfOk result (λ answer. (notices : List (List ℕ)) × ((texts : trees.Files) → AreAccepted texts settings.now.tree.now (tree_of_settled settled.now) → Answer (F.content_of files.old) (settings_view settings.now) texts (over verb (map (λ (path : Bor (List ℕ)). path.now) paths.now)) answer.text.items answer.status notices) × TakesLines (E.taken err.old) (E.failures err.old) notices (E.taken err.new) (E.failures err.new)) }
-    ensures stopped { IfErr result (λ stop. (lines : List (List ℕ)) × StopsAmongFiles (F.content_of files.old) (settings_view settings.now).prefix (tree_of_settled settled.now) (map (λ (path : Bor (List ℕ)). path.now) paths.now) (status_of stop) lines × TakesLines (E.taken err.old) (E.failures err.old) lines (E.taken err.new) (E.failures err.new)) }
+    ensures answer { IfOk result (λ answer. (notices : List (List ℕ)) × ((texts : trees.Files) → AreAccepted texts settings.now.tree.now (tree_of_settled settled.now) → Answer (F.content_of files.old) (settings_view settings.now) texts (over verb (map (λ (path : Bor (List ℕ)). path.now) paths.now) exit_code) answer.text.items answer.status notices) × TakesLines (E.taken err.old) (E.failures err.old) notices (E.taken err.new) (E.failures err.new)) }
+    ensures stopped { IfErr result (λ stop. (lines : List (List ℕ)) × StopsAmongFiles (F.content_of files.old) (settings_view settings.now).format settings.now.strict (tree_of_settled settled.now) (map (λ (path : Bor (List ℕ)). path.now) paths.now) (status_of stop) lines × TakesLines (E.taken err.old) (E.failures err.old) lines (E.taken err.new) (E.failures err.new)) }
 {
-    let config = configured(alloc, settled, &settings.prefix, paths, files, err)?;
-    let text = text_of(alloc, verb, &config, &settings.prefix);
+    let config = configured(alloc, settled, settings, paths, files, err)?;
+    let answer = answer_of(alloc, verb, exit_code, &config, &settings.format);
     drop(config);
-    Ok(AnswerText {
-        text: text?,
-        status: 0,
-    })
+    Ok(answer?)
 }
 
 /// The answer of a comparison of two files, each by itself.
@@ -142,11 +145,11 @@ fn answer_comparison<F: Files, E: Sink>(
     requires profile { profile_of settled.now ≡ settings.now.profile }
     ensures status { IfOk result (λ answer. answer.status ≤ 1) }
     ensures answer { IfOk result (λ answer. (notices : List (List ℕ)) × ((texts : trees.Files) → AreAccepted texts settings.now.tree.now (tree_of_settled settled.now) → Answer (F.content_of files.old) (settings_view settings.now) texts (compare left.now right.now) answer.text.items answer.status notices) × TakesLines (E.taken err.old) (E.failures err.old) notices (E.taken err.new) (E.failures err.new)) }
-    ensures stopped { IfErr result (λ stop. (lines : List (List ℕ)) × StopsAmongFiles (F.content_of files.old) (settings_view settings.now).prefix (tree_of_settled settled.now) (left.now ∷ right.now ∷ []) (status_of stop) lines × TakesLines (E.taken err.old) (E.failures err.old) lines (E.taken err.new) (E.failures err.new)) }
+    ensures stopped { IfErr result (λ stop. (lines : List (List ℕ)) × StopsAmongFiles (F.content_of files.old) (settings_view settings.now).format settings.now.strict (tree_of_settled settled.now) (left.now ∷ right.now ∷ []) (status_of stop) lines × TakesLines (E.taken err.old) (E.failures err.old) lines (E.taken err.new) (E.failures err.new)) }
 {
-    let left = configured_by(alloc, settled, &settings.prefix, left, files, err)?;
-    let right = configured_by(alloc, settled, &settings.prefix, right, files, err)?;
-    let answer = compared(alloc, &left, &right);
+    let left = configured_by(alloc, settled, settings, left, files, err)?;
+    let right = configured_by(alloc, settled, settings, right, files, err)?;
+    let answer = compared(alloc, &left, &right, settings.format.strings);
     drop(right);
     drop(left);
     Ok(answer?)

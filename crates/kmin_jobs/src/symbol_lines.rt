@@ -1,19 +1,16 @@
 //! Lines with the names of symbols and their values.
 ghost use Rattle.std.specs.Prelude.{◌≡◌, ◌++◌, ◌∷◌, [], IfOk, OnOk, map};
 ghost use Rattle.std.specs.List.{flat_map};
-ghost use Rattle.kc_expr.specs.Lookup.{symbol_value_of};
 ghost use Rattle.kc_rules.specs.between.SettledViews.{tree_of_settled};
-ghost use Rattle.kc_minimal_model.specs.Spelling.{spelled};
 ghost use Rattle.kmin_jobs.specs.Answers.{name_line};
 ghost use Rattle.kmin_jobs.specs.Reports.{name_at};
 ghost use Rattle.kmin_jobs.specs.between.Lines.{line_between};
 ghost use Rattle.kc_minimal.specs.declared.differing.Difference.{Difference as ToldDifference};
 
-use kc_expr::Looked;
-use kc_minimal::Difference;
+use kc_dotconfig::Strings;
+use kc_minimal::{Difference, push_spelled};
 use kc_rules::{Settled, UnitValue};
 use kc_tree::{Sym, Tree};
-use kc_value::{Kind, push_escaped};
 use std::alloc::{AllocError, Global};
 
 /// The name of a symbol, empty where there is none of that number.
@@ -53,27 +50,16 @@ pub(crate) fn name_lines(
     Ok(text)
 }
 
-/// Appends a value as a file has it after `=`: that of a string in quotes.
-fn push_spelled(out: &mut Vec<u8>, seen: &Looked<'_>) -> Result<(), AllocError>
-    ensures { OnOk result (out.new.items ≡ out.old.items ++ spelled (symbol_value_of seen.now).kind (symbol_value_of seen.now).text) }
-{
-    match seen.kind {
-        Kind::Text => push_escaped(out, seen.text),
-        Kind::Bool | Kind::Tristate | Kind::Int | Kind::Hex => out.extend_from_slice(
-            seen.text.as_bytes(),
-        ),
-    }
-}
-
-/// Appends `NAME: LEFT -> RIGHT` for a symbol, if there is one of that number.
+/// Appends `NAME: LEFT -> RIGHT` for a symbol, with values as a file has them after `=`, if there is one of that number.
 fn push_difference(
     out: &mut Vec<u8>,
+    strings: Strings,
     settled: &Settled,
     left: &[UnitValue],
     right: &[UnitValue],
     s: Sym,
 ) -> Result<(), AllocError>
-    ensures { OnOk result (out.new.items ≡ out.old.items ++ line_between (tree_of_settled settled.now) left.now right.now s) }
+    ensures { OnOk result (out.new.items ≡ out.old.items ++ line_between strings (tree_of_settled settled.now) left.now right.now s) }
 {
     let tree = settled.tree();
     if s.number() >= tree.symbol_count() {
@@ -81,9 +67,11 @@ fn push_difference(
     }
     out.extend_from_slice(name_of(tree, s).as_bytes())?;
     out.extend_from_slice(b": ")?;
-    push_spelled(out, &settled.value_of_symbol(s, left))?;
+    let seen = settled.value_of_symbol(s, left);
+    push_spelled(out, strings, seen.kind, seen.text)?;
     out.extend_from_slice(b" -> ")?;
-    push_spelled(out, &settled.value_of_symbol(s, right))?;
+    let seen = settled.value_of_symbol(s, right);
+    push_spelled(out, strings, seen.kind, seen.text)?;
     out.push(b'\n')?;
     Ok(())
 }
@@ -91,16 +79,17 @@ fn push_difference(
 /// A line for each difference of two valuations.
 pub(crate) fn difference_lines(
     alloc: Global,
+    strings: Strings,
     settled: &Settled,
     left: &[UnitValue],
     right: &[UnitValue],
     differences: &[Difference],
 ) -> Result<Vec<u8>, AllocError>
-    ensures { IfOk result (λ text. text.items ≡ flat_map (λ (d : ToldDifference). line_between (tree_of_settled settled.now) left.now right.now d.symbol) differences.now) }
+    ensures { IfOk result (λ text. text.items ≡ flat_map (λ (d : ToldDifference). line_between strings (tree_of_settled settled.now) left.now right.now d.symbol) differences.now) }
 {
     let mut text = Vec::new(alloc);
     for difference in differences {
-        push_difference(&mut text, settled, left, right, difference.symbol)?;
+        push_difference(&mut text, strings, settled, left, right, difference.symbol)?;
     }
     Ok(text)
 }

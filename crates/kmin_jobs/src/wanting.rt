@@ -1,5 +1,5 @@
 //! The questions of a tree that have no answer.
-ghost use Rattle.std.specs.Prelude.{◌≡◌, ◌≢◌, ◌≤◌, ◌⊎◌, ◌∷◌, ◌++◌, [], List, ℕ, Ok, Vec, IfOk, IfErr, length};
+ghost use Rattle.std.specs.Prelude.{◌≡◌, ◌≢◌, ◌≤◌, ◌⊎◌, ◌∷◌, ◌++◌, [], List, ℕ, true, Ok, Vec, IfOk, IfErr, length};
 ghost use Rattle.std.specs.declared.alloc.Global.{Global};
 ghost use Rattle.std.specs.List.{flat_map};
 ghost use Rattle.std.specs.Io.KnownBytes.{Appends};
@@ -9,7 +9,8 @@ ghost use Rattle.kc_expansion.specs.Expansions.{questions_of};
 ghost use Rattle.kmin_jobs.specs.FileContents.{known_by};
 ghost use Rattle.kmin_jobs.specs.Reports.{last_lines};
 ghost use Rattle.kmin_jobs.specs.StandardError.{TakesLines};
-ghost use Rattle.kmin_jobs.specs.WantedQuestions.{AreAsked, AsksInPart, StopsWanting, question_line, questions_text, status_of_questions};
+ghost use Rattle.kmin_jobs.specs.WantedQuestions.{AreAsked, AsksInPart, StopsWanting, question_line, questions_text};
+ghost use Rattle.kmin_jobs.specs.Statuses.{status_of_list};
 ghost use Rattle.kmin_jobs.specs.between.RunErrors.{status_of};
 
 use crate::expanded_trees::wanted_below;
@@ -41,7 +42,7 @@ pub fn list_questions<F: Files, O: Sink, E: Sink>(
     ensures accepted_words { result ≢ 2 }
 
     // The files of answers are accepted, just the questions without an answer are written, and no write failed.
-    ensures done { (result ≡ 0) ⊎ (result ≡ 1) → (asked : List (List ℕ)) × AreAsked (known_by (F.content_of files.old) (F.regular_content_of files.old) (F.names_of files.old) (F.variable_of files.old)) (questions_view questions.now) (Ok asked) × (result ≡ status_of_questions asked) × Appends (O.taken out.old) (O.taken out.new) (questions_text asked) × TakesLines (E.taken err.old) (E.failures err.old) [] (E.taken err.new) (E.failures err.new) }
+    ensures done { (result ≡ 0) ⊎ (result ≡ 1) → (asked : List (List ℕ)) × AreAsked (known_by (F.content_of files.old) (F.regular_content_of files.old) (F.names_of files.old) (F.variable_of files.old)) (questions_view questions.now) (Ok asked) × (result ≡ status_of_list true asked) × Appends (O.taken out.old) (O.taken out.new) (questions_text asked) × TakesLines (E.taken err.old) (E.failures err.old) [] (E.taken err.new) (E.failures err.new) }
     ensures unfailed { (result ≡ 0) ⊎ (result ≡ 1) → O.failures out.new ≡ O.failures out.old }
 
     // On every other status the lines of what ended the run are reported.
@@ -69,7 +70,7 @@ fn answer_questions<F: Files, E: Sink>(
     err: &mut E,
 ) -> Result<AnswerText, RunError>
     ensures status { IfOk result (λ answer. answer.status ≤ 1) }
-    ensures answer { IfOk result (λ answer. (asked : List (List ℕ)) × AreAsked (known_by (F.content_of files.old) (F.regular_content_of files.old) (F.names_of files.old) (F.variable_of files.old)) (questions_view questions.now) (Ok asked) × (answer.text.items ≡ questions_text asked) × (answer.status ≡ status_of_questions asked)) }
+    ensures answer { IfOk result (λ answer. (asked : List (List ℕ)) × AreAsked (known_by (F.content_of files.old) (F.regular_content_of files.old) (F.names_of files.old) (F.variable_of files.old)) (questions_view questions.now) (Ok asked) × (answer.text.items ≡ questions_text asked) × (answer.status ≡ status_of_list true asked)) }
     ensures unreported { IfOk result (λ answer. TakesLines (E.taken err.old) (E.failures err.old) [] (E.taken err.new) (E.failures err.new)) }
     ensures stopped { IfErr result (λ stop. (lines : List (List ℕ)) × StopsWanting (known_by (F.content_of files.old) (F.regular_content_of files.old) (F.names_of files.old) (F.variable_of files.old)) (questions_view questions.now) (status_of stop) lines × TakesLines (E.taken err.old) (E.failures err.old) lines (E.taken err.new) (E.failures err.new)) }
 {
@@ -103,7 +104,7 @@ fn wanted_of<F: Files, E: Sink>(
 /// A line for each question, and the status.
 fn lines_of(alloc: Global, asked: &[Vec<u8>]) -> Result<AnswerText, AllocError>
     ensures text { IfOk result (λ answer. answer.text.items ≡ questions_text (items_of asked.now)) }
-    ensures status { IfOk result (λ answer. answer.status ≡ status_of_questions (items_of asked.now)) }
+    ensures status { IfOk result (λ answer. answer.status ≡ status_of_list true (items_of asked.now)) }
 {
     let text = question_lines(alloc, asked)?;
     let status = if asked.is_empty() { 0 } else { 1 };

@@ -8,9 +8,9 @@ use Rattle.kc_rules_model.specs.declared.values.UserValue.{UserValue}
 use Rattle.kc_rules_model.specs.Rule.{rule}
 use Rattle.kc_rules.specs.declared.rules.Settled.{Settled}
 use Rattle.kc_rules.specs.between.SettledViews.{tree_of_settled, profile_of}
-use Rattle.kc_dotconfig_model.specs.declared.prefix.Prefix.{Prefix}
+use Rattle.kc_dotconfig_model.specs.declared.format.Format.{Format}
 use Rattle.kc_dotconfig_model.specs.declared.fault.LoadFault.{LoadFault}
-use Rattle.kc_dotconfig_model.specs.between.Prefixes.{prefix_bytes}
+use Rattle.kc_dotconfig_model.specs.between.Formats.{file_format}
 use Rattle.kc_dotconfig_model.specs.PrefixGrammar.{is_prefix}
 use Rattle.kc_dotconfig_model.proofs.AcceptedLines.{accepted_utf8}
 use Rattle.kc_dotconfig.specs.declared.fragment.Fragment.{Fragment}
@@ -62,7 +62,7 @@ module _ (s : Settings) (a : Disk) (path : List ℕ) (report : FileReport) where
       refused (not_regular_line path) (refusals.not_regular w k o refl) refl refl (lines_of_problem path report ProblemNotRegular n p)
 
   -- a file with a fault
-  pub fault_step : (fault : LoadFault) → MayBeRead s a.state path → IsFaulty s.prefix s.tree (readable (content_at a.state path)) fault.kind fault.line
+  pub fault_step : (fault : LoadFault) → MayBeRead s a.state path → IsFaulty s.format s.tree (readable (content_at a.state path)) fault.kind fault.line
       → IsRefusedAs fault report → Step s a a path [] (report_lines path report) report.outcome
   fault_step fault may faulty r =
       refused (fault_line path fault.line fault.kind) (refused_by s a.state path fault.kind fault.line report.outcome may faulty r.outcome) refl refl
@@ -80,7 +80,7 @@ module _ (s : Settings) (a : Disk) (path : List ℕ) (report : FileReport) where
       ∙ ap (λ ns. notice_lines path (map notice_pair ns) ++ problem_lines path (Some problem)) n
 
   -- a file that is refused for its notices
-  pub notices_step : (bytes : List ℕ) (fragment : Fragment) → IsReadAt s a.state path bytes → IsFragmentOf s.prefix s.tree bytes fragment
+  pub notices_step : (bytes : List ℕ) (fragment : Fragment) → IsReadAt s a.state path bytes → IsFragmentOf s.format s.tree bytes fragment
       → refuses_notices s.options ≡ true → map notice_pair fragment.notices.items ≢ [] → report.notices.items ≡ fragment.notices.items → report.problem ≡ None
       → report.outcome ≡ Refused → Step s a a path [] (report_lines path report) report.outcome
   notices_step bytes fragment read f asked some n p o =
@@ -110,25 +110,25 @@ stops_rewrite s a b path bytes least notices stop m (inr h) =
     inr (record { asked = h.0; bytes = bytes; least = least; notices = notices; differs = record { minimises = m; differs = h.1 } }, h.2)
 
 -- the minimal file of what a fragment gives
-pub has_minimal_file : (settled now : Settled) (prefix : Prefix) (options : TidyOptions) (bytes text : List ℕ) (fragment : Fragment) (users : List (Option UserValue)) (values : List UnitValue)
-    → is_prefix (prefix_bytes prefix) ≡ true → now ≡ settled → IsFragmentOf (prefix_bytes prefix) (tree_of_settled settled) bytes fragment
+pub has_minimal_file : (settled now : Settled) (format : Format) (options : TidyOptions) (bytes text : List ℕ) (fragment : Fragment) (users : List (Option UserValue)) (values : List UnitValue)
+    → is_prefix (file_format format).prefix ≡ true → now ≡ settled → IsFragmentOf (file_format format) (tree_of_settled settled) bytes fragment
     → users ≡ users_of (tree_of_settled settled) fragment.assigns.items
     → UniquelySolves (length (tree_of_settled now).units) (rule (profile_of now) (tree_of_settled now)) users values
-    → IsCanonicalText (prefix_bytes prefix) (profile_of now) (tree_of_settled now) values text
-    → HasMinimalFile (settings_of settled prefix options) bytes text (map notice_pair fragment.notices.items)
-has_minimal_file settled now prefix options bytes text fragment users values valid same f held gives canonical = record {
+    → IsCanonicalText (file_format format) (profile_of now) (tree_of_settled now) values text
+    → HasMinimalFile (settings_of settled format options) bytes text (map notice_pair fragment.notices.items)
+has_minimal_file settled now format options bytes text fragment users values valid same f held gives canonical = record {
   values = values;
   loads = record {
     accepted = f.accepted;
     reads = record {
-      utf8 = accepted_utf8 (prefix_bytes prefix) (tree_of_settled settled) bytes valid f.accepted;
+      utf8 = accepted_utf8 (file_format format) (tree_of_settled settled) bytes valid f.accepted;
       meanings = f.meanings;
       says = f.means;
       gives = subst (λ us. UniquelySolves (length (tree_of_settled settled).units) (rule (profile_of settled) (tree_of_settled settled)) us values) (held ∙ f.users)
           (subst (λ sys. UniquelySolves (length (tree_of_settled sys).units) (rule (profile_of sys) (tree_of_settled sys)) users values) same gives);
     };
   };
-  canonical = subst (λ sys. IsCanonicalText (prefix_bytes prefix) (profile_of sys) (tree_of_settled sys) values text) same canonical;
+  canonical = subst (λ sys. IsCanonicalText (file_format format) (profile_of sys) (tree_of_settled sys) values text) same canonical;
   notices_are = f.noted;
 }
 

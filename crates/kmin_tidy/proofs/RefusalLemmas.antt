@@ -23,7 +23,7 @@ IsOutcomeOf kind outcome = ((kind ≡ Read) × (outcome ≡ Failed)) ⊎ ((kind 
 
 module _ (s : Settings) (disk : DiskState) (path : List ℕ) (kind : LoadKind) (number : ℕ) (outcome : FileOutcome) where
   -- a file with a fault is refused with its line
-  pub refused_by : MayBeRead s disk path → IsFaulty s.prefix s.tree (readable (content_at disk path)) kind number → IsOutcomeOf kind outcome
+  pub refused_by : MayBeRead s disk path → IsFaulty s.format s.tree (readable (content_at disk path)) kind number → IsOutcomeOf kind outcome
       → IsRefused s disk path outcome (fault_line path number kind)
   refused_by may (refused bytes known other first) (inl is) = absurd (other is.0)
   refused_by may (refused bytes known other first) (inr is) = refusals.faulty bytes kind number (record { may = may; bytes_are = known }) first is.2 refl

@@ -31,21 +31,21 @@ pub record IsReadAt (s : Settings) (disk : DiskState) (path bytes : List ℕ) : 
 
 -- Bytes are an accepted file with these notices of its lines.
 pub record HasNotices (s : Settings) (bytes : List ℕ) (notices : Notices) : Type 0 where
-  pub accepted : IsAccepted s.prefix s.tree bytes
+  pub accepted : IsAccepted s.format s.tree bytes
   pub meanings : List LineMeaning
-  pub means : FileMeans s.prefix s.tree bytes meanings
+  pub means : FileMeans s.format s.tree bytes meanings
   pub notices_are : notices ≡ notices_from 1 meanings
 
 -- Bytes are an accepted file with these notices of its lines. It gives values, of which this is the minimal file.
 pub record HasMinimalFile (s : Settings) (bytes least : List ℕ) (notices : Notices) : Type 0 where
   pub values : List UnitValue
-  pub loads : Loads s.prefix s.profile s.tree bytes values
-  pub canonical : IsCanonicalText s.prefix s.profile s.tree values least
+  pub loads : Loads s.format s.profile s.tree bytes values
+  pub canonical : IsCanonicalText s.format s.profile s.tree values least
   pub notices_are : notices ≡ notices_from 1 loads.reads.meanings
 
 -- bytes are the minimal file of some values
 abbrev pub IsMinimalFile : Settings → (bytes : List ℕ) → Type 0
-IsMinimalFile s bytes = (values : List UnitValue) × IsCanonicalText s.prefix s.profile s.tree values bytes
+IsMinimalFile s bytes = (values : List UnitValue) × IsCanonicalText s.format s.profile s.tree values bytes
 
 -- The file at a path is accepted with these notices, and not refused for them, and has this minimal file.
 pub record Minimises (s : Settings) (disk : DiskState) (path bytes least : List ℕ) (notices : Notices) : Type 0 where

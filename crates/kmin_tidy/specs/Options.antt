@@ -2,24 +2,25 @@
 use Rattle.std.specs.Prelude.{◌≡◌, ℕ, Bool, true, not, ◌&&◌, ◌||◌, List, []}
 use Rattle.kc_tree_model.specs.Trees.{Tree}
 use Rattle.kc_rules_model.specs.declared.profile.Profile.{Profile}
+use Rattle.kc_dotconfig_model.specs.Formats.{FileFormat}
 use Rattle.kc_dotconfig_model.specs.declared.notice.NoticeKind.{NoticeKind}
 use Rattle.kc_rules.specs.declared.rules.Settled.{Settled}
 use Rattle.kc_rules.specs.between.SettledViews.{tree_of_settled, profile_of}
-use Rattle.kc_dotconfig_model.specs.declared.prefix.Prefix.{Prefix}
-use Rattle.kc_dotconfig_model.specs.between.Prefixes.{prefix_bytes}
+use Rattle.kc_dotconfig_model.specs.declared.format.Format.{Format}
+use Rattle.kc_dotconfig_model.specs.between.Formats.{file_format}
 use Rattle.kmin_tidy.specs.declared.options.TidyOptions.{TidyOptions}
 
--- the tree with the profile of its rules, the prefix of names, and the options
+-- the tree with the profile of its rules, how files are spelled, and the options
 pub record Settings : Type 0 where
-  pub prefix : List ℕ
+  pub format : FileFormat
   pub profile : Profile
   pub tree : Tree
   pub options : TidyOptions
 
 -- those of a settled tree
-abbrev pub settings_of : Settled → Prefix → TidyOptions → Settings
-settings_of settled prefix options = record {
-  prefix = prefix_bytes prefix;
+abbrev pub settings_of : Settled → Format → TidyOptions → Settings
+settings_of settled format options = record {
+  format = file_format format;
   profile = profile_of settled;
   tree = tree_of_settled settled;
   options = options;

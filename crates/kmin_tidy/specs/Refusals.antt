@@ -16,10 +16,10 @@ use Rattle.kmin_tidy.specs.declared.outcome.FileOutcome.TheVariants.{Refused, Fa
 -- opened, or where files are replaced since it is no regular file.
 pub data IsRefused (s : Settings) (disk : DiskState) (path : List ℕ) (outcome : FileOutcome) (line : List ℕ) : Type 0 where
   faulty : (bytes : List ℕ) (kind : LoadKind) (number : ℕ) → IsReadAt s disk path bytes
-      → IsFirstFault s.prefix s.tree complete bytes kind number → outcome ≡ Refused → line ≡ fault_line path number kind
+      → IsFirstFault s.format s.tree complete bytes kind number → outcome ≡ Refused → line ≡ fault_line path number kind
       → IsRefused s disk path outcome line
   unread : (front rest : List ℕ) (number : ℕ) → IsReadAt s disk path (front ++ rest)
-      → IsFirstFault s.prefix s.tree cut_short front Read number → outcome ≡ Failed → line ≡ fault_line path number Read
+      → IsFirstFault s.format s.tree cut_short front Read number → outcome ≡ Failed → line ≡ fault_line path number Read
       → IsRefused s disk path outcome line
   unopened : MayBeRead s disk path → OpensAs (readable (content_at disk path)) None → outcome ≡ Failed → line ≡ fault_line path 0 Read
       → IsRefused s disk path outcome line

@@ -1,6 +1,6 @@
 //! What becomes of one file.
 ghost use Rattle.std.specs.Prelude.{◌≡◌, ◌≢◌, ◌++◌, [], ℕ, List, map, true, false, Some, None, IfOk, IfErr, OnOk};
-ghost use Rattle.kc_dotconfig_model.specs.between.Prefixes.{prefix_bytes};
+ghost use Rattle.kc_dotconfig_model.specs.between.Formats.{file_format};
 ghost use Rattle.kc_dotconfig.specs.Configured.{tree_in};
 ghost use Rattle.kc_dotconfig.specs.Fragments.{FitsTree, notice_pair};
 ghost use Rattle.kmin_disk.specs.Contents.{IsOfKind, readable, special};
@@ -20,7 +20,7 @@ use crate::outcome::FileOutcome;
 use crate::reading::{AcceptedFile, read_file};
 use crate::report::{FileReport, Problem};
 use crate::stop::Stop;
-use kc_dotconfig::{Config, Fragment, LoadFault, LoadKind, Notice, Prefix};
+use kc_dotconfig::{Config, Format, Fragment, LoadFault, LoadKind, Notice};
 use kc_minimal::minimal_text;
 use kmin_disk::{FileKind, ReadDisk, ReplaceFault, WriteDisk, replace};
 use std::alloc::{AllocError, Global};
@@ -30,7 +30,7 @@ use std::alloc::{AllocError, Global};
 pub(crate) fn tidy_file<D: WriteDisk>(
     alloc: Global,
     config: &mut Config<'_>,
-    prefix: &Prefix,
+    format: &Format,
     options: TidyOptions,
     path: &str,
     disk: &mut D,
@@ -38,16 +38,16 @@ pub(crate) fn tidy_file<D: WriteDisk>(
 ) -> Result<FileReport, Stop>
     ensures settled { config.new.system ≡ config.old.system }
     ensures step { IfOk result (λ report. (line : List ℕ) × (text.new.items ≡ text.old.items ++ line)
-        × Step (settings_of config.old.system prefix.now options) (disk_of (D.state disk.old) (D.failures disk.old))
+        × Step (settings_of config.old.system format.now options) (disk_of (D.state disk.old) (D.failures disk.old))
         (disk_of (D.state disk.new) (D.failures disk.new)) path.now line (report_lines path.now report) report.outcome) }
-    ensures stopped { IfErr result (StopsFile (settings_of config.old.system prefix.now options) (disk_of (D.state disk.old) (D.failures disk.old))
+    ensures stopped { IfErr result (StopsFile (settings_of config.old.system format.now options) (disk_of (D.state disk.old) (D.failures disk.old))
         (disk_of (D.state disk.new) (D.failures disk.new)) path.now) }
 {
     if is_refused_unread(options, path, disk) {
         return Ok(report_of_problem(alloc, Problem::NotRegular, FileOutcome::Failed));
     }
-    match read_file(alloc, config.settled(), prefix, path, disk) {
-        Ok(file) => tidy_accepted(alloc, config, prefix, options, path, file, disk, text),
+    match read_file(alloc, config.settled(), format, path, disk) {
+        Ok(file) => tidy_accepted(alloc, config, format, options, path, file, disk, text),
         Err(fault) => report_fault(alloc, fault),
     }
 }
@@ -104,20 +104,20 @@ fn report_fault(alloc: Global, fault: LoadFault) -> Result<FileReport, Stop>
 fn tidy_accepted<D: WriteDisk>(
     alloc: Global,
     config: &mut Config<'_>,
-    prefix: &Prefix,
+    format: &Format,
     options: TidyOptions,
     path: &str,
     file: AcceptedFile,
     disk: &mut D,
     text: &mut Vec<u8>,
 ) -> Result<FileReport, Stop>
-    requires may { MayBeRead (settings_of config.old.system prefix.now options) (D.state disk.old) path.now }
-    requires accepted { IsAcceptedAs (prefix_bytes prefix.now) (tree_in config.old) (readable (content_at (D.state disk.old) path.now)) file }
+    requires may { MayBeRead (settings_of config.old.system format.now options) (D.state disk.old) path.now }
+    requires accepted { IsAcceptedAs (file_format format.now) (tree_in config.old) (readable (content_at (D.state disk.old) path.now)) file }
     ensures settled { config.new.system ≡ config.old.system }
     ensures step { IfOk result (λ report. (line : List ℕ) × (text.new.items ≡ text.old.items ++ line)
-        × Step (settings_of config.old.system prefix.now options) (disk_of (D.state disk.old) (D.failures disk.old))
+        × Step (settings_of config.old.system format.now options) (disk_of (D.state disk.old) (D.failures disk.old))
         (disk_of (D.state disk.new) (D.failures disk.new)) path.now line (report_lines path.now report) report.outcome) }
-    ensures stopped { IfErr result (StopsFile (settings_of config.old.system prefix.now options) (disk_of (D.state disk.old) (D.failures disk.old))
+    ensures stopped { IfErr result (StopsFile (settings_of config.old.system format.now options) (disk_of (D.state disk.old) (D.failures disk.old))
         (disk_of (D.state disk.new) (D.failures disk.new)) path.now) }
 {
     let AcceptedFile { bytes, fragment } = file;
@@ -125,7 +125,7 @@ fn tidy_accepted<D: WriteDisk>(
         return Ok(report_of_notices(fragment));
     }
     let end = tidy_allowed(
-        alloc, config, prefix, options, path, &bytes, &fragment, disk, text,
+        alloc, config, format, options, path, &bytes, &fragment, disk, text,
     )?;
     Ok(report_of_end(fragment, end))
 }
@@ -134,7 +134,7 @@ fn tidy_accepted<D: WriteDisk>(
 fn tidy_allowed<D: WriteDisk>(
     alloc: Global,
     config: &mut Config<'_>,
-    prefix: &Prefix,
+    format: &Format,
     options: TidyOptions,
     path: &str,
     bytes: &[u8],
@@ -142,18 +142,18 @@ fn tidy_allowed<D: WriteDisk>(
     disk: &mut D,
     text: &mut Vec<u8>,
 ) -> Result<FileEnd, Stop>
-    requires read { IsReadAt (settings_of config.old.system prefix.now options) (D.state disk.old) path.now bytes.now }
-    requires fragment { IsFragmentOf (prefix_bytes prefix.now) (tree_in config.old) bytes.now fragment.now }
+    requires read { IsReadAt (settings_of config.old.system format.now options) (D.state disk.old) path.now bytes.now }
+    requires fragment { IsFragmentOf (file_format format.now) (tree_in config.old) bytes.now fragment.now }
     requires allowed { Allows options (map notice_pair fragment.now.notices.items) }
     ensures settled { config.new.system ≡ config.old.system }
     ensures rewritten { IfOk result (λ end. (line : List ℕ) × (text.new.items ≡ text.old.items ++ line) × (least : List ℕ)
-        × Minimises (settings_of config.old.system prefix.now options) (D.state disk.old) path.now bytes.now least
+        × Minimises (settings_of config.old.system format.now options) (D.state disk.old) path.now bytes.now least
         (map notice_pair fragment.now.notices.items) × IsRewritten options.write (disk_of (D.state disk.old) (D.failures disk.old))
         (disk_of (D.state disk.new) (D.failures disk.new)) path.now bytes.now least line end) }
-    ensures stopped { IfErr result (StopsFile (settings_of config.old.system prefix.now options) (disk_of (D.state disk.old) (D.failures disk.old))
+    ensures stopped { IfErr result (StopsFile (settings_of config.old.system format.now options) (disk_of (D.state disk.old) (D.failures disk.old))
         (disk_of (D.state disk.new) (D.failures disk.new)) path.now) }
 {
-    let least = minimal_of(alloc, config, prefix, fragment)?;
+    let least = minimal_of(alloc, config, format, fragment)?;
     rewrite(alloc, options, path, bytes, &least, disk, text)
 }
 
@@ -209,17 +209,17 @@ fn report_of_end(fragment: Fragment, end: FileEnd) -> FileReport
 fn minimal_of(
     alloc: Global,
     config: &mut Config<'_>,
-    prefix: &Prefix,
+    format: &Format,
     fragment: &Fragment,
 ) -> Result<Vec<u8>, AllocError>
     requires { FitsTree (tree_in config.old) fragment.now.assigns.items }
     ensures settled { config.new.system ≡ config.old.system }
     ensures minimal { IfOk result (λ least. (options : TidyOptions) (bytes : List ℕ)
-        → IsFragmentOf (prefix_bytes prefix.now) (tree_in config.old) bytes fragment.now
-        → HasMinimalFile (settings_of config.old.system prefix.now options) bytes least.items (map notice_pair fragment.now.notices.items)) }
+        → IsFragmentOf (file_format format.now) (tree_in config.old) bytes fragment.now
+        → HasMinimalFile (settings_of config.old.system format.now options) bytes least.items (map notice_pair fragment.now.notices.items)) }
 {
     config.replace(fragment)?;
-    minimal_text(alloc, config, prefix)
+    minimal_text(alloc, config, format)
 }
 
 /// Goes over a file of these bytes, which has this minimal file.

@@ -14,7 +14,7 @@ use crate::options::TidyOptions;
 use crate::report::{report_output, report_stop};
 use crate::stop::Stop;
 use crate::whole_run::{Tidied, tidy_all};
-use kc_dotconfig::Prefix;
+use kc_dotconfig::Format;
 use kc_minimal::write_out;
 use kc_rules::Settled;
 use kc_value::Sink;
@@ -38,47 +38,47 @@ use std::alloc::Global;
 pub fn tidy_files<D: WriteDisk, O: Sink, E: Sink>(
     alloc: Global,
     settled: &Settled,
-    prefix: &Prefix,
+    format: &Format,
     options: TidyOptions,
     paths: &[&str],
     disk: &mut D,
     out: &mut O,
     err: &mut E,
 ) -> u8
-    ensures ends { (reports : List (List ℕ)) × Ends (settings_of settled.now prefix.now options) (disk_of (D.state disk.old) (D.failures disk.old))
+    ensures ends { (reports : List (List ℕ)) × Ends (settings_of settled.now format.now options) (disk_of (D.state disk.old) (D.failures disk.old))
         (disk_of (D.state disk.new) (D.failures disk.new)) (paths_of paths.now) (O.taken out.old) (O.taken out.new) (O.failures out.old)
         (O.failures out.new) reports result × TakesLines (E.taken err.old) (E.failures err.old) reports (E.taken err.new) (E.failures err.new) }
 
     // However the run ends, each place is as before or has just its minimal file more, or a new file is left there.
-    ensures became { (place : List ℕ) → Became (settings_of settled.now prefix.now options) ((D.state disk.old).history place)
+    ensures became { (place : List ℕ) → Became (settings_of settled.now format.now options) ((D.state disk.old).history place)
         ((D.state disk.new).history place) }
 
     ensures unasked { options.write ≡ false → D.state disk.new ≡ D.state disk.old }
 
     // A second run replaces nothing, and has no line.
-    ensures again { AreTidy (settings_of settled.now prefix.now options) (D.state disk.old) (paths_of paths.now) → D.state disk.new ≡ D.state disk.old }
-    ensures silent { AreTidy (settings_of settled.now prefix.now options) (D.state disk.old) (paths_of paths.now)
+    ensures again { AreTidy (settings_of settled.now format.now options) (D.state disk.old) (paths_of paths.now) → D.state disk.new ≡ D.state disk.old }
+    ensures silent { AreTidy (settings_of settled.now format.now options) (D.state disk.old) (paths_of paths.now)
         → Appends (O.taken out.old) (O.taken out.new) [] }
 {
-    run_to_end(alloc, settled, prefix, options, paths, disk, out, err)
+    run_to_end(alloc, settled, format, options, paths, disk, out, err)
 }
 
 /// The same, without what follows from it.
 fn run_to_end<D: WriteDisk, O: Sink, E: Sink>(
     alloc: Global,
     settled: &Settled,
-    prefix: &Prefix,
+    format: &Format,
     options: TidyOptions,
     paths: &[&str],
     disk: &mut D,
     out: &mut O,
     err: &mut E,
 ) -> u8
-    ensures { (reports : List (List ℕ)) × Ends (settings_of settled.now prefix.now options) (disk_of (D.state disk.old) (D.failures disk.old))
+    ensures { (reports : List (List ℕ)) × Ends (settings_of settled.now format.now options) (disk_of (D.state disk.old) (D.failures disk.old))
         (disk_of (D.state disk.new) (D.failures disk.new)) (paths_of paths.now) (O.taken out.old) (O.taken out.new) (O.failures out.old)
         (O.failures out.new) reports result × TakesLines (E.taken err.old) (E.failures err.old) reports (E.taken err.new) (E.failures err.new) }
 {
-    match tidy_all(alloc, settled, prefix, options, paths, disk, err) {
+    match tidy_all(alloc, settled, format, options, paths, disk, err) {
         Ok(tidied) => write_text(&tidied, out, err),
         Err(stop) => end_early(&stop, err),
     }

@@ -10,7 +10,7 @@ use crate::file_step::tidy_file;
 use crate::options::TidyOptions;
 use crate::report::report_file;
 use crate::stop::Stop;
-use kc_dotconfig::{Config, Prefix};
+use kc_dotconfig::{Config, Format};
 use kc_rules::Settled;
 use kc_value::Sink;
 use kmin_disk::WriteDisk;
@@ -27,46 +27,46 @@ pub(crate) struct Tidied {
 pub(crate) fn tidy_all<D: WriteDisk, E: Sink>(
     alloc: Global,
     settled: &Settled,
-    prefix: &Prefix,
+    format: &Format,
     options: TidyOptions,
     paths: &[&str],
     disk: &mut D,
     err: &mut E,
 ) -> Result<Tidied, Stop>
-    ensures run { IfOk result (λ tidied. (reports : List (List ℕ)) × Tidies (settings_of settled.now prefix.now options)
+    ensures run { IfOk result (λ tidied. (reports : List (List ℕ)) × Tidies (settings_of settled.now format.now options)
         (disk_of (D.state disk.old) (D.failures disk.old)) (disk_of (D.state disk.new) (D.failures disk.new))
         (paths_of paths.now) tidied.text.items reports tidied.status × TakesLines (E.taken err.old) (E.failures err.old) reports (E.taken err.new)
         (E.failures err.new)) }
-    ensures stopped { IfErr result (λ stop. (reports : List (List ℕ)) × StopsRun (settings_of settled.now prefix.now options)
+    ensures stopped { IfErr result (λ stop. (reports : List (List ℕ)) × StopsRun (settings_of settled.now format.now options)
         (disk_of (D.state disk.old) (D.failures disk.old)) (disk_of (D.state disk.new) (D.failures disk.new)) (paths_of paths.now) reports stop
         × TakesLines (E.taken err.old) (E.failures err.old) reports (E.taken err.new) (E.failures err.new)) }
 {
     let mut config = Config::new(alloc, settled)?;
-    tidy_each(alloc, &mut config, prefix, options, paths, disk, err)
+    tidy_each(alloc, &mut config, format, options, paths, disk, err)
 }
 
 /// Goes over files by one configuration, which holds the values of one file after another.
 fn tidy_each<D: WriteDisk, E: Sink>(
     alloc: Global,
     config: &mut Config<'_>,
-    prefix: &Prefix,
+    format: &Format,
     options: TidyOptions,
     paths: &[&str],
     disk: &mut D,
     err: &mut E,
 ) -> Result<Tidied, Stop>
-    ensures run { IfOk result (λ tidied. (reports : List (List ℕ)) × Tidies (settings_of config.old.system prefix.now options)
+    ensures run { IfOk result (λ tidied. (reports : List (List ℕ)) × Tidies (settings_of config.old.system format.now options)
         (disk_of (D.state disk.old) (D.failures disk.old)) (disk_of (D.state disk.new) (D.failures disk.new))
         (paths_of paths.now) tidied.text.items reports tidied.status × TakesLines (E.taken err.old) (E.failures err.old) reports (E.taken err.new)
         (E.failures err.new)) }
-    ensures stopped { IfErr result (λ stop. (reports : List (List ℕ)) × StopsRun (settings_of config.old.system prefix.now options)
+    ensures stopped { IfErr result (λ stop. (reports : List (List ℕ)) × StopsRun (settings_of config.old.system format.now options)
         (disk_of (D.state disk.old) (D.failures disk.old)) (disk_of (D.state disk.new) (D.failures disk.new)) (paths_of paths.now) reports stop
         × TakesLines (E.taken err.old) (E.failures err.old) reports (E.taken err.new) (E.failures err.new)) }
 {
     let mut text = Vec::new(alloc);
     let mut status = 0;
     for path in paths {
-        let report = tidy_file(alloc, config, prefix, options, path, disk, &mut text)?;
+        let report = tidy_file(alloc, config, format, options, path, disk, &mut text)?;
         report_file(path, &report, err);
         status = report.outcome.status_after(status);
     }

@@ -1,2 +1,3 @@
 pub mod FoundWords
 pub mod Lists
+pub mod Refusing

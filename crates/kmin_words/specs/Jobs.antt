@@ -1,13 +1,17 @@
 -- Jobs, as contracts see them.
-use Rattle.std.specs.Prelude.{ℕ, List, [], ◌∷◌, Option, map, option_map}
+use Rattle.std.specs.Prelude.{ℕ, Bool, List, [], ◌∷◌, Option, map, option_map}
 use Rattle.std.specs.Borrow.{Bor}
 use Rattle.kc_expr.specs.declared.language.Language.{Language}
 use Rattle.kc_rules_model.specs.declared.profile.Profile.{Profile}
-use Rattle.kc_dotconfig_model.specs.between.Prefixes.{prefix_bytes}
+use Rattle.kc_dotconfig_model.specs.Formats.{FileFormat}
+use Rattle.kc_dotconfig_model.specs.between.Formats.{file_format}
 use Rattle.kmin_words.specs.declared.job.Verb.{Verb}
 use Rattle.kmin_words.specs.declared.job.Definition.{Definition as DeclaredDefinition}
 use Rattle.kmin_words.specs.declared.job.Expansion.{Expansion as DeclaredExpansion}
 use Rattle.kmin_words.specs.declared.job.Settings.{Settings as DeclaredSettings}
+use Rattle.kmin_words.specs.declared.job.TidyFlags.{TidyFlags}
+use Rattle.kmin_words.specs.declared.job.PathList.{PathList as DeclaredPathList}
+use Rattle.kmin_words.specs.declared.job.Tidying.{Tidying as DeclaredTidying}
 use Rattle.kmin_words.specs.declared.job.Questions.{Questions as DeclaredQuestions}
 use Rattle.kmin_words.specs.declared.job.Task.{Task as DeclaredTask}
 use Rattle.kmin_words.specs.declared.job.Task.TheVariants.{Over, Compare}
@@ -23,14 +27,28 @@ pub record Expansion : Type 0 where
   pub definitions : List Definition
   pub environment : List (List ℕ)
 
--- the options: the folder of the tree, the path of its first file there, the language of its files, the prefix of names, the profile, and the answers where the tree is expanded
+-- the options: the folder of the tree, the path of its first file there, the language of its files, how configuration files are spelled, the profile, whether
+-- a configuration file with a notice is refused, and the answers where the tree is expanded
 pub record Settings : Type 0 where
   pub root : List ℕ
   pub tree : List ℕ
   pub language : Language
-  pub prefix : List ℕ
+  pub format : FileFormat
   pub profile : Profile
+  pub strict : Bool
   pub expansion : Option Expansion
+
+-- a file that lists paths: its own path, and whether each path in it ends with the byte 0, and else with a newline
+pub record PathList : Type 0 where
+  pub path : List ℕ
+  pub ended_by_nul : Bool
+
+-- the files that are each compared with their minimal file or replaced by it: the options, what is done with them, the list of further paths, and the files, in order
+pub record Tidying : Type 0 where
+  pub settings : Settings
+  pub flags : TidyFlags
+  pub list : Option PathList
+  pub files : List (List ℕ)
 
 -- the questions of a tree: the folder of the tree, the path of its first file there, and the answers that are known
 pub record Questions : Type 0 where
@@ -38,9 +56,10 @@ pub record Questions : Type 0 where
   pub tree : List ℕ
   pub expansion : Expansion
 
--- a command: a text of the configuration of some files, each over those before it, or the differences of two files
+-- a command: a text of the configuration of some files, each over those before it, and whether the status says that it lists a
+-- symbol; or the differences of two files
 pub data Task : Type 0 where
-  over : Verb → (paths : List (List ℕ)) → Task
+  over : Verb → (paths : List (List ℕ)) → (exit_code : Bool) → Task
   compare : (left right : List ℕ) → Task
 
 -- a name with its value
@@ -61,9 +80,23 @@ settings_view s = record {
   root = s.root.now;
   tree = s.tree.now;
   language = s.language;
-  prefix = prefix_bytes s.prefix;
+  format = file_format s.format;
   profile = s.profile;
+  strict = s.strict;
   expansion = option_map expansion_view s.expansion;
+}
+
+-- a list of paths
+abbrev pub list_view : DeclaredPathList → PathList
+list_view l = record { path = l.path.now; ended_by_nul = l.ended_by_nul }
+
+-- the files that are each compared or replaced
+abbrev pub tidying_view : DeclaredTidying → Tidying
+tidying_view t = record {
+  settings = settings_view t.settings;
+  flags = t.flags;
+  list = option_map list_view t.list;
+  files = map (λ (path : Bor (List ℕ)). path.now) t.files.items;
 }
 
 -- the questions of a tree
@@ -72,10 +105,10 @@ questions_view q = record { root = q.root.now; tree = q.tree.now; expansion = ex
 
 -- the command of a job
 abbrev pub task_view : DeclaredTask → Task
-task_view (Over verb files) = over verb (map (λ (path : Bor (List ℕ)). path.now) files.items)
+task_view (Over verb files exit_code) = over verb (map (λ (path : Bor (List ℕ)). path.now) files.items) exit_code
 task_view (Compare left right) = compare left.now right.now
 
 -- the configuration files of a command, in the order in which they are read
 abbrev pub paths_of : Task → List (List ℕ)
-paths_of (over verb paths) = paths
+paths_of (over verb paths exit_code) = paths
 paths_of (compare left right) = left ∷ right ∷ []

@@ -1,5 +1,6 @@
 //! The commands as `clap` reads them.
 use crate::help_texts;
+use crate::messages::{self, message_tables};
 use clap::{Arg, ArgAction, Command};
 use std::alloc::{AllocError, Global};
 
@@ -11,8 +12,8 @@ struct CommandHelp {
     after: &'static str,
 }
 
-/// The commands over any number of files.
-static OVER_FILES: [CommandHelp; 4] = [
+/// The commands over any number of files that write a file.
+static WRITING: [CommandHelp; 2] = [
     CommandHelp {
         name: "min",
         about: help_texts::MIN,
@@ -25,6 +26,10 @@ static OVER_FILES: [CommandHelp; 4] = [
         long: help_texts::FULL_LONG,
         after: help_texts::FULL_AFTER,
     },
+];
+
+/// The commands over any number of files that list symbols.
+static LISTING: [CommandHelp; 2] = [
     CommandHelp {
         name: "missed",
         about: help_texts::MISSED,
@@ -45,6 +50,14 @@ static COMPARE: CommandHelp = CommandHelp {
     about: help_texts::COMPARE,
     long: help_texts::COMPARE_LONG,
     after: help_texts::COMPARE_AFTER,
+};
+
+/// The command over files, each by itself.
+static TIDY: CommandHelp = CommandHelp {
+    name: "tidy",
+    about: help_texts::TIDY,
+    long: help_texts::TIDY_LONG,
+    after: help_texts::TIDY_AFTER,
 };
 
 /// The command over a tree alone.
@@ -95,6 +108,17 @@ static IMPLY: OptionHelp = OptionHelp {
     help: help_texts::IMPLY,
 };
 
+/// The option for the form of strings, which takes one of few values.
+static STRINGS: OptionHelp = OptionHelp {
+    name: "strings",
+    value: "FORM",
+    default: "escaped",
+    help: help_texts::STRINGS,
+};
+
+/// The values of `--strings`.
+static FORMS: [&str; 2] = ["escaped", "raw"];
+
 /// The values of `--imply`.
 static PROFILES: [&str; 2] = ["present", "classic"];
 
@@ -130,11 +154,41 @@ static ANSWERS: [ListHelp; 3] = [
 /// The program with all its commands.
 pub(crate) fn program<'a>(alloc: Global) -> Result<Command<'a>, AllocError> {
     let mut program = named(alloc)?;
-    for help in &OVER_FILES {
+    for help in &WRITING {
         program = with_command(program, over_files(alloc, help))?;
     }
+    for help in &LISTING {
+        program = with_command(program, listing(alloc, help))?;
+    }
     program = with_command(program, over_two_files(alloc, &COMPARE))?;
+    program = with_command(program, over_each_file(alloc, &TIDY))?;
     with_command(program, over_a_tree(alloc, &WANTS))
+}
+
+/// The names of all commands.
+pub(crate) fn command_names(alloc: Global) -> Result<Vec<&'static str>, AllocError> {
+    let mut names = Vec::new(alloc);
+    for help in &WRITING {
+        names.push(help.name)?;
+    }
+    for help in &LISTING {
+        names.push(help.name)?;
+    }
+    for name in [COMPARE.name, TIDY.name, WANTS.name, "help"] {
+        names.push(name)?;
+    }
+    Ok(names)
+}
+
+/// What `help` explains: the names of all commands, and the kinds of messages.
+pub(crate) fn explained_names(alloc: Global) -> Result<Vec<&'static str>, AllocError> {
+    let mut names = command_names(alloc)?;
+    for table in message_tables() {
+        for row in table.rows {
+            names.push(row.kind)?;
+        }
+    }
+    Ok(names)
 }
 
 /// A program with a command more, once that is made.
@@ -149,7 +203,6 @@ fn with_command<'a>(
 fn named<'a>(alloc: Global) -> Result<Command<'a>, AllocError> {
     let program = Command::new(alloc, "kmin")
         .no_binary_name(true)
-        .propagate_version(true)
         .subcommand_required(true);
     helped(program).bin_name("kmin")
 }
@@ -159,14 +212,32 @@ fn helped(program: Command<'_>) -> Command<'_> {
     program
         .version(help_texts::VERSION)
         .about(help_texts::ABOUT)
-        .after_help(help_texts::AFTER)
-        .after_long_help(help_texts::AFTER_LONG)
+        .after_help(messages::AFTER)
+        .after_long_help(messages::AFTER_LONG)
         .override_usage(help_texts::USAGE)
 }
 
 /// A command over any number of files.
 fn over_files<'a>(alloc: Global, help: &CommandHelp) -> Result<Command<'a>, AllocError> {
-    with_options(alloc, help)?.arg(any_number(alloc, "FILE", help_texts::FILES))
+    let command = with_output(alloc, help, with_options(alloc, help)?)?;
+    command.arg(any_number(alloc, "FILE", help_texts::FILES))
+}
+
+/// A command with the option for the file that takes the answer, if it is one that writes a configuration file.
+fn with_output<'a>(
+    alloc: Global,
+    help: &CommandHelp,
+    command: Command<'a>,
+) -> Result<Command<'a>, AllocError> {
+    match help.name {
+        "min" | "full" => command.arg(output(alloc)),
+        _ => Ok(command),
+    }
+}
+
+/// A command over any number of files whose status may say whether it lists anything.
+fn listing<'a>(alloc: Global, help: &CommandHelp) -> Result<Command<'a>, AllocError> {
+    over_files(alloc, help)?.arg(flag(alloc, "exit-code", help_texts::EXIT_CODE))
 }
 
 /// A word that may be given any number of times.
@@ -182,6 +253,24 @@ fn over_two_files<'a>(alloc: Global, help: &CommandHelp) -> Result<Command<'a>, 
     let command = with_options(alloc, help)?;
     let command = command.arg(required(alloc, "LEFT", help_texts::LEFT))?;
     command.arg(required(alloc, "RIGHT", help_texts::RIGHT))
+}
+
+/// A command over files, each by itself, some of which have to be named.
+fn over_each_file<'a>(alloc: Global, help: &CommandHelp) -> Result<Command<'a>, AllocError> {
+    let command = with_tidy_flags(alloc, with_options(alloc, help)?)?;
+    let from = valued(alloc, "from", "LIST", help_texts::FROM);
+    let command = command.arg(from)?;
+    let nul = Arg::new(alloc, "z").short('z').action(ArgAction::SetTrue);
+    let command = command.arg(nul.help(help_texts::NUL).requires_arg("from")?)?;
+    let files = any_number(alloc, "FILE", help_texts::EACH_FILE);
+    command.arg(files.required_unless_present("from")?)
+}
+
+/// A command with the flags that say what is done with files.
+fn with_tidy_flags<'a>(alloc: Global, command: Command<'a>) -> Result<Command<'a>, AllocError> {
+    let command = command.arg(flag(alloc, "write", help_texts::WRITE))?;
+    let drop = flag(alloc, "drop", help_texts::DROP).requires_arg("write")?;
+    command.arg(drop.conflicts_with("strict")?)
 }
 
 /// A word that has to be given.
@@ -200,7 +289,9 @@ fn with_options<'a>(alloc: Global, help: &CommandHelp) -> Result<Command<'a>, Al
     let command = with_place(alloc, described(alloc, help))?;
     let command = command.arg(language(alloc))?;
     let command = command.arg(option(alloc, &PREFIX))?;
+    let command = command.arg(strings(alloc))?;
     let command = command.arg(imply(alloc))?;
+    let command = command.arg(flag(alloc, "strict", help_texts::STRICT))?;
     with_answers(alloc, command)
 }
 
@@ -214,19 +305,34 @@ fn with_place<'a>(alloc: Global, mut command: Command<'a>) -> Result<Command<'a>
 
 /// A command with the options that turn the expansion of the tree on.
 fn with_answers<'a>(alloc: Global, command: Command<'a>) -> Result<Command<'a>, AllocError> {
-    let mut command = command.arg(expand(alloc))?;
+    let mut command = command.arg(flag(alloc, "expand", help_texts::EXPAND))?;
     for list in &ANSWERS {
         command = command.arg(repeated(alloc, list))?;
     }
     Ok(command)
 }
 
-/// The flag that turns the expansion of the tree on.
-fn expand<'a>(alloc: Global) -> Arg<'a> {
-    Arg::new(alloc, "expand")
-        .long("expand")
+/// An option without a value.
+fn flag<'a>(alloc: Global, name: &'a str, help: &'a str) -> Arg<'a> {
+    Arg::new(alloc, name)
+        .long(name)
         .action(ArgAction::SetTrue)
-        .help(help_texts::EXPAND)
+        .help(help)
+}
+
+/// An option with a value that has none by default.
+fn valued<'a>(alloc: Global, name: &'a str, value: &'a str, help: &'a str) -> Arg<'a> {
+    Arg::new(alloc, name)
+        .long(name)
+        .value_name(value)
+        .help(help)
+}
+
+/// The option for the file that takes the answer.
+fn output<'a>(alloc: Global) -> Arg<'a> {
+    valued(alloc, "output", "FILE", help_texts::OUTPUT)
+        .short('o')
+        .long_help(help_texts::OUTPUT_LONG)
 }
 
 /// An option that may be given any number of times.
@@ -240,12 +346,16 @@ fn repeated<'a>(alloc: Global, list: &ListHelp) -> Arg<'a> {
 
 /// The option for the language of the tree.
 fn language<'a>(alloc: Global) -> Arg<'a> {
-    Arg::new(alloc, "language")
-        .long("language")
-        .value_name("LANGUAGE")
-        .help(help_texts::LANGUAGE)
+    valued(alloc, "language", "LANGUAGE", help_texts::LANGUAGE)
         .long_help(help_texts::LANGUAGE_LONG)
         .value_parser(LANGUAGES.as_slice())
+}
+
+/// The option for the form of strings.
+fn strings<'a>(alloc: Global) -> Arg<'a> {
+    option(alloc, &STRINGS)
+        .long_help(help_texts::STRINGS_LONG)
+        .value_parser(FORMS.as_slice())
 }
 
 /// The option for the profile.

@@ -1,5 +1,5 @@
 //! The words that turn on the expansion of a tree.
-ghost use Rattle.std.specs.Prelude.{◌≡◌, ◌+◌, ◌<◌, nat_lt, true, map, List, ℕ, IfOk, length, get_or, option_map};
+ghost use Rattle.std.specs.Prelude.{◌≡◌, ◌+◌, ◌<◌, nat_lt, true, codes, map, List, ℕ, IfOk, length, get_or, option_map};
 ghost use Rattle.std.specs.List.{list_all, filter_map, suffix_len};
 ghost use Rattle.std.specs.Borrow.{Bor};
 ghost use Rattle.clap.specs.Words.{found_of};
@@ -12,7 +12,7 @@ ghost use Rattle.kmin_words.specs.checker.Refusals.{Agrees};
 
 use crate::job::{Definition, Expansion};
 use crate::refusal::Refusal;
-use crate::values::{has_values, value_of, values_of};
+use crate::values::{has_values, is_given, value_of, values_of};
 use clap::ArgMatches;
 use std::alloc::{AllocError, Global};
 
@@ -72,7 +72,7 @@ fn is_environment_name(name: &str) -> bool
 }
 
 /// Whether a text has a newline.
-fn has_newline(text: &str) -> bool
+pub(crate) fn has_newline(text: &str) -> bool
     ensures { result ≡ parsed.has_newline text.now }
 {
     text.as_bytes().iter().any(|&byte| byte == b'\n')
@@ -186,31 +186,40 @@ fn is_input_named_twice(answers: &[&str], paths: &[&str]) -> bool
     }
 }
 
-/// The files of answers beside configuration files, among which standard input has to be named at most once.
-fn answers_beside<'a>(answers: Vec<&'a str>, paths: &[&str]) -> Result<Vec<&'a str>, Refusal>
-    ensures { Agrees (λ v. map (λ (path : Bor (List ℕ)). path.now) v.items) (parsed.answers_beside (map (λ (path : Bor (List ℕ)). path.now) answers.entry.items) (map (λ (path : Bor (List ℕ)). path.now) paths.now)) result }
+/// Refuses standard input where it is named twice among the files of answers and these configuration files: what is read
+/// the second time has no bytes. Paths are compared as texts.
+pub(crate) fn check_inputs(matches: &ArgMatches<'_>, paths: &[&str]) -> Result<(), Refusal>
+    ensures { Agrees (λ _. map (λ (path : Bor (List ℕ)). path.now) paths.now) (parsed.paths_beside (parsed.values_of (found_of matches.now) (codes "answers")) (map (λ (path : Bor (List ℕ)). path.now) paths.now)) result }
 {
-    if is_input_named_twice(answers.as_slice(), paths) {
+    if is_input_found_twice(matches, paths) {
         return Err(Refusal::Words("stdin: NamedTwice\n"));
     }
-    Ok(answers)
+    Ok(())
 }
 
-/// What the expansion of a tree takes its answers from, beside the configuration files of a command.
+/// Whether standard input is named twice among the files of answers that were found and these configuration files.
+fn is_input_found_twice(matches: &ArgMatches<'_>, paths: &[&str]) -> bool
+    ensures { result ≡ nat_lt 1 (parsed.inputs_among (parsed.values_of (found_of matches.now) (codes "answers")) + parsed.inputs_among (map (λ (path : Bor (List ℕ)). path.now) paths.now)) }
+{
+    match matches.get_strs("answers") {
+        Some(answers) => is_input_named_twice(answers, paths),
+        None => is_input_named_twice(&[], paths),
+    }
+}
+
+/// What the expansion of a tree takes its answers from.
 pub(crate) fn expansion_of<'a>(
     alloc: Global,
     matches: &ArgMatches<'a>,
-    paths: &[&str],
 ) -> Result<Expansion<'a>, Refusal>
-    ensures { Agrees expansion_view (parsed.expansion_of (found_of matches.now) (map (λ (path : Bor (List ℕ)). path.now) paths.now)) result }
+    ensures { Agrees expansion_view (parsed.expansion_of (found_of matches.now)) result }
 {
     let texts = values_of(alloc, matches, "define")?;
     let definitions = definitions_of(alloc, texts.as_slice())?;
     let environment = environment_of(values_of(alloc, matches, "env")?)?;
     check_tree(value_of(matches, "tree"))?;
-    let answers = answers_beside(values_of(alloc, matches, "answers")?, paths)?;
     Ok(Expansion {
-        answers,
+        answers: values_of(alloc, matches, "answers")?,
         definitions,
         environment,
     })
@@ -220,7 +229,7 @@ pub(crate) fn expansion_of<'a>(
 fn is_expanded(matches: &ArgMatches<'_>) -> bool
     ensures { result ≡ parsed.is_expanded (found_of matches.now) }
 {
-    value_of(matches, "expand") == "true"
+    is_given(matches, "expand")
         || has_values(matches, "answers")
         || has_values(matches, "define")
         || has_values(matches, "env")
@@ -230,12 +239,11 @@ fn is_expanded(matches: &ArgMatches<'_>) -> bool
 pub(crate) fn expansion_if_given<'a>(
     alloc: Global,
     matches: &ArgMatches<'a>,
-    paths: &[&str],
 ) -> Result<Option<Expansion<'a>>, Refusal>
-    ensures { Agrees (option_map expansion_view) (parsed.expansion_if_given (found_of matches.now) (map (λ (path : Bor (List ℕ)). path.now) paths.now)) result }
+    ensures { Agrees (option_map expansion_view) (parsed.expansion_if_given (found_of matches.now)) result }
 {
     if !is_expanded(matches) {
         return Ok(None);
     }
-    Ok(Some(expansion_of(alloc, matches, paths)?))
+    Ok(Some(expansion_of(alloc, matches)?))
 }

@@ -8,130 +8,20 @@ pub(crate) const ABOUT: &str =
 pub(crate) const USAGE: &str = "kmin <COMMAND> [OPTIONS] [FILE]...
        kmin < BUNDLE";
 
-/// Examples and the exit statuses, and a text after them.
-macro_rules! with_examples {
+/// A text, and the exit statuses of a command that lists symbols.
+macro_rules! with_listing_statuses {
     ($text:literal) => {
         concat!(
-            "\
-Examples:
-  kmin min .config > defconfig                 the lines that the defaults don't give
-  kmin full board.config debug.config          a full file of two fragments
-  kmin missed board.config debug.config        what was asked for and not given
-  kmin compare old.config new.config           what changes for the symbols
-  kmin check --root firmware --tree board/Kconfig board.config
-  kmin wants --root linux --answers answers    what the tree's macros ask, and has no answer
-  kmin full --root linux --answers answers .config
+            $text,
+            "
 
-Exit status:
-  0  done; of compare: no difference; of wants: no question
-  1  compare found differences, wants found questions
-  2  the command line is refused
-  3  the tree is refused
-  4  a configuration file or a file of answers is refused, or a bundle is too large
-  5  a read or a write failed
-  6  out of memory
-
-Without a word, kmin reads a bundle on standard input, a tree, a line `%%` and a configuration
-file, and writes its full file. Options come after the command: `kmin help COMMAND` lists them.
-
-",
-            $text
+Exit status: 0 done, 1 with --exit-code a symbol is listed, 2 command line refused, 3 tree refused,
+4 configuration file refused, 5 a read or a write failed, 6 out of memory."
         )
     };
 }
 
-pub(crate) const AFTER: &str = with_examples!(
-    "`kmin --help` explains each message, and what to do about it."
-);
-
-pub(crate) const AFTER_LONG: &str = with_examples!(
-    "\
-Messages are `FILE:LINE: KIND`, on standard error, of an expansion also `FILE:LINE: KIND TEXT`.
-Of a bundle FILE is `Kconfig` in the tree and `config` in the configuration. Line 0 is that of a
-configuration file or a file of answers that can't be opened, and of a tree's first file where it
-can't be opened or read or has too many bytes.
-
-Kinds of a tree:
-  NotUtf8           the line isn't UTF-8: save the file as UTF-8
-  LineTooLong       more than 65,536 bytes in a line: split it
-  BadToken          a byte that begins no word, text or operator: quote it, or take it out
-  UnclosedQuote     a quote without its end in the line: close it
-  UnknownStatement  the first word is no keyword: correct it
-  Malformed         the line hasn't the form of its keyword: see kconfig-language.rst
-  Unclosed          a block has no end in its file: add endif, endmenu or endchoice
-  StrayEnd          an end of no open block: take it out, or open the block
-  Misplaced         a statement or an attribute that isn't allowed there: move it
-  NoType            a symbol without a type: add bool, tristate, string, hex or int
-  TypeConflict      another type than the symbol's first: let both be one
-  SecondPrompt      a second prompt of one entry: keep one
-  DefaultShape      a string's, int's or hex's default isn't one word or text: write just one
-  RangeType         a range of neither an int nor a hex: take it out, or change the type
-  SelectType        select or imply in, or of, neither a bool nor a tristate: take it out
-  ChoiceMember      a member that isn't bool, or is defined twice: make it bool, define it once
-  ChoiceDefault     a choice's default is no member of it: name one
-  ModulesType       MODULES isn't bool, or another has `modules`: make it bool, take `modules` out
-  MissingFile       the file can't be opened or read: see --root and --tree, and the path
-  SourceLoop        a file is sourced while it is open: take out one of the lines
-  TooDeep           more than 32 files, 64 blocks or 64 signs and parentheses open: nest less
-  TooMany           too many symbols, choices, files or bytes: split it; a name of more than
-                    256 bytes: shorten it
-  Cycle             the named symbols depend on one another: take out a dependency
-  LeftOut           a form that kmin leaves out: for a macro give --expand, write another form anew
-
-Kinds of an expansion, with --expand, --answers, --define or --env:
-  Unterminated      a `$(` has no `)`: close it
-  Undefined         TEXT is called and nobody defines it, or is no name: define it, correct it
-  Recursion         the value of the variable TEXT needs that value: take out the circle
-  Arguments         too many or too few arguments of the function TEXT, or more than 16 pieces
-                    of a reference: give as many as it takes
-  Error             the tree refuses with TEXT, by `error-if`: do what it says
-  Unanswered        the question TEXT has no answer: see `kmin help wants`
-  JoinedAssignment  the line of an assignment ends in a `\\`: write it in one line
-  MissingFile       a sourced file, or the first, can't be read: see --root, --tree, the path
-  SourceLoop        a file is sourced while it is open: take out one of the lines
-  TooDeep           more than 32 files or 64 expansions open: nest less
-  TooMany           too many files, bytes or names of folders, or too much work: split the tree
-  LineTooLong       a value or a line gets more than 65,536 bytes: shorten it
-  Info              a notice, the tree says TEXT: read it
-  Warning           a notice, the tree warns with TEXT: read it
-
-Kinds of a file of answers:
-  Malformed         neither NAME=VALUE, !NAME, `$ COMMAND` with `> TEXT` on the next line, a
-                    comment nor empty: correct it
-  TwoAnswers        the question has another answer before: take one out
-  NotUtf8           the line isn't UTF-8: save the file as UTF-8
-  LineTooLong       more than 65,536 bytes in a line: shorten it
-  TooManyLines      more than 1,048,576 lines: split the file
-  TooLarge          more than 67,108,864 bytes: split the file
-  Read              the file can't be opened or read: check the path and the permissions
-
-Kinds of a configuration file:
-  Malformed         neither CONFIG_NAME=value, an unset line, a comment nor empty: correct it, or
-                    give another prefix than CONFIG_ by --prefix
-  NotUtf8           the line isn't UTF-8: save the file as UTF-8
-  LineTooLong       more than 65,536 bytes in a line: shorten it
-  TooManyLines      more than 1,048,576 lines: split the file
-  TooLarge          more than 67,108,864 bytes: split the file
-  Read              the file can't be opened or read: check the path and the permissions
-  UnknownSymbol     a notice, the tree has no such symbol, nothing is assigned: take the line out
-  NotOfType         a notice, the value isn't of the symbol's type and isn't assigned: correct it
-
-Without a file:
-  bundle:0: Read            standard input can't be read: check where it comes from
-  bundle:0: TooLarge        more than 67,108,864 bytes of a bundle: give its parts as files
-  output: Write             standard output can't be written: make room, keep the pipe open
-  prefix: Malformed         --prefix isn't 1 to 32 letters, digits and `_`: correct it
-  define: Malformed         --define isn't NAME=VALUE, or VALUE has a newline or more than 65,536
-                            bytes: correct it
-  env: Malformed            --env isn't a letter or `_`, then letters, digits, `_`: correct it
-  tree: Malformed           --tree of a tree that is expanded has a newline: rename the file
-  stdin: NamedTwice         /dev/stdin is named twice beside --expand and its like: store one
-  kmin: a word isn't UTF-8  a word of the command line isn't: give the file another name
-  error: ..                 the command line is refused: correct the named word
-  out of memory             memory was refused: free some, or raise a limit that was set"
-);
-
-/// A text, and the exit statuses of a command other than `compare`.
+/// A text, and the exit statuses of a command that writes a file.
 macro_rules! with_statuses {
     ($text:literal) => {
         concat!(
@@ -155,10 +45,10 @@ kept as a board's defconfig, in the way of `make savedefconfig`.";
 pub(crate) const MIN_AFTER: &str = with_statuses!(
     "\
 Example:
-  kmin min .config > new && mv new defconfig
+  kmin min -o defconfig .config
 
-The output is made whole before the first byte is written; but a shell empties `> .config` before
-kmin reads it, so don't write to a file that is also read."
+The output is made whole before its first byte is written. With `-o` FILE may be one that is read,
+too: it is replaced at the end, whole or not at all. A shell empties `> FILE` before kmin reads it."
 );
 
 pub(crate) const FULL: &str =
@@ -179,7 +69,7 @@ assignments had no effect.";
 pub(crate) const FULL_AFTER: &str = with_statuses!(
     "\
 Example:
-  kmin full --root firmware configs/board_defconfig > .config"
+  kmin full --root firmware configs/board_defconfig -o .config"
 );
 
 pub(crate) const MISSED: &str = "Lists the symbols that don't have the value that a FILE assigns";
@@ -187,25 +77,65 @@ pub(crate) const MISSED: &str = "Lists the symbols that don't have the value tha
 pub(crate) const MISSED_LONG: &str = "\
 Lists, one name a line, the symbols whose assigned value isn't their value: since a dependency
 isn't met, a number is out of its range, or another symbol selects them. A member of a choice is
-listed if it was chosen and isn't selected. The status is 0 with and without such lines.";
+listed if it was chosen and isn't selected. The status is 0 with and without such lines; with
+--exit-code it is 1 where there are any.";
 
-pub(crate) const MISSED_AFTER: &str = with_statuses!(
+pub(crate) const MISSED_AFTER: &str = with_listing_statuses!(
     "\
-Example:
-  kmin missed board.config debug.config"
+Example, and a check that fails where a symbol is listed, and where kmin fails:
+  kmin missed board.config debug.config
+  kmin missed --exit-code board.config debug.config"
 );
 
 pub(crate) const CHECK: &str = "Lists the symbols that are selected against their dependencies";
 
 pub(crate) const CHECK_LONG: &str = "\
 Lists, as `unmet NAME`, the symbols that another symbol selects although their own dependencies
-aren't met. The status is 0 with and without such lines.";
+aren't met. The status is 0 with and without such lines; with --exit-code it is 1 where there are
+any.";
 
-pub(crate) const CHECK_AFTER: &str = with_statuses!(
+pub(crate) const CHECK_AFTER: &str = with_listing_statuses!(
     "\
 Example, of a check that fails where there is any such line, and where kmin fails:
-  found=$(kmin check board.config) && test -z \"$found\""
+  kmin check --exit-code board.config"
 );
+
+pub(crate) const EXIT_CODE: &str = "Ends with status 1 where a symbol is listed";
+
+pub(crate) const TIDY: &str = "Lists, or rewrites, the files that aren't their own minimal file";
+
+pub(crate) const TIDY_LONG: &str = "\
+Goes over configuration files, each alone and over no assignments, with the tree read once, and
+writes a line for each that isn't its own minimal file: `FILE: K out, L in`, how many of its lines
+aren't in its minimal file, and the other way round; or `FILE: order` where just their order, or
+the end of a line, is another.
+
+With --write each such file is replaced by its minimal file, whole or not at all. A line that the
+tree can't read is never lost unasked: a file with a notice is then refused, unless --drop is
+given, too. With --strict it is refused with and without --write.
+
+A file that is refused or can't be written is reported and left as it is, and the others are gone
+over. Standard output is written at the end.";
+
+pub(crate) const TIDY_AFTER: &str = "\
+Example:
+  kmin tidy --root firmware configs/*_defconfig
+  git ls-files -z 'configs/*' | kmin tidy --write --from - -z
+
+Exit status: 0 each file is minimal, or is now, 1 some file isn't minimal, 2 command line or list
+refused, 3 tree refused, 4 configuration file or file of answers refused or list too large, 5 a
+read or a write failed, 6 out of memory. Of several files the first refused one decides.";
+
+pub(crate) const WRITE: &str = "Replaces each file that isn't minimal by its minimal file";
+
+pub(crate) const DROP: &str =
+    "Writes files without the lines that the tree can't read; with --write";
+
+pub(crate) const FROM: &str = "File of further paths, a line each; - is standard input";
+
+pub(crate) const NUL: &str = "Each path in LIST ends with NUL, not with a newline";
+
+pub(crate) const EACH_FILE: &str = "Configuration files, each by itself";
 
 pub(crate) const WANTS: &str = "Lists the questions of a tree's macros that have no answer";
 
@@ -245,6 +175,13 @@ pub(crate) const TREE: &str = "First file of the tree, below DIR";
 
 pub(crate) const PREFIX: &str = "Text before each name in a file";
 
+pub(crate) const STRINGS: &str = "Form of strings";
+
+pub(crate) const STRINGS_LONG: &str = "\
+How a string is spelled:
+escaped  a \\ comes before each \" and each \\ of the text
+raw      the text is as it is between two \", as in files of u-boot";
+
 pub(crate) const IMPLY: &str = "Rule of imply";
 
 pub(crate) const IMPLY_LONG: &str = "\
@@ -252,6 +189,8 @@ How `imply` counts:
 present  where no assignment counts, as a default, up to the symbol's dependency
 classic  there in full, unless that dependency is n; and under an implied y
          an m, an assigned one too, becomes y";
+
+pub(crate) const STRICT: &str = "Refuses a file with a line that the tree can't read";
 
 pub(crate) const LANGUAGE: &str = "Forms that the tree may have";
 
@@ -271,6 +210,12 @@ pub(crate) const ENV: &str = "Name that the environment answers where no file do
 
 pub(crate) const FILES: &str =
     "Configuration files, each overriding those before it; without one\nnothing is assigned; /dev/stdin is standard input";
+
+pub(crate) const OUTPUT: &str = "File to write in place of standard output";
+
+pub(crate) const OUTPUT_LONG: &str = "\
+File to write in place of standard output. It is made, or replaced whole as by
+`tidy --write`; one that has these bytes already is left alone";
 
 pub(crate) const LEFT: &str = "Configuration file";
 

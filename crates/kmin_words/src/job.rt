@@ -1,5 +1,5 @@
 //! Jobs: what a command asks for.
-use kc_dotconfig_model::Prefix;
+use kc_dotconfig_model::Format;
 use kc_expr::Language;
 use kc_rules_model::Profile;
 
@@ -43,8 +43,11 @@ pub struct Settings<'a> {
     pub tree: &'a str,
     /// The language of its files.
     pub language: Language,
-    pub prefix: Prefix,
+    /// How configuration files are spelled.
+    pub format: Format,
     pub profile: Profile,
+    /// A configuration file with a notice is refused.
+    pub strict: bool,
     /// The answers for the macros of the tree; nothing where the tree is read as it is.
     pub expansion: Option<Expansion<'a>>,
 }
@@ -53,9 +56,17 @@ pub struct Settings<'a> {
 #[derive(Drop)]
 pub enum Task<'a> {
     /// A text of the configuration of the files, each laid over those before it.
-    Over { verb: Verb, files: Vec<&'a str> },
+    Over {
+        verb: Verb,
+        files: Vec<&'a str>,
+        /// The status says whether the verb lists a symbol.
+        exit_code: bool,
+    },
     /// The symbols whose values differ between two files, each by itself.
-    Compare { left: &'a str, right: &'a str },
+    Compare {
+        left: &'a str,
+        right: &'a str,
+    },
 }
 
 /// The job of a command line: its options and its command.
@@ -63,6 +74,42 @@ pub enum Task<'a> {
 pub struct Job<'a> {
     pub settings: Settings<'a>,
     pub task: Task<'a>,
+}
+
+/// A job whose answer is put into a file.
+#[derive(Drop)]
+pub struct Saving<'a> {
+    pub job: Job<'a>,
+    /// The path of that file.
+    pub output: &'a str,
+}
+
+/// What `kmin tidy` does with files that aren't minimal, and with those that have notices.
+#[derive(Clone, Copy, Debug, PartialEq, Eq)]
+pub struct TidyFlags {
+    /// Each file that isn't its own minimal file is replaced by it.
+    pub write: bool,
+    /// Files are written without the lines that have notices.
+    pub drop: bool,
+}
+
+/// A file that lists further paths.
+#[derive(Clone, Copy)]
+pub struct PathList<'a> {
+    /// Its path; `-` is standard input.
+    pub path: &'a str,
+    /// Each path in it ends with the byte 0, and else with a newline.
+    pub ended_by_nul: bool,
+}
+
+/// The files that `kmin tidy` goes over, and what it does with them.
+#[derive(Drop)]
+pub struct Tidying<'a> {
+    pub settings: Settings<'a>,
+    pub flags: TidyFlags,
+    /// The list of further paths, which come after the files.
+    pub list: Option<PathList<'a>>,
+    pub files: Vec<&'a str>,
 }
 
 /// The questions of a tree: what `kmin wants` lists.

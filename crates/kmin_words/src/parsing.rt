@@ -1,5 +1,5 @@
 //! From words to a job.
-ghost use Rattle.std.specs.Prelude.{◌≡◌, IfOk, map, List, ℕ};
+ghost use Rattle.std.specs.Prelude.{◌≡◌, Ok, IfOk, map, option_map, List, ℕ};
 ghost use Rattle.std.specs.Borrow.{Bor};
 ghost use Rattle.clap.specs.Words.{found_of};
 ghost use Rattle.kc_dotconfig_model.specs.between.Prefixes.{prefix_bytes};
@@ -7,14 +7,19 @@ ghost use Rattle.kmin_words.specs.Jobs.{settings_view, questions_view, task_view
 ghost use Rattle.kmin_words.specs.between.WordValues as parsed;
 ghost use Rattle.kmin_words.specs.checker.Refusals.{Agrees};
 
-use crate::commands::program;
-use crate::expansion_words::{expansion_if_given, expansion_of};
-use crate::job::{Job, Questions, Settings, Task, Verb};
+use crate::commands::{command_names, explained_names, program};
+use crate::expansion_words::{check_inputs, expansion_if_given, expansion_of};
+use crate::job::{Job, Questions, Saving, Settings, Task, Tidying, Verb};
+use crate::kinds::kind_asked;
+use crate::messages::message_tables;
+use crate::names::{nearest, with_tip};
+use crate::output_words::job_and_output;
 use crate::refusal::Refusal;
-use crate::values::{value_of, values_of};
+use crate::tidy_words::tidying_of;
+use crate::values::{is_given, value_of, values_of};
 use clap::error::ErrorKind;
 use clap::{ArgMatches, Error};
-use kc_dotconfig_model::Prefix;
+use kc_dotconfig_model::{Format, Prefix, Strings};
 use kc_expr::Language;
 use kc_rules_model::Profile;
 use std::alloc::{AllocError, Global};
@@ -24,8 +29,12 @@ use std::alloc::{AllocError, Global};
 pub enum ParsedWords<'a> {
     /// A job.
     Job(Job<'a>),
+    /// A job whose answer is put into a file.
+    Save(Saving<'a>),
     /// The command that lists the questions of a tree.
     Questions(Questions<'a>),
+    /// The command that goes over files, each by itself.
+    Tidy(Tidying<'a>),
     /// Help or the version, which was asked for.
     Help(String),
     /// The message for words that are no job.
@@ -36,24 +45,55 @@ pub enum ParsedWords<'a> {
 pub fn read_words<'a>(alloc: Global, words: &'a [&'a str]) -> Result<ParsedWords<'a>, AllocError>
     ensures { IfOk result parsed.HasFoundValues }
 {
+    let help = kind_asked(alloc, message_tables(), words)?;
+    if !help.is_empty() {
+        return Ok(ParsedWords::Help(help));
+    }
     match program(alloc)?.try_get_matches_from(words) {
         Ok(matches) => job_of(alloc, &matches),
-        Err(error) => clap_message(alloc, &error),
+        Err(error) => clap_message(alloc, words, &error),
     }
 }
 
 /// The message of `clap` in place of a job, unless memory ran out.
-fn clap_message<'a>(alloc: Global, error: &Error) -> Result<ParsedWords<'a>, AllocError>
+fn clap_message<'a>(
+    alloc: Global,
+    words: &[&str],
+    error: &Error,
+) -> Result<ParsedWords<'a>, AllocError>
     ensures { IfOk result parsed.HasFoundValues }
 {
     if error.kind() == ErrorKind::OutOfMemory {
         return Err(AllocError);
     }
     let text = format!(in alloc; "{error}")?;
+    if error.kind() == ErrorKind::InvalidSubcommand {
+        return Ok(ParsedWords::Refused(with_some_tip(alloc, words, text)?));
+    }
     if error.use_stderr() {
         return Ok(ParsedWords::Refused(text));
     }
     Ok(ParsedWords::Help(text))
+}
+
+/// The message for a command that isn't there, with a name that is near, where it has no such tip yet.
+fn with_some_tip(alloc: Global, words: &[&str], message: String) -> Result<String, AllocError> {
+    if message.contains("\n  tip: ") {
+        return Ok(message);
+    }
+    match name_near(alloc, words)? {
+        Some(name) => with_tip(alloc, &message, name),
+        None => Ok(message),
+    }
+}
+
+/// The name that is near the word that may be mistyped: a command, or after `help` what that explains.
+fn name_near(alloc: Global, words: &[&str]) -> Result<Option<&'static str>, AllocError> {
+    match words {
+        [first, second] if *first == "help" => nearest(alloc, second, &explained_names(alloc)?),
+        [first, ..] if *first != "help" => nearest(alloc, first, &command_names(alloc)?),
+        _ => Ok(None),
+    }
 }
 
 /// What accepted words ask for, or a message where a value isn't allowed.
@@ -74,10 +114,11 @@ fn named_job<'a>(
 ) -> Result<ParsedWords<'a>, AllocError>
     ensures { IfOk result (parsed.HasValues name.now (found_of matches.now)) }
 {
-    if name == "wants" {
-        return parsed_questions(alloc, matches);
+    match name {
+        "wants" => parsed_questions(alloc, matches),
+        "tidy" => parsed_tidying(alloc, matches),
+        _ => parsed_job(alloc, name, matches),
     }
-    parsed_job(alloc, name, matches)
 }
 
 /// The questions that `wants` asks for, or a message.
@@ -94,18 +135,42 @@ fn parsed_questions<'a>(
     }
 }
 
+/// What `tidy` asks for, or a message.
+fn parsed_tidying<'a>(
+    alloc: Global,
+    matches: &ArgMatches<'a>,
+) -> Result<ParsedWords<'a>, AllocError>
+    ensures { IfOk result (parsed.IsTidying (parsed.tidying_of (found_of matches.now))) }
+{
+    match tidying_of(alloc, matches) {
+        Ok(tidying) => Ok(ParsedWords::Tidy(tidying)),
+        Err(Refusal::Words(line)) => Ok(ParsedWords::Refused(String::from_str(alloc, line)?)),
+        Err(Refusal::OutOfMemory) => Err(AllocError),
+    }
+}
+
 /// The job that a command over configuration files asks for, or a message.
 fn parsed_job<'a>(
     alloc: Global,
     name: &str,
     matches: &ArgMatches<'a>,
 ) -> Result<ParsedWords<'a>, AllocError>
-    ensures { IfOk result (parsed.AreJob (parsed.job_of name.now (found_of matches.now))) }
+    ensures { IfOk result (parsed.AreJob (parsed.job_and_output_of name.now (found_of matches.now))) }
 {
-    match job_with(alloc, name, matches) {
-        Ok(job) => Ok(ParsedWords::Job(job)),
+    match job_and_output(alloc, name, matches) {
+        Ok((job, output)) => Ok(with_output(job, output)),
         Err(Refusal::Words(line)) => Ok(ParsedWords::Refused(String::from_str(alloc, line)?)),
         Err(Refusal::OutOfMemory) => Err(AllocError),
+    }
+}
+
+/// A job, whose answer is put into a file where one is named.
+fn with_output<'a>(job: Job<'a>, output: Option<&'a str>) -> ParsedWords<'a>
+    ensures { parsed.AreJob (Ok ((settings_view job.entry.settings, task_view job.entry.task), option_map (λ path. path.now) output.entry)) result }
+{
+    match output {
+        Some(output) => ParsedWords::Save(Saving { job, output }),
+        None => ParsedWords::Job(job),
     }
 }
 
@@ -113,7 +178,8 @@ fn parsed_job<'a>(
 fn questions_of<'a>(alloc: Global, matches: &ArgMatches<'a>) -> Result<Questions<'a>, Refusal>
     ensures { Agrees questions_view (parsed.questions_of (found_of matches.now)) result }
 {
-    let expansion = expansion_of(alloc, matches, &[])?;
+    let expansion = expansion_of(alloc, matches)?;
+    check_inputs(matches, &[])?;
     let root = value_of(matches, "root");
     let tree = value_of(matches, "tree");
     Ok(Questions {
@@ -124,7 +190,11 @@ fn questions_of<'a>(alloc: Global, matches: &ArgMatches<'a>) -> Result<Questions
 }
 
 /// The job of a command over configuration files.
-fn job_with<'a>(alloc: Global, name: &str, matches: &ArgMatches<'a>) -> Result<Job<'a>, Refusal>
+pub(crate) fn job_with<'a>(
+    alloc: Global,
+    name: &str,
+    matches: &ArgMatches<'a>,
+) -> Result<Job<'a>, Refusal>
     ensures { Agrees (λ job. (settings_view job.settings, task_view job.task)) (parsed.job_of name.now (found_of matches.now)) result }
 {
     let task = task_of(alloc, name, matches)?;
@@ -157,7 +227,7 @@ fn prefix_of(text: &str) -> Result<Prefix, Refusal>
 }
 
 /// The options of a command over configuration files of these paths.
-fn settings_of<'a>(
+pub(crate) fn settings_of<'a>(
     alloc: Global,
     matches: &ArgMatches<'a>,
     paths: &[&str],
@@ -165,15 +235,30 @@ fn settings_of<'a>(
     ensures { Agrees settings_view (parsed.settings_of (found_of matches.now) (map (λ (path : Bor (List ℕ)). path.now) paths.now)) result }
 {
     let prefix = prefix_of(value_of(matches, "prefix"))?;
-    let expansion = expansion_if_given(alloc, matches, paths)?;
+    let expansion = expansion_if_given(alloc, matches)?;
+    check_inputs(matches, paths)?;
     Ok(Settings {
         root: value_of(matches, "root"),
         tree: value_of(matches, "tree"),
         language: language_of(value_of(matches, "language"), expansion.is_some()),
-        prefix,
+        format: Format {
+            prefix,
+            strings: strings_of(value_of(matches, "strings")),
+        },
         profile: profile_of(value_of(matches, "imply")),
+        strict: is_given(matches, "strict"),
         expansion,
     })
+}
+
+/// The form of strings of a value.
+fn strings_of(value: &str) -> Strings
+    ensures { result ≡ parsed.strings_of value.now }
+{
+    match value {
+        "raw" => Strings::Raw,
+        _ => Strings::Escaped,
+    }
 }
 
 /// The language of a value; without one, that of Linux where the tree is expanded.
@@ -197,7 +282,7 @@ fn profile_of(value: &str) -> Profile
     }
 }
 
-/// The command of a name, with its files in their order.
+/// The command of a name, with its files in their order, and with `--exit-code` where it is given.
 fn task_of<'a>(alloc: Global, name: &str, matches: &ArgMatches<'a>) -> Result<Task<'a>, AllocError>
     ensures { IfOk result (λ task. task_view task ≡ parsed.task_of name.now (found_of matches.now)) }
 {
@@ -205,6 +290,7 @@ fn task_of<'a>(alloc: Global, name: &str, matches: &ArgMatches<'a>) -> Result<Ta
         Some(verb) => Ok(Task::Over {
             verb,
             files: values_of(alloc, matches, "FILE")?,
+            exit_code: is_given(matches, "exit-code"),
         }),
         None => Ok(Task::Compare {
             left: value_of(matches, "LEFT"),

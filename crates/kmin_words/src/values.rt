@@ -14,6 +14,13 @@ pub(crate) fn value_of<'a>(matches: &ArgMatches<'a>, id: &str) -> &'a str
     matches.get_str(id).unwrap_or("")
 }
 
+/// Whether a flag is given.
+pub(crate) fn is_given(matches: &ArgMatches<'_>, id: &str) -> bool
+    ensures { result ≡ parsed.is_given (found_of matches.now) id.now }
+{
+    value_of(matches, id) == "true"
+}
+
 /// Whether a word that may be given any number of times has a value.
 pub(crate) fn has_values(matches: &ArgMatches<'_>, id: &str) -> bool
     ensures { result ≡ nat_lt 0 (length (parsed.values_of (found_of matches.now) id.now)) }

@@ -1,6 +1,7 @@
 -- The state accumulated while a file is read.
 use Rattle.std.specs.Prelude.{◌≡◌, ℕ, ◌+◌, ◌≤◌, List, ◌++◌, length, map}
 use Rattle.kc_tree_model.specs.Trees.{Tree}
+use Rattle.kc_dotconfig_model.specs.Formats.{FileFormat}
 use Rattle.kc_dotconfig_model.specs.declared.fault.LoadKind.{LoadKind}
 use Rattle.kc_dotconfig_model.specs.declared.fault.LoadKind.TheVariants.{Malformed, NotUtf8, LineTooLong, TooManyLines, Read, OutOfMemory, TooLarge}
 use Rattle.kc_dotconfig_model.specs.ConfigLines.{LineMeaning}
@@ -32,42 +33,42 @@ fault_line Read lines = lines + 1
 fault_line TooLarge lines = lines + 1
 
 -- the incomplete line, and the state accumulated from a part of a file
-abbrev pub Holds : List ℕ → Tree → List ℕ → List ℕ → Accumulator → Type 0
-Holds prefix tree known line g = (meanings : List LineMeaning) × IsCut prefix tree known line meanings × IsGathered tree meanings g
+abbrev pub Holds : FileFormat → Tree → List ℕ → List ℕ → Accumulator → Type 0
+Holds format tree known line g = (meanings : List LineMeaning) × IsCut format tree known line meanings × IsGathered tree meanings g
 
 -- a piece of a line goes on
 abbrev pub GoesOn : List ℕ → List ℕ → List ℕ → ℕ → Type 0
-GoesOn old new piece lines = (prefix : List ℕ) (tree : Tree) (known : List ℕ) (meanings : List LineMeaning) → IsCut prefix tree known old meanings
-    → length meanings ≡ lines → length known + length piece ≤ MAX_CONFIG_BYTES → IsCut prefix tree (known ++ piece) new meanings
+GoesOn old new piece lines = (format : FileFormat) (tree : Tree) (known : List ℕ) (meanings : List LineMeaning) → IsCut format tree known old meanings
+    → length meanings ≡ lines → length known + length piece ≤ MAX_CONFIG_BYTES → IsCut format tree (known ++ piece) new meanings
 
 -- a piece of a line has the first fault
 abbrev pub StopsIn : List ℕ → List ℕ → ℕ → LoadKind → Type 0
-StopsIn old piece lines kind = (prefix : List ℕ) (tree : Tree) (known rest : List ℕ) (meanings : List LineMeaning) → IsCut prefix tree known old meanings
+StopsIn old piece lines kind = (format : FileFormat) (tree : Tree) (known rest : List ℕ) (meanings : List LineMeaning) → IsCut format tree known old meanings
     → length meanings ≡ lines → length known + length piece ≤ MAX_CONFIG_BYTES
-    → IsFirstFault prefix tree complete (known ++ (piece ++ rest)) kind (lines + 1)
+    → IsFirstFault format tree complete (known ++ (piece ++ rest)) kind (lines + 1)
 
 -- these bytes are taken
-abbrev pub AcceptsBytes : List ℕ → Tree → (line : List ℕ) → Accumulator → (bytes new : List ℕ) → Accumulator → Type 0
-AcceptsBytes prefix tree line g bytes line_new g_new = (known : List ℕ) → Holds prefix tree known line g → length known + length bytes ≤ MAX_CONFIG_BYTES
-    → Holds prefix tree (known ++ bytes) line_new g_new
+abbrev pub AcceptsBytes : FileFormat → Tree → (line : List ℕ) → Accumulator → (bytes new : List ℕ) → Accumulator → Type 0
+AcceptsBytes format tree line g bytes line_new g_new = (known : List ℕ) → Holds format tree known line g → length known + length bytes ≤ MAX_CONFIG_BYTES
+    → Holds format tree (known ++ bytes) line_new g_new
 
 -- these bytes have the first fault
-abbrev pub Refuses : List ℕ → Tree → (line : List ℕ) → Accumulator → (bytes : List ℕ) → LoadKind → ℕ → Type 0
-Refuses prefix tree line g bytes kind lines = (known rest : List ℕ) → Holds prefix tree known line g → length known + length bytes ≤ MAX_CONFIG_BYTES
-    → IsFirstFault prefix tree complete (known ++ (bytes ++ rest)) kind (lines + 1)
+abbrev pub Refuses : FileFormat → Tree → (line : List ℕ) → Accumulator → (bytes : List ℕ) → LoadKind → ℕ → Type 0
+Refuses format tree line g bytes kind lines = (known rest : List ℕ) → Holds format tree known line g → length known + length bytes ≤ MAX_CONFIG_BYTES
+    → IsFirstFault format tree complete (known ++ (bytes ++ rest)) kind (lines + 1)
 
 -- the file ends here, without a fault or with one
-abbrev pub EndsWell : List ℕ → Tree → List ℕ → Accumulator → Accumulator → Type 0
-EndsWell prefix tree line g g_new = (known : List ℕ) → Holds prefix tree known line g
-    → (meanings : List LineMeaning) × IsAccepted prefix tree known × FileMeans prefix tree known meanings × IsGathered tree meanings g_new
+abbrev pub EndsWell : FileFormat → Tree → List ℕ → Accumulator → Accumulator → Type 0
+EndsWell format tree line g g_new = (known : List ℕ) → Holds format tree known line g
+    → (meanings : List LineMeaning) × IsAccepted format tree known × FileMeans format tree known meanings × IsGathered tree meanings g_new
 
-abbrev pub EndsBadly : List ℕ → Tree → List ℕ → Accumulator → LoadKind → ℕ → Type 0
-EndsBadly prefix tree line g kind lines = (known : List ℕ) → Holds prefix tree known line g
-    → IsFirstFault prefix tree complete known kind (lines + 1)
+abbrev pub EndsBadly : FileFormat → Tree → List ℕ → Accumulator → LoadKind → ℕ → Type 0
+EndsBadly format tree line g kind lines = (known : List ℕ) → Holds format tree known line g
+    → IsFirstFault format tree complete known kind (lines + 1)
 
 -- a fragment is the meaning of the file that ends here
-abbrev pub IsFragmentOf : List ℕ → Tree → List ℕ → Accumulator → Fragment → Type 0
-IsFragmentOf prefix tree line g f = (known : List ℕ) → Holds prefix tree known line g
-    → (meanings : List LineMeaning) × IsAccepted prefix tree known × FileMeans prefix tree known meanings
+abbrev pub IsFragmentOf : FileFormat → Tree → List ℕ → Accumulator → Fragment → Type 0
+IsFragmentOf format tree line g f = (known : List ℕ) → Holds format tree known line g
+    → (meanings : List LineMeaning) × IsAccepted format tree known × FileMeans format tree known meanings
     × (users_of tree f.assigns.items ≡ file_assignment tree meanings) × (map notice_pair f.notices.items ≡ notices_from 1 meanings)
     × Rises f.assigns.items × Below (length tree.units) f.assigns.items

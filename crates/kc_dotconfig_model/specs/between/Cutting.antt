@@ -3,28 +3,29 @@ use Rattle.std.specs.Prelude.{◌≡◌, ◌⊎◌, ℕ, ◌<◌, ◌≤◌, Lis
 use Rattle.std.specs.List.{AllZip}
 use Rattle.std.specs.Str.{IsUtf8}
 use Rattle.kc_tree_model.specs.Trees.{Tree}
+use Rattle.kc_dotconfig_model.specs.Formats.{FileFormat}
 use Rattle.kc_dotconfig_model.specs.PrefixGrammar.{lacks}
 use Rattle.kc_dotconfig_model.specs.ConfigLines.{LineMeaning, Means, without_white_end}
 use Rattle.kc_dotconfig_model.specs.ConfigFiles.{file_lines}
 use Rattle.kc_value.specs.declared.limits.TheConstants.{MAX_CONFIG_BYTES, MAX_CONFIG_LINES, MAX_LINE_BYTES}
 
 -- a line without a fault of its own, and its meaning
-pub record IsSound (prefix : List ℕ) (tree : Tree) (line : List ℕ) (meaning : LineMeaning) : Type 0 where
+pub record IsSound (format : FileFormat) (tree : Tree) (line : List ℕ) (meaning : LineMeaning) : Type 0 where
   pub text : IsUtf8 line
   pub short : length line ≤ MAX_LINE_BYTES
-  pub says : Means prefix tree (without_white_end line) meaning
+  pub says : Means format tree (without_white_end line) meaning
 
 -- no bytes, or bytes that end with a newline
 abbrev pub IsEnded : List ℕ → Type 0
 IsEnded front = (front ≡ []) ⊎ ((earlier : List ℕ) × (front ≡ earlier ++ 10 ∷ []))
 
 -- a part of a file: complete lines, each without a fault, and the line so far, within all limits
-pub record IsCut (prefix : List ℕ) (tree : Tree) (known line : List ℕ) (meanings : List LineMeaning) : Type 0 where
+pub record IsCut (format : FileFormat) (tree : Tree) (known line : List ℕ) (meanings : List LineMeaning) : Type 0 where
   pub front : List ℕ
   pub whole : known ≡ front ++ line
   pub ended : IsEnded front
   pub one_line : lacks 10 line ≡ true
-  pub sound : AllZip (IsSound prefix tree) (file_lines front) meanings
+  pub sound : AllZip (IsSound format tree) (file_lines front) meanings
   pub few : length meanings ≤ MAX_CONFIG_LINES
   pub room : 0 < length line → length meanings < MAX_CONFIG_LINES
   pub small : length known ≤ MAX_CONFIG_BYTES

@@ -1,6 +1,7 @@
 -- The functions of `LineMeanings` give exactly the meanings of lines and files.
 use Rattle.std.specs.Prelude.{◌≡◌, ◌↔◌, ℕ, true, List, Some}
 use Rattle.kc_tree_model.specs.Trees.{Tree}
+use Rattle.kc_dotconfig_model.specs.Formats.{FileFormat}
 use Rattle.kc_dotconfig_model.specs.PrefixGrammar.{is_prefix}
 use Rattle.kc_dotconfig_model.specs.ConfigLines.{LineMeaning, Means}
 use Rattle.kc_dotconfig_model.specs.ConfigFiles.{FileMeans}
@@ -8,10 +9,10 @@ use Rattle.kc_dotconfig_model.specs.between.LineMeanings.{line_meaning, file_mea
 
 -- the function gives the meaning of each line, and of no other
 abbrev pub LinesAreRead : Type 0
-LinesAreRead = (prefix : List ℕ) (tree : Tree) (line : List ℕ) (meaning : LineMeaning) → is_prefix prefix ≡ true
-    → (line_meaning prefix tree line ≡ Some meaning) ↔ Means prefix tree line meaning
+LinesAreRead = (format : FileFormat) (tree : Tree) (line : List ℕ) (meaning : LineMeaning) → is_prefix format.prefix ≡ true
+    → (line_meaning format tree line ≡ Some meaning) ↔ Means format tree line meaning
 
 -- the function gives the meanings of the lines of each file, and of no other
 abbrev pub FilesAreRead : Type 0
-FilesAreRead = (prefix : List ℕ) (tree : Tree) (bytes : List ℕ) (meanings : List LineMeaning) → is_prefix prefix ≡ true
-    → (file_meanings prefix tree bytes ≡ Some meanings) ↔ FileMeans prefix tree bytes meanings
+FilesAreRead = (format : FileFormat) (tree : Tree) (bytes : List ℕ) (meanings : List LineMeaning) → is_prefix format.prefix ≡ true
+    → (file_meanings format tree bytes ≡ Some meanings) ↔ FileMeans format tree bytes meanings

@@ -12,6 +12,9 @@ use Rattle.kc_rules_model.specs.Kinds.{is_y}
 use Rattle.kc_value.specs.Number.{number_of_text}
 use Rattle.kc_rules_model.specs.declared.values.UserValue.TheVariants.{Tri as TriUser, Text as TextUser, Member as MemberUser}
 use Rattle.kc_dotconfig_model.specs.declared.notice.NoticeKind.TheVariants.{UnknownSymbol, NotOfType}
+use Rattle.kc_dotconfig_model.specs.declared.format.Strings.{Strings}
+use Rattle.kc_dotconfig_model.specs.declared.format.Strings.TheVariants.{Escaped, Raw}
+use Rattle.kc_dotconfig_model.specs.Formats.{FileFormat}
 use Rattle.kc_dotconfig_model.specs.ConfigLines.{LineMeaning, assigns, notice, silent, tri_of_text, unset_meaning, without_white_end}
 use Rattle.kc_dotconfig_model.specs.ConfigFiles.{file_lines}
 
@@ -28,10 +31,26 @@ unquoted_rest false (c ∷ rest) = if c == 34
     then ended rest
     else (if c == 92 then unquoted_rest true rest else option_map (λ text. c ∷ text) (unquoted_rest false rest))
 
--- the text between quotes
+-- the text between quotes, without its escapes
 abbrev pub unquoted : List ℕ → Option (List ℕ)
 unquoted [] = None
 unquoted (c ∷ rest) = if c == 34 then unquoted_rest false rest else None
+
+-- the text before a quote that is the last byte
+abbrev pub before_quote : List ℕ → Option (List ℕ)
+before_quote [] = None
+before_quote (c ∷ []) = if c == 34 then Some [] else None
+before_quote (c ∷ d ∷ rest) = option_map (λ text. c ∷ text) (before_quote (d ∷ rest))
+
+-- the text between two quotes, as it is
+abbrev pub raw_text : List ℕ → Option (List ℕ)
+raw_text [] = None
+raw_text (c ∷ rest) = if c == 34 then before_quote rest else None
+
+-- the text of a string by its form
+abbrev pub string_text : Strings → List ℕ → Option (List ℕ)
+string_text Escaped text = unquoted text
+string_text Raw text = raw_text text
 
 -- the meaning of a tristate's text, for a symbol or a choice's member
 abbrev pub tri_meaning : ℕ → ℕ → Option ℕ → Option Tri → LineMeaning
@@ -55,17 +74,17 @@ number_meaning u kind text = if is_some (number_of_text kind text)
     then assigns u (TextUser text)
     else without_number text
 
--- the meaning of the text after `=`, by the type of its symbol
-abbrev pub meaning_of_kind : Kind → ℕ → ℕ → Option ℕ → List ℕ → LineMeaning
-meaning_of_kind Boolean u s choice text = tri_meaning u s choice (tri_of_text Boolean text)
-meaning_of_kind Tristate u s choice text = tri_meaning u s choice (tri_of_text Tristate text)
-meaning_of_kind Text u s choice text = string_meaning u (unquoted text)
-meaning_of_kind Int u s choice text = number_meaning u Int text
-meaning_of_kind Hex u s choice text = number_meaning u Hex text
+-- the meaning of the text after `=`, by the type of its symbol and the form of strings
+abbrev pub meaning_of_kind : Strings → Kind → ℕ → ℕ → Option ℕ → List ℕ → LineMeaning
+meaning_of_kind strings Boolean u s choice text = tri_meaning u s choice (tri_of_text Boolean text)
+meaning_of_kind strings Tristate u s choice text = tri_meaning u s choice (tri_of_text Tristate text)
+meaning_of_kind strings Text u s choice text = string_meaning u (string_text strings text)
+meaning_of_kind strings Int u s choice text = number_meaning u Int text
+meaning_of_kind strings Hex u s choice text = number_meaning u Hex text
 
 -- the meaning of the text after `=`
-abbrev pub value_meaning : Tree → ℕ → Symbol → List ℕ → LineMeaning
-value_meaning tree s symbol text = meaning_of_kind symbol.kind (unit_of tree s) s symbol.choice text
+abbrev pub value_meaning : Strings → Tree → ℕ → Symbol → List ℕ → LineMeaning
+value_meaning strings tree s symbol text = meaning_of_kind strings symbol.kind (unit_of tree s) s symbol.choice text
 
 -- the rest of a text after its front
 abbrev pub after_front : List ℕ → List ℕ → Option (List ℕ)
@@ -126,14 +145,14 @@ of_unset tree line (Some name) =
     Some (of_named tree (λ s symbol. unset_meaning tree s symbol symbol.choice) (symbol_named tree name))
 
 -- the meaning of a line with `=`, or of any other line
-abbrev pub of_value : List ℕ → Tree → List ℕ → Option (List ℕ × List ℕ) → Option LineMeaning
-of_value prefix tree line None = of_unset tree line (unset_name prefix line)
-of_value prefix tree line (Some parts) =
-    Some (of_named tree (λ s symbol. value_meaning tree s symbol parts.1) (symbol_named tree parts.0))
+abbrev pub of_value : FileFormat → Tree → List ℕ → Option (List ℕ × List ℕ) → Option LineMeaning
+of_value format tree line None = of_unset tree line (unset_name format.prefix line)
+of_value format tree line (Some parts) =
+    Some (of_named tree (λ s symbol. value_meaning format.strings tree s symbol parts.1) (symbol_named tree parts.0))
 
 -- the meaning of a line without trailing white space
-unfoldable pub line_meaning : List ℕ → Tree → List ℕ → Option LineMeaning
-line_meaning prefix tree line = of_value prefix tree line (value_parts prefix line)
+unfoldable pub line_meaning : FileFormat → Tree → List ℕ → Option LineMeaning
+line_meaning format tree line = of_value format tree line (value_parts format.prefix line)
 
 -- a line's meaning before those of the other lines, unless one is malformed
 abbrev pub with_rest : Option LineMeaning → Option (List LineMeaning) → Option (List LineMeaning)
@@ -141,11 +160,11 @@ with_rest (Some meaning) (Some meanings) = Some (meaning ∷ meanings)
 with_rest _ _ = None
 
 -- the meanings of lines, unless one is malformed
-abbrev pub meanings_of_lines : List ℕ → Tree → List (List ℕ) → Option (List LineMeaning)
-meanings_of_lines prefix tree [] = Some []
-meanings_of_lines prefix tree (line ∷ lines) =
-    with_rest (line_meaning prefix tree (without_white_end line)) (meanings_of_lines prefix tree lines)
+abbrev pub meanings_of_lines : FileFormat → Tree → List (List ℕ) → Option (List LineMeaning)
+meanings_of_lines format tree [] = Some []
+meanings_of_lines format tree (line ∷ lines) =
+    with_rest (line_meaning format tree (without_white_end line)) (meanings_of_lines format tree lines)
 
 -- the meanings of the lines of a file, if none is malformed
-abbrev pub file_meanings : List ℕ → Tree → List ℕ → Option (List LineMeaning)
-file_meanings prefix tree bytes = meanings_of_lines prefix tree (file_lines bytes)
+abbrev pub file_meanings : FileFormat → Tree → List ℕ → Option (List LineMeaning)
+file_meanings format tree bytes = meanings_of_lines format tree (file_lines bytes)

@@ -1,4 +1,4 @@
--- The end of a line behind its first word.
+-- The end of a line after its first word.
 use Rattle.std.specs.Prelude.{ℕ, Bool, true, ◌==◌, List, [], ◌∷◌, length, drop, take_while}
 use Rattle.kc_expr.specs.Token.{is_white_byte}
 

@@ -9,7 +9,7 @@ abbrev pub is_first_continued : List PhysicalLine → Bool
 is_first_continued [] = false
 is_first_continued (l ∷ ls) = is_continued l
 
--- a place behind the help text that begins at another, or at the same place where none begins
+-- a place after the help text that begins at another, or at the same place where none begins
 pub record IsHelpPassed (bytes : List ℕ) (after : LineStart) (begins_help : Bool) (behind : LineStart) : Type 0 where
   pub whole : split_at_newlines (drop behind.at bytes) ≡ drop (help_after begins_help (split_at_newlines (drop after.at bytes))) (split_at_newlines (drop after.at bytes))
   pub number : behind.number ≡ after.number + help_after begins_help (split_at_newlines (drop after.at bytes))

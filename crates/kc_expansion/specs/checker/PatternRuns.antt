@@ -25,7 +25,7 @@ FindsMore known at p before after (Ok x) = (more : List (List ℕ)) × (after.pa
 FindsMore known at p before after (Err TooMany) = Comes known p (failed (too_many_at at))
 FindsMore known at p before after (Err OutOfMemory) = Unit {0}
 
--- paths as folders, with a slash behind each
+-- paths as folders, with a slash after each
 abbrev pub slashed : Program FoundPaths → Program FoundPaths
 slashed p = p >>= λ f. returns (found (map (λ path. path ++ 47 ∷ []) f.paths) f.listed)
 

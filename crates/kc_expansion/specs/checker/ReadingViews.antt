@@ -1,9 +1,10 @@
 -- A reading of a tree, as the code has it.
-use Rattle.std.specs.Prelude.{◌≡◌, ℕ, Bool, true, false, ◌+◌, ◌-◌, ◌<◌, ◌≤◌, List, [], ◌++◌, length, Vec, Option, Some, None}
+use Rattle.std.specs.Prelude.{◌≡◌, ℕ, suc, Bool, true, false, ◌+◌, ◌-◌, ◌<◌, ◌≤◌, List, [], ◌++◌, length, Vec, Option, Some, None}
 use Rattle.std.specs.declared.alloc.Global.{Global}
 use Rattle.kc_tree_model.specs.LogicalLines.{PhysicalLine}
 use Rattle.kc_macros_model.specs.declared.fault.MacroKind.{MacroKind}
 use Rattle.kc_macros_model.specs.declared.fault.MacroKind.TheVariants.{JoinedAssignment}
+use Rattle.kc_macros_model.specs.Limits.{max_files, max_bytes, max_open_files}
 use Rattle.kc_macros_model.specs.Expansion.{fault}
 use Rattle.kc_macros_model.specs.Variables.{Bindings}
 use Rattle.kc_macros_model.specs.LineForms.{SourceSort, LineForm, sources}
@@ -49,7 +50,7 @@ file_run_of contents r = file_run contents (known_of r.store) r.lines.run
 
 -- how files are read where these are open
 abbrev pub reader_for : (root : List ℕ) → List (List ℕ) → SourceReader
-reader_for root open_files = source_read (33 - length open_files) root open_files
+reader_for root open_files = source_read (suc max_open_files - length open_files) root open_files
 
 abbrev pub reader_of : OpenFiles → SourceReader
 reader_of o = reader_for o.root.now (slices_of o.paths.now)
@@ -103,9 +104,9 @@ pub record AreCounts (counts : ReadCounts) (s : ReadingState) : Type 0 where
 pub record MayBeRead (open_files : List (List ℕ)) (counts : ReadCounts) (path : List ℕ) (read : FileRead) (bytes : List ℕ) : Type 0 where
   pub is_whole : read ≡ whole bytes
   pub no_fault : (s : ReadingState) → AreCounts counts s → source_fault open_files s path (Some bytes) ≡ None
-  pub few_files : counts.files < 4096
-  pub few_bytes : counts.bytes + length bytes ≤ 67108864
-  pub few_open : length open_files < 32
+  pub few_files : counts.files < max_files
+  pub few_bytes : counts.bytes + length bytes ≤ max_bytes
+  pub few_open : length open_files < max_open_files
 
 -- what was read of a path may not be read
 pub record MayNotBeRead (open_files : List (List ℕ)) (counts : ReadCounts) (path : List ℕ) (read : FileRead) (kind : MacroKind) : Type 0 where

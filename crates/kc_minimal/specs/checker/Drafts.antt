@@ -6,9 +6,10 @@ use Rattle.kc_rules_model.specs.declared.values.UnitValue.{UnitValue}
 use Rattle.kc_minimal_model.specs.FullFile.{full_file}
 use Rattle.kc_minimal_model.specs.between.EntryTexts.{entry_texts}
 use Rattle.kc_minimal.specs.declared.full.Draft.{Draft}
+use Rattle.kc_dotconfig_model.specs.Formats.{FileFormat}
 
 -- what was written and what these entries write is the full file, and the symbols that were defined are marked
-pub record IsDraft (prefix : List ℕ) (tree : Tree) (values : List UnitValue) (left : List Entry) (draft : Draft) : Type 0 where
+pub record IsDraft (format : FileFormat) (tree : Tree) (values : List UnitValue) (left : List Entry) (draft : Draft) : Type 0 where
   pub seen : List ℕ
   pub marked : (s : ℕ) → s < length tree.symbols → slice_index_or draft.defined.items s false ≡ list_any (nat_eq s) seen
-  pub whole : draft.text.items ++ entry_texts prefix tree values seen draft.gap left ≡ full_file prefix tree values
+  pub whole : draft.text.items ++ entry_texts format tree values seen draft.gap left ≡ full_file format tree values

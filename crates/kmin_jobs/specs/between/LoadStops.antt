@@ -1,6 +1,7 @@
 -- How a configuration file that isn't read ends a run, by the kind of its fault.
-use Rattle.std.specs.Prelude.{◌≡◌, ℕ, List, [], ◌∷◌, map, Option}
+use Rattle.std.specs.Prelude.{◌≡◌, ℕ, Bool, List, [], ◌∷◌, map, Option}
 use Rattle.kc_tree_model.specs.Trees.{Tree}
+use Rattle.kc_dotconfig_model.specs.Formats.{FileFormat}
 use Rattle.kc_dotconfig_model.specs.declared.fault.LoadKind.{LoadKind}
 use Rattle.kc_dotconfig_model.specs.declared.fault.LoadKind.TheVariants.{Read, OutOfMemory}
 use Rattle.kc_dotconfig.specs.declared.fragment.Fragment.{Fragment}
@@ -27,14 +28,14 @@ abbrev pub fragment_notices : (path : List ℕ) → Fragment → List (List ℕ)
 fragment_notices path fragment = map (λ notice. notice_line path (notice_pair notice)) fragment.notices.items
 
 -- reading ended at a fault, which is reported
-pub record StopsLoad (prefix : List ℕ) (tree : Tree) (path : List ℕ) (left left_after : Option (List ℕ)) (read_failed read_failed_after : ℕ) (status : ℕ) (taken : Option (List ℕ)) (failed : ℕ) (taken_after : Option (List ℕ)) (failed_after : ℕ) : Type 0 where
+pub record StopsLoad (format : FileFormat) (tree : Tree) (path : List ℕ) (left left_after : Option (List ℕ)) (read_failed read_failed_after : ℕ) (status : ℕ) (taken : Option (List ℕ)) (failed : ℕ) (taken_after : Option (List ℕ)) (failed_after : ℕ) : Type 0 where
   pub kind : LoadKind
   pub number : ℕ
-  pub fault : ReportsFault prefix tree left left_after read_failed read_failed_after kind number
+  pub fault : ReportsFault format tree left left_after read_failed read_failed_after kind number
   pub status_is : status ≡ load_status kind
   pub reported : TakesLines taken failed (load_lines path number kind) taken_after failed_after
 
 -- one file ended a run, or memory ran out
-pub data StopsAtPath (content : FileContent) (prefix : List ℕ) (tree : Tree) (path : List ℕ) (status : ℕ) (lines : List (List ℕ)) : Type 0 where
-  at_file : (line : List ℕ) → StopsAtFile content prefix tree path status line → lines ≡ line ∷ [] → StopsAtPath content prefix tree path status lines
-  for_memory : status ≡ 6 → lines ≡ [] → StopsAtPath content prefix tree path status lines
+pub data StopsAtPath (content : FileContent) (format : FileFormat) (strict : Bool) (tree : Tree) (path : List ℕ) (status : ℕ) (lines : List (List ℕ)) : Type 0 where
+  at_file : StopsAtFile content format strict tree path status lines → StopsAtPath content format strict tree path status lines
+  for_memory : status ≡ 6 → lines ≡ [] → StopsAtPath content format strict tree path status lines

@@ -1,9 +1,10 @@
 -- The line of each report.
 use Rattle.std.specs.Prelude.{ℕ, List, ◌++◌, codes}
 use Rattle.kmin_jobs.specs.declared.report.Report.{Report}
-use Rattle.kmin_jobs.specs.declared.report.Report.TheVariants.{TreeFault, Cycle, FileFault, Notice, AnswersFault, MacroNotice, MacroFault, OutputFault, OutOfMemory, RefusedWords}
+use Rattle.kmin_jobs.specs.declared.report.Report.TheVariants.{TreeFault, Cycle, FileFault, Notice, AnswersFault, MacroNotice, MacroFault, OutputFault, NotRegular, Unwritten, Left, OutOfMemory, RefusedWords}
 use Rattle.kc_tree_model.specs.FaultNames.{tree_kind_name}
 use Rattle.kc_macros.specs.Runs.{fault_of, notice_of}
+use Rattle.kmin_tidy.specs.Reports.{not_regular_line, write_line, left_line}
 use Rattle.kmin_jobs.specs.MacroReports.{answers_line, macro_notice_line, macro_fault_line}
 use Rattle.kmin_jobs.specs.Reports.{place_line, fault_line, notice_line, units_text, output_line, memory_line}
 
@@ -17,5 +18,8 @@ report_line (AnswersFault path line kind) = answers_line path.now line kind
 report_line (MacroNotice notice) = macro_notice_line (notice_of notice.now)
 report_line (MacroFault fault) = macro_fault_line (fault_of fault.now)
 report_line OutputFault = output_line
+report_line (NotRegular path) = not_regular_line path.now
+report_line (Unwritten path) = write_line path.now
+report_line (Left path) = left_line path.now
 report_line OutOfMemory = memory_line
 report_line (RefusedWords message) = message.now

@@ -1,5 +1,6 @@
 -- Files that are read.
 use Rattle.std.specs.Prelude.{◌≡◌, ◌≢◌, ◌⊎◌, ℕ, List, ◌++◌, Option, None, map}
+use Rattle.kc_dotconfig_model.specs.Formats.{FileFormat}
 use Rattle.kc_dotconfig_model.specs.ConfigLines.{LineMeaning}
 use Rattle.kc_dotconfig_model.specs.ConfigFiles.{FileMeans, file_assignment, notices_from}
 use Rattle.kc_dotconfig_model.specs.LoadFaults.{IsAccepted, IsFirstFault, complete, cut_short}
@@ -13,37 +14,37 @@ use Rattle.kmin_tidy.specs.MinimalFiles.{AreKnownBytes}
 use Rattle.kmin_tidy.specs.declared.reading.AcceptedFile.{AcceptedFile}
 
 -- what a fragment holds is what accepted bytes assign, with the notices of their lines
-pub record IsFragmentOf (prefix : List ℕ) (tree : Tree) (bytes : List ℕ) (f : Fragment) : Type 0 where
-  pub accepted : IsAccepted prefix tree bytes
+pub record IsFragmentOf (format : FileFormat) (tree : Tree) (bytes : List ℕ) (f : Fragment) : Type 0 where
+  pub accepted : IsAccepted format tree bytes
   pub meanings : List LineMeaning
-  pub means : FileMeans prefix tree bytes meanings
+  pub means : FileMeans format tree bytes meanings
   pub users : users_of tree f.assigns.items ≡ file_assignment tree meanings
   pub noted : map notice_pair f.notices.items ≡ notices_from 1 meanings
   pub fits : FitsTree tree f.assigns.items
 
 -- known bytes were read, and accepted
-pub record IsAcceptedAs (prefix : List ℕ) (tree : Tree) (known : Option (Option (List ℕ))) (file : AcceptedFile) : Type 0 where
+pub record IsAcceptedAs (format : FileFormat) (tree : Tree) (known : Option (Option (List ℕ))) (file : AcceptedFile) : Type 0 where
   pub read : AreKnownBytes known file.bytes.items
-  pub fragment : IsFragmentOf prefix tree file.bytes.items file.fragment
+  pub fragment : IsFragmentOf format tree file.bytes.items file.fragment
 
 -- a fault of a whole file, or memory ran out
-abbrev pub IsFaultOf : List ℕ → Tree → (bytes : List ℕ) → LoadKind → ℕ → Type 0
-IsFaultOf prefix tree bytes kind number = (kind ≡ OutOfMemory) ⊎ ((kind ≢ Read) × IsFirstFault prefix tree complete bytes kind number)
+abbrev pub IsFaultOf : FileFormat → Tree → (bytes : List ℕ) → LoadKind → ℕ → Type 0
+IsFaultOf format tree bytes kind number = (kind ≡ OutOfMemory) ⊎ ((kind ≢ Read) × IsFirstFault format tree complete bytes kind number)
 
 -- a fault of a file of which these bytes were read before a read that failed, or memory ran out
-pub data IsFaultOfPart (prefix : List ℕ) (tree : Tree) (bytes : List ℕ) (kind : LoadKind) (number : ℕ) : Type 0 where
-  in_front : kind ≢ Read → ((rest : List ℕ) → IsFirstFault prefix tree complete (bytes ++ rest) kind number)
-      → IsFaultOfPart prefix tree bytes kind number
-  at_failure : (front back : List ℕ) → bytes ≡ front ++ back → IsFirstFault prefix tree cut_short front Read number → kind ≡ Read
-      → IsFaultOfPart prefix tree bytes kind number
-  no_memory : kind ≡ OutOfMemory → IsFaultOfPart prefix tree bytes kind number
+pub data IsFaultOfPart (format : FileFormat) (tree : Tree) (bytes : List ℕ) (kind : LoadKind) (number : ℕ) : Type 0 where
+  in_front : kind ≢ Read → ((rest : List ℕ) → IsFirstFault format tree complete (bytes ++ rest) kind number)
+      → IsFaultOfPart format tree bytes kind number
+  at_failure : (front back : List ℕ) → bytes ≡ front ++ back → IsFirstFault format tree cut_short front Read number → kind ≡ Read
+      → IsFaultOfPart format tree bytes kind number
+  no_memory : kind ≡ OutOfMemory → IsFaultOfPart format tree bytes kind number
 
 -- known bytes aren't accepted: by their first fault, by a read that fails before one, or since they can't be opened; or
 -- memory ran out
-pub data IsFaulty (prefix : List ℕ) (tree : Tree) (known : Option (Option (List ℕ))) (kind : LoadKind) (number : ℕ) : Type 0 where
-  refused : (bytes : List ℕ) → AreKnownBytes known bytes → kind ≢ Read → IsFirstFault prefix tree complete bytes kind number
-      → IsFaulty prefix tree known kind number
-  unread : (front rest : List ℕ) → AreKnownBytes known (front ++ rest) → IsFirstFault prefix tree cut_short front Read number
-      → kind ≡ Read → IsFaulty prefix tree known kind number
-  unopened : OpensAs known None → kind ≡ Read → number ≡ 0 → IsFaulty prefix tree known kind number
-  for_memory : kind ≡ OutOfMemory → IsFaulty prefix tree known kind number
+pub data IsFaulty (format : FileFormat) (tree : Tree) (known : Option (Option (List ℕ))) (kind : LoadKind) (number : ℕ) : Type 0 where
+  refused : (bytes : List ℕ) → AreKnownBytes known bytes → kind ≢ Read → IsFirstFault format tree complete bytes kind number
+      → IsFaulty format tree known kind number
+  unread : (front rest : List ℕ) → AreKnownBytes known (front ++ rest) → IsFirstFault format tree cut_short front Read number
+      → kind ≡ Read → IsFaulty format tree known kind number
+  unopened : OpensAs known None → kind ≡ Read → number ≡ 0 → IsFaulty format tree known kind number
+  for_memory : kind ≡ OutOfMemory → IsFaulty format tree known kind number

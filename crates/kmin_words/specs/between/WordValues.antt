@@ -1,5 +1,5 @@
 -- The job of accepted words, by the values that their parser found.
-use Rattle.std.specs.Prelude.{◌≡◌, ℕ, ◌+◌, Bool, true, false, not, ◌&&◌, ◌||◌, ◌==◌, nat_lt, nat_le, List, [], length, take, drop, position, count_by, Option, Some, None, Result, Ok, Err, is_some, codes, unwrap_or, option_map, bytes_eq, if◌then◌else◌}
+use Rattle.std.specs.Prelude.{◌≡◌, ℕ, ◌+◌, Bool, true, false, not, ◌&&◌, ◌||◌, ◌==◌, nat_lt, nat_le, List, [], ◌∷◌, ◌++◌, length, take, drop, position, count_by, Option, Some, None, Result, Ok, Err, is_some, codes, unwrap_or, option_map, bytes_eq, if◌then◌else◌}
 use Rattle.std.specs.List.{list_all, list_any, filter_map}
 use Rattle.clap.specs.Words.{matched_of, first_value}
 use Rattle.clap.specs.Matches.{raw_values}
@@ -8,14 +8,17 @@ use Rattle.kc_expr.specs.declared.language.Language.{Language}
 use Rattle.kc_expr.specs.declared.language.Language.TheVariants.{Strict, Linux}
 use Rattle.kc_rules_model.specs.declared.profile.Profile.{Profile}
 use Rattle.kc_rules_model.specs.declared.profile.Profile.TheVariants.{Present, Classic}
+use Rattle.kc_dotconfig_model.specs.declared.format.Strings.{Strings}
+use Rattle.kc_dotconfig_model.specs.declared.format.Strings.TheVariants.{Escaped, Raw}
 use Rattle.kc_dotconfig_model.specs.PrefixGrammar.{is_prefix}
 use Rattle.kc_macros_model.specs.Limits.{max_text_bytes}
 use Rattle.kc_macros_model.specs.Variables.{is_environment_name, without_white_end}
+use Rattle.kmin_words.specs.declared.job.TidyFlags.{TidyFlags}
 use Rattle.kmin_words.specs.declared.job.Verb.{Verb}
 use Rattle.kmin_words.specs.declared.job.Verb.TheVariants.{Min, Full, Missed, Check}
 use Rattle.kmin_words.specs.declared.parsing.ParsedWords.{ParsedWords}
-use Rattle.kmin_words.specs.declared.parsing.ParsedWords.TheVariants.{Job, Questions as TheQuestions, Help, Refused}
-use Rattle.kmin_words.specs.Jobs.{Definition, Expansion, Settings, Questions, Task, over, compare, paths_of, settings_view, questions_view, task_view}
+use Rattle.kmin_words.specs.declared.parsing.ParsedWords.TheVariants.{Job, Save, Questions as TheQuestions, Tidy, Help, Refused}
+use Rattle.kmin_words.specs.Jobs.{Definition, Expansion, Settings, Questions, PathList, Tidying, Task, over, compare, paths_of, settings_view, questions_view, tidying_view, task_view}
 
 -- the one value of an option or a word, empty without one
 abbrev pub value_of : Found → List ℕ → List ℕ
@@ -24,6 +27,10 @@ value_of found id = unwrap_or (first_value found id) []
 -- the values of a word that may be given any number of times, in order
 abbrev pub values_of : Found → List ℕ → List (List ℕ)
 values_of found id = unwrap_or (option_map raw_values (matched_of found id)) []
+
+-- whether a flag is given; one that is has the value `true`
+abbrev pub is_given : Found → List ℕ → Bool
+is_given found id = bytes_eq (value_of found id) (codes "true")
 
 -- the verb of a command over any number of files
 abbrev pub verb_of : List ℕ → Option Verb
@@ -36,6 +43,10 @@ verb_of name = if bytes_eq name (codes "min") then Some Min
 abbrev pub profile_of : List ℕ → Profile
 profile_of value = if bytes_eq value (codes "classic") then Classic else Present
 
+-- the form of strings of a value of `--strings`
+abbrev pub strings_of : List ℕ → Strings
+strings_of value = if bytes_eq value (codes "raw") then Raw else Escaped
+
 -- the language of a value of `--language`; without one that of Linux where the tree is expanded, and else the strict one
 abbrev pub language_of : List ℕ → (is_expanded : Bool) → Language
 language_of value is_expanded =
@@ -43,10 +54,10 @@ language_of value is_expanded =
     else (if bytes_eq value (codes "linux") then Linux
     else (if is_expanded then Linux else Strict))
 
--- the command of a name, with all its files in order
+-- the command of a name, with all its files in order, and with `--exit-code` where it is given
 abbrev pub task_of : List ℕ → Found → Task
 task_of name found = elim (verb_of name) [
-  | Some verb ↦ over verb (values_of found (codes "FILE"))
+  | Some verb ↦ over verb (values_of found (codes "FILE")) (is_given found (codes "exit-code"))
   | None ↦ compare (value_of found (codes "LEFT")) (value_of found (codes "RIGHT"))
 ]
 
@@ -87,35 +98,34 @@ expanded_tree_of path = if has_newline path then Err (codes "tree: Malformed\n")
 abbrev pub inputs_among : List (List ℕ) → ℕ
 inputs_among paths = count_by (λ path. bytes_eq path (codes "/dev/stdin")) paths
 
--- files of answers beside configuration files, among which standard input is named at most once
-abbrev pub answers_beside : (answers paths : List (List ℕ)) → OrRefused (List (List ℕ))
-answers_beside answers paths = if nat_lt 1 (inputs_among answers + inputs_among paths) then Err (codes "stdin: NamedTwice\n") else Ok answers
+-- configuration files beside files of answers, among which standard input is named at most once; paths are compared as texts
+abbrev pub paths_beside : (answers paths : List (List ℕ)) → OrRefused (List (List ℕ))
+paths_beside answers paths = if nat_lt 1 (inputs_among answers + inputs_among paths) then Err (codes "stdin: NamedTwice\n") else Ok paths
 
 -- the first refusal of two values, or both
 abbrev pub and_then : {A B : Type 0} → OrRefused A → (A → OrRefused B) → OrRefused B
 and_then (Ok x) f = f x
 and_then (Err line) f = Err line
 
--- what the expansion of a tree takes its answers from, beside configuration files of these paths
-abbrev pub expansion_of : Found → (paths : List (List ℕ)) → OrRefused Expansion
-expansion_of found paths =
+-- what the expansion of a tree takes its answers from
+abbrev pub expansion_of : Found → OrRefused Expansion
+expansion_of found =
     and_then (definitions_of (values_of found (codes "define"))) (λ definitions.
     and_then (environment_of (values_of found (codes "env"))) (λ environment.
     and_then (expanded_tree_of (value_of found (codes "tree"))) (λ tree.
-    and_then (answers_beside (values_of found (codes "answers")) paths) (λ answers.
-    Ok (record { answers = answers; definitions = definitions; environment = environment })))))
+    Ok (record { answers = values_of found (codes "answers"); definitions = definitions; environment = environment }))))
 
--- whether one of the four words that turn the expansion on is given; a flag that is given has the value `true`
+-- whether one of the four words that turn the expansion on is given
 abbrev pub is_expanded : Found → Bool
 is_expanded found =
-    bytes_eq (value_of found (codes "expand")) (codes "true")
+    is_given found (codes "expand")
     || (nat_lt 0 (length (values_of found (codes "answers")))
     || (nat_lt 0 (length (values_of found (codes "define")))
     || nat_lt 0 (length (values_of found (codes "env")))))
 
 -- the expansion of a command, where one of those words is given
-abbrev pub expansion_if_given : Found → (paths : List (List ℕ)) → OrRefused (Option Expansion)
-expansion_if_given found paths = if is_expanded found then and_then (expansion_of found paths) (λ e. Ok (Some e)) else Ok None
+abbrev pub expansion_if_given : Found → OrRefused (Option Expansion)
+expansion_if_given found = if is_expanded found then and_then (expansion_of found) (λ e. Ok (Some e)) else Ok None
 
 -- the prefix of names, which has to be one
 abbrev pub prefix_of : List ℕ → OrRefused (List ℕ)
@@ -125,47 +135,112 @@ prefix_of text = if is_prefix text then Ok text else Err (codes "prefix: Malform
 abbrev pub settings_of : Found → (paths : List (List ℕ)) → OrRefused Settings
 settings_of found paths =
     and_then (prefix_of (value_of found (codes "prefix"))) (λ prefix.
-    and_then (expansion_if_given found paths) (λ expansion.
+    and_then (expansion_if_given found) (λ expansion.
+    and_then (paths_beside (values_of found (codes "answers")) paths) (λ named.
     Ok (record {
       root = value_of found (codes "root");
       tree = value_of found (codes "tree");
       language = language_of (value_of found (codes "language")) (is_some expansion);
-      prefix = prefix;
+      format = record { prefix = prefix; strings = strings_of (value_of found (codes "strings")) };
       profile = profile_of (value_of found (codes "imply"));
+      strict = is_given found (codes "strict");
       expansion = expansion;
-    })))
+    }))))
 
 -- the options and the command of a name
 abbrev pub job_of : List ℕ → Found → OrRefused (Settings × Task)
 job_of name found = and_then (settings_of found (paths_of (task_of name found))) (λ settings. Ok (settings, task_of name found))
 
+-- a path that may be named and has no newline
+abbrev pub one_line_output : Option (List ℕ) → OrRefused (Option (List ℕ))
+one_line_output None = Ok None
+one_line_output (Some path) = if has_newline path then Err (codes "file: Malformed\n") else Ok (Some path)
+
+-- the path of the file that the answer is put into, where one is named
+abbrev pub output_of : Found → OrRefused (Option (List ℕ))
+output_of found = one_line_output (first_value found (codes "output"))
+
+-- the options and the command of a name, and the path of the file that the answer is put into, where one is named
+abbrev pub job_and_output_of : List ℕ → Found → OrRefused ((Settings × Task) × Option (List ℕ))
+job_and_output_of name found = and_then (output_of found) (λ output. and_then (job_of name found) (λ job. Ok (job, output)))
+
 -- the questions of a tree, which is always expanded
 abbrev pub questions_of : Found → OrRefused Questions
 questions_of found =
-    and_then (expansion_of found []) (λ expansion.
-    Ok (record { root = value_of found (codes "root"); tree = value_of found (codes "tree"); expansion = expansion }))
+    and_then (expansion_of found) (λ expansion.
+    and_then (paths_beside (values_of found (codes "answers")) []) (λ named.
+    Ok (record { root = value_of found (codes "root"); tree = value_of found (codes "tree"); expansion = expansion })))
+
+-- what is done with files that aren't minimal, and with those that have notices
+abbrev pub flags_of : Found → TidyFlags
+flags_of found = record { write = is_given found (codes "write"); drop = is_given found (codes "drop") }
+
+-- the list of further paths, where `--from` names one
+abbrev pub list_of : Found → Option PathList
+list_of found = option_map (λ (path : List ℕ). record { path = path; ended_by_nul = is_given found (codes "z") }) (first_value found (codes "from"))
+
+abbrev pub is_one_line : List ℕ → Bool
+is_one_line path = not (has_newline path)
+
+-- paths, none of which has a newline
+abbrev pub one_line_paths : List (List ℕ) → OrRefused (List (List ℕ))
+one_line_paths paths = if list_all is_one_line paths then Ok paths else Err (codes "file: Malformed\n")
+
+-- the path of a list, which as `-` is standard input
+abbrev pub path_read : List ℕ → List ℕ
+path_read path = if bytes_eq path (codes "-") then codes "/dev/stdin" else path
+
+-- the paths that are read: those of files, and that of a list
+abbrev pub paths_read : (files : List (List ℕ)) → Option PathList → List (List ℕ)
+paths_read files None = files
+paths_read files (Some list) = files ++ path_read list.path ∷ []
+
+-- the files that are each compared with their minimal file or replaced by it
+abbrev pub tidying_of : Found → OrRefused Tidying
+tidying_of found =
+    and_then (one_line_paths (values_of found (codes "FILE"))) (λ files.
+    and_then (settings_of found (paths_read files (list_of found))) (λ settings.
+    Ok (record { settings = settings; flags = flags_of found; list = list_of found; files = files })))
 
 -- parsed words are the questions that were found, or are refused with the line that refuses these
 abbrev pub AreQuestions : OrRefused Questions → ParsedWords → Type 0
 AreQuestions found (TheQuestions questions) = found ≡ Ok (questions_view questions)
 AreQuestions found (Refused text) = found ≡ Err text.bytes.items
 AreQuestions found (Job job) = ⊥
+AreQuestions found (Save saving) = ⊥
+AreQuestions found (Tidy tidying) = ⊥
 AreQuestions found (Help text) = ⊥
 
--- parsed words are the job that was found, or are refused with the line that refuses it
-abbrev pub AreJob : OrRefused (Settings × Task) → ParsedWords → Type 0
-AreJob found (Job job) = found ≡ Ok (settings_view job.settings, task_view job.task)
+-- parsed words are the job that was found, with the file that its answer is put into where one was, or are refused with the line that refuses it
+abbrev pub AreJob : OrRefused ((Settings × Task) × Option (List ℕ)) → ParsedWords → Type 0
+AreJob found (Job job) = found ≡ Ok ((settings_view job.settings, task_view job.task), None)
+AreJob found (Save saving) = found ≡ Ok ((settings_view saving.job.settings, task_view saving.job.task), Some saving.output.now)
 AreJob found (Refused text) = found ≡ Err text.bytes.items
 AreJob found (TheQuestions questions) = ⊥
+AreJob found (Tidy tidying) = ⊥
 AreJob found (Help text) = ⊥
+
+-- parsed words are the files that were found, or are refused with the line that refuses them
+abbrev pub IsTidying : OrRefused Tidying → ParsedWords → Type 0
+IsTidying found (Tidy tidying) = found ≡ Ok (tidying_view tidying)
+IsTidying found (Refused text) = found ≡ Err text.bytes.items
+IsTidying found (Job job) = ⊥
+IsTidying found (Save saving) = ⊥
+IsTidying found (TheQuestions questions) = ⊥
+IsTidying found (Help text) = ⊥
 
 -- parsed words are what was found for a command of this name
 abbrev pub HasValues : (name : List ℕ) → Found → ParsedWords → Type 0
-HasValues name found words = elim (bytes_eq name (codes "wants")) [ true ↦ AreQuestions (questions_of found) words | false ↦ AreJob (job_of name found) words ]
+HasValues name found words = elim (bytes_eq name (codes "wants")) [
+  | true ↦ AreQuestions (questions_of found) words
+  | false ↦ elim (bytes_eq name (codes "tidy")) [ true ↦ IsTidying (tidying_of found) words | false ↦ AreJob (job_and_output_of name found) words ]
+]
 
--- a job and questions are what was found for a command of some name, of which nothing is refused
+-- a job, questions and files are what was found for a command of some name, of which nothing is refused
 abbrev pub HasFoundValues : ParsedWords → Type 0
-HasFoundValues (Job job) = (found : Found) × (name : List ℕ) × AreJob (job_of name found) (Job job)
+HasFoundValues (Job job) = (found : Found) × (name : List ℕ) × AreJob (job_and_output_of name found) (Job job)
+HasFoundValues (Save saving) = (found : Found) × (name : List ℕ) × AreJob (job_and_output_of name found) (Save saving)
 HasFoundValues (TheQuestions questions) = (found : Found) × AreQuestions (questions_of found) (TheQuestions questions)
+HasFoundValues (Tidy tidying) = (found : Found) × IsTidying (tidying_of found) (Tidy tidying)
 HasFoundValues (Help text) = Unit {0}
 HasFoundValues (Refused text) = Unit {0}

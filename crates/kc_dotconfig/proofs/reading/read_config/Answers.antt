@@ -2,7 +2,7 @@ use Rattle.std.proofs.Common.{inr, ◌≡◌, ◌<◌, ◌≤◌, length, take, 
 use Rattle.std.proofs.lemmas.Grind.{common_steps}
 use Rattle.kc_rules.specs.between.SettledViews.{tree_of_settled}
 use Rattle.kc_value.specs.declared.limits.TheConstants.{MAX_CONFIG_LINES}
-use Rattle.kc_dotconfig_model.specs.between.Prefixes.{prefix_bytes}
+use Rattle.kc_dotconfig_model.specs.between.Formats.{file_format}
 use Rattle.kc_dotconfig.specs.ReadResults.{MAX_READ}
 use Rattle.kc_dotconfig.proofs.WholeReads.{has_read_none, has_read_more, tells_read, rises, one_read, on_any_ok, if_any_err, tells_short, tells_refused, refused_in, block_fault, whole_read, whole_fits, end_fault}
 use Rattle.kc_dotconfig.proofs.reading.read_config.Goals as goal
@@ -15,16 +15,16 @@ loop-size-init g c =
     record {
       small = omega arith;
       few = few;
-      read = has_read_none (prefix_bytes c.args.prefix.now) (tree_of_settled c.args.settled.now) (g.R.Source.left c.args.source.now) c.new-cutter.result
+      read = has_read_none (file_format c.args.format.now) (tree_of_settled c.args.settled.now) (g.R.Source.left c.args.source.now) c.new-cutter.result
           c.empty_accumulator-gathered.result c.new-cutter.ensures gathered;
       unfailed = refl;
     }
 
 pub returns-in_default-clause-fault : goal.returns-in_default-clause-fault
 returns-in_default-clause-fault g c =
-    tells_short (prefix_bytes c.args.prefix.now) (tree_of_settled c.args.settled.now) _ _ _ _ c.fault_on_next_line.result.kind c.fault_on_next_line.result.line
+    tells_short (file_format c.args.format.now) (tree_of_settled c.args.settled.now) _ _ _ _ c.fault_on_next_line.result.kind c.fault_on_next_line.result.line
     c.fault_on_next_line.ensures.kind
-    (tells_read (prefix_bytes c.args.prefix.now) (tree_of_settled c.args.settled.now) (g.R.Source.left c.args.source.now) (g.R.Source.left c.loop-size.source)
+    (tells_read (file_format c.args.format.now) (tree_of_settled c.args.settled.now) (g.R.Source.left c.args.source.now) (g.R.Source.left c.loop-size.source)
     (g.R.Source.left c.read_some.new.self) c.loop-size.cutter c.loop-size.gathered c.loop-size.size c.fault_on_next_line.result.line
     c.loop-size.invariant.read c.in_default.ensures.bytes c.fault_on_next_line.ensures.line)
     (rises (g.R.Source.failures c.args.source.now) (g.R.Source.failures c.loop-size.source) (g.R.Source.failures c.read_some.new.self)
@@ -33,14 +33,14 @@ returns-in_default-clause-fault g c =
 pub returns-then-count-eq0-clause-ok : goal.returns-then-count-eq0-clause-ok
 returns-then-count-eq0-clause-ok g c =
     let some : 0 < length c.read_some.new.buf = omega arith in
-    whole_read c.finish.result (prefix_bytes c.args.prefix.now) (tree_of_settled c.args.settled.now) (g.R.Source.left c.args.source.now)
+    whole_read c.finish.result (file_format c.args.format.now) (tree_of_settled c.args.settled.now) (g.R.Source.left c.args.source.now)
     (g.R.Source.left c.loop-size.source) (g.R.Source.left c.read_some.new.self) c.loop-size.cutter c.loop-size.gathered c.loop-size.size c.in-Ok.count
     c.read_some.new.buf c.loop-size.invariant.read c.if-count-eq0.true some c.in-Ok.ensures.bytes c.finish.ensures.ok
 
 pub returns-then-count-eq0-clause-fault : goal.returns-then-count-eq0-clause-fault
 returns-then-count-eq0-clause-fault g c =
     let some : 0 < length c.read_some.new.buf = omega arith in
-    end_fault c.finish.result (prefix_bytes c.args.prefix.now) (tree_of_settled c.args.settled.now) (g.R.Source.left c.args.source.now)
+    end_fault c.finish.result (file_format c.args.format.now) (tree_of_settled c.args.settled.now) (g.R.Source.left c.args.source.now)
     (g.R.Source.left c.loop-size.source) (g.R.Source.left c.read_some.new.self) c.loop-size.cutter c.loop-size.gathered c.loop-size.size c.in-Ok.count
     c.read_some.new.buf _ _ c.loop-size.invariant.read c.if-count-eq0.true some c.in-Ok.ensures.bytes c.finish.ensures.err
 
@@ -49,12 +49,12 @@ returns-in-Err-clause-fault g c =
     let n : length (take c.in-Ok.count c.read_some.new.buf) ≡ c.in-Ok.count = sym c.in-Ok.ensures.bound.1 in
     let most = c.in-Ok.ensures.bound.0 in
     let short : length (take c.in-Ok.count c.read_some.new.buf) ≤ MAX_READ = omega arith in
-    tells_refused (prefix_bytes c.args.prefix.now) (tree_of_settled c.args.settled.now) (g.R.Source.left c.args.source.now)
+    tells_refused (file_format c.args.format.now) (tree_of_settled c.args.settled.now) (g.R.Source.left c.args.source.now)
     (g.R.Source.left c.read_some.new.self) _ _ c.fault_on_next_line-in-Err.result.kind c.fault_on_next_line-in-Err.result.line
-    (refused_in (prefix_bytes c.args.prefix.now) (tree_of_settled c.args.settled.now) (g.R.Source.left c.args.source.now) (g.R.Source.left c.loop-size.source)
+    (refused_in (file_format c.args.format.now) (tree_of_settled c.args.settled.now) (g.R.Source.left c.args.source.now) (g.R.Source.left c.loop-size.source)
     (g.R.Source.left c.read_some.new.self) c.loop-size.cutter c.loop-size.gathered c.loop-size.size (take c.in-Ok.count c.read_some.new.buf)
     c.fault_on_next_line-in-Err.result.kind c.fault_on_next_line-in-Err.result.line c.loop-size.invariant.read c.in-Ok.ensures.bytes.0 short
-    (block_fault (prefix_bytes c.args.prefix.now) (tree_of_settled c.args.settled.now) c.loop-size.cutter c.loop-size.gathered
+    (block_fault (file_format c.args.format.now) (tree_of_settled c.args.settled.now) c.loop-size.cutter c.loop-size.gathered
     (take c.in-Ok.count c.read_some.new.buf) c.loop-size.size c.in-Err.kind c.fault_on_next_line-in-Err.result.kind c.take_block.new.gathered.lines
     c.fault_on_next_line-in-Err.result.line c.fault_on_next_line-in-Err.ensures.kind c.fault_on_next_line-in-Err.ensures.line c.in-Err.ensures.err))
 
@@ -65,7 +65,7 @@ loop-size-preserved g c =
     record {
       small = omega arith;
       few = c.in_default-take_block.ensures.few;
-      read = has_read_more (prefix_bytes c.args.prefix.now) (tree_of_settled c.args.settled.now) (g.R.Source.left c.args.source.now)
+      read = has_read_more (file_format c.args.format.now) (tree_of_settled c.args.settled.now) (g.R.Source.left c.args.source.now)
           (g.R.Source.left c.loop-size.source) (g.R.Source.left c.read_some.new.self) c.loop-size.cutter c.loop-size.gathered c.loop-size.size
           (take c.in-Ok.count c.read_some.new.buf) c.take_block.new.cutter c.take_block.new.gathered c.in-Ok.count c.loop-size.invariant.read
           c.in-Ok.ensures.bytes.0 n c.in_default-take_block.ensures.ok room;
@@ -74,8 +74,8 @@ loop-size-preserved g c =
 
 pub returns-then-count-eq0-clause-fits : goal.returns-then-count-eq0-clause-fits
 returns-then-count-eq0-clause-fits g c =
-    whole_fits c.finish.result (prefix_bytes c.args.prefix.now) (tree_of_settled c.args.settled.now) (g.R.Source.left c.args.source.now)
-    (g.R.Source.left c.loop-size.source) c.loop-size.cutter c.loop-size.gathered c.loop-size.size c.args.prefix.now.valid c.tree.ensures.settled.consistent
+    whole_fits c.finish.result (file_format c.args.format.now) (tree_of_settled c.args.settled.now) (g.R.Source.left c.args.source.now)
+    (g.R.Source.left c.loop-size.source) c.loop-size.cutter c.loop-size.gathered c.loop-size.size c.args.format.now.prefix.valid c.tree.ensures.settled.consistent
     c.loop-size.invariant.read c.finish.ensures.ok
 
 pub returns-then-count-eq0-clause-unfailed : goal.returns-then-count-eq0-clause-unfailed

@@ -2,7 +2,7 @@ use Rattle.std.proofs.Common.{[], refl, arith}
 use Rattle.std.proofs.lemmas.Grind.{common_steps, elements}
 use Rattle.std.proofs.lemmas.Result.{err_from_is_err_and}
 use Rattle.kc_rules.specs.between.SettledViews.{tree_of_settled}
-use Rattle.kc_dotconfig_model.specs.between.Prefixes.{prefix_bytes}
+use Rattle.kc_dotconfig_model.specs.between.Formats.{file_format}
 use Rattle.kc_dotconfig.proofs.ReadingSteps.{nothing_taken, first_newline, no_newline, step_taken, step_refused, last_taken, last_refused}
 use Rattle.kc_dotconfig.proofs.reading.take_bytes.Goals as goal
 
@@ -13,7 +13,7 @@ loop-at-init c =
       taken = (
         [],
         refl,
-        nothing_taken (prefix_bytes c.args.prefix.now) (tree_of_settled c.args.settled.now) c.args.cutter.now
+        nothing_taken (file_format c.args.format.now) (tree_of_settled c.args.settled.now) c.args.cutter.now
             c.args.gathered.now,
       );
     }
@@ -24,14 +24,14 @@ take_ended-requires-clause-one_line c = (first_newline c.loop-at.rest.now c.in-S
 pub returns-in_err-take_ended-clause-err : goal.returns-in_err-take_ended-clause-err
 returns-in_err-take_ended-clause-err c =
     let p = err_from_is_err_and c.from_residual.result c.from_residual.ensures.1 in
-    rw (p.1, p.2) (step_refused (prefix_bytes c.args.prefix.now) (tree_of_settled c.args.settled.now) c.args.cutter.now c.args.gathered.now c.args.bytes.now
+    rw (p.1, p.2) (step_refused (file_format c.args.format.now) (tree_of_settled c.args.settled.now) c.args.cutter.now c.args.gathered.now c.args.bytes.now
     c.loop-at.rest.now c.in-Some.at c.loop-at.cutter c.loop-at.gathered c.in_err-take_ended.field-0.0 c.take_ended.new.gathered.lines
     c.loop-at.invariant.taken c.in-Some.ensures c.in_err-take_ended.ensures.err)
 
 pub loop-at-preserved : goal.loop-at-preserved
 loop-at-preserved c = record {
   few = c.in_ok-take_ended.ensures.few;
-  taken = step_taken (prefix_bytes c.args.prefix.now) (tree_of_settled c.args.settled.now) c.args.cutter.now c.args.gathered.now c.args.bytes.now
+  taken = step_taken (file_format c.args.format.now) (tree_of_settled c.args.settled.now) c.args.cutter.now c.args.gathered.now c.args.bytes.now
       c.loop-at.rest.now c.in-Some.at c.loop-at.cutter c.loop-at.gathered _ _ c.loop-at.invariant.taken c.in-Some.ensures c.in_ok-take_ended.ensures.ok;
 }
 
@@ -40,12 +40,12 @@ take_piece-requires-clause-one_line c = no_newline c.loop-at.rest.now c.in_defau
 
 pub returns-clause-ok : goal.returns-clause-ok
 returns-clause-ok c =
-    last_taken c.take_piece.result (prefix_bytes c.args.prefix.now) (tree_of_settled c.args.settled.now) c.args.cutter.now c.args.gathered.now c.args.bytes.now
+    last_taken c.take_piece.result (file_format c.args.format.now) (tree_of_settled c.args.settled.now) c.args.cutter.now c.args.gathered.now c.args.bytes.now
     c.loop-at.rest.now c.loop-at.cutter c.loop-at.gathered _ c.loop-at.invariant.taken c.take_piece.ensures.ok
 
 pub returns-clause-err : goal.returns-clause-err
 returns-clause-err c =
-    last_refused c.take_piece.result (prefix_bytes c.args.prefix.now) (tree_of_settled c.args.settled.now) c.args.cutter.now c.args.gathered.now
+    last_refused c.take_piece.result (file_format c.args.format.now) (tree_of_settled c.args.settled.now) c.args.cutter.now c.args.gathered.now
     c.args.bytes.now c.loop-at.rest.now c.loop-at.cutter c.loop-at.gathered c.loop-at.invariant.taken c.take_piece.ensures.err
 
 pub slice_bounds-take_ended-end : goal.slice_bounds-take_ended-end

@@ -6,7 +6,7 @@ use Rattle.kc_expansion.specs.Expansions.{tree_of}
 use Rattle.kc_expansion.specs.between.Reads.{Reaches}
 use Rattle.kc_expansion.specs.checker.ExpansionViews.{with_root}
 use Rattle.kc_expansion.specs.checker.ReadingViews.{file_run_of}
-use Rattle.kc_expansion.proofs.ExpansionLemmas.{from_start, goes_on, expansion_read}
+use Rattle.kc_expansion.proofs.ExpansionLemmas.{from_start, goes_on, expansion_read, few_files}
 use Rattle.kc_expansion.proofs.expansion.expand.Goals as goal
 
 pub read_tree-requires : goal.read_tree-requires
@@ -28,3 +28,8 @@ returns-clause-expanded g c =
     let s = from_start a b answers true (tree_read root) e c.new_reading-reading.ensures.known c.new_reading-reading.ensures.run c.read_root-read.ensures in
     expansion_read a.contents b answers root s.0 (map notice_of c.into_notices.result.items) (tree_of c.in_ok-tree.tree) c.into_notices.ensures
     (subst (Reaches b.known (run_at_start answers true) b.run (tree_read root)) c.in_ok-tree.ensures s.1)
+
+pub returns-clause-few : goal.returns-clause-few
+returns-clause-few g c =
+    few_files (g.F.TreeFiles.contents c.args.files.now) c.args.answers.now c.args.root.now (map notice_of c.into_notices.result.items) c.in_ok-tree.tree
+    (returns-clause-expanded g c)

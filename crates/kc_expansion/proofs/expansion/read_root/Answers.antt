@@ -43,8 +43,8 @@ returns-in-TooLong g c =
     (root_leads a b root s too_long (fails f) c.requires c.file.ensures.same c.file.ensures.grows refl (c.in_ok-read.ensures.read ∙ ap (λ x. Some (file_of x)) c.in-TooLong.is) (λ bytes e. root_too_long root s bytes e.0 e.1 e.2))
     (reads_fails b (fails f) f c.fault-in-TooLong.result refl c.fault-in-TooLong.ensures)
 
-pub returns-then-len-gt-MAX_BYTES : goal.returns-then-len-gt-MAX_BYTES
-returns-then-len-gt-MAX_BYTES g c =
+pub returns-then-len-gt-MAX_TREE_BYTES : goal.returns-then-len-gt-MAX_TREE_BYTES
+returns-then-len-gt-MAX_TREE_BYTES g c =
     let r = c.args.reading.now in
     let a = file_run_of (g.F.TreeFiles.contents c.args.files.now) r in
     let b = file_run_of (g.F.TreeFiles.contents c.file.new.files) (record r { store = c.file.new.self }) in
@@ -53,10 +53,10 @@ returns-then-len-gt-MAX_BYTES g c =
     let f = fault_at (place root 0) TooMany in
     let bytes = c.in-Whole.bytes.value.items in
     let n : c.len.result ≡ length bytes = c.len.ensures ∙ ap vec_len c.deref.ensures ∙ c.in-Whole.bytes.value.ok.0 in
-    let long : 67108864 < length bytes = omega (arith, n, c.if-len-gt-MAX_BYTES.true) in
-    reads_on a b b (tree_read root) (fails f) (end_of_stop c.fault-then-len-gt-MAX_BYTES.result)
+    let long : 67108864 < length bytes = omega (arith, n, c.if-len-gt-MAX_TREE_BYTES.true) in
+    reads_on a b b (tree_read root) (fails f) (end_of_stop c.fault-then-len-gt-MAX_TREE_BYTES.result)
     (root_leads a b root s (whole bytes) (fails f) c.requires c.file.ensures.same c.file.ensures.grows refl (c.in_ok-read.ensures.read ∙ ap (λ x. Some (file_of x)) c.in-Whole.is) (λ there e. root_too_long root s there bytes e long))
-    (reads_fails b (fails f) f c.fault-then-len-gt-MAX_BYTES.result refl c.fault-then-len-gt-MAX_BYTES.ensures)
+    (reads_fails b (fails f) f c.fault-then-len-gt-MAX_TREE_BYTES.result refl c.fault-then-len-gt-MAX_TREE_BYTES.ensures)
 
 pub returns-in_err-paths : goal.returns-in_err-paths
 returns-in_err-paths g c =
@@ -77,7 +77,7 @@ returns g c =
     let bytes = c.in-Whole.bytes.value.items in
     let n : c.len.result ≡ length bytes = c.len.ensures ∙ ap vec_len c.deref.ensures ∙ c.in-Whole.bytes.value.ok.0 in
     let m : c.len-2.result ≡ length bytes = c.len-2.ensures ∙ ap vec_len c.deref-3.ensures ∙ c.in-Whole.bytes.value.ok.0 in
-    let few : length bytes ≤ 67108864 = omega (arith, n, c.if-len-gt-MAX_BYTES.false) in
+    let few : length bytes ≤ 67108864 = omega (arith, n, c.if-len-gt-MAX_TREE_BYTES.false) in
     let paths = slices_of c.deref-2.result.now in
     let h : paths ≡ root ∷ [] = ap slices_of c.deref-2.ensures.value ∙ c.in_ok-paths.ensures in
     let t = counted_first s c.len-2.result (length bytes) c.requires m in

@@ -696,15 +696,15 @@ pub next_line-overflow_add-after : goal.next_line-overflow_add-after
 next_line-overflow_add-after g t c =
     let l = c.in_ok-line.ensures.line in omega (arith, l.few, l.within, c.requires.small, c.requires.written.few)
 
-pub next_line-behind_help-requires-clause-within : goal.next_line-behind_help-requires-clause-within
-next_line-behind_help-requires-clause-within g t c =
+pub next_line-after_help-requires-clause-within : goal.next_line-after_help-requires-clause-within
+next_line-after_help-requires-clause-within g t c =
     let l = c.in_ok-line.ensures.line in l.within
 
-pub next_line-behind_help-requires-clause-small : goal.next_line-behind_help-requires-clause-small
-next_line-behind_help-requires-clause-small g t c = c.requires.small
+pub next_line-after_help-requires-clause-small : goal.next_line-after_help-requires-clause-small
+next_line-after_help-requires-clause-small g t c = c.requires.small
 
-pub next_line-behind_help-requires-clause-few : goal.next_line-behind_help-requires-clause-few
-next_line-behind_help-requires-clause-few g t c =
+pub next_line-after_help-requires-clause-few : goal.next_line-after_help-requires-clause-few
+next_line-after_help-requires-clause-few g t c =
     let l = c.in_ok-line.ensures.line in omega (arith, l.few, l.forward, c.requires.written.few)
 
 pub next_line-returns-in-Some-clause-written : goal.next_line-returns-in-Some-clause-written
@@ -724,8 +724,8 @@ next_line-returns-in-Some-clause-written g t c =
     let logical = c.in_ok-line.ensures.line in
     let after : LineStart = record { at = line.next; number = start.number + line.lines } in
     let help = c.in-Some.begins_help in
-    let behind = c.behind_help.result in
-    let passed : IsHelpPassed bytes after help behind = c.behind_help.ensures in
+    let behind = c.after_help.result in
+    let passed : IsHelpPassed bytes after help behind = c.after_help.ensures in
     written_next bytes text start after behind line.next line.lines help before before w logical refl refl passed w.original (omega (arith, w.copied, logical.forward))
 
 pub next_line-returns-in-Some-clause-forward : goal.next_line-returns-in-Some-clause-forward
@@ -745,8 +745,8 @@ next_line-returns-in-Some-clause-forward g t c =
     let logical = c.in_ok-line.ensures.line in
     let after : LineStart = record { at = line.next; number = start.number + line.lines } in
     let help = c.in-Some.begins_help in
-    let behind = c.behind_help.result in
-    let passed : IsHelpPassed bytes after help behind = c.behind_help.ensures in
+    let behind = c.after_help.result in
+    let passed : IsHelpPassed bytes after help behind = c.after_help.ensures in
     omega (arith, passed.from, logical.forward)
 
 pub next_line-returns-in-Some-clause-steps : goal.next_line-returns-in-Some-clause-steps
@@ -766,8 +766,8 @@ next_line-returns-in-Some-clause-steps g t c =
     let logical = c.in_ok-line.ensures.line in
     let after : LineStart = record { at = line.next; number = start.number + line.lines } in
     let help = c.in-Some.begins_help in
-    let behind = c.behind_help.result in
-    let passed : IsHelpPassed bytes after help behind = c.behind_help.ensures in
+    let behind = c.after_help.result in
+    let passed : IsHelpPassed bytes after help behind = c.after_help.ensures in
     line_kept sub file bytes start there text line.next line.lines logical s before w c.deref.result.now c.deref.ensures.value help after behind refl refl passed a c.in-Some.ensures
 
 pub next_line-is_continued_at-joined-requires : goal.next_line-is_continued_at-joined-requires
@@ -851,15 +851,15 @@ next_line-returns-in_err-write_over-clause-steps g t c =
     let x = c.in_ok-new.ensures in
     steps_out_now a b p _ _ x.same x.grows c.from_residual-in_err-write_over.ensures.1
 
-pub next_line-behind_help-requires-2-clause-within : goal.next_line-behind_help-requires-2-clause-within
-next_line-behind_help-requires-2-clause-within g t c =
+pub next_line-after_help-requires-2-clause-within : goal.next_line-after_help-requires-2-clause-within
+next_line-after_help-requires-2-clause-within g t c =
     let l = c.in_ok-line.ensures.line in l.within
 
-pub next_line-behind_help-requires-2-clause-small : goal.next_line-behind_help-requires-2-clause-small
-next_line-behind_help-requires-2-clause-small g t c = c.requires.small
+pub next_line-after_help-requires-2-clause-small : goal.next_line-after_help-requires-2-clause-small
+next_line-after_help-requires-2-clause-small g t c = c.requires.small
 
-pub next_line-behind_help-requires-2-clause-few : goal.next_line-behind_help-requires-2-clause-few
-next_line-behind_help-requires-2-clause-few g t c =
+pub next_line-after_help-requires-2-clause-few : goal.next_line-after_help-requires-2-clause-few
+next_line-after_help-requires-2-clause-few g t c =
     let l = c.in_ok-line.ensures.line in omega (arith, l.few, l.forward, c.requires.written.few)
 
 pub next_line-returns-clause-written : goal.next_line-returns-clause-written
@@ -885,8 +885,8 @@ next_line-returns-clause-written g t c =
     let new = c.in_ok-new.new in
     let help = new.begins_help in
     let out = c.write_over.new.out in
-    let behind = c.behind_help-2.result in
-    let passed : IsHelpPassed bytes after help behind = c.behind_help-2.ensures in
+    let behind = c.after_help-2.result in
+    let passed : IsHelpPassed bytes after help behind = c.after_help-2.ensures in
     written_next bytes text start after behind line.next line.lines help before out w logical refl refl passed c.in_ok-write_over.ensures.original c.in_ok-write_over.ensures.copied
 
 pub next_line-returns-clause-forward : goal.next_line-returns-clause-forward
@@ -912,8 +912,8 @@ next_line-returns-clause-forward g t c =
     let new = c.in_ok-new.new in
     let help = new.begins_help in
     let out = c.write_over.new.out in
-    let behind = c.behind_help-2.result in
-    let passed : IsHelpPassed bytes after help behind = c.behind_help-2.ensures in
+    let behind = c.after_help-2.result in
+    let passed : IsHelpPassed bytes after help behind = c.after_help-2.ensures in
     omega (arith, passed.from, logical.forward)
 
 pub next_line-returns-clause-steps : goal.next_line-returns-clause-steps
@@ -939,8 +939,8 @@ next_line-returns-clause-steps g t c =
     let new = c.in_ok-new.new in
     let help = new.begins_help in
     let out = c.write_over.new.out in
-    let behind = c.behind_help-2.result in
-    let passed : IsHelpPassed bytes after help behind = c.behind_help-2.ensures in
+    let behind = c.after_help-2.result in
+    let passed : IsHelpPassed bytes after help behind = c.after_help-2.ensures in
     let front = text_up_to before start.at in
     let ls = take line.lines (split_at_newlines (drop start.at bytes)) in
     let x : text_up_to out line.next ≡ front ++ lines_written ls text new.text.items =

@@ -4,7 +4,7 @@ use Rattle.std.proofs.lemmas.List.{length-replicate}
 use Rattle.std.proofs.lemmas.Result.{IfOk-from_err}
 use Rattle.kc_tree.specs.between.Views.{entry_view}
 use Rattle.kc_rules.specs.between.SettledViews.{tree_of_settled, tree_model_of}
-use Rattle.kc_dotconfig_model.specs.between.Prefixes.{prefix_bytes}
+use Rattle.kc_dotconfig_model.specs.between.Formats.{file_format}
 use Rattle.kc_minimal.specs.declared.full.Draft.{Draft}
 use Rattle.kc_minimal.specs.checker.Drafts.{IsDraft}
 use Rattle.kc_minimal.proofs.DraftSteps.{next_left, begun, written}
@@ -19,7 +19,7 @@ loop-i-preserved c =
     record {
       marks = c.push_entry.ensures.marks ∙ c.loop-i.invariant.marks;
       draft = c.in_ok-push_entry.ensures.goes (drop (c.loop-i.i + 1) tree.entries)
-          (subst (λ l. IsDraft (prefix_bytes c.args.prefix.now) tree c.args.values.now l c.loop-i.draft) next c.loop-i.invariant.draft);
+          (subst (λ l. IsDraft (file_format c.args.format.now) tree c.args.values.now l c.loop-i.draft) next c.loop-i.invariant.draft);
     }
 
 pub loop-i-init : goal.loop-i-init
@@ -31,7 +31,7 @@ loop-i-init c =
     ∙ ap (λ n. replicate n false) count in
     record {
       marks = ap length unmarked ∙ length-replicate (length tree.symbols) false;
-      draft = begun (prefix_bytes c.args.prefix.now) tree c.args.values.now draft c.new.ensures.items unmarked refl;
+      draft = begun (file_format c.args.format.now) tree c.args.values.now draft c.new.ensures.items unmarked refl;
     }
 
 pub entry-requires : goal.entry-requires
@@ -54,5 +54,5 @@ returns c =
     let tree = tree_of_settled c.args.settled.now in
     let count : c.entry_count-i-end.result ≡ length tree.entries = c.entry_count-i-end.ensures ∙ ap (λ t. length t.tree.entries) c.tree-tree.ensures.tree in
     let over : length tree.entries ≤ c.loop-i.i = omega (arith, c.loop-i-test.false, count) in
-    written (prefix_bytes c.args.prefix.now) tree c.args.values.now c.loop-i.draft (drop c.loop-i.i tree.entries) (drop_of_length-le tree.entries over)
+    written (file_format c.args.format.now) tree c.args.values.now c.loop-i.draft (drop c.loop-i.i tree.entries) (drop_of_length-le tree.entries over)
     c.loop-i.invariant.draft

@@ -1,6 +1,6 @@
 use Rattle.std.proofs.Common.{◌≡◌, length, drop}
 use Rattle.kc_rules.specs.between.SettledViews.{tree_of_settled}
-use Rattle.kc_dotconfig_model.specs.between.Prefixes.{prefix_bytes}
+use Rattle.kc_dotconfig_model.specs.between.Formats.{file_format}
 use Rattle.kc_minimal.specs.checker.Drafts.{IsDraft}
 use Rattle.kc_minimal.proofs.full.full_lines.Given as goal
 
@@ -8,5 +8,5 @@ use Rattle.kc_minimal.proofs.full.full_lines.Given as goal
 abbrev pub invariant-loop-i : goal.invariant-loop-i
 invariant-loop-i l = record {
   marks : length l.draft.defined.items ≡ length (tree_of_settled l.settled).symbols;
-  draft : IsDraft (prefix_bytes l.prefix) (tree_of_settled l.settled) l.values (drop l.i (tree_of_settled l.settled).entries) l.draft;
+  draft : IsDraft (file_format l.format) (tree_of_settled l.settled) l.values (drop l.i (tree_of_settled l.settled).entries) l.draft;
 }

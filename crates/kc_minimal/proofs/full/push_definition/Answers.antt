@@ -2,7 +2,7 @@ use Rattle.std.proofs.Common.{false, sym, ◌∙◌, refl, ap, ◌&&◌, arith}
 use Rattle.std.proofs.lemmas.Grind.{common_steps, elements}
 use Rattle.kc_rules_model.specs.Reports.{is_written}
 use Rattle.kc_rules.specs.between.SettledViews.{tree_of_settled}
-use Rattle.kc_dotconfig_model.specs.between.Prefixes.{prefix_bytes}
+use Rattle.kc_dotconfig_model.specs.between.Formats.{file_format}
 use Rattle.kc_minimal.specs.declared.full.Draft.{Draft}
 use Rattle.kc_minimal.proofs.DraftSteps.{symbol_written}
 use Rattle.kc_minimal.proofs.full.push_definition.Goals as goal
@@ -12,7 +12,7 @@ returns-in_ok-push_spaced_line-clause-goes c = λ left d.
     let old = c.args.draft.now in
     let tree = tree_of_settled c.args.settled.now in
     let new : Draft = record { text = c.push_spaced_line.new.out; defined = c.mark-fresh.new.defined; gap = false } in
-    symbol_written (prefix_bytes c.args.prefix.now) tree c.args.values.now left old new c.args.s c.requires.symbol c.requires.marks c.mark-fresh.ensures.marked
+    symbol_written (file_format c.args.format.now) tree c.args.values.now left old new c.args.s c.requires.symbol c.requires.marks c.mark-fresh.ensures.marked
     (sym (ap (λ b. is_written tree c.args.values.now c.args.s && b) c.mark-fresh.ensures.fresh) ∙ sym c.is_written_here.ensures.value
     ∙ c.if-is_written_here.true)
     c.in_ok-push_spaced_line.ensures.ok refl d

@@ -1,7 +1,7 @@
 use Rattle.std.proofs.Common.{rules, arith}
 use Rattle.std.proofs.lemmas.Grind.{common_steps}
 use Rattle.kc_rules.specs.between.SettledViews.{tree_of_settled, profile_of}
-use Rattle.kc_dotconfig_model.specs.between.Prefixes.{prefix_bytes}
+use Rattle.kc_dotconfig_model.specs.between.Formats.{file_format}
 use Rattle.kc_minimal_model.specs.Spelling.{ended_line}
 use Rattle.kc_minimal_model.specs.MinimalFile.{has_line}
 use Rattle.kc_minimal.proofs.RangeLines.{line_more}
@@ -10,7 +10,7 @@ use Rattle.kc_minimal.proofs.minimal.minimal_lines.Goals as goal
 pub loop-number-preserved : goal.loop-number-preserved
 loop-number-preserved c =
     let settled = c.args.settled.now in
-    let line = ended_line (prefix_bytes c.args.prefix.now) (tree_of_settled settled) c.args.values.now in
+    let line = ended_line (file_format c.args.format.now) (tree_of_settled settled) c.args.values.now in
     line_more (has_line (profile_of settled) (tree_of_settled settled) c.args.values.now) line c.loop-number.number c.loop-number.text.items _
     c.loop-number.invariant (rw c.at-s.ensures at c.in_ok-push_if_kept.ensures.ok)
 

@@ -1,7 +1,7 @@
 use Rattle.std.proofs.Common.{rules, arith}
 use Rattle.std.proofs.lemmas.Grind.{common_steps}
 use Rattle.kc_rules.specs.between.SettledViews.{tree_of_settled, profile_of}
-use Rattle.kc_dotconfig_model.specs.between.Prefixes.{prefix_bytes}
+use Rattle.kc_dotconfig_model.specs.between.Formats.{file_format}
 use Rattle.kc_minimal.proofs.MinimisedFiles.{minimised, cut_off}
 use Rattle.kc_minimal.proofs.minimising.minimise.Goals as goal
 
@@ -9,7 +9,7 @@ pub returns-in-Ok-write_out-clause-minimised : goal.returns-in-Ok-write_out-clau
 returns-in-Ok-write_out-clause-minimised g c =
     let text = c.in-Ok-minimal_of.text.items in
     let minimal = c.in-Ok-minimal_of.ensures.ok in
-    minimised (prefix_bytes c.args.prefix.now) c.args.prefix.now.valid (profile_of c.args.settled.now) (tree_of_settled c.args.settled.now)
+    minimised (file_format c.args.format.now) c.args.format.now.prefix.valid (profile_of c.args.settled.now) (tree_of_settled c.args.settled.now)
     (g.R.Source.left c.args.source.now) (g.R.Source.left c.read_config.new.source) c.in-Ok.fragment c.in-Ok.ensures.ok minimal.0 text minimal.1 minimal.2
     (g.W.Sink.taken c.args.sink.now) (g.W.Sink.taken c.write_out.new.sink)
     (rw c.deref.ensures.value at c.in-Ok-write_out.ensures.whole)
@@ -19,7 +19,7 @@ returns-in-Err-write_out-clause-fault g c =
     let text = c.in-Ok-minimal_of.text.items in
     let minimal = c.in-Ok-minimal_of.ensures.ok in
     let part = rw c.deref.ensures.value at c.in-Err-write_out.ensures.part in
-    cut_off (prefix_bytes c.args.prefix.now) c.args.prefix.now.valid (profile_of c.args.settled.now) (tree_of_settled c.args.settled.now)
+    cut_off (file_format c.args.format.now) c.args.format.now.prefix.valid (profile_of c.args.settled.now) (tree_of_settled c.args.settled.now)
     (g.R.Source.left c.args.source.now) (g.R.Source.left c.read_config.new.source) c.in-Ok.fragment c.in-Ok.ensures.ok minimal.0 text minimal.1 minimal.2
     (g.W.Sink.taken c.args.sink.now) (g.W.Sink.taken c.write_out.new.sink)
     (g.W.Sink.failures c.args.sink.now) (g.W.Sink.failures c.write_out.new.sink) c.in-Err-write_out.fault.written part.0 part.1

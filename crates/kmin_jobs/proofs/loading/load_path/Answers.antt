@@ -12,9 +12,9 @@ returns-in-Some-clause-loaded g c =
 
 pub returns-in-Some-clause-stopped : goal.returns-in-Some-clause-stopped
 returns-in-Some-clause-stopped g c =
-    if_err_map c.load.result _ _ (λ stop stopped. stopped_at _ _ _ _ _ _ (rw c.in-Some.is at c.reader_for.ensures.opens) _ _ _ _ _ _ _ stopped)
+    if_err_map c.load.result _ _ (λ stop stopped. stopped_at _ _ _ _ _ _ (rw c.in-Some.is at c.reader_for.ensures.opens) _ _ _ _ _ _ _ _ stopped)
     c.load.ensures.stopped
 
 pub returns-in-None-clause-stopped : goal.returns-in-None-clause-stopped
 returns-in-None-clause-stopped g c =
-    (_, at_file _ (unopened (rw c.in-None.is at c.reader_for.ensures.opens) refl refl) refl, lines_one _ _ _ _ _ c.write_report.ensures)
+    (_, at_file (unopened (rw c.in-None.is at c.reader_for.ensures.opens) refl refl), lines_one _ _ _ _ _ c.write_report.ensures)

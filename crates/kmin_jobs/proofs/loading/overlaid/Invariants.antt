@@ -2,7 +2,7 @@ use Rattle.std.proofs.Common.{◌≡◌, ℕ, List, map, take}
 use Rattle.std.specs.Borrow.{Bor}
 use Rattle.kc_rules.specs.between.SettledViews.{tree_of_settled}
 use Rattle.kc_dotconfig.specs.Configured.{IsSolved}
-use Rattle.kc_dotconfig_model.specs.between.Prefixes.{prefix_bytes}
+use Rattle.kc_dotconfig_model.specs.between.Formats.{file_format}
 use Rattle.kmin_jobs.specs.between.Loaded.{AreLoaded}
 use Rattle.kmin_jobs.proofs.loading.overlaid.Given as goal
 
@@ -11,5 +11,5 @@ invariant-loop-path g l = record {
   same : (other : List ℕ) → g.F.Files.content_of l.files other ≡ g.F.Files.content_of l.fn.files other;
   settled : l.config.system ≡ l.settled;
   solved : IsSolved l.config;
-  loaded : AreLoaded (g.F.Files.content_of l.fn.files) (prefix_bytes l.prefix) (tree_of_settled l.settled) (map (λ (path : Bor (List ℕ)). path.now) (take l.path-index l.paths)) l.fn.begun.users l.config.users (g.E.Sink.taken l.fn.err) (g.E.Sink.failures l.fn.err) (g.E.Sink.taken l.err) (g.E.Sink.failures l.err);
+  loaded : AreLoaded (g.F.Files.content_of l.fn.files) (file_format l.settings.format) l.settings.strict (tree_of_settled l.settled) (map (λ (path : Bor (List ℕ)). path.now) (take l.path-index l.paths)) l.fn.begun.users l.config.users (g.E.Sink.taken l.fn.err) (g.E.Sink.failures l.fn.err) (g.E.Sink.taken l.err) (g.E.Sink.failures l.err);
 }

@@ -8,7 +8,7 @@ use Rattle.kmin_tidy.proofs.file_step.tidy_accepted.Goals as goal
 
 pub returns-then-is_refused_for-clause-step : goal.returns-then-is_refused_for-clause-step
 returns-then-is_refused_for-clause-step g c =
-    let s = settings_of c.args.config.now.system c.args.prefix.now c.args.options in
+    let s = settings_of c.args.config.now.system c.args.format.now c.args.options in
     let a = disk_of (g.D.ReadDisk.state c.args.disk.now) (g.D.WriteDisk.failures c.args.disk.now) in
     let asked = c.is_refused_for.ensures.refused c.if-is_refused_for.true in
     let some : c.args.file.fragment.notices.items ≢ [] = rw c.deref.ensures.value at asked.1 in
@@ -28,7 +28,7 @@ tidy_allowed-requires g c = record {
 
 pub returns-clause-step : goal.returns-clause-step
 returns-clause-step g c =
-    let s = settings_of c.args.config.now.system c.args.prefix.now c.args.options in
+    let s = settings_of c.args.config.now.system c.args.format.now c.args.options in
     let a = disk_of (g.D.ReadDisk.state c.args.disk.now) (g.D.WriteDisk.failures c.args.disk.now) in
     let b = disk_of (g.D.ReadDisk.state c.tidy_allowed.new.disk) (g.D.WriteDisk.failures c.tidy_allowed.new.disk) in
     let r = c.in_ok-end.ensures.rewritten in (

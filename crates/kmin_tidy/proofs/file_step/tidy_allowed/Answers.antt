@@ -10,7 +10,7 @@ use Rattle.kmin_tidy.proofs.file_step.tidy_allowed.Goals as goal
 
 pub returns-clause-rewritten : goal.returns-clause-rewritten
 returns-clause-rewritten g c =
-    let s = settings_of c.args.config.now.system c.args.prefix.now c.args.options in
+    let s = settings_of c.args.config.now.system c.args.format.now c.args.options in
     let state = g.D.ReadDisk.state c.args.disk.now in
     let notices = map notice_pair c.args.fragment.now.notices.items in
     let minimises : Minimises s state c.args.path.now c.args.bytes.now c.deref.result.now notices = record {
@@ -23,7 +23,7 @@ returns-clause-rewritten g c =
 
 pub returns-clause-stopped : goal.returns-clause-stopped
 returns-clause-stopped g c =
-    let s = settings_of c.args.config.now.system c.args.prefix.now c.args.options in
+    let s = settings_of c.args.config.now.system c.args.format.now c.args.options in
     let state = g.D.ReadDisk.state c.args.disk.now in
     let notices = map notice_pair c.args.fragment.now.notices.items in
     let minimises : Minimises s state c.args.path.now c.args.bytes.now c.deref.result.now notices = record {

@@ -10,7 +10,7 @@ returns-then-is_refused_unread-clause-step g c =
     let known = c.is_refused_unread.ensures.refused c.if-is_refused_unread.true in (
       [],
       sym (append-nil c.args.text.now.items),
-      not_regular_step (settings_of c.args.config.now.system c.args.prefix.now c.args.options)
+      not_regular_step (settings_of c.args.config.now.system c.args.format.now c.args.options)
           (disk_of (g.D.ReadDisk.state c.args.disk.now) (g.D.WriteDisk.failures c.args.disk.now)) c.args.path.now c.report_of_problem.result known.0 known.1
           c.report_of_problem.ensures.notices c.report_of_problem.ensures.problem c.report_of_problem.ensures.outcome,
     )
@@ -23,7 +23,7 @@ returns-in-Err-clause-step g c =
     if_ok_map c.report_fault.result _ _ (λ report refused. (
       [],
       sym (append-nil c.args.text.now.items),
-      fault_step (settings_of c.args.config.now.system c.args.prefix.now c.args.options)
+      fault_step (settings_of c.args.config.now.system c.args.format.now c.args.options)
           (disk_of (g.D.ReadDisk.state c.args.disk.now) (g.D.WriteDisk.failures c.args.disk.now)) c.args.path.now report c.in-Err.fault
           (c.is_refused_unread.ensures.may c.if-is_refused_unread.false) (rw c.settled.ensures at c.in-Err.ensures.fault) refused,
     )) c.report_fault.ensures.refused

@@ -9,7 +9,7 @@ abbrev pub invariant-loop-path : goal.invariant-loop-path
 invariant-loop-path g l = record {
   system : l.config.system ≡ l.fn.config.system;
   ran : (reports : List (List ℕ))
-      × Tidies (settings_of l.fn.config.system l.prefix l.options) (disk_of (g.D.ReadDisk.state l.fn.disk) (g.D.WriteDisk.failures l.fn.disk))
+      × Tidies (settings_of l.fn.config.system l.format l.options) (disk_of (g.D.ReadDisk.state l.fn.disk) (g.D.WriteDisk.failures l.fn.disk))
       (disk_of (g.D.ReadDisk.state l.disk) (g.D.WriteDisk.failures l.disk)) (paths_of (take l.path-index l.paths)) l.text.items reports l.status
       × TakesLines (g.E.Sink.taken l.fn.err) (g.E.Sink.failures l.fn.err) reports (g.E.Sink.taken l.err) (g.E.Sink.failures l.err);
 }

@@ -1,0 +1,28 @@
+-- How a configuration file is spelled: the prefix before its names, and the form of its strings.
+use Rattle.std.specs.Prelude.{◌≡◌, ℕ, List, [], ◌∷◌, ◌++◌, codes}
+use Rattle.kc_value.specs.Quoted.{quoted, IsQuoted}
+use Rattle.kc_dotconfig_model.specs.declared.format.Strings.{Strings}
+use Rattle.kc_dotconfig_model.specs.declared.format.Strings.TheVariants.{Escaped, Raw}
+
+-- the prefix of names, such as `CONFIG_`, and the form of strings
+pub record FileFormat : Type 0 where
+  pub prefix : List ℕ
+  pub strings : Strings
+
+-- the format of Linux's files
+abbrev pub plain_format : FileFormat
+plain_format = record { prefix = codes "CONFIG_"; strings = Escaped }
+
+-- a text between two quotes, as it is (u-boot's `conf`)
+abbrev pub between_quotes : List ℕ → List ℕ
+between_quotes text = 34 ∷ (text ++ 34 ∷ [])
+
+-- how a string is written after `=`: escaped as in Kconfiglib's `escape`, or raw
+abbrev pub string_spelling : Strings → List ℕ → List ℕ
+string_spelling Escaped text = quoted text
+string_spelling Raw text = between_quotes text
+
+-- what is after `=` is a string, and this is its text
+abbrev pub IsStringSpelling : Strings → List ℕ → List ℕ → Type 0
+IsStringSpelling Escaped spelling text = IsQuoted spelling text
+IsStringSpelling Raw spelling text = spelling ≡ between_quotes text

@@ -1,0 +1,22 @@
+//! The limits of the expansion of a tree. Those of files, bytes and lines are the limits of the reader as well.
+
+/// The most files that are read for a tree, lists of files among them; a file that is sourced twice counts twice.
+pub const MAX_FILES: usize = kc_value::MAX_FILES;
+
+/// The most bytes of all files that are read for a tree; a file that is sourced twice counts twice.
+pub const MAX_TREE_BYTES: usize = kc_value::MAX_TREE_BYTES;
+
+/// The most files that are open within each other, lists of files among them.
+pub const MAX_OPEN_FILES: usize = kc_value::MAX_OPEN_FILES;
+
+/// The most bytes of a line, before and after it is written.
+pub const MAX_LINE_BYTES: usize = kc_value::MAX_LINE_BYTES;
+
+/// The most names that are listed for the patterns of a tree; a folder that is listed twice counts twice.
+pub const MAX_LISTED_NAMES: usize = 1_048_576;
+
+/// The most bytes of a file that are read: one more than a tree may have.
+pub(crate) const MAX_FILE_BYTES: usize = MAX_TREE_BYTES + 1;
+
+/// The most bytes that are read at once.
+pub(crate) const MAX_BLOCK_BYTES: usize = 8192;

@@ -1,0 +1,37 @@
+//! Lines that stay as they are.
+ghost use Rattle.std.specs.Prelude.{◌≡◌, ◌||◌, not, nat_lt, length};
+ghost use Rattle.std.specs.Str.{is_utf8};
+ghost use Rattle.kc_macros_model.specs.Limits.{max_text_bytes};
+ghost use Rattle.kc_expansion.specs.checker.SameLines.{MayStay};
+
+use super::help_words::begins_help;
+use super::limits::MAX_LINE_BYTES;
+use super::matching::is_utf8;
+use kc_macros::is_copied;
+
+/// The line after which most help texts begin.
+const USUAL_HELP: &[u8] = b"\thelp";
+
+/// Whether a line is too long, or isn't UTF-8.
+fn is_refused(text: &[u8]) -> bool
+    ensures { result ≡ (nat_lt max_text_bytes (length text.now) || not (is_utf8 text.now)) }
+{
+    text.len() > MAX_LINE_BYTES || !is_utf8(text)
+}
+
+/// Whether a help text follows a line that stays as it is: one without macros, one that is too long, or one that isn't
+/// UTF-8; `None` where the line may change.
+pub(crate) fn stays(text: &[u8]) -> Option<bool>
+    ensures { MayStay text.now result }
+{
+    if text == USUAL_HELP {
+        return Some(true);
+    }
+    if is_copied(text) {
+        return Some(false);
+    }
+    if is_refused(text) {
+        return Some(begins_help(text));
+    }
+    None
+}

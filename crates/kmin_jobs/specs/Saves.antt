@@ -1,0 +1,83 @@
+-- Answers that are put into a file.
+use Rattle.std.specs.Prelude.{◌≡◌, ◌≢◌, ◌⊎◌, ℕ, List, [], ◌∷◌, ◌++◌, Option, Some, string_bytes}
+use Rattle.kmin_disk.specs.Contents.{IsOfKind, file, special}
+use Rattle.kmin_disk.specs.Disks.{content_at}
+use Rattle.kmin_disk.specs.Failures.{failures_of_update}
+use Rattle.kmin_disk.specs.Updates.{Updates, UpdateLeaves}
+use Rattle.kmin_disk.specs.declared.kind.FileKind.TheVariants.{NotRegular as is_not_regular}
+use Rattle.kmin_disk.specs.declared.fault.ReplaceFault.{ReplaceFault}
+use Rattle.kmin_disk.specs.declared.fault.ReplaceFault.TheVariants.{NotRegular, Unchanged, NamesTaken, Left, FolderNotSynced, OutOfMemory}
+use Rattle.kmin_disk.specs.declared.fault.UpdateFault.{UpdateFault}
+use Rattle.kmin_disk.specs.declared.fault.UpdateFault.TheVariants.{Unread, Replace}
+use Rattle.kmin_tidy.specs.Reports.{not_regular_line, write_line, left_line}
+use Rattle.kmin_tidy.specs.Steps.{Disk}
+use Rattle.kmin_words.specs.Jobs.{Settings, Task}
+use Rattle.kmin_jobs.specs.FileContents.{Known}
+use Rattle.kmin_jobs.specs.JobTexts.{TreeTexts, AreTextsOfJob}
+use Rattle.kmin_jobs.specs.Answers.{Answer}
+use Rattle.kmin_jobs.specs.Reports.{last_lines}
+use Rattle.kmin_jobs.specs.Stops.{StopsBefore}
+use Rattle.kmin_jobs.specs.TidyRuns.{Outside, EndsWriting}
+
+-- the lines of a file that isn't replaced, or not for good
+abbrev pub replace_lines : (path : List ℕ) → ReplaceFault → List (List ℕ)
+replace_lines path NotRegular = not_regular_line path ∷ []
+replace_lines path Unchanged = write_line path ∷ []
+replace_lines path NamesTaken = write_line path ∷ []
+replace_lines path (Left new_path) = left_line (string_bytes new_path) ∷ []
+replace_lines path FolderNotSynced = write_line path ∷ []
+replace_lines path OutOfMemory = []
+
+-- the lines of a file that isn't given its bytes, or not for good
+abbrev pub update_lines : (path : List ℕ) → UpdateFault → List (List ℕ)
+update_lines path Unread = write_line path ∷ []
+update_lines path (Replace fault) = replace_lines path fault
+
+-- the exit status of such a file: 6 for lack of memory, and else 5
+abbrev pub replace_status : ReplaceFault → ℕ
+replace_status NotRegular = 5
+replace_status Unchanged = 5
+replace_status NamesTaken = 5
+replace_status (Left new_path) = 5
+replace_status FolderNotSynced = 5
+replace_status OutOfMemory = 6
+
+abbrev pub update_status : UpdateFault → ℕ
+update_status Unread = 5
+update_status (Replace fault) = replace_status fault
+
+-- A file has a text, which it had before or has as one content more. It is no link, folder, pipe or device, and no call failed.
+pub record IsSaved (old new : Disk) (path text : List ℕ) : Type 0 where
+  pub updates : Updates old.state new.state path text
+  pub regular : content_at old.state path ≢ Some special
+  pub unfailed : new.failures ≡ old.failures
+
+-- A file isn't given a text, or not for good, and that is why. One that has the text already is left alone.
+pub record IsUnsaved (old new : Disk) (path text : List ℕ) (fault : UpdateFault) : Type 0 where
+  pub leaves : UpdateLeaves old.state new.state path text fault
+  pub equal : content_at old.state path ≡ Some (file text) → new.state ≡ old.state
+  pub not_regular : fault ≡ Replace NotRegular → IsOfKind (content_at old.state path) is_not_regular
+  pub refused : content_at old.state path ≡ Some special → fault ≡ Replace NotRegular
+  pub failed : new.failures ≡ failures_of_update old.failures fault
+
+-- A job whose answer is to be put into a file ends with this status and these lines of standard error: the file has the
+-- answer; the job ended before it had one, and the disk is as it was; or the file can't be given it.
+pub data SaveEnds (known : Known) (settings : Settings) (task : Task) (path : List ℕ) (old new : Disk) (lines : List (List ℕ)) (status : ℕ) : Type 0 where
+  saved : (t : TreeTexts) (text : List ℕ) (notices : List (List ℕ)) → AreTextsOfJob known settings t
+      → Answer known.content settings t.texts task text status notices → IsSaved old new path text → lines ≡ t.lines ++ notices
+      → SaveEnds known settings task path old new lines status
+  before_answer : (own : List (List ℕ)) → StopsBefore known settings task status own → new ≡ old → lines ≡ own ++ last_lines status
+      → SaveEnds known settings task path old new lines status
+  at_file : (t : TreeTexts) (text : List ℕ) (made : ℕ) (notices : List (List ℕ)) (fault : UpdateFault) → AreTextsOfJob known settings t
+      → Answer known.content settings t.texts task text made notices → IsUnsaved old new path text fault → status ≡ update_status fault
+      → lines ≡ ((t.lines ++ notices) ++ update_lines path fault) ++ last_lines status
+      → SaveEnds known settings task path old new lines status
+
+-- a job whose answer is to be put into a file ended with this status, and standard output took nothing
+abbrev pub EndsSaving : Known → (old new : Outside) → (status : ℕ) → Type 0
+EndsSaving known old new status = (settings : Settings) × (task : Task) × (path : List ℕ) × (lines : List (List ℕ))
+    × SaveEnds known settings task path old.disk new.disk lines status × (new.taken ≡ old.taken) × (new.failures ≡ old.failures)
+
+-- a run that may change files ended with this status: of `tidy`, or of a job whose answer is to be put into a file
+abbrev pub EndsChanging : Known → (left : Option (List ℕ)) → (old new : Outside) → (status : ℕ) → Type 0
+EndsChanging known left old new status = EndsWriting known left old new status ⊎ EndsSaving known old new status

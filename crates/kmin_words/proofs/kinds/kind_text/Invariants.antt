@@ -1,0 +1,7 @@
+use Rattle.std.proofs.Common.{◌≡◌, take}
+use Rattle.kmin_words.specs.Messages.{kind_text}
+use Rattle.kmin_words.proofs.kinds.kind_text.Given as goal
+
+-- the tables so far
+abbrev pub invariant-loop-table : goal.invariant-loop-table
+invariant-loop-table l = l.text.bytes.items ≡ kind_text l.kind (take l.table-index l.tables)

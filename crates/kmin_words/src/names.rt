@@ -1,0 +1,55 @@
+//! Names that are near a mistyped word.
+ghost use Rattle.std.specs.Prelude.{◌≡◌, ℕ, List, map, option_map, IfOk};
+ghost use Rattle.std.specs.Borrow.{Bor};
+ghost use Rattle.kmin_words.specs.Names.{first_near, nearest, with_tip};
+
+use std::alloc::{AllocError, Global};
+use strsim::osa_distance;
+
+/// A message with a tip after its first line: a name that is near the word in it.
+pub(crate) fn with_tip(alloc: Global, message: &str, name: &str) -> Result<String, AllocError>
+    ensures { IfOk result (λ text. text.bytes.items ≡ with_tip name.now message.now) }
+{
+    let Some((first, rest)) = message.split_once('\n') else {
+        return String::from_str(alloc, message);
+    };
+    let mut text = String::from_str(alloc, first)?;
+    text.push_str("\n\n  tip: a similar name exists: '")?;
+    text.push_str(name)?;
+    text.push_str("'\n")?;
+    text.push_str(rest)?;
+    Ok(text)
+}
+
+/// The name that is nearest to a word: at most one step from it, or two of a word of six bytes or more; of such names the
+/// first one.
+pub(crate) fn nearest<'n>(
+    alloc: Global,
+    word: &str,
+    names: &[&'n str],
+) -> Result<Option<&'n str>, AllocError>
+    ensures { IfOk result (λ found. option_map (λ (name : Bor (List ℕ)). name.now) found ≡ nearest word.now (map (λ (name : Bor (List ℕ)). name.now) names.now)) }
+{
+    let found = first_near(alloc, word, names, 1)?;
+    if found.is_some() || word.len() < 6 {
+        return Ok(found);
+    }
+    first_near(alloc, word, names, 2)
+}
+
+/// The first name that is at most so many steps from a word.
+fn first_near<'n>(
+    alloc: Global,
+    word: &str,
+    names: &[&'n str],
+    most: usize,
+) -> Result<Option<&'n str>, AllocError>
+    ensures { IfOk result (λ found. option_map (λ (name : Bor (List ℕ)). name.now) found ≡ first_near word.now most (map (λ (name : Bor (List ℕ)). name.now) names.now)) }
+{
+    for name in names {
+        if osa_distance(alloc, word, name)? <= most {
+            return Ok(Some(name));
+        }
+    }
+    Ok(None)
+}
